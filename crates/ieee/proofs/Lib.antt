@@ -1,0 +1,12 @@
+-- The laws of the IEEE 754 operations, each over any format.
+pub mod Sign
+pub mod Zero
+pub mod Signed
+pub mod Product
+pub mod Clear
+pub mod Order
+pub mod Mono
+pub mod Exact
+pub mod Square
+pub mod Table
+mod Limits

@@ -1,0 +1,12 @@
+-- `linalg::matrix::Mat3::inverse_adj` meets its contract: operation by operation, as the definition has it. Assumes nothing.
+use borrow.Author.Needs.{needs}
+use Rattle.linalg.specs.Matrix.{matInverseAdj}
+use Rattle.linalg.proofs.matrix.Mat3.inverse_adj.Statement.{statement}
+use Rattle.linalg.proofs.matrix.Mat3.inverse_adj.Tie as tie
+
+returns : tie.Need-returns
+unfolding matInverseAdj
+returns c = cc
+
+pub inverse-adj-spec : {M : Type 1} → statement M
+inverse-adj-spec = tie.close (tie.spec (λ c κs. search needs) (λ c κs. search needs) (λ c κs. search needs) (λ c κs. search needs) (λ c κs. search needs) (λ c κs. search needs) (λ c κs. search needs) (λ c κs. search needs) returns)

@@ -1,0 +1,24 @@
+-- `linalg::matrix::component` meets its contract: by what its calls ensure and its tests say. Assumes nothing.
+use borrow.Author.Tests.{ne-eqb}
+use Rattle.linalg.specs.Matrix.{entryTold, vecComponent}
+use Rattle.linalg.proofs.matrix.component.Statement.{statement}
+use Rattle.linalg.proofs.matrix.component.Tie as tie
+
+returns : tie.Need-returns
+unfolding entryTold vecComponent
+returns c = simp (c .match .keys1)
+
+returns-2 : tie.Need-returns-2
+unfolding entryTold vecComponent
+returns-2 c = simp (c .match .keys2)
+
+returns-3 : tie.Need-returns-3
+unfolding entryTold vecComponent
+returns-3 c = simp (c .match .keys3)
+
+returns-4 : tie.Need-returns-4
+unfolding entryTold vecComponent
+returns-4 c = simp (ne-eqb _ _ (c .match .rest .1), ne-eqb _ _ (c .match .rest .0 .1), ne-eqb _ _ (c .match .rest .0 .0 .1))
+
+pub component-spec : {M : Type 1} → statement M
+component-spec = tie.close (tie.spec returns returns-2 returns-3 returns-4)

@@ -1,0 +1,12 @@
+-- `linalg::matrix::hat_col` meets its contract: operation by operation, as the definition has it. Assumes nothing.
+use mathlib.Core.Path.{refl}
+use Rattle.linalg.specs.Matrix.{vecHatMul}
+use Rattle.linalg.proofs.matrix.hat_col.Statement.{statement}
+use Rattle.linalg.proofs.matrix.hat_col.Tie as tie
+
+returns : tie.Need-returns
+unfolding vecHatMul
+returns c = refl
+
+pub hat-col-spec : {M : Type 1} → statement M
+hat-col-spec = tie.close (tie.spec returns)

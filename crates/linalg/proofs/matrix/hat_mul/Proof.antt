@@ -1,0 +1,12 @@
+-- `linalg::matrix::hat_mul` meets its contract: by what its calls ensure and its tests say. Assumes nothing.
+use borrow.Author.Needs.{needs}
+use Rattle.linalg.specs.Matrix.{matHatMul}
+use Rattle.linalg.proofs.matrix.hat_mul.Statement.{statement}
+use Rattle.linalg.proofs.matrix.hat_mul.Tie as tie
+
+returns : tie.Need-returns
+unfolding matHatMul
+returns c = simp (c .hat-col3 .ensures, c .before .hat-col2 .ensures, c .before .before .hat-col .ensures)
+
+pub hat-mul-spec : {M : Type 1} → statement M
+hat-mul-spec = tie.close (tie.spec (λ c κs. search needs) (λ c κs. search needs) (λ c κs. search needs) returns)

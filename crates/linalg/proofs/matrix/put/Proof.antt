@@ -1,0 +1,12 @@
+-- `linalg::matrix::put` meets its contract: by what its calls ensure and its tests say. Assumes nothing.
+use borrow.Author.Needs.{needs}
+use Rattle.linalg.specs.Matrix.{vecPut}
+use Rattle.linalg.proofs.matrix.put.Statement.{statement}
+use Rattle.linalg.proofs.matrix.put.Tie as tie
+
+returns : tie.Need-returns
+unfolding vecPut
+returns c = simp (c .pick3 .ensures, c .before .pick2 .ensures, c .before .before .pick .ensures)
+
+pub put-spec : {M : Type 1} → statement M
+put-spec = tie.close (tie.spec (λ c κs. search needs) (λ c κs. search needs) (λ c κs. search needs) returns)

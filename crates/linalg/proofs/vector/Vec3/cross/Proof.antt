@@ -1,0 +1,12 @@
+-- `linalg::vector::Vec3::cross` meets its contract: operation by operation, as the definition has it. Assumes nothing.
+use mathlib.Core.Path.{refl}
+use Rattle.linalg.specs.Vector.{vecCross}
+use Rattle.linalg.proofs.vector.Vec3.cross.Statement.{statement}
+use Rattle.linalg.proofs.vector.Vec3.cross.Tie as tie
+
+returns : tie.Need-returns
+unfolding vecCross
+returns c = refl
+
+pub cross-spec : {M : Type 1} → statement M
+cross-spec = tie.close (tie.spec returns)

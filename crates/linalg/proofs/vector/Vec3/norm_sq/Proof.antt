@@ -1,0 +1,12 @@
+-- `linalg::vector::Vec3::norm_sq` meets its contract: by what its calls ensure and its tests say. Assumes nothing.
+use borrow.Author.Needs.{needs}
+use Rattle.linalg.specs.Vector.{vecNormSq}
+use Rattle.linalg.proofs.vector.Vec3.norm_sq.Statement.{statement}
+use Rattle.linalg.proofs.vector.Vec3.norm_sq.Tie as tie
+
+returns : tie.Need-returns
+unfolding vecNormSq
+returns c = simp (c .dot .ensures)
+
+pub norm-sq-spec : {M : Type 1} → statement M
+norm-sq-spec = tie.close (tie.spec (λ c κs. search needs) returns)
