@@ -2,7 +2,6 @@
 -- Assumes nothing.
 use mathlib.Core.Path.{_≡_, refl, sym, _∙_}
 use Prim.Native.Nat.{ℕ}
-use native.Mathlib.Omega.{arith}
 use mathlib.Core.Bool.{Bool, true, false, cond}
 use lib.Dec.{eqb}
 use lib.Ieee.{Float}
@@ -11,13 +10,11 @@ use Rattle.linalg.specs.Vector.{vec}
 use Rattle.linalg.specs.Matrix.{matOfRows, matTranspose, vecComponent, matCol, matRow, matGet}
 use Rattle.linalg.specs.declared.vector.Vec3.{Vec3}
 use Rattle.linalg.specs.declared.matrix.Mat3.{Mat3}
+use Rattle.linalg.proofs.Answers.{never}
 
 -- the first of three whose test holds
 abbrev third : {A : Type 0} → Bool → Bool → Bool → A → A → A → Answer A
 third p q r a b c = cond p (answers a) (cond q (answers b) (cond r (answers c) (refuses 3)))
-
-never : {A B : Type 0} (a : A) (n : ℕ) → _≡_ {A = Answer A} (answers a) (refuses n) → B
-never a n e = absurd (let z : _≡_ {A = ℕ} 0 1 = cc in omega arith)
 
 -- an entry k of what is read is refused only where the whole is, and then by 3
 then-refused :

@@ -39,12 +39,7 @@ struct Step {
     second: f64,
 }
 
-const END: Step = Step {
-    function: Function::End,
-    arg: 0.0,
-    value: 0.0,
-    second: 0.0,
-};
+const END: Step = Step { function: Function::End, arg: 0.0, value: 0.0, second: 0.0 };
 
 /// No call of the library evaluates more functions than this.
 const MOST_STEPS: usize = 16;
@@ -55,10 +50,7 @@ struct Jacobian {
     cols: [[f64; 3]; 3],
 }
 
-const NO_JACOBIAN: Jacobian = Jacobian {
-    phi: [0.0; 3],
-    cols: [[0.0; 3]; 3],
-};
+const NO_JACOBIAN: Jacobian = Jacobian { phi: [0.0; 3], cols: [[0.0; 3]; 3] };
 
 /// The expected evaluations of one call, and how many of them are done.
 struct Script {
@@ -98,10 +90,7 @@ fn stop(function: Function, arg: f64, step: Step) -> ! {
 #[cold]
 #[inline(never)]
 fn unread(step: Step) -> ! {
-    panic!(
-        "oracle: the call ended and {:?} at {:e} was not evaluated",
-        step.function, step.arg
-    );
+    panic!("oracle: the call ended and {:?} at {:e} was not evaluated", step.function, step.arg);
 }
 
 #[inline(always)]
@@ -118,23 +107,13 @@ fn push(step: Step) {
 /// Expect `function` at `arg` next, and let it return `value`.
 #[inline(always)]
 pub fn expect(function: Function, arg: f64, value: f64) {
-    push(Step {
-        function,
-        arg,
-        value,
-        second: 0.0,
-    });
+    push(Step { function, arg, value, second: 0.0 });
 }
 
 /// Expect sine and cosine of `arg` next.
 #[inline(always)]
 pub fn expect_sin_cos(arg: f64, sin: f64, cos: f64) {
-    push(Step {
-        function: Function::SinCos,
-        arg,
-        value: sin,
-        second: cos,
-    });
+    push(Step { function: Function::SinCos, arg, value: sin, second: cos });
 }
 
 /// Expect a rotation Jacobian at `phi` next, and let it be `cols`.
@@ -152,6 +131,14 @@ pub fn finish() {
         if next != s.len.get() {
             unread(s.steps[next].get());
         }
+    });
+    clear();
+}
+
+/// Forgets what was expected.
+#[inline(always)]
+pub fn clear() {
+    SCRIPT.with(|s| {
         s.steps[0].set(END);
         s.len.set(0);
         s.next.set(0);
@@ -237,11 +224,19 @@ impl Real for H {
     }
     #[inline(always)]
     fn select(m: bool, t: Self, f: Self) -> Self {
-        if m { t } else { f }
+        if m {
+            t
+        } else {
+            f
+        }
     }
     #[inline(always)]
     fn branch<T: Blend<Self>>(m: bool, t: impl FnOnce() -> T, f: impl FnOnce() -> T) -> T {
-        if m { t() } else { f() }
+        if m {
+            t()
+        } else {
+            f()
+        }
     }
     #[inline(always)]
     fn abs(self) -> Self {
@@ -274,7 +269,10 @@ impl Real for H {
     }
     #[cold]
     fn atan2(self, x: Self) -> Self {
-        panic!("oracle: the Rust evaluates atan2({:e}, {:e}), which the paper hands in nowhere", self.0, x.0);
+        panic!(
+            "oracle: the Rust evaluates atan2({:e}, {:e}), which the paper hands in nowhere",
+            self.0, x.0
+        );
     }
 
     #[inline]

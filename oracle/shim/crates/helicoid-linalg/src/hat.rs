@@ -8,9 +8,5 @@ use crate::vector::{Vec3, Vector};
 #[inline]
 pub fn hat<S: Real>(v: Vec3<S>) -> Mat3<S> {
     let ([x, y, z], o) = (v.0, S::zero());
-    Matrix::from_rows([
-        Vector([o, -z, y]),
-        Vector([z, o, -x]),
-        Vector([-y, x, o]),
-    ])
+    Matrix::from_rows([Vector([o, -z, y]), Vector([z, o, -x]), Vector([-y, x, o])])
 }

@@ -103,11 +103,7 @@ pub trait Real:
     fn le(self, o: Self) -> Self::Mask;
     fn select(m: Self::Mask, t: Self, f: Self) -> Self;
     /// One of two evaluations; the other is not begun.
-    fn branch<T: Blend<Self>>(
-        m: Self::Mask,
-        t: impl FnOnce() -> T,
-        f: impl FnOnce() -> T,
-    ) -> T;
+    fn branch<T: Blend<Self>>(m: Self::Mask, t: impl FnOnce() -> T, f: impl FnOnce() -> T) -> T;
 
     fn abs(self) -> Self;
     fn copysign(self, sign: Self) -> Self;
@@ -151,11 +147,19 @@ impl Real for f64 {
     }
     #[inline(always)]
     fn select(m: bool, t: Self, f: Self) -> Self {
-        if m { t } else { f }
+        if m {
+            t
+        } else {
+            f
+        }
     }
     #[inline(always)]
     fn branch<T: Blend<Self>>(m: bool, t: impl FnOnce() -> T, f: impl FnOnce() -> T) -> T {
-        if m { t() } else { f() }
+        if m {
+            t()
+        } else {
+            f()
+        }
     }
     #[inline(always)]
     fn abs(self) -> Self {

@@ -1,7 +1,7 @@
 //! Shim of `helicoid`'s root: it declares the published files and the absent ones that they name,
 //! and `judge`, which calls the published functions on plain numbers.
 
-#![allow(dead_code)]
+#![allow(dead_code, unused_imports)]
 
 mod coeffs;
 pub mod judge;

@@ -21,12 +21,7 @@ fn row<S: Real>(c: sim3::Sim3Coeffs<S>) -> Row<S> {
 #[inline(always)]
 pub(crate) fn from_row<S: Real>(r: Row<S>) -> sim3::Sim3Coeffs<S> {
     let [v0, v1, v2, w0, w1, w2, dv1, dv2, chi_delta] = r;
-    sim3::Sim3Coeffs {
-        v: [v0, v1, v2],
-        w: [w0, w1, w2],
-        dv: [dv1, dv2],
-        chi_delta,
-    }
+    sim3::Sim3Coeffs { v: [v0, v1, v2], w: [w0, w1, w2], dv: [dv1, dv2], chi_delta }
 }
 
 /// `(k, cos θ/2)`.
@@ -100,4 +95,13 @@ pub const CIRCLE_ROWS: [[f64; 16]; 5] = [
     super::generated::SWEPT_A_F64,
     super::generated::SWEPT_B_F64,
     super::generated::SWEPT_D_F64,
+];
+
+/// How many terms of each of those rows a whole arm reads.
+pub const CIRCLE_TERMS: [usize; 5] = [
+    super::generated::K_F64.series.len(),
+    super::generated::COS_HALF_F64.series.len(),
+    super::generated::A_F64.series.len(),
+    super::generated::B_F64.series.len(),
+    super::generated::D_F64.series.len(),
 ];

@@ -1,0 +1,13 @@
+-- `circle::kernel::a_from` meets its contract: operation by operation, as the definition has it. Assumes nothing.
+use mathlib.Core.Path.{refl}
+use Rattle.circle.specs.Kernel.{exactA}
+use lib.Ieee.{ofBits}
+use Rattle.circle.proofs.kernel.a_from.Statement.{statement}
+use Rattle.circle.proofs.kernel.a_from.Tie as tie
+
+returns : tie.Need-returns
+unfolding exactA ofBits
+returns c = refl
+
+pub a-from-spec : {M : Type 1} → statement M
+a-from-spec = tie.close (tie.spec returns)

@@ -1,0 +1,13 @@
+-- `circle::kernel::d_from` meets its contract: operation by operation, as the definition has it. Assumes nothing.
+use mathlib.Core.Path.{refl}
+use Rattle.circle.specs.Kernel.{exactD}
+use lib.Ieee.{ofBits}
+use Rattle.circle.proofs.kernel.d_from.Statement.{statement}
+use Rattle.circle.proofs.kernel.d_from.Tie as tie
+
+returns : tie.Need-returns
+unfolding exactD ofBits
+returns c = refl
+
+pub d-from-spec : {M : Type 1} → statement M
+d-from-spec = tie.close (tie.spec returns)

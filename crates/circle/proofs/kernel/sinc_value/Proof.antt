@@ -1,0 +1,16 @@
+-- `circle::kernel::sinc_value` meets its contract: by what its calls ensure and its tests say. Assumes nothing.
+use borrow.Author.Needs.{needs}
+use Rattle.circle.specs.Kernel.{sincTold, circleSincAnswer, circleSinc}
+use Rattle.circle.proofs.kernel.sinc_value.Statement.{statement}
+use Rattle.circle.proofs.kernel.sinc_value.Tie as tie
+
+returns : tie.Need-returns
+unfolding sincTold circleSincAnswer circleSinc
+returns c = simp (c .if1 .taken, ← c .before .negative .ensures)
+
+returns-2 : tie.Need-returns-2
+unfolding sincTold circleSincAnswer circleSinc
+returns-2 c = simp (c .sinc-from .ensures, c .before .exp-group .ensures, c .before .before .if1 .left, ← c .before .before .before .negative .ensures)
+
+pub sinc-value-spec : {M : Type 1} → statement M
+sinc-value-spec = tie.close (tie.spec (λ c κs. search needs) returns (λ c κs. search needs) (λ c κs. search needs) returns-2)

@@ -1,0 +1,105 @@
+-- The circle functions at a squared angle z, with its root, the sine sh and cosine ch of half the root and the sine s of the root handed in.
+use mathlib.Core.List.{List, [], _∷_}
+use mathlib.Core.Bool.{Bool, cond}
+use Prim.Native.Nat.{ℕ}
+use lib.ListN.{take}
+use lib.Ieee.{Float, Format, add, sub, mul, div, lt}
+use Rattle.ieee.specs.Numbers.{f0, f1, f2, half}
+use Rattle.linalg.specs.Answer.{Answer, answers, refuses}
+use Rattle.circle.specs.Tables.{Row, cosHalfRow, kRow, aRow, bRow, dRow, rowTable, rowTerms, rowLimit, shortTerms, expShortLimit, fiveShortLimit}
+use Rattle.circle.specs.declared.kernel.ExpCoeffs.{ExpCoeffs}
+use Rattle.circle.specs.declared.kernel.SincABD.{SincABD}
+use Rattle.circle.specs.declared.kernel.ExpCoeffsAnswer.{ExpCoeffsAnswer}
+use Rattle.circle.specs.declared.kernel.ExpCoeffsAnswer.the-variants as exp
+use Rattle.circle.specs.declared.kernel.SincABDAnswer.{SincABDAnswer}
+use Rattle.circle.specs.declared.kernel.SincABDAnswer.the-variants as abd
+use Rattle.circle.specs.declared.kernel.SincAnswer.{SincAnswer}
+use Rattle.circle.specs.declared.kernel.SincAnswer.the-variants as sinc
+
+-- ---- what each case of an answer says
+unfoldable pub expCoeffsTold : ExpCoeffsAnswer → Answer ExpCoeffs
+expCoeffsTold (exp.Coeffs c) = answers c
+expCoeffsTold (exp.Refused n) = refuses n
+
+unfoldable pub sincABDTold : SincABDAnswer → Answer SincABD
+sincABDTold (abd.Coeffs c) = answers c
+sincABDTold (abd.Refused n) = refuses n
+
+unfoldable pub sincTold : SincAnswer → Answer Float
+sincTold (sinc.Number x) = answers x
+sincTold (sinc.Refused n) = refuses n
+
+-- ---- series
+-- t₀ ⊕ z ⊗ (t₁ ⊕ z ⊗ ..); the innermost sum is the last term itself, and not that term plus z ⊗ 0
+unfoldable pub hornerSum : Format → Float → List Float → Float
+hornerSum f z [] = f0
+hornerSum f z (t ∷ []) = t
+hornerSum f z (t ∷ u ∷ ts) = add f t (mul f z (hornerSum f z (u ∷ ts)))
+
+-- the first n terms of a row
+unfoldable pub rowSeries : Format → Row → ℕ → Float → Float
+rowSeries f row n z = hornerSum f z (take n (rowTable f row))
+
+unfoldable pub rowShort : Format → Row → Float → Float
+rowShort f row z = rowSeries f row (shortTerms f) z
+
+unfoldable pub rowWhole : Format → Row → Float → Float
+rowWhole f row z = rowSeries f row (rowTerms f row) z
+
+-- ---- exact forms; k is sh ⊘ root, and cosine-half is ch
+unfoldable pub exactA : Format → Float → Float → Float
+exactA f z sh = div f (mul f (mul f f2 sh) sh) z
+
+unfoldable pub exactB : Format → Float → Float → Float → Float
+exactB f z root s = div f (sub f f1 (div f s root)) z
+
+unfoldable pub exactD : Format → Float → Float → Float
+exactD f z a = div f (sub f half a) z
+
+-- ---- a member of a group
+-- by its own limit: the whole series below it, else the exact form, which a NaN takes too
+unfoldable pub rowOwn : Format → Row → Float → Float → Float
+rowOwn f row z exact = cond (lt z (rowLimit f row)) (rowWhole f row z) exact
+
+-- the short series where the group takes it, else by its own limit
+unfoldable pub rowMember : Format → Bool → Row → Float → Float → Float
+rowMember f short row z exact = cond short (rowShort f row z) (rowOwn f row z exact)
+
+-- ---- the groups: all members are on the short series together, below the group's limit
+unfoldable pub circleExp : Format → Float → Float → Float → Float → ExpCoeffs
+circleExp f z root sh ch =
+    let short = lt z (expShortLimit f) in
+    record { k = rowMember f short kRow z (div f sh root); «cos_half» = rowMember f short cosHalfRow z ch }
+
+-- sin x / x from k and cosine-half
+unfoldable pub sincFrom : Format → Float → Float → Float
+sincFrom f k ch = mul f (mul f f2 k) ch
+
+unfoldable pub circleSinc : Format → Float → Float → Float → Float → Float
+circleSinc f z root sh ch =
+    let c = circleExp f z root sh ch in
+    sincFrom f (c .k) (c .«cos_half»)
+
+unfoldable pub circleSincABD : Format → Float → Float → Float → Float → Float → SincABD
+circleSincABD f z root sh ch s =
+    let short = lt z (fiveShortLimit f) in
+    let a = exactA f z sh in
+    record {
+      sinc = sincFrom f (rowMember f short kRow z (div f sh root)) (rowMember f short cosHalfRow z ch);
+      a = rowMember f short aRow z a;
+      b = rowMember f short bRow z (exactB f z root s);
+      d = rowMember f short dRow z (exactD f z a);
+    }
+
+-- ---- the entries: refusal 1 for z below zero, which -0 and NaN are not
+abbrev pub notBelowZero : {A : Type 0} → Float → A → Answer A
+notBelowZero z x = cond (lt z f0) (refuses 1) (answers x)
+
+unfoldable pub circleExpAnswer : Format → Float → Float → Float → Float → Answer ExpCoeffs
+circleExpAnswer f z root sh ch = notBelowZero z (circleExp f z root sh ch)
+
+unfoldable pub circleSincAnswer : Format → Float → Float → Float → Float → Answer Float
+circleSincAnswer f z root sh ch = notBelowZero z (circleSinc f z root sh ch)
+
+unfoldable pub circleSincABDAnswer : Format → Float → Float → Float → Float → Float → Answer SincABD
+circleSincABDAnswer f z root sh ch s = notBelowZero z (circleSincABD f z root sh ch s)

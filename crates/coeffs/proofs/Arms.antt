@@ -1,0 +1,109 @@
+-- The entries hand a refusal of their arm upward, and what the arm answers is what the entry answers: g makes the entry's numbers of the arm's. Assumes nothing.
+use mathlib.Core.Path.{_≡_, refl, sym, ap, _∙_}
+use Prim.Native.Nat.{ℕ, _≤_}
+use mathlib.Core.Bool.{Bool, true, false, cond}
+use borrow.Author.Tests.{le-ltb}
+use lib.Dec.{ltb}
+use lib.Ieee.{Float, Format, neg, mul, lt, le}
+use Rattle.ieee.specs.Numbers.{f0}
+use Rattle.linalg.specs.Answer.{Answer, answers, refuses, andThen}
+use Rattle.linalg.specs.Vector.{vecNormSq}
+use Rattle.linalg.specs.declared.vector.Vec3.{Vec3}
+use Rattle.linalg.proofs.Answers.{refused-as, answered-as, answered-at, not-refused, both-as}
+use Rattle.circle.specs.Kernel.{notBelowZero, circleSincABD}
+use Rattle.circle.specs.declared.kernel.SincABD.{SincABD}
+use Rattle.circle.proofs.Angle.{norm-not-below}
+use Rattle.series.specs.Series.{seriesFull, seriesV, coeffs4, seriesGuard, seriesAnswer, seriesPairAnswer}
+use Rattle.series.specs.declared.sim3.CoeffsPair.{CoeffsPair}
+use Rattle.coeffs.specs.Limits.{coeffsDelta, seriesBelow, formBBelow, w0Below, seriesDepth}
+use Rattle.coeffs.specs.Closed.{closedFrom, closedVFrom, closedNine}
+use Rattle.coeffs.specs.Group.{coeffsScaled, coeffsVScaled, coeffsUnscale, coeffsUnscaleV, coeffsPlain, coeffsV}
+use Rattle.coeffs.specs.declared.values.Values.{Values}
+use Rattle.coeffs.specs.declared.sim3.Scaled.{Scaled}
+use Rattle.coeffs.specs.declared.sim3.VScaled.{VScaled}
+
+-- ---- the series arm: its answer x at a term count that is not refused
+guard-is : {A : Type 0} (z : Float) (k : ℕ) (a : A) → k ≤ 64 → seriesGuard z k a ≡ notBelowZero z a
+guard-is z k a h = rw (le-ltb 64 k h) refl
+
+pub series-answers : {A B : Type 0} (z : Float) (k : ℕ) (x c : A) (y : B) (g : A → B) → k ≤ 64 → y ≡ g x → seriesGuard z k x ≡ answers c → notBelowZero z y ≡ answers (g c)
+series-answers z k x c y g h e r = ap (notBelowZero z) e ∙ answered-as (lt z f0) 1 x c g (sym (guard-is z k x h) ∙ r)
+
+pub series-refuses : {A B : Type 0} (z : Float) (k n : ℕ) (x : A) (y : B) → k ≤ 64 → seriesGuard z k x ≡ refuses n → notBelowZero z y ≡ refuses n
+series-refuses z k n x y h r = refused-as (lt z f0) 1 n x y (sym (guard-is z k x h) ∙ r)
+
+-- ---- any other arm
+pub arm-answers : {A B : Type 0} (z : Float) (x c : A) (y : B) (g : A → B) → y ≡ g x → notBelowZero z x ≡ answers c → notBelowZero z y ≡ answers (g c)
+arm-answers z x c y g e r = ap (notBelowZero z) e ∙ answered-as (lt z f0) 1 x c g r
+
+pub arm-refuses : {A B : Type 0} (z : Float) (n : ℕ) (x : A) (y : B) → notBelowZero z x ≡ refuses n → notBelowZero z y ≡ refuses n
+arm-refuses z n x y r = refused-as (lt z f0) 1 n x y r
+
+-- ---- at |φ|², which is not below zero, the answer is given
+pub angle-answers : {A : Type 0} (f : Format) (phi : Vec3) (x c : A) → notBelowZero (vecNormSq f phi) x ≡ answers c → c ≡ x
+angle-answers f phi x c r = sym (answered-at (lt (vecNormSq f phi) f0) 1 x c (norm-not-below f phi) r)
+
+pub angle-refuses : {A B : Type 0} (f : Format) (phi : Vec3) (n : ℕ) (x : A) → notBelowZero (vecNormSq f phi) x ≡ refuses n → B
+angle-refuses f phi n x r = not-refused (lt (vecNormSq f phi) f0) 1 n x (norm-not-below f phi) r
+
+-- ---- one sign: which arm
+pub scaled-series : (f : Format) (sigma z : Float) (v : Values) (k : ℕ) → lt (coeffsDelta f sigma z) (seriesBelow f) ≡ true → k ≡ seriesDepth f (coeffsDelta f sigma z) → coeffsScaled f sigma z v ≡ record { c = seriesFull f sigma z k; scaled = false }
+unfolding coeffsScaled
+scaled-series f sigma z v k t e = rw (t, e) refl
+
+pub scaled-closed :
+    (f : Format) (sigma z : Float) (v : Values) → lt (coeffsDelta f sigma z) (seriesBelow f) ≡ false →
+    coeffsScaled f sigma z v
+    ≡ record {
+      c = closedFrom f sigma z (circleSincABD f z (v .root) (v .«sin_half») (v .«cos_half») (v .sin)) (v .e) (v .m) (le (formBBelow f) (coeffsDelta f sigma z)) (lt (mul f sigma sigma) (w0Below f));
+      scaled = lt f0 sigma;
+    }
+unfolding coeffsScaled
+scaled-closed f sigma z v t = rw t refl
+
+-- ---- both signs behind the series' tests
+guards : {A B C : Type 0} (s t : Bool) (a : A) (b : B) (g : A → B → C) → andThen (cond s (refuses 1) (cond t (refuses 4) (answers a))) (λ x. andThen (cond s (refuses 1) (cond t (refuses 4) (answers b))) (λ y. answers (g x y))) ≡ cond s (refuses 1) (cond t (refuses 4) (answers (g a b)))
+guards true t a b g = refl
+guards false true a b g = refl
+guards false false a b g = refl
+
+pub series-pair-is : (f : Format) (sigma z : Float) (k : ℕ) → seriesPairAnswer f sigma z k ≡ seriesGuard z k (record { pos = seriesFull f sigma z k; neg = seriesFull f (neg sigma) z k })
+unfolding seriesPairAnswer seriesAnswer
+series-pair-is f sigma z k = guards (lt z f0) (ltb 64 k) (seriesFull f sigma z k) (seriesFull f (neg sigma) z k) (λ p n. record { pos = p; neg = n })
+
+-- ---- v and χΔ alone: which arm
+pub v-series : (f : Format) (sigma z : Float) (v : Values) (k : ℕ) → lt (coeffsDelta f sigma z) (seriesBelow f) ≡ true → k ≡ seriesDepth f (coeffsDelta f sigma z) → coeffsVScaled f sigma z v ≡ record { c = seriesV f sigma z k; scaled = false }
+unfolding coeffsVScaled seriesV
+v-series f sigma z v k t e = rw (scaled-series f sigma z v k t e) refl
+
+pub v-closed :
+    (f : Format) (sigma z : Float) (v : Values) → lt (coeffsDelta f sigma z) (seriesBelow f) ≡ false →
+    coeffsVScaled f sigma z v
+    ≡ record {
+      c = closedVFrom f sigma z (circleSincABD f z (v .root) (v .«sin_half») (v .«cos_half») (v .sin)) (v .e) (v .m) (le (formBBelow f) (coeffsDelta f sigma z)) (lt (mul f sigma sigma) (w0Below f));
+      scaled = lt f0 sigma;
+    }
+unfolding coeffsVScaled coeffs4 closedFrom closedNine
+v-closed f sigma z v t = rw (scaled-closed f sigma z v t) refl
+
+-- ---- the closed arm, from what the circle functions answer
+pub scaled-closed-answers :
+    (f : Format) (sigma z : Float) (v : Values) (t : SincABD) → lt (coeffsDelta f sigma z) (seriesBelow f) ≡ false → notBelowZero z (circleSincABD f z (v .root) (v .«sin_half») (v .«cos_half») (v .sin)) ≡ answers t →
+    notBelowZero z (coeffsScaled f sigma z v) ≡ answers (record { c = closedFrom f sigma z t (v .e) (v .m) (le (formBBelow f) (coeffsDelta f sigma z)) (lt (mul f sigma sigma) (w0Below f)); scaled = lt f0 sigma })
+scaled-closed-answers f sigma z v t h r =
+    arm-answers z _ t _ (λ x. record { c = closedFrom f sigma z x (v .e) (v .m) (le (formBBelow f) (coeffsDelta f sigma z)) (lt (mul f sigma sigma) (w0Below f)); scaled = lt f0 sigma }) (scaled-closed f sigma z v h) r
+
+pub v-closed-answers :
+    (f : Format) (sigma z : Float) (v : Values) (t : SincABD) → lt (coeffsDelta f sigma z) (seriesBelow f) ≡ false → notBelowZero z (circleSincABD f z (v .root) (v .«sin_half») (v .«cos_half») (v .sin)) ≡ answers t →
+    notBelowZero z (coeffsVScaled f sigma z v) ≡ answers (record { c = closedVFrom f sigma z t (v .e) (v .m) (le (formBBelow f) (coeffsDelta f sigma z)) (lt (mul f sigma sigma) (w0Below f)); scaled = lt f0 sigma })
+v-closed-answers f sigma z v t h r =
+    arm-answers z _ t _ (λ x. record { c = closedVFrom f sigma z x (v .e) (v .m) (le (formBBelow f) (coeffsDelta f sigma z)) (lt (mul f sigma sigma) (w0Below f)); scaled = lt f0 sigma }) (v-closed f sigma z v h) r
+
+-- ---- unscaled, from the scaled answer
+pub plain-answers : (f : Format) (sigma z : Float) (v : Values) (s : Scaled) → notBelowZero z (coeffsScaled f sigma z v) ≡ answers s → notBelowZero z (coeffsPlain f sigma z v) ≡ answers (coeffsUnscale f (s .c) (v .up) (s .scaled))
+unfolding coeffsPlain
+plain-answers f sigma z v s r = arm-answers z _ s _ (λ (x : Scaled). coeffsUnscale f (x .c) (v .up) (x .scaled)) refl r
+
+pub v-answers : (f : Format) (sigma z : Float) (v : Values) (s : VScaled) → notBelowZero z (coeffsVScaled f sigma z v) ≡ answers s → notBelowZero z (coeffsV f sigma z v) ≡ answers (coeffsUnscaleV f (s .c) (v .up) (s .scaled))
+unfolding coeffsV coeffsPlain coeffsVScaled coeffs4 coeffsUnscale coeffsUnscaleV
+v-answers f sigma z v s r = arm-answers z _ s _ (λ (x : VScaled). coeffsUnscaleV f (x .c) (v .up) (x .scaled)) refl r

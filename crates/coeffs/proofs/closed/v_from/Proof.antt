@@ -1,0 +1,14 @@
+-- `coeffs::closed::v_from` meets its contract: by what its calls ensure and its tests say. Assumes nothing.
+use borrow.Author.Needs.{needs}
+use Rattle.coeffs.specs.Closed.{closedV}
+use Rattle.coeffs.specs.Limits.{coeffsDelta}
+use lib.Ieee.{ofBits}
+use Rattle.coeffs.proofs.closed.v_from.Statement.{statement}
+use Rattle.coeffs.proofs.closed.v_from.Tie as tie
+
+returns : tie.Need-returns
+unfolding closedV coeffsDelta ofBits
+returns c = simp (c .pick .ensures)
+
+pub v-from-spec : {M : Type 1} → statement M
+v-from-spec = tie.close (tie.spec (λ c κs. search needs) returns)

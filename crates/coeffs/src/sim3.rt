@@ -1,0 +1,352 @@
+// The entries of the coefficient group: scaled, unscaled, v alone, and the pair for both signs.
+ghost use mathlib.Core.Path.{_≡_};
+ghost use Prim.Native.Nat.{_≤_};
+ghost use lib.Ieee.{binary64, neg, mul, lt, le};
+ghost use Rattle.linalg.specs.Vector.{vecNormSq};
+ghost use Rattle.coeffs.specs.Values.{mirrored};
+ghost use Rattle.coeffs.specs.Limits.{seriesBelow, formBBelow, w0Below, seriesDepth};
+ghost use Rattle.coeffs.specs.Group.{coeffsScaled, coeffsUnscale, coeffsUnscaleV, coeffsPlain, coeffsV, coeffsPair};
+ghost use Rattle.coeffs.specs.Shared.{closedPair};
+ghost use Rattle.coeffs.specs.Entries.{scaledTold, coeffsTold, vTold, vScaledTold, pairTold, scaledAnswer, coeffsAnswer, vAnswer, vScaledAnswer, pairAnswer};
+use crate::closed::closed_from;
+use crate::closed::closed_v;
+use crate::values::Values;
+use crate::values::at_zero;
+use circle::kernel::SincABD;
+use circle::kernel::SincABDAnswer;
+use linalg::vector::Vec3;
+use series::sim3::Coeffs4;
+use series::sim3::CoeffsPair;
+use series::sim3::SeriesAnswer;
+use series::sim3::SeriesPairAnswer;
+use series::sim3::SeriesVAnswer;
+use series::sim3::Sim3Coeffs;
+
+// The coefficients as their arm forms them: scaled by e^-sigma where `scaled`.
+pub struct Scaled {
+    pub c: Sim3Coeffs,
+    pub scaled: bool,
+}
+
+// v and chi_delta alone, as their arm forms them.
+pub struct VScaled {
+    pub c: Coeffs4,
+    pub scaled: bool,
+}
+
+// The coefficients at sigma and at -sigma.
+pub struct ScaledPair {
+    pub pos: Scaled,
+    pub neg: Scaled,
+}
+
+// The answers of the entries: the coefficients, or refusal 1.
+pub enum ScaledAnswer {
+    Coeffs(Scaled),
+    Refused(u8),
+}
+
+pub enum CoeffsAnswer {
+    Coeffs(Sim3Coeffs),
+    Refused(u8),
+}
+
+pub enum VAnswer {
+    Coeffs(Coeffs4),
+    Refused(u8),
+}
+
+pub enum VScaledAnswer {
+    Coeffs(VScaled),
+    Refused(u8),
+}
+
+pub enum PairAnswer {
+    Coeffs(ScaledPair),
+    Refused(u8),
+}
+
+// Whether delta is on the series arm. A NaN is not.
+fn on_series(delta: f64) -> bool
+    ensures { λ r. ⌜ r ≡ lt delta (seriesBelow binary64) ⌝ }
+{
+    delta < 1.9809567785503388
+}
+
+// Whether v1 takes its form b.
+fn on_form_b(delta: f64) -> bool
+    ensures { λ r. ⌜ r ≡ le (formBBelow binary64) delta ⌝ }
+{
+    1.9809567785503388 <= delta
+}
+
+// Whether the closed arm sums v0 and w0 by their series.
+fn w0_small(sigma: f64) -> bool
+    ensures { λ r. ⌜ r ≡ lt (mul binary64 sigma sigma) (w0Below binary64) ⌝ }
+{
+    sigma * sigma < 0.5829415347136074
+}
+
+// The series' term count at delta.
+fn depth(delta: f64) -> usize
+    ensures { λ r. ⌜ (r ≡ seriesDepth binary64 delta) × (r ≤ 64) ⌝ }
+{
+    if delta < 5.424690937011326e-5 {
+        return 6;
+    }
+    if delta < 0.042169650342858224 {
+        return 11;
+    }
+    if delta < 0.26416483203860924 {
+        return 14;
+    }
+    19
+}
+
+// The coefficients at (sigma, z = theta^2) and whether they are scaled; refusal 1 for z < 0.
+pub fn sim3_coeffs_scaled(sigma: f64, z: f64, v: Values) -> ScaledAnswer
+    ensures { λ r. ⌜ scaledTold r ≡ scaledAnswer binary64 sigma z v ⌝ }
+{
+    let delta = sigma * sigma + z;
+    if on_series(delta) {
+        match series::sim3::series(sigma, z, depth(delta)) {
+            SeriesAnswer::Coeffs(c) => {
+                return ScaledAnswer::Coeffs(Scaled { c, scaled: false });
+            }
+            SeriesAnswer::Refused(n) => {
+                return ScaledAnswer::Refused(n);
+            }
+        }
+    }
+    match circle::kernel::sinc_a_b_d(z, v.root, v.sin_half, v.cos_half, v.sin) {
+        SincABDAnswer::Coeffs(t) => {
+            let form_b = on_form_b(delta);
+            let small = w0_small(sigma);
+            let c = closed_from(sigma, z, t, v.e, v.m, form_b, small);
+            ScaledAnswer::Coeffs(Scaled {
+                c,
+                scaled: 0.0 < sigma,
+            })
+        }
+        SincABDAnswer::Refused(n) => ScaledAnswer::Refused(n),
+    }
+}
+
+// c times up where scaled, c times 1 elsewhere: the last step of the scaled form.
+pub fn unscale(c: Sim3Coeffs, up: f64, scaled: bool) -> Sim3Coeffs
+    ensures { λ r. ⌜ r ≡ coeffsUnscale binary64 c up scaled ⌝ }
+{
+    let s = ieee::pick(scaled, up, 1.0);
+    Sim3Coeffs {
+        v0: s * c.v0,
+        v1: s * c.v1,
+        v2: s * c.v2,
+        w0: s * c.w0,
+        w1: s * c.w1,
+        w2: s * c.w2,
+        dv1: s * c.dv1,
+        dv2: s * c.dv2,
+        chi_delta: s * c.chi_delta,
+    }
+}
+
+// The coefficients at (sigma, z), unscaled; refusal 1 for z < 0.
+pub fn sim3_coeffs(sigma: f64, z: f64, v: Values) -> CoeffsAnswer
+    ensures { λ r. ⌜ coeffsTold r ≡ coeffsAnswer binary64 sigma z v ⌝ }
+{
+    match sim3_coeffs_scaled(sigma, z, v) {
+        ScaledAnswer::Coeffs(s) => {
+            let c = s.c;
+            CoeffsAnswer::Coeffs(unscale(c, v.up, s.scaled))
+        }
+        ScaledAnswer::Refused(n) => CoeffsAnswer::Refused(n),
+    }
+}
+
+// v and chi_delta of sim3_coeffs_scaled alone: the same bits.
+pub fn sim3_v_scaled(sigma: f64, z: f64, v: Values) -> VScaledAnswer
+    ensures { λ r. ⌜ vScaledTold r ≡ vScaledAnswer binary64 sigma z v ⌝ }
+{
+    let delta = sigma * sigma + z;
+    if on_series(delta) {
+        match series::sim3::series_v(sigma, z, depth(delta)) {
+            SeriesVAnswer::Coeffs(c) => {
+                return VScaledAnswer::Coeffs(VScaled { c, scaled: false });
+            }
+            SeriesVAnswer::Refused(n) => {
+                return VScaledAnswer::Refused(n);
+            }
+        }
+    }
+    match circle::kernel::sinc_a_b_d(z, v.root, v.sin_half, v.cos_half, v.sin) {
+        SincABDAnswer::Coeffs(t) => {
+            let form_b = on_form_b(delta);
+            let small = w0_small(sigma);
+            let c = closed_v(sigma, z, t, v.e, v.m, form_b, small);
+            VScaledAnswer::Coeffs(VScaled {
+                c,
+                scaled: 0.0 < sigma,
+            })
+        }
+        SincABDAnswer::Refused(n) => VScaledAnswer::Refused(n),
+    }
+}
+
+// unscale on v and chi_delta alone.
+fn unscale_v(c: Coeffs4, up: f64, scaled: bool) -> Coeffs4
+    ensures { λ r. ⌜ r ≡ coeffsUnscaleV binary64 c up scaled ⌝ }
+{
+    let s = ieee::pick(scaled, up, 1.0);
+    Coeffs4 {
+        v0: s * c.v0,
+        v1: s * c.v1,
+        v2: s * c.v2,
+        chi_delta: s * c.chi_delta,
+    }
+}
+
+// v and chi_delta of sim3_coeffs alone: the same bits; refusal 1 for z < 0.
+pub fn sim3_v(sigma: f64, z: f64, v: Values) -> VAnswer
+    ensures { λ r. ⌜ vTold r ≡ vAnswer binary64 sigma z v ⌝ }
+{
+    match sim3_v_scaled(sigma, z, v) {
+        VScaledAnswer::Coeffs(s) => {
+            let c = s.c;
+            VAnswer::Coeffs(unscale_v(c, v.up, s.scaled))
+        }
+        VScaledAnswer::Refused(n) => VAnswer::Refused(n),
+    }
+}
+
+// The closed arm at sigma and at -sigma, from the same circle functions t: delta, form b and the
+// limit on sigma^2 are even in sigma.
+fn closed_pair(sigma: f64, z: f64, delta: f64, t: SincABD, v: Values) -> ScaledPair
+    ensures { λ r. ⌜ r ≡ closedPair binary64 sigma z delta t v ⌝ }
+{
+    let form_b = on_form_b(delta);
+    let small = w0_small(sigma);
+    let minus = -sigma;
+    let zero = at_zero(sigma);
+    let e = ieee::pick(zero, v.e0, v.e);
+    let m = ieee::pick(zero, v.m0, v.m);
+    let a = closed_from(sigma, z, t, v.e, v.m, form_b, small);
+    let b = closed_from(minus, z, t, e, m, form_b, small);
+    ScaledPair {
+        pos: Scaled {
+            c: a,
+            scaled: 0.0 < sigma,
+        },
+        neg: Scaled {
+            c: b,
+            scaled: 0.0 < minus,
+        },
+    }
+}
+
+// sim3_coeffs_scaled at sigma and at -sigma, the latter on the mirrored values, each to the bit:
+// the arm, the circle functions, the exponential's values and the recurrence are shared.
+pub fn sim3_coeffs_scaled_pair(sigma: f64, z: f64, v: Values) -> PairAnswer
+    ensures { λ r. ⌜ pairTold r ≡ pairAnswer binary64 sigma z v ⌝ }
+{
+    let delta = sigma * sigma + z;
+    if on_series(delta) {
+        match series::pair::series_pair(sigma, z, depth(delta)) {
+            SeriesPairAnswer::Coeffs(p) => {
+                let a = p.pos;
+                let b = p.neg;
+                let pos = Scaled {
+                    c: a,
+                    scaled: false,
+                };
+                let neg = Scaled {
+                    c: b,
+                    scaled: false,
+                };
+                return PairAnswer::Coeffs(ScaledPair { pos, neg });
+            }
+            SeriesPairAnswer::Refused(n) => {
+                return PairAnswer::Refused(n);
+            }
+        }
+    }
+    match circle::kernel::sinc_a_b_d(z, v.root, v.sin_half, v.cos_half, v.sin) {
+        SincABDAnswer::Coeffs(t) => PairAnswer::Coeffs(closed_pair(sigma, z, delta, t, v)),
+        SincABDAnswer::Refused(n) => PairAnswer::Refused(n),
+    }
+}
+
+// ---- the same at z = |phi|^2, which is never below zero: nothing is refused, and the refusing arm
+// of each match is never taken.
+
+fn no_coeffs() -> Sim3Coeffs
+    ensures { λ r. ⌜ r ≡ r ⌝ }
+{
+    Sim3Coeffs {
+        v0: 0.0,
+        v1: 0.0,
+        v2: 0.0,
+        w0: 0.0,
+        w1: 0.0,
+        w2: 0.0,
+        dv1: 0.0,
+        dv2: 0.0,
+        chi_delta: 0.0,
+    }
+}
+
+// sim3_coeffs_scaled at |phi|^2.
+pub fn sim3_coeffs_scaled_of(phi: Vec3, sigma: f64, v: Values) -> Scaled
+    ensures { λ r. ⌜ r ≡ coeffsScaled binary64 sigma (vecNormSq binary64 phi) v ⌝ }
+{
+    match sim3_coeffs_scaled(sigma, phi.norm_sq(), v) {
+        ScaledAnswer::Coeffs(s) => s,
+        ScaledAnswer::Refused(_) => Scaled {
+            c: no_coeffs(),
+            scaled: false,
+        },
+    }
+}
+
+// sim3_coeffs at |phi|^2.
+pub fn sim3_coeffs_of(phi: Vec3, sigma: f64, v: Values) -> Sim3Coeffs
+    ensures { λ r. ⌜ r ≡ coeffsPlain binary64 sigma (vecNormSq binary64 phi) v ⌝ }
+{
+    match sim3_coeffs(sigma, phi.norm_sq(), v) {
+        CoeffsAnswer::Coeffs(c) => c,
+        CoeffsAnswer::Refused(_) => no_coeffs(),
+    }
+}
+
+// sim3_v at |phi|^2.
+pub fn sim3_v_of(phi: Vec3, sigma: f64, v: Values) -> Coeffs4
+    ensures { λ r. ⌜ r ≡ coeffsV binary64 sigma (vecNormSq binary64 phi) v ⌝ }
+{
+    match sim3_v(sigma, phi.norm_sq(), v) {
+        VAnswer::Coeffs(c) => c,
+        VAnswer::Refused(_) => Coeffs4 {
+            v0: 0.0,
+            v1: 0.0,
+            v2: 0.0,
+            chi_delta: 0.0,
+        },
+    }
+}
+
+// sim3_coeffs_scaled_pair at |phi|^2.
+pub fn sim3_coeffs_scaled_pair_of(phi: Vec3, sigma: f64, v: Values) -> ScaledPair
+    ensures { λ r. ⌜ r ≡ coeffsPair binary64 sigma (vecNormSq binary64 phi) v ⌝ }
+{
+    match sim3_coeffs_scaled_pair(sigma, phi.norm_sq(), v) {
+        PairAnswer::Coeffs(p) => p,
+        PairAnswer::Refused(_) => ScaledPair {
+            pos: Scaled {
+                c: no_coeffs(),
+                scaled: false,
+            },
+            neg: Scaled {
+                c: no_coeffs(),
+                scaled: false,
+            },
+        },
+    }
+}

@@ -1,0 +1,5 @@
+pub mod Jac
+pub mod Dense
+pub mod Blocks
+pub mod Side
+pub mod Pair

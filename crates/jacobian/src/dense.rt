@@ -1,0 +1,265 @@
+// 7x7 matrices as 49 numbers, column by column.
+ghost use mathlib.Core.Path.{_≡_};
+ghost use Prim.Native.Nat.{_≤_};
+ghost use lib.Ieee.{binary64};
+ghost use Rattle.linalg.specs.Vector.{vec};
+ghost use Rattle.sim3.specs.Tangent.{tangent};
+ghost use Rattle.jacobian.specs.Dense.{columnAt, sevenOf, sevenFlat, sevenTranspose, sevenApply, jacSandwich, jacDense};
+use crate::jac::Sim3Jac;
+use linalg::vector::Vec3;
+use sim3::tangent::Sim3Tangent;
+
+// Seven columns of seven numbers, each held as a tangent.
+pub struct Seven {
+    pub c0: Sim3Tangent,
+    pub c1: Sim3Tangent,
+    pub c2: Sim3Tangent,
+    pub c3: Sim3Tangent,
+    pub c4: Sim3Tangent,
+    pub c5: Sim3Tangent,
+    pub c6: Sim3Tangent,
+}
+
+// The seven numbers from one, as a tangent.
+fn seven_numbers(a: f64, b: f64, c: f64, d: f64, e: f64, f: f64, g: f64) -> Sim3Tangent
+    ensures { λ r. ⌜ r ≡ tangent (vec a b c) (vec d e f) g ⌝ }
+{
+    Sim3Tangent {
+        phi: Vec3 { x: a, y: b, z: c },
+        rho: Vec3 { x: d, y: e, z: f },
+        sigma: g,
+    }
+}
+
+// The seven numbers from place i on.
+fn column_at(m: &[f64; 49], i: usize) -> Sim3Tangent
+    requires { ⌜ i ≤ 42 ⌝ }
+    ensures { λ r. ⌜ r ≡ columnAt (now (m .entry)) i ⌝ }
+{
+    let phi = Vec3 {
+        x: m[i],
+        y: m[i + 1],
+        z: m[i + 2],
+    };
+    let rho = Vec3 {
+        x: m[i + 3],
+        y: m[i + 4],
+        z: m[i + 5],
+    };
+    Sim3Tangent {
+        phi,
+        rho,
+        sigma: m[i + 6],
+    }
+}
+
+// The columns of a flat matrix.
+fn columns(m: [f64; 49]) -> Seven
+    ensures { λ r. ⌜ r ≡ sevenOf m ⌝ }
+{
+    Seven {
+        c0: column_at(&m, 0),
+        c1: column_at(&m, 7),
+        c2: column_at(&m, 14),
+        c3: column_at(&m, 21),
+        c4: column_at(&m, 28),
+        c5: column_at(&m, 35),
+        c6: column_at(&m, 42),
+    }
+}
+
+// The flat matrix of the columns.
+fn flat(m: Seven) -> [f64; 49]
+    ensures { λ r. ⌜ r ≡ sevenFlat m ⌝ }
+{
+    let a = m.c0;
+    let b = m.c1;
+    let c = m.c2;
+    let d = m.c3;
+    let e = m.c4;
+    let f = m.c5;
+    let g = m.c6;
+    [
+        a.phi.x,
+        a.phi.y,
+        a.phi.z,
+        a.rho.x,
+        a.rho.y,
+        a.rho.z,
+        a.sigma,
+        b.phi.x,
+        b.phi.y,
+        b.phi.z,
+        b.rho.x,
+        b.rho.y,
+        b.rho.z,
+        b.sigma,
+        c.phi.x,
+        c.phi.y,
+        c.phi.z,
+        c.rho.x,
+        c.rho.y,
+        c.rho.z,
+        c.sigma,
+        d.phi.x,
+        d.phi.y,
+        d.phi.z,
+        d.rho.x,
+        d.rho.y,
+        d.rho.z,
+        d.sigma,
+        e.phi.x,
+        e.phi.y,
+        e.phi.z,
+        e.rho.x,
+        e.rho.y,
+        e.rho.z,
+        e.sigma,
+        f.phi.x,
+        f.phi.y,
+        f.phi.z,
+        f.rho.x,
+        f.rho.y,
+        f.rho.z,
+        f.sigma,
+        g.phi.x,
+        g.phi.y,
+        g.phi.z,
+        g.rho.x,
+        g.rho.y,
+        g.rho.z,
+        g.sigma,
+    ]
+}
+
+// Rows for columns.
+fn transpose(m: Seven) -> Seven
+    ensures { λ r. ⌜ r ≡ sevenTranspose m ⌝ }
+{
+    let a = m.c0;
+    let b = m.c1;
+    let c = m.c2;
+    let d = m.c3;
+    let e = m.c4;
+    let f = m.c5;
+    let g = m.c6;
+    Seven {
+        c0: seven_numbers(
+            a.phi.x,
+            b.phi.x,
+            c.phi.x,
+            d.phi.x,
+            e.phi.x,
+            f.phi.x,
+            g.phi.x,
+        ),
+        c1: seven_numbers(
+            a.phi.y,
+            b.phi.y,
+            c.phi.y,
+            d.phi.y,
+            e.phi.y,
+            f.phi.y,
+            g.phi.y,
+        ),
+        c2: seven_numbers(
+            a.phi.z,
+            b.phi.z,
+            c.phi.z,
+            d.phi.z,
+            e.phi.z,
+            f.phi.z,
+            g.phi.z,
+        ),
+        c3: seven_numbers(
+            a.rho.x,
+            b.rho.x,
+            c.rho.x,
+            d.rho.x,
+            e.rho.x,
+            f.rho.x,
+            g.rho.x,
+        ),
+        c4: seven_numbers(
+            a.rho.y,
+            b.rho.y,
+            c.rho.y,
+            d.rho.y,
+            e.rho.y,
+            f.rho.y,
+            g.rho.y,
+        ),
+        c5: seven_numbers(
+            a.rho.z,
+            b.rho.z,
+            c.rho.z,
+            d.rho.z,
+            e.rho.z,
+            f.rho.z,
+            g.rho.z,
+        ),
+        c6: seven_numbers(
+            a.sigma,
+            b.sigma,
+            c.sigma,
+            d.sigma,
+            e.sigma,
+            f.sigma,
+            g.sigma,
+        ),
+    }
+}
+
+fn column(phi: Vec3, rho: Vec3, sigma: f64) -> Sim3Tangent
+    ensures { λ r. ⌜ r ≡ tangent phi rho sigma ⌝ }
+{
+    Sim3Tangent { phi, rho, sigma }
+}
+
+// J applied to each column.
+fn apply_each(j: Sim3Jac, m: Seven) -> Seven
+    ensures { λ r. ⌜ r ≡ sevenApply binary64 j m ⌝ }
+{
+    Seven {
+        c0: j.apply(m.c0),
+        c1: j.apply(m.c1),
+        c2: j.apply(m.c2),
+        c3: j.apply(m.c3),
+        c4: j.apply(m.c4),
+        c5: j.apply(m.c5),
+        c6: j.apply(m.c6),
+    }
+}
+
+// J as 49 numbers, column by column.
+pub fn write_dense(j: Sim3Jac) -> [f64; 49]
+    ensures { λ r. ⌜ r ≡ jacDense j ⌝ }
+{
+    let a = j.a;
+    let b = j.b;
+    let c = j.c;
+    let f = j.f;
+    let none = Vec3 {
+        x: 0.0,
+        y: 0.0,
+        z: 0.0,
+    };
+    flat(Seven {
+        c0: column(a.c0, b.c0, 0.0),
+        c1: column(a.c1, b.c1, 0.0),
+        c2: column(a.c2, b.c2, 0.0),
+        c3: column(none, c.c0, 0.0),
+        c4: column(none, c.c1, 0.0),
+        c5: column(none, c.c2, 0.0),
+        c6: column(none, f, j.e),
+    })
+}
+
+// J cov J^T: M = J cov by columns, then row r of the result is J applied to row r of M.
+pub fn sandwich(j: Sim3Jac, cov: [f64; 49]) -> [f64; 49]
+    ensures { λ r. ⌜ r ≡ jacSandwich binary64 j cov ⌝ }
+{
+    let m = apply_each(j, columns(cov));
+    let rows = apply_each(j, transpose(m));
+    flat(transpose(rows))
+}

@@ -1,0 +1,12 @@
+-- `series::recurrence::gain` meets its contract: operation by operation, as the definition has it. Assumes nothing.
+use mathlib.Core.Path.{refl}
+use Rattle.series.specs.Turns.{sumsGain}
+use Rattle.series.proofs.recurrence.gain.Statement.{statement}
+use Rattle.series.proofs.recurrence.gain.Tie as tie
+
+returns : tie.Need-returns
+unfolding sumsGain
+returns c = refl
+
+pub gain-spec : {M : Type 1} → statement M
+gain-spec = tie.close (tie.spec returns)

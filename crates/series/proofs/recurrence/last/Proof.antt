@@ -1,0 +1,12 @@
+-- `series::recurrence::last` meets its contract: operation by operation, as the definition has it. Assumes nothing.
+use mathlib.Core.Path.{refl}
+use Rattle.series.specs.Turns.{sumsLast}
+use Rattle.series.proofs.recurrence.last.Statement.{statement}
+use Rattle.series.proofs.recurrence.last.Tie as tie
+
+returns : tie.Need-returns
+unfolding sumsLast
+returns c = refl
+
+pub last-spec : {M : Type 1} → statement M
+last-spec = tie.close (tie.spec returns)

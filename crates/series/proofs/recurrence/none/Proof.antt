@@ -1,0 +1,13 @@
+-- `series::recurrence::none` meets its contract: operation by operation, as the definition has it. Assumes nothing.
+use mathlib.Core.Path.{refl}
+use Rattle.series.specs.Turns.{sumsNone}
+use lib.Ieee.{ofBits}
+use Rattle.series.proofs.recurrence.none.Statement.{statement}
+use Rattle.series.proofs.recurrence.none.Tie as tie
+
+returns : tie.Need-returns
+unfolding sumsNone ofBits
+returns c = refl
+
+pub none-spec : {M : Type 1} → statement M
+none-spec = tie.close (tie.spec returns)

@@ -1,0 +1,12 @@
+-- `series::sim3::turn` meets its contract: by what its calls ensure and its tests say. Assumes nothing.
+use borrow.Author.Needs.{needs}
+use Rattle.series.specs.Turns.{soloTurn}
+use Rattle.series.proofs.sim3.turn.Statement.{statement}
+use Rattle.series.proofs.sim3.turn.Tie as tie
+
+returns : tie.Need-returns
+unfolding soloTurn
+returns c = simp (c .gain .ensures, c .before .next .ensures, c .before .before .terms .ensures)
+
+pub turn-spec : {M : Type 1} → statement M
+turn-spec = tie.close (tie.spec (λ c κs. search needs) (λ c κs. search needs) (λ c κs. search needs) returns)

@@ -1,0 +1,43 @@
+-- `series::sim3::turns_v_at` meets its contract: after j turns the loop holds `vTurns` at j, and it stops at k + 1. Assumes nothing.
+use mathlib.Core.Path.{_≡_, refl}
+use Prim.Native.Nat.{_+_, _-_, _≤_}
+use native.Mathlib.Omega.{arith}
+use lib.Ieee.{binary64, ofBits}
+use Rattle.series.specs.Turns.{vTurns}
+use Rattle.series.proofs.Solo.{v-more}
+use Rattle.series.proofs.sim3.turns_v_at.Statement.{statement}
+use Rattle.series.proofs.sim3.turns_v_at.Tie as tie
+
+abbrev Inv-loop : tie.InvT-loop
+Inv-loop sigma z k s₀ j₀ end s j = (j ≤ k + 1) × (s ≡ vTurns binary64 sigma z j)
+
+abbrev μ-loop : tie.MeasureT-loop
+μ-loop sigma z k s₀ j₀ end s j = k + 1 - j
+
+loop-holds : tie.Need-loop-holds Inv-loop μ-loop
+unfolding vTurns ofBits
+loop-holds c = (omega arith, refl)
+
+loop-again : tie.Need-loop-again Inv-loop μ-loop
+loop-again c = (omega arith, cc (v-more binary64 _ _ (c .before .before .before .loop .j)))
+
+returns : tie.Need-returns Inv-loop μ-loop
+returns c =
+    let last : c .before .loop .j ≡ c .before .before .args .k + 1 = omega arith in
+    cc
+
+pub turns-v-at-spec : {M : Type 1} → statement M
+turns-v-at-spec =
+    tie.close
+    (tie.spec
+    Inv-loop
+    μ-loop
+    (λ c. omega arith)
+    loop-holds
+    (λ c. omega arith)
+    (λ c κs. tt)
+    (λ c κs. tt)
+    (λ c. omega arith)
+    (λ c. omega arith)
+    loop-again
+    returns)

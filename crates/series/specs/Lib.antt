@@ -1,0 +1,3 @@
+pub mod Recip
+pub mod Series
+pub mod Turns

@@ -1,0 +1,122 @@
+-- The total-degree series at one sign of sigma, in the operations of a format f, and what its entries answer. The pair is two of it: nothing here is shared between the signs.
+use Prim.Native.Nat.{ℕ, zero, suc, _+_}
+use mathlib.Core.Bool.{cond}
+use lib.Dec.{ltb}
+use lib.Ieee.{Float, Format, binary32, binary64, neg, add, sub, mul, lt}
+use Rattle.ieee.specs.Numbers.{f0, f1}
+use Rattle.linalg.specs.Answer.{Answer, answers, refuses, andThen}
+use Rattle.series.specs.Recip.{recipFact}
+use Rattle.series.specs.declared.recurrence.Level.{Level}
+use Rattle.series.specs.declared.recurrence.Sums.{Sums}
+use Rattle.series.specs.declared.sim3.Sim3Coeffs.{Sim3Coeffs}
+use Rattle.series.specs.declared.sim3.Coeffs4.{Coeffs4}
+use Rattle.series.specs.declared.sim3.CoeffsPair.{CoeffsPair}
+use Rattle.series.specs.declared.sim3.GPair.{GPair}
+use Rattle.series.specs.declared.sim3.SeriesAnswer.{SeriesAnswer}
+use Rattle.series.specs.declared.sim3.SeriesAnswer.the-variants as full
+use Rattle.series.specs.declared.sim3.SeriesVAnswer.{SeriesVAnswer}
+use Rattle.series.specs.declared.sim3.SeriesVAnswer.the-variants as v
+use Rattle.series.specs.declared.sim3.SeriesPairAnswer.{SeriesPairAnswer}
+use Rattle.series.specs.declared.sim3.SeriesPairAnswer.the-variants as pair
+
+-- ---- the recurrence: level j has p = σʲ, ξ, ζ and the z-derivatives ξ', ζ'
+unfoldable pub seriesFirst : Level
+seriesFirst = record { p = f1; xi = f0; zeta = f0; dxi = f0; dzeta = f0 }
+
+-- (σξ + p) - zζ, σζ + ξ, (σξ' - ζ) - zζ', σζ' + ξ', each from the old level
+unfoldable pub seriesNext : Format → Float → Float → Level → Level
+seriesNext f sigma z l =
+    record {
+      p = mul f (l .p) sigma;
+      xi = sub f (add f (mul f sigma (l .xi)) (l .p)) (mul f z (l .zeta));
+      zeta = add f (mul f sigma (l .zeta)) (l .xi);
+      dxi = sub f (sub f (mul f sigma (l .dxi)) (l .zeta)) (mul f z (l .dzeta));
+      dzeta = add f (mul f sigma (l .dzeta)) (l .dxi);
+    }
+
+unfoldable pub seriesLevel : Format → Float → Float → ℕ → Level
+seriesLevel f sigma z zero = seriesFirst
+seriesLevel f sigma z (suc j) = seriesNext f sigma z (seriesLevel f sigma z j)
+
+-- ---- the sums: level j gives ξ and ζ over (j + 1)! to v, over (j + 2)! to w, and ξ' and ζ' over (j + 1)! to dv
+unfoldable pub levelTerms : Format → Level → Float → Float → Sums
+levelTerms f l r1 r2 = record { v1 = mul f (l .xi) r1; v2 = mul f (l .zeta) r1; w1 = mul f (l .xi) r2; w2 = mul f (l .zeta) r2; dv1 = mul f (l .dxi) r1; dv2 = mul f (l .dzeta) r1 }
+
+abbrev pub seriesTerms : Format → Float → Float → ℕ → Sums
+seriesTerms f sigma z j = levelTerms f (seriesLevel f sigma z j) (recipFact f (j + 1)) (recipFact f (j + 2))
+
+-- t 0 + t 1 + .. + t (n - 1), from +0 and from the left
+unfoldable pub seriesSum : Format → (ℕ → Float) → ℕ → Float
+seriesSum f t zero = f0
+seriesSum f t (suc n) = add f (seriesSum f t n) (t n)
+
+-- each sum to its own last level: k, k + 1, k, k + 1, k + 2, k + 3
+unfoldable pub seriesSums : Format → Float → Float → ℕ → Sums
+seriesSums f sigma z k =
+    record {
+      v1 = seriesSum f (λ j. seriesTerms f sigma z j .v1) (k + 1);
+      v2 = seriesSum f (λ j. seriesTerms f sigma z j .v2) (k + 2);
+      w1 = seriesSum f (λ j. seriesTerms f sigma z j .w1) (k + 1);
+      w2 = seriesSum f (λ j. seriesTerms f sigma z j .w2) (k + 2);
+      dv1 = seriesSum f (λ j. seriesTerms f sigma z j .dv1) (k + 3);
+      dv2 = seriesSum f (λ j. seriesTerms f sigma z j .dv2) (k + 4);
+    }
+
+-- ---- Horner's sum of σⁱ / (i + l)! over i < terms, from the last term: 1 / l! + σ (the sum for l + 1), and +0 for no terms
+unfoldable pub gSeries : Format → Float → ℕ → ℕ → Float
+gSeries f sigma l zero = f0
+gSeries f sigma l (suc n) = add f (recipFact f l) (mul f sigma (gSeries f sigma (suc l) n))
+
+unfoldable pub gSeriesPair : Format → Float → ℕ → ℕ → GPair
+gSeriesPair f sigma l terms = record { pos = gSeries f sigma l terms; neg = gSeries f (neg sigma) l terms }
+
+-- the terms of w0 in the closed arm at small sigma; v0 has one more
+abbrev pub w0Terms : Format → ℕ
+w0Terms binary32 = 8
+w0Terms binary64 = 15
+
+-- ---- the coefficients
+-- (v0 - z v2)(σ² + z)
+unfoldable pub seriesChi : Format → Float → Float → Float → Float → Float
+seriesChi f sigma z v0 v2 = mul f (sub f v0 (mul f z v2)) (add f (mul f sigma sigma) z)
+
+unfoldable pub seriesCoeffs : Format → Float → Float → Float → Float → Sums → Sim3Coeffs
+seriesCoeffs f sigma z v0 w0 s =
+    record { v0 = v0; v1 = s .v1; v2 = s .v2; w0 = w0; w1 = s .w1; w2 = s .w2; dv1 = s .dv1; dv2 = s .dv2; «chi_delta» = seriesChi f sigma z v0 (s .v2) }
+
+unfoldable pub seriesFull : Format → Float → Float → ℕ → Sim3Coeffs
+seriesFull f sigma z k = seriesCoeffs f sigma z (gSeries f sigma 1 k) (gSeries f sigma 2 k) (seriesSums f sigma z k)
+
+-- v alone: the full one's v and χΔ
+unfoldable pub coeffs4 : Sim3Coeffs → Coeffs4
+coeffs4 c = record { v0 = c .v0; v1 = c .v1; v2 = c .v2; «chi_delta» = c .«chi_delta» }
+
+unfoldable pub seriesV : Format → Float → Float → ℕ → Coeffs4
+seriesV f sigma z k = coeffs4 (seriesFull f sigma z k)
+
+-- ---- what the entries answer: refusal 1 for z below zero, then refusal 4 for k above 64
+abbrev pub seriesGuard : {A : Type 0} → Float → ℕ → A → Answer A
+seriesGuard z k a = cond (lt z f0) (refuses 1) (cond (ltb 64 k) (refuses 4) (answers a))
+
+unfoldable pub seriesAnswer : Format → Float → Float → ℕ → Answer Sim3Coeffs
+seriesAnswer f sigma z k = seriesGuard z k (seriesFull f sigma z k)
+
+unfoldable pub seriesVAnswer : Format → Float → Float → ℕ → Answer Coeffs4
+seriesVAnswer f sigma z k = seriesGuard z k (seriesV f sigma z k)
+
+-- the answers at sigma and at -sigma beside each other
+unfoldable pub seriesPairAnswer : Format → Float → Float → ℕ → Answer CoeffsPair
+seriesPairAnswer f sigma z k = andThen (seriesAnswer f sigma z k) (λ p. andThen (seriesAnswer f (neg sigma) z k) (λ n. answers (record { pos = p; neg = n })))
+
+-- ---- what each case of an answer says
+unfoldable pub seriesTold : SeriesAnswer → Answer Sim3Coeffs
+seriesTold (full.Coeffs c) = answers c
+seriesTold (full.Refused n) = refuses n
+
+unfoldable pub seriesVTold : SeriesVAnswer → Answer Coeffs4
+seriesVTold (v.Coeffs c) = answers c
+seriesVTold (v.Refused n) = refuses n
+
+unfoldable pub seriesPairTold : SeriesPairAnswer → Answer CoeffsPair
+seriesPairTold (pair.Coeffs c) = answers c
+seriesPairTold (pair.Refused n) = refuses n

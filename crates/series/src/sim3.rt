@@ -1,0 +1,218 @@
+// The Sim(3) coefficients, and their total-degree series at one sign of sigma: the full one, and
+// the one for v alone, which has the full one's bits. k is the number of terms of v0 and w0; the
+// other sums run to the level that gives every coefficient the same total degree.
+ghost use mathlib.Core.Path.{_≡_};
+ghost use Prim.Native.Nat.{_+_, _≤_};
+ghost use lib.Ieee.{binary64};
+ghost use Rattle.series.specs.Series.{gSeries, w0Terms, seriesSums, seriesFull, seriesV, seriesTold, seriesVTold, seriesAnswer, seriesVAnswer};
+ghost use Rattle.series.specs.Turns.{soloTurn, soloTurns, vTurn, vTurns};
+use crate::generated_sim3::recip_fact;
+use crate::recurrence;
+use crate::recurrence::Sums;
+use crate::recurrence::Turns;
+use crate::recurrence::TurnsV;
+
+// v0, v1, v2 of V, w0, w1, w2 of Gamma_2(M), the z-derivatives of v1 and v2, and chi times delta,
+// where chi = v0 - z v2 and delta = sigma^2 + z.
+pub struct Sim3Coeffs {
+    pub v0: f64,
+    pub v1: f64,
+    pub v2: f64,
+    pub w0: f64,
+    pub w1: f64,
+    pub w2: f64,
+    pub dv1: f64,
+    pub dv2: f64,
+    pub chi_delta: f64,
+}
+
+// v alone, with chi times delta.
+pub struct Coeffs4 {
+    pub v0: f64,
+    pub v1: f64,
+    pub v2: f64,
+    pub chi_delta: f64,
+}
+
+// The coefficients at sigma and at -sigma.
+pub struct CoeffsPair {
+    pub pos: Sim3Coeffs,
+    pub neg: Sim3Coeffs,
+}
+
+// A Horner sum at sigma and at -sigma.
+pub struct GPair {
+    pub pos: f64,
+    pub neg: f64,
+}
+
+// The coefficients, or refusal 1 or 4.
+pub enum SeriesAnswer {
+    Coeffs(Sim3Coeffs),
+    Refused(u8),
+}
+
+// v alone, or refusal 1 or 4.
+pub enum SeriesVAnswer {
+    Coeffs(Coeffs4),
+    Refused(u8),
+}
+
+// The coefficients at both signs, or refusal 1 or 4.
+pub enum SeriesPairAnswer {
+    Coeffs(CoeffsPair),
+    Refused(u8),
+}
+
+// The series at k terms; refusal 1 for z below zero, then 4 for k above 64.
+pub fn series(sigma: f64, z: f64, k: usize) -> SeriesAnswer
+    ensures { λ r. ⌜ seriesTold r ≡ seriesAnswer binary64 sigma z k ⌝ }
+{
+    if z < 0.0 {
+        return SeriesAnswer::Refused(1);
+    }
+    if 64 < k {
+        return SeriesAnswer::Refused(4);
+    }
+    SeriesAnswer::Coeffs(series_at(sigma, z, k))
+}
+
+// The series for v alone; refusals as in `series`.
+pub fn series_v(sigma: f64, z: f64, k: usize) -> SeriesVAnswer
+    ensures { λ r. ⌜ seriesVTold r ≡ seriesVAnswer binary64 sigma z k ⌝ }
+{
+    if z < 0.0 {
+        return SeriesVAnswer::Refused(1);
+    }
+    if 64 < k {
+        return SeriesVAnswer::Refused(4);
+    }
+    SeriesVAnswer::Coeffs(series_v_at(sigma, z, k))
+}
+
+// `series` for a k that is not refused.
+fn series_at(sigma: f64, z: f64, k: usize) -> Sim3Coeffs
+    requires { ⌜ k ≤ 64 ⌝ }
+    ensures { λ r. ⌜ r ≡ seriesFull binary64 sigma z k ⌝ }
+{
+    let v0 = g_series(sigma, 1, k);
+    let w0 = g_series(sigma, 2, k);
+    let s = sums_at(sigma, z, k);
+    recurrence::coeffs(sigma, z, v0, w0, s)
+}
+
+// The six sums, each to its own last level.
+fn sums_at(sigma: f64, z: f64, k: usize) -> Sums
+    requires { ⌜ k ≤ 64 ⌝ }
+    ensures { λ r. ⌜ r ≡ seriesSums binary64 sigma z k ⌝ }
+{
+    let s = turns_at(sigma, z, k);
+    let t = recurrence::tail_terms(
+        sigma,
+        z,
+        s.level,
+        recip_fact(k + 2),
+        recip_fact(k + 3),
+        recip_fact(k + 4),
+    );
+    recurrence::last(s.sums, t)
+}
+
+// The levels to k, which give a term to every sum.
+fn turns_at(sigma: f64, z: f64, k: usize) -> Turns
+    requires { ⌜ k ≤ 64 ⌝ }
+    ensures { λ r. ⌜ r ≡ soloTurns binary64 sigma z (k + 1) ⌝ }
+{
+    let mut s = Turns {
+        level: recurrence::first(),
+        sums: recurrence::none(),
+    };
+    for j in 0..k + 1 {
+        s = turn(sigma, z, recip_fact(j + 1), recip_fact(j + 2), s);
+    }
+    s
+}
+
+// One level, with r1 = 1/(j + 1)! and r2 = 1/(j + 2)!.
+fn turn(sigma: f64, z: f64, r1: f64, r2: f64, s: Turns) -> Turns
+    ensures { λ r. ⌜ r ≡ soloTurn binary64 sigma z r1 r2 s ⌝ }
+{
+    let t = recurrence::terms(s.level, r1, r2);
+    Turns {
+        level: recurrence::next(sigma, z, s.level),
+        sums: recurrence::gain(s.sums, t),
+    }
+}
+
+// `series_v` for a k that is not refused. v2 takes one level more than v1.
+fn series_v_at(sigma: f64, z: f64, k: usize) -> Coeffs4
+    requires { ⌜ k ≤ 64 ⌝ }
+    ensures { λ r. ⌜ r ≡ seriesV binary64 sigma z k ⌝ }
+{
+    let s = turns_v_at(sigma, z, k);
+    let v0 = g_series(sigma, 1, k);
+    let v2 = s.v2 + s.zeta * recip_fact(k + 2);
+    Coeffs4 {
+        v0,
+        v1: s.v1,
+        v2,
+        chi_delta: recurrence::chi_delta(sigma, z, v0, v2),
+    }
+}
+
+// The levels to k, for v alone.
+fn turns_v_at(sigma: f64, z: f64, k: usize) -> TurnsV
+    requires { ⌜ k ≤ 64 ⌝ }
+    ensures { λ r. ⌜ r ≡ vTurns binary64 sigma z (k + 1) ⌝ }
+{
+    let mut s = TurnsV {
+        p: 1.0,
+        xi: 0.0,
+        zeta: 0.0,
+        v1: 0.0,
+        v2: 0.0,
+    };
+    for j in 0..k + 1 {
+        s = turn_v(sigma, z, recip_fact(j + 1), s);
+    }
+    s
+}
+
+// One level for v alone, with r1 = 1/(j + 1)!.
+fn turn_v(sigma: f64, z: f64, r1: f64, s: TurnsV) -> TurnsV
+    ensures { λ r. ⌜ r ≡ vTurn binary64 sigma z r1 s ⌝ }
+{
+    TurnsV {
+        p: s.p * sigma,
+        xi: (sigma * s.xi + s.p) - z * s.zeta,
+        zeta: sigma * s.zeta + s.xi,
+        v1: s.v1 + s.xi * r1,
+        v2: s.v2 + s.zeta * r1,
+    }
+}
+
+// The sum of sigma^i/(i + l)! over i < terms, by Horner from the last term.
+fn g_series(sigma: f64, l: usize, terms: usize) -> f64
+    requires { ⌜ (l ≤ 2) × (terms ≤ 64) ⌝ }
+    ensures { λ r. ⌜ r ≡ gSeries binary64 sigma l terms ⌝ }
+{
+    let mut acc = 0.0;
+    for i in 0..terms {
+        acc = recip_fact(terms - 1 - i + l) + sigma * acc;
+    }
+    acc
+}
+
+// v0 of the closed arm at small sigma, 16 terms: the first, and sigma times the 15 of `g2`.
+pub fn g1(sigma: f64) -> f64
+    ensures { λ r. ⌜ r ≡ gSeries binary64 sigma 1 (w0Terms binary64 + 1) ⌝ }
+{
+    recip_fact(1) + sigma * g2(sigma)
+}
+
+// w0 of the closed arm at small sigma: 15 terms.
+pub fn g2(sigma: f64) -> f64
+    ensures { λ r. ⌜ r ≡ gSeries binary64 sigma 2 (w0Terms binary64) ⌝ }
+{
+    g_series(sigma, 2, 15)
+}

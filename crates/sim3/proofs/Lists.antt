@@ -1,0 +1,57 @@
+-- Moving the points of a list one after another, for any motion g: after i turns the first i triples are moved and the rest is as it was. Assumes nothing.
+use Prim.Native.Nat.{ℕ, zero, suc, _+_, _*_, _/_, _%_, _≤_}
+use mathlib.Core.Path.{_≡_, refl, sym, ap, subst}
+use mathlib.Core.Bool.{true, _&&_}
+use mathlib.Core.List.{List, [], _∷_, _++_, append-assoc, append-nil}
+use native.Mathlib.Numerals.{add-one}
+use native.Mathlib.Omega.{arith}
+use lib.Dec.{T, eqb, leb, eqb→eq}
+use lib.ListN.{getD, set, length, drop, length-append}
+use lib.Seq.{drop-cons, drop-length}
+use lib.Ieee.{Float, nan}
+use lib.Ieee.Fits.{and-l, and-r}
+use Rattle.linalg.specs.declared.vector.Vec3.{Vec3}
+use Rattle.sim3.specs.Points.{pointAt, pointNumbers, pointsMoved, pointsAccepted}
+use Rattle.sim3.specs.Stores.{putPoint}
+
+pub moved-length : (g : Vec3 → Vec3) (l : List Float) (n : ℕ) → length (pointsMoved g l n) ≡ n * 3
+unfolding pointsMoved pointNumbers
+moved-length g l zero = refl
+moved-length g l (suc n) =
+    let h : length (pointsMoved g l n) ≡ n * 3 = moved-length g l n in
+    simp length-append (omega arith)
+
+-- three stores at the seam
+seam : (p : List Float) (x y z : Float) (r : List Float) (a b c : Float) → set (set (set (p ++ x ∷ y ∷ z ∷ r) (length p) a) (suc (length p)) b) (suc (suc (length p))) c ≡ p ++ a ∷ b ∷ c ∷ r
+seam [] x y z r a b c = refl
+seam (q ∷ p) x y z r a b c = ap (λ (l : List Float). q ∷ l) (seam p x y z r a b c)
+
+put-seam : (p out : List Float) (k : ℕ) (v : Vec3) → length p ≡ k → k + 3 ≤ length out → putPoint (p ++ drop k out) k v ≡ (p ++ pointNumbers v) ++ drop (k + 3) out
+unfolding putPoint pointNumbers
+put-seam p out k v e h =
+    let c0 : drop k out ≡ getD out k nan ∷ drop (suc k) out = drop-cons out k nan (omega arith) in
+    let c1 : drop (suc k) out ≡ getD out (suc k) nan ∷ drop (suc (suc k)) out = drop-cons out (suc k) nan (omega arith) in
+    let c2 : drop (suc (suc k)) out ≡ getD out (suc (suc k)) nan ∷ drop (suc (suc (suc k))) out = drop-cons out (suc (suc k)) nan (omega arith) in
+    let n1 : k + 1 ≡ suc k = omega arith in
+    let n2 : k + 2 ≡ suc (suc k) = omega arith in
+    let n3 : k + 3 ≡ suc (suc (suc k)) = omega arith in
+    simp (append-assoc, n1, n2, n3, c0, c1, c2) (rw (← e) (seam p _ _ _ _ _ _ _))
+
+-- one triple more
+pub moved-more : (g : Vec3 → Vec3) (l out : List Float) (i : ℕ) → i * 3 + 3 ≤ length out → putPoint (pointsMoved g l i ++ drop (i * 3) out) (i * 3) (g (pointAt l i)) ≡ pointsMoved g l (i + 1) ++ drop ((i + 1) * 3) out
+unfolding pointsMoved
+moved-more g l out i h =
+    let n : (i + 1) * 3 ≡ i * 3 + 3 = omega arith in
+    rw (n, add-one i) (put-seam (pointsMoved g l i) out (i * 3) (g (pointAt l i)) (moved-length g l i) h)
+
+-- after the last triple nothing is left
+pub moved-all : (g : Vec3 → Vec3) (l out : List Float) (i : ℕ) → i * 3 ≡ length out → pointsMoved g l i ++ drop (i * 3) out ≡ pointsMoved g l i
+moved-all g l out i e = rw (e, drop-length) (append-nil (pointsMoved g l i))
+
+-- ---- what the test of the lists says: whole triples, and an output as long
+pub accepted-thirds : (n k : ℕ) → pointsAccepted n k ≡ true → (n / 3 * 3 ≡ n) × (n / 3 * 3 ≡ k)
+accepted-thirds n k h =
+    let t : T (pointsAccepted n k) = subst T (sym h) tt in
+    let a : n % 3 ≡ 0 = eqb→eq (n % 3) 0 (and-l (eqb (n % 3) 0) (leb n 65535) (and-l (eqb (n % 3) 0 && leb n 65535) (eqb k n) t)) in
+    let b : k ≡ n = eqb→eq k n (and-r (eqb (n % 3) 0 && leb n 65535) (eqb k n) t) in
+    (omega arith, omega arith)

@@ -1,0 +1,58 @@
+-- `sim3::points::each` meets its contract: after i turns the first i triples are moved and the rest is as it was. Assumes nothing.
+use borrow.Author.Needs.{needs}
+use Prim.Native.Nat.{_+_, _*_, _-_, _≤_}
+use mathlib.Core.Path.{_≡_, refl, _∙_}
+use mathlib.Core.List.{_++_}
+use native.Mathlib.Omega.{arith}
+use lib.ListN.{length, drop}
+use lib.Ieee.{binary64}
+use Rattle.sim3.specs.Points.{pointsMoved}
+use Rattle.sim3.specs.Pose.{poseAct}
+use Rattle.sim3.proofs.Lists.{moved-more, moved-all}
+use Rattle.sim3.proofs.points.each.Statement.{statement}
+use Rattle.sim3.proofs.points.each.Tie as tie
+
+abbrev Inv-loop : tie.InvT-loop
+Inv-loop x up pts out₀ n i₀ out i = (i ≤ n) × (out ≡ pointsMoved (poseAct binary64 x up) pts i ++ drop (i * 3) out₀) × (length out ≡ length out₀)
+
+abbrev μ-loop : tie.MeasureT-loop
+μ-loop x up pts out₀ n i₀ out i = n - i
+
+loop-holds : tie.Need-loop-holds Inv-loop μ-loop
+unfolding pointsMoved
+loop-holds c = (omega arith, refl, refl)
+
+loop-again : tie.Need-loop-again Inv-loop μ-loop
+loop-again c =
+    let L = c .before .before .before .before .before .before .before in
+    let a = L .before .before .before .args in (
+      omega arith,
+      cc (moved-more (poseAct binary64 (a .x) (a .up)) (a .pts .now) (a .out .now) (L .loop .i) (omega arith)),
+      c .before .before .put-point .kept .0 ∙ L .loop .inv .2,
+    )
+
+same-length : tie.Need-same-length Inv-loop μ-loop
+same-length c = c .before .loop .inv .2
+
+returns : tie.Need-returns Inv-loop μ-loop
+returns c =
+    let a = c .before .before .before .before .args in
+    let e : c .before .loop .i ≡ a .n = omega arith in
+    cc (moved-all (poseAct binary64 (a .x) (a .up)) (a .pts .now) (a .out .now) (c .before .loop .i) (omega arith))
+
+pub each-spec : {M : Type 1} → statement M
+each-spec =
+    tie.close
+    (tie.spec
+    Inv-loop
+    μ-loop
+    loop-holds
+    (λ c κs. omega arith)
+    (λ c κs. search needs)
+    (λ c. omega arith)
+    (λ c κs. omega arith)
+    (λ c. omega arith)
+    (λ c. omega arith)
+    loop-again
+    same-length
+    returns)

@@ -1,0 +1,57 @@
+-- `sim3::points::many` meets its contract: after i turns the first i triples are moved and the rest is as it was. Assumes nothing.
+use borrow.Author.Needs.{needs}
+use Prim.Native.Nat.{_+_, _*_, _-_, _≤_}
+use mathlib.Core.Path.{_≡_, refl, _∙_}
+use mathlib.Core.List.{_++_}
+use native.Mathlib.Omega.{arith}
+use lib.ListN.{length, drop}
+use lib.Ieee.{binary64}
+use Rattle.sim3.specs.Points.{pointsMoved, matAct}
+use Rattle.sim3.proofs.Lists.{moved-more, moved-all}
+use Rattle.sim3.proofs.points.many.Statement.{statement}
+use Rattle.sim3.proofs.points.many.Tie as tie
+
+abbrev Inv-loop : tie.InvT-loop
+Inv-loop m t pts out₀ n i₀ out i = (i ≤ n) × (out ≡ pointsMoved (matAct binary64 m t) pts i ++ drop (i * 3) out₀) × (length out ≡ length out₀)
+
+abbrev μ-loop : tie.MeasureT-loop
+μ-loop m t pts out₀ n i₀ out i = n - i
+
+loop-holds : tie.Need-loop-holds Inv-loop μ-loop
+unfolding pointsMoved
+loop-holds c = (omega arith, refl, refl)
+
+loop-again : tie.Need-loop-again Inv-loop μ-loop
+loop-again c =
+    let L = c .before .before .before .before .before .before .before in
+    let a = L .before .before .before .args in (
+      omega arith,
+      cc (moved-more (matAct binary64 (a .m) (a .t)) (a .pts .now) (a .out .now) (L .loop .i) (omega arith)),
+      c .before .before .put-point .kept .0 ∙ L .loop .inv .2,
+    )
+
+same-length : tie.Need-same-length Inv-loop μ-loop
+same-length c = c .before .loop .inv .2
+
+returns : tie.Need-returns Inv-loop μ-loop
+returns c =
+    let a = c .before .before .before .before .args in
+    let e : c .before .loop .i ≡ a .n = omega arith in
+    cc (moved-all (matAct binary64 (a .m) (a .t)) (a .pts .now) (a .out .now) (c .before .loop .i) (omega arith))
+
+pub many-spec : {M : Type 1} → statement M
+many-spec =
+    tie.close
+    (tie.spec
+    Inv-loop
+    μ-loop
+    loop-holds
+    (λ c κs. omega arith)
+    (λ c κs. search needs)
+    (λ c. omega arith)
+    (λ c κs. omega arith)
+    (λ c. omega arith)
+    (λ c. omega arith)
+    loop-again
+    same-length
+    returns)

@@ -1,0 +1,13 @@
+-- `sim3::sim3::Sim3::identity` meets its contract: by what its calls ensure and its tests say. Assumes nothing.
+use borrow.Author.Needs.{needs}
+use Rattle.sim3.specs.Pose.{poseIdentity}
+use lib.Ieee.{ofBits}
+use Rattle.sim3.proofs.sim3.Sim3.identity.Statement.{statement}
+use Rattle.sim3.proofs.sim3.Sim3.identity.Tie as tie
+
+returns : tie.Need-returns
+unfolding poseIdentity ofBits
+returns c = simp (c .identity .ensures)
+
+pub identity-spec : {M : Type 1} → statement M
+identity-spec = tie.close (tie.spec (λ c κs. search needs) returns)

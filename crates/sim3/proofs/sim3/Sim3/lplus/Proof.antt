@@ -1,0 +1,12 @@
+-- `sim3::sim3::Sim3::lplus` meets its contract: by what its calls ensure and its tests say. Assumes nothing.
+use borrow.Author.Needs.{needs}
+use Rattle.sim3.specs.Exp.{poseLplus}
+use Rattle.sim3.proofs.sim3.Sim3.lplus.Statement.{statement}
+use Rattle.sim3.proofs.sim3.Sim3.lplus.Tie as tie
+
+returns : tie.Need-returns
+unfolding poseLplus
+returns c = simp (c .mul .ensures, c .before .exp .ensures)
+
+pub lplus-spec : {M : Type 1} → statement M
+lplus-spec = tie.close (tie.spec (λ c κs. search needs) (λ c κs. search needs) returns)

@@ -1,0 +1,12 @@
+-- `sim3::sim3::Sim3::renormalized` meets its contract: by what its calls ensure and its tests say. Assumes nothing.
+use borrow.Author.Needs.{needs}
+use Rattle.sim3.specs.Pose.{poseRenormalized}
+use Rattle.sim3.proofs.sim3.Sim3.renormalized.Statement.{statement}
+use Rattle.sim3.proofs.sim3.Sim3.renormalized.Tie as tie
+
+returns : tie.Need-returns
+unfolding poseRenormalized
+returns c = simp (c .renormalized .ensures)
+
+pub renormalized-spec : {M : Type 1} → statement M
+renormalized-spec = tie.close (tie.spec (λ c κs. search needs) returns)

@@ -1,0 +1,12 @@
+-- `sim3::sim3::Sim3::rplus` meets its contract: by what its calls ensure and its tests say. Assumes nothing.
+use borrow.Author.Needs.{needs}
+use Rattle.sim3.specs.Exp.{poseRplus}
+use Rattle.sim3.proofs.sim3.Sim3.rplus.Statement.{statement}
+use Rattle.sim3.proofs.sim3.Sim3.rplus.Tie as tie
+
+returns : tie.Need-returns
+unfolding poseRplus
+returns c = simp (c .mul .ensures, c .before .exp .ensures)
+
+pub rplus-spec : {M : Type 1} → statement M
+rplus-spec = tie.close (tie.spec (λ c κs. search needs) (λ c κs. search needs) returns)

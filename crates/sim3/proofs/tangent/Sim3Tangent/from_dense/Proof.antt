@@ -1,0 +1,13 @@
+-- `sim3::tangent::Sim3Tangent::from_dense` meets its contract: operation by operation, as the definition has it. Assumes nothing.
+use borrow.Author.Needs.{needs}
+use mathlib.Core.Path.{refl}
+use Rattle.sim3.specs.Tangent.{tangentFromDense}
+use Rattle.sim3.proofs.tangent.Sim3Tangent.from_dense.Statement.{statement}
+use Rattle.sim3.proofs.tangent.Sim3Tangent.from_dense.Tie as tie
+
+returns : tie.Need-returns
+unfolding tangentFromDense
+returns c = refl
+
+pub from-dense-spec : {M : Type 1} → statement M
+from-dense-spec = tie.close (tie.spec (λ c. search needs) (λ c. search needs) (λ c. search needs) (λ c. search needs) (λ c. search needs) (λ c. search needs) (λ c. search needs) returns)

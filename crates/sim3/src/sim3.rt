@@ -1,0 +1,187 @@
+// A pose of Sim(3), X p = e^sigma R p + t. Exponentials of log scales are handed in.
+ghost use mathlib.Core.Path.{_≡_};
+ghost use lib.Ieee.{binary64};
+ghost use Rattle.sim3.specs.Pose.{poseIdentity, poseInverse, poseAct, poseMul, poseMulInv, poseInvMul, poseRenormalized};
+ghost use Rattle.sim3.specs.Exp.{polyApply, vApply, poseExp, poseRplus, poseLplus};
+use crate::tangent::Sim3Tangent;
+use coeffs::values::Values;
+use linalg::vector::Vec3;
+use series::sim3::Coeffs4;
+use so3::quat::Quat;
+
+pub struct Sim3 {
+    pub q: Quat,
+    pub t: Vec3,
+    pub sigma: f64,
+}
+
+impl Sim3 {
+    // (R, t, sigma).
+    pub fn from_parts(q: Quat, t: Vec3, sigma: f64) -> Sim3
+        ensures { λ r. ⌜ r ≡ record { q = q; t = t; sigma = sigma } ⌝ }
+    {
+        Sim3 { q, t, sigma }
+    }
+
+    pub fn rotation(self) -> Quat
+        ensures { λ r. ⌜ r ≡ self .q ⌝ }
+    {
+        self.q
+    }
+
+    pub fn translation(self) -> Vec3
+        ensures { λ r. ⌜ r ≡ self .t ⌝ }
+    {
+        self.t
+    }
+
+    // sigma, the stored log scale.
+    pub fn log_scale(self) -> f64
+        ensures { λ r. ⌜ r ≡ self .sigma ⌝ }
+    {
+        self.sigma
+    }
+
+    // The quaternion's Newton step; t and sigma stay.
+    pub fn renormalized(self) -> Sim3
+        ensures { λ r. ⌜ r ≡ poseRenormalized binary64 self ⌝ }
+    {
+        let q = self.q;
+        let t = self.t;
+        Sim3 {
+            q: q.renormalized(),
+            t,
+            sigma: self.sigma,
+        }
+    }
+
+    // self * other^-1; e is the exponential of the difference of the two log scales.
+    pub fn mul_inv(self, other: Sim3, e: f64) -> Sim3
+        ensures { λ r. ⌜ r ≡ poseMulInv binary64 self other e ⌝ }
+    {
+        let p = self.q;
+        let o = other.q;
+        let q = p.mul(o.conjugate());
+        let rt = so3::so3::act(q, other.t);
+        Sim3 {
+            q,
+            t: self.t.sub(rt.scale(e)),
+            sigma: self.sigma - other.sigma,
+        }
+    }
+
+    // other^-1 * self; down is e^-sigma of other.
+    pub fn inv_mul(self, other: Sim3, down: f64) -> Sim3
+        ensures { λ r. ⌜ r ≡ poseInvMul binary64 self other down ⌝ }
+    {
+        let p = self.q;
+        let o = other.q;
+        let oc = o.conjugate();
+        let d = so3::so3::act(oc, self.t.sub(other.t));
+        Sim3 {
+            q: oc.mul(p),
+            t: d.scale(down),
+            sigma: self.sigma - other.sigma,
+        }
+    }
+
+    // X p = s R p + t; up is e^sigma.
+    pub fn act(self, up: f64, p: Vec3) -> Vec3
+        ensures { λ r. ⌜ r ≡ poseAct binary64 self up p ⌝ }
+    {
+        let rp = so3::so3::act(self.q, p);
+        rp.scale(up).add(self.t)
+    }
+
+    // XY = (R_X R_Y, s_X R_X t_Y + t_X, sigma_X + sigma_Y); up is e^sigma of X.
+    pub fn mul(self, o: Sim3, up: f64) -> Sim3
+        ensures { λ r. ⌜ r ≡ poseMul binary64 self o up ⌝ }
+    {
+        let p = self.q;
+        let q = o.q;
+        Sim3 {
+            q: p.mul(q),
+            t: self.act(up, o.t),
+            sigma: self.sigma + o.sigma,
+        }
+    }
+
+    pub fn identity() -> Sim3
+        ensures { λ r. ⌜ r ≡ poseIdentity ⌝ }
+    {
+        Sim3 {
+            q: Quat::identity(),
+            t: Vec3 {
+                x: 0.0,
+                y: 0.0,
+                z: 0.0,
+            },
+            sigma: 0.0,
+        }
+    }
+
+    // X^-1 = (R^-1, -e^-sigma R^-1 t, -sigma); down is e^-sigma.
+    pub fn inverse(self, down: f64) -> Sim3
+        ensures { λ r. ⌜ r ≡ poseInverse binary64 self down ⌝ }
+    {
+        let p = self.q;
+        let r = p.conjugate();
+        let rt = so3::so3::act(r, self.t);
+        Sim3 {
+            q: r,
+            t: rt.scale(down).neg(),
+            sigma: -self.sigma,
+        }
+    }
+
+    // Exp tau = (Exp phi, V rho, sigma).
+    pub fn exp(tau: Sim3Tangent, v: Values) -> Sim3
+        ensures { λ r. ⌜ r ≡ poseExp binary64 tau v ⌝ }
+    {
+        let phi = tau.phi;
+        let rho = tau.rho;
+        let c = coeffs::sim3::sim3_v_of(phi, tau.sigma, v);
+        let q = so3::so3::exp(phi, v.root, v.sin_half, v.cos_half);
+        Sim3 {
+            q,
+            t: v_apply(phi, tau.sigma, c, rho),
+            sigma: tau.sigma,
+        }
+    }
+
+    // X Exp(tau); up is e^sigma of X, v the values of tau.
+    pub fn rplus(self, up: f64, tau: Sim3Tangent, v: Values) -> Sim3
+        ensures { λ r. ⌜ r ≡ poseRplus binary64 self up tau v ⌝ }
+    {
+        self.mul(Sim3::exp(tau, v), up)
+    }
+
+    // Exp(tau) X, with the values of tau.
+    pub fn lplus(self, tau: Sim3Tangent, v: Values) -> Sim3
+        ensures { λ r. ⌜ r ≡ poseLplus binary64 self tau v ⌝ }
+    {
+        Sim3::exp(tau, v).mul(self, v.up)
+    }
+}
+
+// x0 v + x1 (phi x v) + x2 (phi x (phi x v)).
+fn poly_apply(phi: Vec3, x0: f64, x1: f64, x2: f64, v: Vec3) -> Vec3
+    ensures { λ r. ⌜ r ≡ polyApply binary64 phi x0 x1 x2 v ⌝ }
+{
+    let mu = phi.cross(v);
+    v.scale(x0).add(mu.scale(x1)).add(phi.cross(mu).scale(x2))
+}
+
+// V rho at z = |phi|^2: by chi_delta / delta where b is on its exact arm (z not below b's limit),
+// else by two cross products.
+pub fn v_apply(phi: Vec3, sigma: f64, c: Coeffs4, rho: Vec3) -> Vec3
+    ensures { λ r. ⌜ r ≡ vApply binary64 phi sigma c rho ⌝ }
+{
+    let z = phi.norm_sq();
+    if z < 7.773650302387758 {
+        return poly_apply(phi, c.v0, c.v1, c.v2, rho);
+    }
+    let chi = c.chi_delta / (sigma * sigma + z);
+    let far = phi.scale(c.v2 * phi.dot(rho));
+    rho.scale(chi).add(phi.cross(rho).scale(c.v1)).add(far)
+}

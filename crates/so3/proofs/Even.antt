@@ -1,0 +1,32 @@
+-- The negative of a rotation vector, in any format: its squared angle is the same, since (-x)(-x) is xx, and its exponential is the conjugate, since k(-x) is -(kx). Assumes nothing.
+use mathlib.Core.Path.{_≡_, refl, ap, _∙_}
+use lib.Ieee.{Float, Format, neg, add, mul}
+use Rattle.ieee.proofs.Sign.{neg-neg, mul-neg-l, mul-neg-r}
+use Rattle.linalg.specs.Vector.{vecDot, vecNormSq, vecNeg}
+use Rattle.linalg.specs.declared.vector.Vec3.{Vec3}
+use Rattle.circle.specs.Kernel.{circleExp}
+use Rattle.so3.specs.Quat.{quat, quatConjugate}
+use Rattle.so3.specs.So3.{so3NormSq, so3Exp}
+
+-- ---- the squared angle
+-- it is the vector's square in linalg
+pub norm-sq-is : (f : Format) (v : Vec3) → so3NormSq f v ≡ vecNormSq f v
+unfolding so3NormSq vecNormSq vecDot
+norm-sq-is f v = refl
+
+square-even : (f : Format) (x : Float) → mul f (neg x) (neg x) ≡ mul f x x
+square-even f x = mul-neg-l f x (neg x) ∙ ap neg (mul-neg-r f x x) ∙ neg-neg (mul f x x)
+
+pub norm-sq-even : (f : Format) (v : Vec3) → vecNormSq f (vecNeg v) ≡ vecNormSq f v
+unfolding vecNormSq vecDot vecNeg
+norm-sq-even f v = λ i. add f (add f (square-even f (v .x) i) (square-even f (v .y) i)) (square-even f (v .z) i)
+
+-- ---- the exponential, on the same root, sine and cosine
+pub exp-conjugate : (f : Format) (φ : Vec3) (root sh ch : Float) → so3Exp f (vecNeg φ) root sh ch ≡ quatConjugate (so3Exp f φ root sh ch)
+unfolding so3Exp quatConjugate vecNeg
+exp-conjugate f φ root sh ch =
+    let c = circleExp f (vecNormSq f φ) root sh ch in
+    (λ i.
+    let d = circleExp f (norm-sq-even f φ i) root sh ch in
+    quat (d .«cos_half») (mul f (d .k) (neg (φ .x))) (mul f (d .k) (neg (φ .y))) (mul f (d .k) (neg (φ .z))))
+    ∙ (λ i. quat (c .«cos_half») (mul-neg-r f (c .k) (φ .x) i) (mul-neg-r f (c .k) (φ .y) i) (mul-neg-r f (c .k) (φ .z) i))

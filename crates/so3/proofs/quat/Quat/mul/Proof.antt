@@ -1,0 +1,12 @@
+-- `so3::quat::Quat::mul` meets its contract: operation by operation, as the definition has it. Assumes nothing.
+use mathlib.Core.Path.{refl}
+use Rattle.so3.specs.Quat.{quatMul}
+use Rattle.so3.proofs.quat.Quat.mul.Statement.{statement}
+use Rattle.so3.proofs.quat.Quat.mul.Tie as tie
+
+returns : tie.Need-returns
+unfolding quatMul
+returns c = refl
+
+pub mul-spec : {M : Type 1} → statement M
+mul-spec = tie.close (tie.spec returns)

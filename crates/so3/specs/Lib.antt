@@ -1,0 +1,2 @@
+pub mod Quat
+pub mod So3

@@ -1,0 +1,45 @@
+-- The bytes at a place of a list, as code reads and stores them one by one. Assumes nothing.
+use Prim.Native.Nat.{ℕ, _+_, _≤_}
+use mathlib.Core.Path.{_≡_, refl, sym, ap, _∙_}
+use mathlib.Core.List.{List, [], _∷_}
+use native.Mathlib.Numerals.{towards-suc}
+use lib.ListN.{length, getD, set}
+use lib.Seq.{sets}
+use lib.Ieee.{Float}
+use Rattle.wire.specs.Wire.{doubleOf, doubleAt, doubleBytes, countBytes}
+use Rattle.wire.proofs.Bytes.{bytes-at, bytes-all, double-length, count-length}
+
+pub double-read :
+    (b : List ℕ) (at : ℕ) → at + 8 ≤ length b →
+    doubleOf
+    (getD b at 0
+    ∷ getD b (at + 1) 0
+    ∷ getD b (at + 2) 0
+    ∷ getD b (at + 3) 0
+    ∷ getD b (at + 4) 0
+    ∷ getD b (at + 5) 0
+    ∷ getD b (at + 6) 0
+    ∷ getD b (at + 7) 0
+    ∷ [])
+    ≡ doubleAt b at
+unfolding doubleAt
+double-read b at h = rw (bytes-at b at 8 h) (simp towards-suc)
+
+-- ---- four and eight stores
+abbrev pub fourStores : List ℕ → ℕ → List ℕ → List ℕ
+fourStores l at d = set (set (set (set l at (getD d 0 0)) (at + 1) (getD d 1 0)) (at + 2) (getD d 2 0)) (at + 3) (getD d 3 0)
+
+abbrev pub eightStores : List ℕ → ℕ → List ℕ → List ℕ
+eightStores l at d = set (set (set (set (fourStores l at d) (at + 4) (getD d 4 0)) (at + 5) (getD d 5 0)) (at + 6) (getD d 6 0)) (at + 7) (getD d 7 0)
+
+four-are : (d l : List ℕ) (at : ℕ) → length d ≡ 4 → fourStores l at d ≡ sets l at d
+four-are d l at h = sym (ap (sets l at) (bytes-all d 4 h) ∙ sym (simp towards-suc))
+
+eight-are : (d l : List ℕ) (at : ℕ) → length d ≡ 8 → eightStores l at d ≡ sets l at d
+eight-are d l at h = sym (ap (sets l at) (bytes-all d 8 h) ∙ sym (simp towards-suc))
+
+pub count-stored : (n : ℕ) (d l : List ℕ) (at : ℕ) → d ≡ countBytes n → fourStores l at d ≡ sets l at (countBytes n)
+count-stored n d l at e = four-are d l at (ap length e ∙ count-length n) ∙ ap (sets l at) e
+
+pub double-stored : (x : Float) (d l : List ℕ) (at : ℕ) → d ≡ doubleBytes x → eightStores l at d ≡ sets l at (doubleBytes x)
+double-stored x d l at e = eight-are d l at (ap length e ∙ double-length x) ∙ ap (sets l at) e

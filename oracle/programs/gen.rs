@@ -1,0 +1,124 @@
+//! The generator of inputs for the judges and for the port, by seed and count. See README.md.
+
+use oracle::inputs::{end, ends, Source, MARKS};
+use oracle::library;
+use std::io::{self, BufWriter, Write};
+use std::process::ExitCode;
+
+const USAGE: &str = "\
+gen --seed S --count N [--mark XX] [--end E]    adversarial job records, then end number E
+                                                (without --end: number S modulo their count)
+gen --mode good --seed S --count N --mark XX [--arm A]
+                                                well-formed ordinary records of one mark,
+                                                the coefficients in arm A (1 to 5)
+gen --mode lib --seed S --count N [--id I]      records of judge-lib, of one function or of all
+gen --mode ends                                 how many ends there are
+gen --mode ids                                  the functions' numbers";
+
+/// The command line's settings.
+#[derive(Default)]
+struct Settings {
+    mode: String,
+    seed: u64,
+    count: u64,
+    mark: Option<&'static [u8; 2]>,
+    arm: usize,
+    id: Option<u8>,
+    end: Option<usize>,
+}
+
+fn settings() -> Result<Settings, String> {
+    let mut s = Settings { mode: "job".into(), ..Settings::default() };
+    let mut args = std::env::args().skip(1);
+    while let Some(name) = args.next() {
+        let value = args.next().ok_or(format!("{name} lacks its value"))?;
+        let number = || value.parse::<u64>().map_err(|_| format!("{name} {value}: not a number"));
+        match name.as_str() {
+            "--mode" => s.mode = value,
+            "--seed" => s.seed = number()?,
+            "--count" => s.count = number()?,
+            "--arm" => s.arm = number()?.min(5) as usize,
+            "--id" => s.id = Some(number()? as u8),
+            "--end" => s.end = Some(number()? as usize),
+            "--mark" => {
+                let found = MARKS.iter().find(|m| m.as_slice() == value.as_bytes());
+                s.mark = Some(found.ok_or(format!("{value}: no such mark"))?);
+            }
+            _ => return Err(format!("{name}: no such setting")),
+        }
+    }
+    Ok(s)
+}
+
+/// Adversarial records, each mark once in every seven, and an end.
+fn job(s: &Settings, source: &mut Source, out: &mut impl Write) -> io::Result<()> {
+    let mut record = Vec::new();
+    for i in 0..s.count {
+        record.clear();
+        let mark = s.mark.unwrap_or(MARKS[(i % 7) as usize]);
+        source.job_record(mark, &mut record);
+        out.write_all(&record)?;
+    }
+    let all = ends();
+    let number = s.end.unwrap_or(s.seed as usize) % all.len();
+    record.clear();
+    end(all[number], source, &mut record);
+    out.write_all(&record)
+}
+
+fn good(s: &Settings, source: &mut Source, out: &mut impl Write) -> io::Result<()> {
+    let mut record = Vec::new();
+    for _ in 0..s.count {
+        record.clear();
+        source.good_record(s.mark.unwrap_or(b"EX"), s.arm, &mut record);
+        out.write_all(&record)?;
+    }
+    Ok(())
+}
+
+/// Records of one library function, or of each in turn.
+fn lib(s: &Settings, source: &mut Source, out: &mut impl Write) -> io::Result<()> {
+    let wanted = |e: &&library::Entry| s.id.is_none_or(|id| e.id == id);
+    let entries: Vec<_> = library::entries().filter(wanted).collect();
+    let mut record = Vec::new();
+    for i in 0..s.count as usize {
+        record.clear();
+        source.library_record(entries[i % entries.len()], &mut record);
+        out.write_all(&record)?;
+    }
+    Ok(())
+}
+
+fn run(s: &Settings) -> io::Result<bool> {
+    let mut out = BufWriter::with_capacity(1 << 16, io::stdout().lock());
+    let mut source = Source::new(s.seed);
+    match s.mode.as_str() {
+        "job" => job(s, &mut source, &mut out)?,
+        "good" => good(s, &mut source, &mut out)?,
+        "lib" => lib(s, &mut source, &mut out)?,
+        "ends" => writeln!(out, "{}", ends().len())?,
+        "ids" => library::entries().try_for_each(|e| writeln!(out, "{}", e.id))?,
+        _ => return Ok(false),
+    }
+    out.flush()?;
+    Ok(true)
+}
+
+fn main() -> ExitCode {
+    match settings().map(|s| run(&s)) {
+        Ok(Ok(true)) => ExitCode::SUCCESS,
+        Ok(Ok(false)) => {
+            eprintln!("{USAGE}");
+            ExitCode::from(2)
+        }
+        Ok(Err(e)) if e.kind() == io::ErrorKind::BrokenPipe => ExitCode::SUCCESS,
+        Ok(Err(e)) => {
+            eprintln!("gen: {e}");
+            ExitCode::FAILURE
+        }
+        Err(message) => {
+            eprintln!("gen: {message}\n{USAGE}");
+            ExitCode::from(2)
+        }
+    }
+}

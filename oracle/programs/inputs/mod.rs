@@ -1,0 +1,26 @@
+//! Adversarial inputs: single numbers, log scales and angles at every limit, function values that
+//! belong to them or to nothing, poses and blocks.
+
+mod angles;
+mod ends;
+mod numbers;
+mod poses;
+mod records;
+mod rng;
+mod values;
+
+pub use ends::{end, ends};
+pub use numbers::Mood;
+pub use records::MARKS;
+pub use rng::Rng;
+
+/// A source of inputs; the same seed gives the same inputs.
+pub struct Source {
+    pub rng: Rng,
+}
+
+impl Source {
+    pub fn new(seed: u64) -> Self {
+        Self { rng: Rng::new(seed) }
+    }
+}

@@ -1,0 +1,255 @@
+//! Whole records: of the job program's marks, and of the library's functions.
+
+use super::values::host_jacobians;
+use super::{Mood, Source};
+use crate::library::{Entry, Part};
+use helicoid::judge::Values;
+
+/// The marks in the order of the job table.
+pub const MARKS: [&[u8; 2]; 7] = [b"EX", b"CO", b"PA", b"AC", b"MU", b"IN", b"JI"];
+
+/// `(x² + y²) + z²`.
+pub fn squared_angle([x, y, z]: [f64; 3]) -> f64 {
+    (x * x + y * y) + z * z
+}
+
+fn put(out: &mut Vec<u8>, numbers: &[f64]) {
+    numbers.iter().for_each(|x| out.extend_from_slice(&x.to_bits().to_le_bytes()));
+}
+
+fn phi_of(tangent: &[f64; 7]) -> [f64; 3] {
+    [tangent[0], tangent[1], tangent[2]]
+}
+
+impl Source {
+    /// An adversarial record of a mark, its two letters included.
+    pub fn job_record(&mut self, mark: &[u8; 2], out: &mut Vec<u8>) {
+        out.extend_from_slice(mark);
+        match mark {
+            b"EX" | b"PA" => {
+                let tangent = self.tangent();
+                put(out, &tangent);
+                put(out, &self.values(tangent[6], squared_angle(phi_of(&tangent))));
+                if mark == b"PA" {
+                    let (jl, inverse) = self.rotation_jacobians(phi_of(&tangent));
+                    put(out, &jl);
+                    put(out, &inverse);
+                }
+            }
+            b"CO" => {
+                let (sigma, z) = self.sigma_angle();
+                let z = if self.rng.one_in(16) { -z } else { z };
+                put(out, &[sigma, z]);
+                put(out, &self.values(sigma, z.abs()));
+            }
+            b"JI" => put(out, &self.block()),
+            _ => self.pose_record(mark, out),
+        }
+    }
+
+    /// The numbers of a record that begins with a pose.
+    fn pose_record(&mut self, mark: &[u8; 2], out: &mut Vec<u8>) {
+        let (pose, mood) = (self.pose(), self.mood());
+        put(out, &pose);
+        if mark == b"MU" {
+            put(out, &self.pose());
+        }
+        let arg = if mark == b"IN" { -pose[7] } else { pose[7] };
+        put(out, &[self.exponential(arg)]);
+        if mark == b"AC" {
+            put(out, &self.numbers::<3>(mood));
+        }
+    }
+
+    /// A well-formed record of ordinary numbers with the host's values, for timing. `arm` is 1 to
+    /// 5 for the arm of the coefficients, 0 for a mixture.
+    pub fn good_record(&mut self, mark: &[u8; 2], arm: usize, out: &mut Vec<u8>) {
+        out.extend_from_slice(mark);
+        let (sigma, z) = match arm {
+            0 => (self.rng.between(-2.0, 2.0), self.rng.between(0.0, 9.0)),
+            _ => self.in_arm(arm),
+        };
+        let phi = self.phi_with(z);
+        let rho = self.numbers::<3>(Mood::Ordinary);
+        let angle = if mark == b"CO" { z } else { squared_angle(phi) };
+        let values = Values::of_host(sigma, angle).to_array();
+        match mark {
+            b"CO" => put(out, &[sigma, z]),
+            b"EX" | b"PA" => {
+                put(out, &phi);
+                put(out, &rho);
+                put(out, &[sigma]);
+            }
+            _ => return self.good_pose_record(mark, sigma, out),
+        }
+        put(out, &values);
+        if mark == b"PA" {
+            let (jl, inverse) = host_jacobians(phi);
+            put(out, &jl);
+            put(out, &inverse);
+        }
+    }
+
+    fn good_pose_record(&mut self, mark: &[u8; 2], sigma: f64, out: &mut Vec<u8>) {
+        if mark == b"JI" {
+            put(out, &self.numbers::<31>(Mood::Ordinary));
+            return;
+        }
+        for _ in 0..if mark == b"MU" { 2 } else { 1 } {
+            put(out, &self.unit_quat(1.0));
+            put(out, &self.numbers::<3>(Mood::Ordinary));
+            put(out, &[sigma]);
+        }
+        put(out, &[if mark == b"IN" { (-sigma).exp() } else { sigma.exp() }]);
+        if mark == b"AC" {
+            put(out, &self.numbers::<3>(Mood::Ordinary));
+        }
+    }
+
+    /// An adversarial record of a library function, its number included.
+    pub fn library_record(&mut self, e: &Entry, out: &mut Vec<u8>) {
+        out.push(e.id);
+        let mut known = Known { mood: self.mood(), ..Known::default() };
+        for (_, part) in e.input {
+            self.library_part(*part, &mut known, out);
+        }
+    }
+
+    fn library_part(&mut self, part: Part, known: &mut Known, out: &mut Vec<u8>) {
+        let mood = known.mood;
+        match part {
+            Part::Number => put(out, &[self.number(mood)]),
+            Part::Flag => put(out, &[self.rng.below(2) as f64]),
+            Part::Count => out.extend_from_slice(&self.term_count().to_le_bytes()),
+            Part::Index => out.extend_from_slice(&self.index().to_le_bytes()),
+            Part::Vector => put(out, &self.numbers::<3>(mood)),
+            Part::Matrix => put(out, &self.matrix(mood)),
+            Part::Quat => {
+                let q = self.quat(mood);
+                known.norm_sq = q.iter().fold(0.0, |sum, x| sum + x * x);
+                put(out, &q);
+            }
+            Part::Root => put(out, &[self.root(known.norm_sq)]),
+            Part::Pose => {
+                let pose = self.pose();
+                known.log_scales = [known.log_scales[1], pose[7]];
+                put(out, &pose);
+            }
+            Part::Exponential => {
+                let [first, last] = known.log_scales;
+                let arg = self.rng.pick(&[last, -last, first - last, first]);
+                put(out, &[self.exponential(arg)]);
+            }
+            Part::List => self.point_list(out),
+            Part::Square => put(out, &self.numbers::<49>(mood)),
+            Part::Block => put(out, &self.block()),
+            Part::Coefficients => put(out, &self.numbers::<9>(mood)),
+            _ => self.tangent_part(part, known, out),
+        }
+    }
+
+    /// A tangent, a log scale or an angle, and what belongs to it.
+    fn tangent_part(&mut self, part: Part, known: &mut Known, out: &mut Vec<u8>) {
+        match part {
+            Part::Sigma => {
+                let (sigma, z) = self.sigma_angle();
+                (known.sigma, known.z) = (sigma, Some(z));
+                put(out, &[sigma]);
+            }
+            Part::Angle => {
+                let z = known.z.unwrap_or_else(|| self.lone_angle());
+                let z = if self.rng.one_in(32) { -z } else { z };
+                known.z = Some(z.abs());
+                put(out, &[z]);
+            }
+            Part::Phi => {
+                let z = self.lone_angle();
+                known.know_phi(self.phi_with(z));
+                put(out, &known.phi);
+            }
+            Part::Tangent => {
+                let tangent = self.tangent();
+                known.know_phi(phi_of(&tangent));
+                known.sigma = tangent[6];
+                put(out, &tangent);
+            }
+            Part::Values => put(out, &self.values(known.sigma, known.z.unwrap_or(0.0))),
+            Part::ValuesOfNegative => put(out, &self.values(-known.sigma, known.z.unwrap_or(0.0))),
+            Part::Jacobian => put(out, &self.rotation_jacobians(known.phi).0),
+            Part::JacobianInverse => put(out, &self.rotation_jacobians(known.phi).1),
+            Part::JacobianOfNegative => {
+                put(out, &self.rotation_jacobians(known.phi.map(|x| -x)).0);
+            }
+            Part::JacobianInverseOfNegative => {
+                put(out, &self.rotation_jacobians(known.phi.map(|x| -x)).1);
+            }
+            _ => unreachable!("not an input"),
+        }
+    }
+
+    /// A squared angle for a function of the angle alone.
+    fn lone_angle(&mut self) -> f64 {
+        match self.rng.below(4) {
+            0 => self.rng.between(0.0, 12.0),
+            1 => self.rng.between(0.0, 0.01),
+            _ => self.sigma_angle().1,
+        }
+    }
+
+    fn term_count(&mut self) -> u64 {
+        match self.rng.below(16) {
+            0 => self.rng.pick(&[65, 66, 100, 255, 256, 1 << 32, u64::MAX]),
+            1..=2 => self.rng.pick(&[0, 1, 2, 28, 29, 30, 31, 32, 33, 63, 64]),
+            _ => self.rng.below(34) as u64,
+        }
+    }
+
+    fn index(&mut self) -> u64 {
+        if self.rng.one_in(8) {
+            return self.rng.pick(&[3, 4, 8, 9, 255, 256, 1 << 32, u64::MAX]);
+        }
+        self.rng.below(3) as u64
+    }
+
+    /// A point list, mostly short; now and then at the greatest length or of a refused one.
+    fn point_list(&mut self, out: &mut Vec<u8>) {
+        let n = match self.rng.below(512) {
+            0 => self.rng.pick(&[65_535, 65_536, 65_538, 65_534]),
+            1..=40 => self.rng.below(60),
+            _ => 3 * self.rng.below(12),
+        };
+        out.extend_from_slice(&(n as u64).to_le_bytes());
+        let mood = self.mood();
+        (0..n).for_each(|_| put(out, &[self.number(mood)]));
+    }
+}
+
+/// What the parts of a library record so far were.
+struct Known {
+    mood: Mood,
+    sigma: f64,
+    z: Option<f64>,
+    phi: [f64; 3],
+    log_scales: [f64; 2],
+    norm_sq: f64,
+}
+
+impl Default for Known {
+    fn default() -> Self {
+        Self {
+            mood: Mood::Ordinary,
+            sigma: 0.0,
+            z: None,
+            phi: [0.0; 3],
+            log_scales: [0.0; 2],
+            norm_sq: 0.0,
+        }
+    }
+}
+
+impl Known {
+    fn know_phi(&mut self, phi: [f64; 3]) {
+        self.phi = phi;
+        self.z = Some(squared_angle(phi));
+    }
+}

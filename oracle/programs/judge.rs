@@ -1,0 +1,107 @@
+//! The job program's judge: the paper's framing, numbers from the published Rust.
+//!
+//! Reads standard input, writes standard output. Whole records are answered as they arrive; what
+//! is kept is one buffer of input, with at most one cut record at its front, and one of output.
+
+use helicoid::judge::layout::{Reader, Writer};
+use helicoid::judge::marks::mark;
+use std::io::{self, Read, Write};
+
+/// After so many records nothing more is read.
+const MOST_RECORDS: u32 = 1_000_000;
+
+const BUFFER: usize = 1 << 16;
+
+/// The three counts of the last line.
+#[derive(Default)]
+struct Counts {
+    begun: u32,
+    answered: u32,
+    refused: u32,
+}
+
+impl Counts {
+    fn refuse(&mut self, number: u8, out: &mut Vec<u8>) {
+        out.extend_from_slice(&[b'N', b'O', number]);
+        self.begun += 1;
+        self.refused += 1;
+    }
+
+    fn write(&self, out: &mut Vec<u8>) {
+        out.extend_from_slice(b"ZZ");
+        for count in [self.begun, self.answered, self.refused] {
+            out.extend_from_slice(&count.to_le_bytes());
+        }
+    }
+}
+
+/// Answers the whole records at the front of `bytes`. Says how many bytes they were, and whether
+/// the program stops here.
+fn feed(bytes: &[u8], out: &mut Vec<u8>, counts: &mut Counts) -> (usize, bool) {
+    let mut at = 0;
+    while counts.begun < MOST_RECORDS {
+        let Some((letters, rest)) = bytes[at..].split_first_chunk::<2>() else {
+            return (at, false);
+        };
+        let Some(mark) = mark(*letters) else {
+            counts.refuse(6, out);
+            return (at, true);
+        };
+        let Some(numbers) = rest.get(..mark.bytes_in) else {
+            return (at, false);
+        };
+        let before = out.len();
+        out.extend_from_slice(letters);
+        match (mark.answer)(Reader(numbers), Writer(out)) {
+            Ok(()) => {
+                debug_assert!(out.len() == before + 2 + mark.bytes_out);
+                counts.begun += 1;
+                counts.answered += 1;
+            }
+            Err(number) => {
+                out.truncate(before);
+                counts.refuse(number, out);
+            }
+        }
+        at += 2 + mark.bytes_in;
+    }
+    (at, true)
+}
+
+fn run(input: &mut impl Read, output: &mut impl Write) -> io::Result<()> {
+    let mut buffer = vec![0; BUFFER];
+    let mut out = Vec::with_capacity(8 * BUFFER);
+    let mut counts = Counts::default();
+    let mut held = 0;
+    loop {
+        let (used, stop) = feed(&buffer[..held], &mut out, &mut counts);
+        if stop {
+            break;
+        }
+        buffer.copy_within(used..held, 0);
+        held -= used;
+        output.write_all(&out)?;
+        out.clear();
+        let more = match input.read(&mut buffer[held..]) {
+            Err(e) if e.kind() == io::ErrorKind::Interrupted => continue,
+            more => more?,
+        };
+        if more == 0 {
+            if held > 0 {
+                counts.refuse(7, &mut out);
+            }
+            break;
+        }
+        held += more;
+    }
+    counts.write(&mut out);
+    output.write_all(&out)?;
+    output.flush()
+}
+
+fn main() -> io::Result<()> {
+    // The handle below the standard buffers: `run` has its own.
+    let input = std::os::fd::AsFd::as_fd(&io::stdin()).try_clone_to_owned()?;
+    let output = std::os::fd::AsFd::as_fd(&io::stdout()).try_clone_to_owned()?;
+    run(&mut std::fs::File::from(input), &mut std::fs::File::from(output))
+}

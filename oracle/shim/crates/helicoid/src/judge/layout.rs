@@ -1,0 +1,154 @@
+//! Numbers in bytes: 8-byte little-endian doubles, matrices column by column, a block as
+//! `a, b, c, f, e`, a pose as quaternion, translation, log scale.
+
+use super::Values;
+use crate::sim3::access::{block, block_parts};
+use crate::{Quat, Sim3, Sim3Jac, Sim3Tangent, SO3};
+use helicoid_linalg::handed::H;
+use helicoid_linalg::{Mat3, Matrix, Vec3, Vector};
+
+/// How every NaN is written.
+pub const NAN: u64 = 0x7ff8_0000_0000_0000;
+
+/// A record's numbers, taken from the front.
+pub struct Reader<'a>(pub &'a [u8]);
+
+impl Reader<'_> {
+    /// Eight bytes as they are.
+    #[inline(always)]
+    pub fn word(&mut self) -> u64 {
+        let (head, rest) = self.0.split_first_chunk::<8>().expect("a whole record");
+        self.0 = rest;
+        u64::from_le_bytes(*head)
+    }
+
+    #[inline(always)]
+    pub fn number(&mut self) -> f64 {
+        f64::from_bits(self.word())
+    }
+
+    #[inline(always)]
+    pub fn scalar(&mut self) -> H {
+        H(self.number())
+    }
+
+    #[inline(always)]
+    pub fn numbers<const N: usize>(&mut self) -> [f64; N] {
+        let mut a = [0.0; N];
+        a.iter_mut().for_each(|x| *x = self.number());
+        a
+    }
+
+    #[inline(always)]
+    pub fn scalars<const N: usize>(&mut self) -> [H; N] {
+        self.numbers().map(H)
+    }
+
+    #[inline(always)]
+    pub fn vector<const N: usize>(&mut self) -> Vector<H, N> {
+        Vector(self.scalars())
+    }
+
+    #[inline(always)]
+    pub fn matrix<const R: usize, const C: usize>(&mut self) -> Matrix<H, R, C> {
+        let mut cols = [Vector([H(0.0); R]); C];
+        cols.iter_mut().for_each(|c| *c = self.vector());
+        Matrix::from_cols(cols)
+    }
+
+    #[inline(always)]
+    pub fn quat(&mut self) -> Quat<H> {
+        let [w, x, y, z] = self.scalars();
+        Quat { w, x, y, z }
+    }
+
+    #[inline(always)]
+    pub fn pose(&mut self) -> Sim3<H> {
+        let (q, t, sigma) = (self.quat(), self.vector(), self.scalar());
+        Sim3::from_parts(SO3::from_quat_unchecked(q), t, sigma)
+    }
+
+    #[inline(always)]
+    pub fn tangent(&mut self) -> Sim3Tangent<H> {
+        let (phi, rho, sigma) = (self.vector(), self.vector(), self.scalar());
+        Sim3Tangent { phi, rho, sigma }
+    }
+
+    #[inline(always)]
+    pub fn values(&mut self) -> Values {
+        Values::from_array(self.numbers())
+    }
+
+    #[inline(always)]
+    pub fn block(&mut self) -> Sim3Jac<H> {
+        let (a, b, c) = (self.matrix(), self.matrix(), self.matrix());
+        let (f, e) = (self.vector(), self.scalar());
+        block(a, b, c, f, e)
+    }
+}
+
+/// The bytes of a number; every NaN has the same.
+#[inline(always)]
+fn bytes(x: H) -> [u8; 8] {
+    let bits = if x.0.is_nan() { NAN } else { x.0.to_bits() };
+    bits.to_le_bytes()
+}
+
+/// An answer's numbers, added at the end.
+pub struct Writer<'a>(pub &'a mut Vec<u8>);
+
+impl Writer<'_> {
+    #[inline(always)]
+    pub fn scalars<const N: usize>(&mut self, a: &[H; N]) {
+        self.0.extend_from_slice(a.map(bytes).as_flattened());
+    }
+
+    #[inline(always)]
+    pub fn scalar(&mut self, x: H) {
+        self.scalars(&[x]);
+    }
+
+    #[inline(always)]
+    pub fn flag(&mut self, x: bool) {
+        self.scalar(H(if x { 1.0 } else { 0.0 }));
+    }
+
+    #[inline(always)]
+    pub fn vector(&mut self, v: &Vec3<H>) {
+        self.scalars(&v.0);
+    }
+
+    #[inline(always)]
+    pub fn matrix<const R: usize, const C: usize>(&mut self, m: &Matrix<H, R, C>) {
+        let columns: [[[u8; 8]; R]; C] = core::array::from_fn(|c| m.col(c).0.map(bytes));
+        self.0.extend_from_slice(columns.as_flattened().as_flattened());
+    }
+
+    #[inline(always)]
+    pub fn quat(&mut self, q: &Quat<H>) {
+        self.scalars(&[q.w, q.x, q.y, q.z]);
+    }
+
+    #[inline(always)]
+    pub fn pose(&mut self, x: &Sim3<H>) {
+        let (r, t, sigma) = x.parts();
+        let (q, [x, y, z]) = (r.quat(), t.0);
+        self.scalars(&[q.w, q.x, q.y, q.z, x, y, z, sigma]);
+    }
+
+    #[inline(always)]
+    pub fn tangent(&mut self, tau: &Sim3Tangent<H>) {
+        let ([a, b, c], [x, y, z]) = (tau.phi.0, tau.rho.0);
+        self.scalars(&[a, b, c, x, y, z, tau.sigma]);
+    }
+
+    #[inline(always)]
+    pub fn block(&mut self, j: &Sim3Jac<H>) {
+        let (a, b, c, f, e): (Mat3<H>, Mat3<H>, Mat3<H>, Vec3<H>, H) = block_parts(j);
+        self.matrix(&a);
+        self.matrix(&b);
+        self.matrix(&c);
+        let [x, y, z] = f.0;
+        self.scalars(&[x, y, z, e]);
+    }
+}

@@ -1,0 +1,127 @@
+//! The seven marks of the job program: what a record's numbers are and which published function
+//! answers them. A refusal is its number.
+
+use super::layout::{Reader, Writer};
+use super::{reads, Values};
+use crate::sim3::access::{jl_and_inverse_from, squared_angle};
+use crate::{coefficients, Jac, LieGroup, Sim3, Sim3Tangent, Tangent};
+use helicoid_linalg::handed::{finish, H};
+use helicoid_linalg::{Mat3, Point};
+
+/// A mark: its letters, the bytes of its numbers in and out, and its answer.
+pub struct Mark {
+    pub letters: [u8; 2],
+    pub bytes_in: usize,
+    pub bytes_out: usize,
+    pub answer: fn(Reader<'_>, Writer<'_>) -> Result<(), u8>,
+}
+
+/// The paper's job table.
+pub const MARKS: [Mark; 7] = [
+    Mark { letters: *b"EX", bytes_in: 136, bytes_out: 64, answer: ex },
+    Mark { letters: *b"CO", bytes_in: 96, bytes_out: 160, answer: co },
+    Mark { letters: *b"PA", bytes_in: 280, bytes_out: 992, answer: pa },
+    Mark { letters: *b"AC", bytes_in: 96, bytes_out: 24, answer: ac },
+    Mark { letters: *b"MU", bytes_in: 136, bytes_out: 64, answer: mu },
+    Mark { letters: *b"IN", bytes_in: 72, bytes_out: 64, answer: inverse },
+    Mark { letters: *b"JI", bytes_in: 248, bytes_out: 248, answer: ji },
+];
+
+/// The mark with these two letters.
+#[inline]
+pub fn mark(letters: [u8; 2]) -> Option<&'static Mark> {
+    MARKS.iter().find(|m| m.letters == letters)
+}
+
+/// `Exp τ`.
+fn ex(mut r: Reader<'_>, mut w: Writer<'_>) -> Result<(), u8> {
+    let (tau, v) = (r.tangent(), r.values());
+    reads::exponential(tau.sigma.0, squared_angle(tau.phi).0, &v);
+    let x = Sim3::exp(&tau);
+    finish();
+    w.pose(&x);
+    Ok(())
+}
+
+/// The scaled coefficients at `σ` and at `−σ`, each by a call of its own.
+fn co(mut r: Reader<'_>, mut w: Writer<'_>) -> Result<(), u8> {
+    let (sigma, z, v) = (r.number(), r.number(), r.values());
+    if z < 0.0 {
+        return Err(1);
+    }
+    co_one(sigma, z, &v, &mut w);
+    co_one(-sigma, z, &v.mirrored(sigma), &mut w);
+    Ok(())
+}
+
+#[inline]
+fn co_one(sigma: f64, z: f64, v: &Values, w: &mut Writer<'_>) {
+    reads::scaled_coefficients(sigma, z, v);
+    let (row, scaled) = coefficients::sim3_coeffs_scaled(H(sigma), H(z));
+    finish();
+    w.scalars(&row);
+    w.flag(scaled);
+}
+
+/// The block and its inverse of the tangent and of its negative, each by calls of its own.
+fn pa(mut r: Reader<'_>, mut w: Writer<'_>) -> Result<(), u8> {
+    let (tau, v): (Sim3Tangent<H>, Values) = (r.tangent(), r.values());
+    let (jl, inv): (Mat3<H>, Mat3<H>) = (r.matrix(), r.matrix());
+    pa_one(&tau, &v, (jl, inv), &mut w);
+    let mirrored = v.mirrored(tau.sigma.0);
+    pa_one(&tau.neg(), &mirrored, (jl.transpose(), inv.transpose()), &mut w);
+    Ok(())
+}
+
+#[inline]
+fn pa_one(tau: &Sim3Tangent<H>, v: &Values, jacobians: (Mat3<H>, Mat3<H>), w: &mut Writer<'_>) {
+    let z = squared_angle(tau.phi);
+    reads::block_and_inverse(tau.sigma.0, z.0, v);
+    let scaled = coefficients::sim3_coeffs_scaled(tau.sigma, z);
+    let (block, inverse) = jl_and_inverse_from(tau, z, scaled, jacobians);
+    finish();
+    w.block(&block);
+    w.block(&inverse);
+}
+
+/// `X p`.
+fn ac(mut r: Reader<'_>, mut w: Writer<'_>) -> Result<(), u8> {
+    let (x, up, p): (Sim3<H>, f64, [H; 3]) = (r.pose(), r.number(), r.scalars());
+    reads::exponential_at(x.log_scale().0, up);
+    let y = x * Point(p);
+    finish();
+    w.scalars(&y.0);
+    Ok(())
+}
+
+/// `X Y`.
+fn mu(mut r: Reader<'_>, mut w: Writer<'_>) -> Result<(), u8> {
+    let (x, y, up) = (r.pose(), r.pose(), r.number());
+    reads::exponential_at(x.log_scale().0, up);
+    let xy = x * y;
+    finish();
+    w.pose(&xy);
+    Ok(())
+}
+
+/// `X⁻¹`.
+fn inverse(mut r: Reader<'_>, mut w: Writer<'_>) -> Result<(), u8> {
+    let (x, down) = (r.pose(), r.number());
+    reads::exponential_at(-x.log_scale().0, down);
+    let y = x.inverse();
+    finish();
+    w.pose(&y);
+    Ok(())
+}
+
+/// The inverse of a block; `e` a zero of either sign is refused.
+fn ji(mut r: Reader<'_>, mut w: Writer<'_>) -> Result<(), u8> {
+    let j = r.block();
+    if crate::sim3::access::block_parts(&j).4 .0 == 0.0 {
+        return Err(2);
+    }
+    let inv = j.inverse();
+    finish();
+    w.block(&inv);
+    Ok(())
+}

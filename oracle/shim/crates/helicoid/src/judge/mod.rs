@@ -1,0 +1,9 @@
+//! The judge: the published functions called on numbers from bytes, with the function values
+//! handed in by the place that reads them.
+
+pub mod layout;
+pub mod marks;
+pub mod reads;
+mod values;
+
+pub use values::Values;

@@ -1,0 +1,1 @@
+"""What tools/jobs is made of: layout (the job table), doubles, host, records, make, show, diff."""

@@ -1,0 +1,115 @@
+"""The job table: what stands in every record of a job file and of an answer file.
+
+All else reads and writes records through these layouts; a new mark is a new entry here.
+"""
+import struct
+from typing import NamedTuple, Tuple
+
+MOST_RECORDS = 1_000_000  # the job program answers no more
+
+REFUSALS = {
+    1: "squared angle z below zero",
+    2: "e is +0 or -0 in the block inverse",
+    3: "row or column of a 3x3 matrix above 2",
+    4: "term count k above 64",
+    5: "point list of a wrong length",
+    6: "unknown mark",
+    7: "input ends inside a mark or record",
+}
+
+
+class Group(NamedTuple):
+    """Numbers that stand together under one name, as `phi` or `left.a`."""
+
+    name: str
+    parts: Tuple[str, ...]  # what each number adds to the name: ".x", "[1][2]", nothing
+    about: str
+    code: str = "d"  # struct's letter: d a double, B a byte, I a 32-bit count
+
+
+class Layout:
+    """A record: its two-byte mark and its groups of numbers, little endian, nothing between."""
+
+    def __init__(self, mark, about, *groups):
+        self.mark, self.about, self.groups = mark, about, groups
+        self.fields = [g.name + part for g in groups for part in g.parts]
+        self.codes = "".join(g.code * len(g.parts) for g in groups)
+        self.numbers = struct.Struct("<" + self.codes)
+        self.bits = struct.Struct("<" + self.codes.replace("d", "Q"))
+        self.size = 2 + self.numbers.size
+
+    def offsets(self):
+        """Each group with the byte at which it starts, counted from the mark."""
+        at = 2
+        for group in self.groups:
+            yield at, group
+            at += struct.calcsize("<" + group.code * len(group.parts))
+
+
+ONE = ("",)
+XYZ = (".x", ".y", ".z")
+WXYZ = (".w", ".x", ".y", ".z")
+ROWS = ("[0]", "[1]", "[2]")
+MATRIX = tuple(f"[{row}][{column}]" for column in range(3) for row in range(3))
+TEN = (".root", ".sin_half", ".cos_half", ".sin", ".E", ".M", ".E0", ".M0", ".up", ".down")
+COEFFICIENTS = (".v0", ".v1", ".v2", ".w0", ".w1", ".w2", ".dv1", ".dv2", ".chi_delta", ".scaled")
+FLAGS = (".scaled",)  # fields that are the double 1 or 0
+
+SIGMA = Group("sigma", ONE, "log scale")
+VALUES = Group("values", TEN, "the ten function values")
+UP = Group("up", ONE, "e^sigma")
+DOWN = Group("down", ONE, "e^-sigma")
+POINT = Group("point", XYZ, "a point")
+TANGENT = (Group("phi", XYZ, "rotation vector"), Group("rho", XYZ, "translation part"), SIGMA)
+ROTATION_JACOBIANS = (Group("J", MATRIX, "rotation Jacobian of phi"),
+                      Group("Jinv", MATRIX, "its inverse"))
+
+
+def pose(name):
+    return (Group(name + ".q", WXYZ, "quaternion"), Group(name + ".t", XYZ, "translation"),
+            Group(name + ".sigma", ONE, "log scale"))
+
+
+def block(name):
+    """A block Jacobian, whose matrix has the rows (a, 0, 0), (b, c, f), (0, 0, e)."""
+    matrices = (Group(f"{name}.{m}", MATRIX, f"3x3 block {m}") for m in "abc")
+    return (*matrices, Group(name + ".f", ROWS, "column f"), Group(name + ".e", ONE, "number e"))
+
+
+def coefficients(name, about):
+    return Group(name, COEFFICIENTS, "nine coefficients and the flag " + about)
+
+
+def table(*layouts):
+    """Layouts by their marks as they stand in a file."""
+    return {layout.mark.encode(): layout for layout in layouts}
+
+
+JOB = table(
+    Layout("EX", "exponential of a tangent", *TANGENT, VALUES),
+    Layout("CO", "coefficients of both signs", SIGMA, Group("z", ONE, "squared angle"), VALUES),
+    Layout("PA", "block pair", *TANGENT, VALUES, *ROTATION_JACOBIANS),
+    Layout("AC", "action of a pose on a point", *pose("pose"), UP, POINT),
+    Layout("MU", "product of two poses", *pose("left"), *pose("right"), UP),
+    Layout("IN", "inverse of a pose", *pose("pose"), DOWN),
+    Layout("JI", "inverse of a block Jacobian", *block("block")),
+)
+
+ANSWER = table(
+    Layout("EX", "the pose", *pose("pose")),
+    Layout("CO", "the coefficients", coefficients("coeffs(+)", "at sigma"),
+           coefficients("coeffs(-)", "at -sigma")),
+    Layout("PA", "four blocks", *block("left"), *block("left_inv"), *block("right"),
+           *block("right_inv")),
+    Layout("AC", "the moved point", POINT),
+    Layout("MU", "the product", *pose("product")),
+    Layout("IN", "the inverse", *pose("inverse")),
+    Layout("JI", "the inverse", *block("inverse")),
+    Layout("NO", "a refusal", Group("refusal", ONE, "its number", "B")),
+)
+
+# The counts behind the last record of an answer file.
+END = Layout("ZZ", "the end",
+             Group("begun", ONE, "records begun", "I"),
+             Group("answered", ONE, "records answered", "I"),
+             Group("refused", ONE, "records refused", "I"))

@@ -1,0 +1,135 @@
+"""Job and answer files as bytes: reading them, walking their records, saying what is damaged."""
+import mmap
+import os
+import stat
+import sys
+from typing import NamedTuple
+
+from .layout import ANSWER, END, JOB
+from .terminal import Failure, Progress
+
+STDIN = "(standard input)"
+ZZ = END.mark.encode()
+GUESS = 1000  # records that are enough to tell a job file from an answer file
+
+
+class Damage(NamedTuple):
+    """Where a file stops being what it should be, and why."""
+
+    at: int
+    text: str
+    cut: bool  # all that is there is good, but the file ends too early
+
+
+class Scan(NamedTuple):
+    """What a walk over a whole file found."""
+
+    marks: dict  # how many records of each mark
+    end: int  # the byte behind the last whole record
+    damages: list
+    counts: tuple  # ZZ's, or None
+
+    @property
+    def records(self):
+        return sum(self.marks.values())
+
+
+def name_of(path):
+    return STDIN if path in (None, "-") else path
+
+
+def load(path):
+    """A file's bytes; a large file is mapped, not copied."""
+    try:
+        if path in (None, "-"):
+            return sys.stdin.buffer.read()
+        with open(path, "rb") as file:
+            status = os.fstat(file.fileno())
+            if stat.S_ISREG(status.st_mode) and status.st_size:
+                return mmap.mmap(file.fileno(), 0, access=mmap.ACCESS_READ)
+            return file.read()
+    except OSError as error:
+        raise Failure(f"jobs: cannot read {name_of(path)}: {error.strerror}")
+
+
+def walk(data, table):
+    """Offset and layout of each record, up to the first bytes that are no whole record."""
+    at, end = 0, len(data)
+    while True:
+        layout = table.get(data[at:at + 2])
+        if layout is None or at + layout.size > end:
+            return
+        yield at, layout
+        at += layout.size
+
+
+def hexadecimal(some):
+    return " ".join(f"{byte:02x}" for byte in some)
+
+
+def torn(data, at, table):
+    """The damage at byte `at`, where a walk over `table` stopped before the end."""
+    left, mark = len(data) - at, bytes(data[at:at + 2])
+    if left == 1:
+        return Damage(at, f"the file ends inside a mark, after {hexadecimal(mark)}", True)
+    if mark in table:
+        return Damage(at, f"the file ends inside a record: {table[mark].mark} takes "
+                          f"{table[mark].size} bytes, {left} are there", True)
+    return Damage(at, f"unknown mark {hexadecimal(mark)} ({ascii(mark.decode('latin-1'))})", False)
+
+
+def end_damages(data, at, marks):
+    """The damages of an answer file whose records end at byte `at`."""
+    left = len(data) - at
+    if data[at:at + 2] != ZZ:
+        missing = Damage(len(data), "ZZ and its counts are missing: the answer is not whole", True)
+        return [torn(data, at, ANSWER), missing] if left else [missing]
+    if left < END.size:
+        return [Damage(at, f"ZZ is short: {left} of {END.size} bytes: the answer is not whole", True)]
+    found = []
+    begun, refused = sum(marks.values()), marks.get("NO", 0)
+    counted = (begun, begun - refused, refused)
+    if END.numbers.unpack_from(data, at + 2) != counted:
+        found.append(Damage(at, "ZZ does not fit the records, which are {} begun, {} answered, "
+                                "{} refused".format(*counted), True))
+    if left > END.size:
+        found.append(Damage(at + END.size, f"{left - END.size} bytes stand after ZZ", False))
+    return found
+
+
+def scan(data, table, what):
+    """Walks a whole file."""
+    marks, done, end = {}, 0, 0
+    progress = Progress(what, 0)
+    for at, layout in walk(data, table):
+        mark = layout.mark
+        marks[mark] = marks.get(mark, 0) + 1
+        end = at + layout.size
+        done += 1
+        if not done % Progress.STEP:
+            progress(done)
+    progress.end()
+    if table is JOB:
+        damages = [torn(data, end, JOB)] if end < len(data) else []
+        return Scan(marks, end, damages, None)
+    damages = end_damages(data, end, marks)
+    whole = data[end:end + 2] == ZZ and end + END.size <= len(data)
+    return Scan(marks, end, damages, END.numbers.unpack_from(data, end + 2) if whole else None)
+
+
+def reach(data, table):
+    """How many bytes the first records take when read by a table."""
+    end = 0
+    for number, (at, layout) in enumerate(walk(data, table)):
+        end = at + layout.size
+        if number == GUESS:
+            break
+    return end
+
+
+def guess(data):
+    """The table that reads further; ZZ decides where both do as well, as with JI alone."""
+    job, answer = reach(data, JOB), reach(data, ANSWER)
+    if job == answer:
+        return ANSWER if data[-END.size:][:2] == ZZ else JOB
+    return JOB if job > answer else ANSWER

@@ -1,0 +1,105 @@
+"""`jobs show`: a job file or an answer file as text, one record a line."""
+import struct
+
+from .doubles import text
+from .layout import ANSWER, END, JOB, MOST_RECORDS, REFUSALS
+from .records import guess, hexadecimal, load, name_of, scan, walk
+from .terminal import Failure, Lines, Progress, say
+
+MOST_RAW = 1024  # bytes that are shown of what is no record
+
+
+def template(layout):
+    """A record's line with a %s for each number."""
+    groups = (g.name + " %s" * len(g.parts) for g in layout.groups)
+    return f"{layout.mark} " + "; ".join(groups)
+
+
+TEMPLATES = {layout: template(layout) for layout in (*JOB.values(), *ANSWER.values(), END)}
+
+
+def meaning(refusal):
+    return REFUSALS.get(refusal, "a number that no refusal has")
+
+
+def one_line(data, at, layout):
+    """A record as a line, which `make` reads if it is a job's."""
+    numbers = layout.numbers.unpack_from(data, at + 2)
+    line = TEMPLATES[layout] % numbers  # str is the shortest decimal, but hides a NaN's bits
+    if "nan" in line:
+        line = TEMPLATES[layout] % tuple(map(text, numbers))
+    if layout.mark == "NO":
+        line += "  # " + meaning(*numbers)
+    return [line]
+
+
+def hex_lines(data, at, layout):
+    """A record as bytes: a line for its mark and one for each number."""
+    lines = [f"{at:8}  {hexadecimal(data[at:at + 2]):23}  {layout.mark}"]
+    numbers = layout.numbers.unpack_from(data, at + 2)
+    at += 2
+    for name, code, number in zip(layout.fields, layout.codes, numbers):
+        size = struct.calcsize("<" + code)
+        note = f" ({meaning(number)})" if layout.mark == "NO" else ""
+        lines.append(f"{at:8}  {hexadecimal(data[at:at + size]):23}  {name} = {text(number)}{note}")
+        at += size
+    return lines
+
+
+def raw_line(data, at):
+    """What stands where no record can be read, as a line that `make` reads."""
+    some = data[at:at + MOST_RAW]
+    more = len(data) - at - len(some)
+    return f"bytes {hexadecimal(some)}" + (f"  # and {more:,} more" if more else "")
+
+
+def print_records(data, table, wanted, lines_of):
+    """The records whose numbers are wanted."""
+    out, progress = Lines(), Progress("show", wanted.stop - 1)
+    for number, (at, layout) in enumerate(walk(data, table), 1):
+        if number >= wanted.stop:
+            break
+        if number >= wanted.start:
+            out.add(*lines_of(data, at, layout))
+        progress(number)
+    progress.end()
+    out.flush()
+
+
+def print_end(data, found, lines_of):
+    """ZZ, and the bytes that are no record."""
+    out, end = Lines(), found.end
+    if found.counts:
+        out.add(*lines_of(data, end, END))
+        end += END.size
+    if end < len(data):
+        out.add(raw_line(data, end))
+    out.flush()
+
+
+def say_damages(name, found, read_as, guessed):
+    for damage in found.damages:
+        say(f"{name}: byte {damage.at}: {damage.text}")
+    if found.damages and guessed:
+        say("jobs: it was read as " + ("a job file; --out reads it as an answer file"
+                                       if read_as is JOB else
+                                       "an answer file; --in reads it as a job file"))
+    if read_as is JOB and found.records > MOST_RECORDS:
+        say(f"jobs: {found.records:,} records; the job program answers the first {MOST_RECORDS:,}")
+
+
+def show(path, table, wanted, as_bytes):
+    """The command: 0, or 1 where the file is damaged. Without `wanted`, everything is shown."""
+    data, name = load(path), name_of(path)
+    read_as = table or guess(data)
+    found = scan(data, read_as, "reading")
+    lines_of = hex_lines if as_bytes else one_line
+    if wanted is None:
+        print_records(data, read_as, range(1, found.records + 1), lines_of)
+        print_end(data, found, lines_of)
+    elif wanted.stop - 1 > found.records:
+        raise Failure(f"jobs: no record {wanted.stop - 1:,} in {name}; it has {found.records:,}")
+    else:
+        print_records(data, read_as, wanted, lines_of)
+    say_damages(name, found, read_as, guessed=table is None)
+    return 1 if found.damages else 0

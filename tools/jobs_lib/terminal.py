@@ -1,0 +1,60 @@
+"""Messages, progress and output that may stop."""
+import sys
+import time
+
+
+def say(message):
+    """A message to the user, behind whatever standard output already has."""
+    sys.stdout.flush()
+    sys.stderr.write(message + "\n")
+
+
+class Failure(Exception):
+    """Work that cannot go on; the text is the message, the status the program's."""
+
+    def __init__(self, message, status=2):
+        super().__init__(message)
+        self.status = status
+
+
+class Progress:
+    """`what: done of total` on standard error, while that is a terminal and the work is long."""
+
+    STEP = 8192  # units between two looks at the clock
+
+    def __init__(self, what, total, unit="records"):
+        self.what, self.total, self.unit = what, total, unit
+        self.shown, self.next = False, time.monotonic() + 1
+        self.live = sys.stderr.isatty()
+
+    def __call__(self, done):
+        if not self.live or done % self.STEP or time.monotonic() < self.next:
+            return
+        of = f" of {self.total:,}" if self.total else ""
+        sys.stderr.write(f"\r{self.what}: {done:,}{of} {self.unit}")
+        sys.stderr.flush()
+        self.shown, self.next = True, time.monotonic() + 0.2
+
+    def end(self):
+        """Takes the line away."""
+        if self.shown:
+            sys.stderr.write("\r\033[K")
+            sys.stderr.flush()
+
+
+class Lines:
+    """Standard output by the line, handed on in large pieces."""
+
+    def __init__(self):
+        self.waiting = []
+
+    def add(self, *lines):
+        self.waiting.extend(lines)
+        if len(self.waiting) >= 4096:
+            self.flush()
+
+    def flush(self):
+        if self.waiting:
+            sys.stdout.write("\n".join(self.waiting) + "\n")
+            self.waiting.clear()
+        sys.stdout.flush()
