@@ -1,89 +1,179 @@
 """`jobs diff`: two answer files record by record."""
-import sys
-from typing import NamedTuple
-
 from .doubles import from_bits, is_nan, text, ulps
-from .layout import ANSWER, END, FLAGS
-from .records import JOB, Progress, guess, load, scan, walk
+from .layout import ANSWER, END, JOB
+from .records import guess, load, scan, walk
 from .show import meaning
-from .terminal import Lines, say
+from .terminal import Failure, Lines, Progress, count
 
 EQUAL, DIFFERENT, UNREADABLE = 0, 1, 2
 
 
-class Number(NamedTuple):
-    """A number that differs: its field, both bit patterns (or counts), how far apart they are."""
-
-    field: str
-    code: str
-    old: int
-    new: int
-
-    def steps(self):
-        """The distance in units in the last place, where it has a sense."""
-        if self.code != "d" or self.field.endswith(FLAGS):
-            return None
-        return ulps(self.old, self.new)
-
-    def distance(self):
-        steps = self.steps()
-        if steps == 0:
-            return "sign of zero"
-        if steps is not None:
-            return f"{steps:,} ulp"
-        if self.code == "d":
-            return "flag" if self.field.endswith(FLAGS) else "NaN against a number"
-        return "" if self.field == "refusal" else f"{self.new - self.old:+,}"
-
-    def show(self, value):
-        if self.code == "d":
-            return text(from_bits(value))
-        return f"{value} ({meaning(value)})" if self.field == "refusal" else str(value)
-
-    def line(self):
-        parts = (self.field, self.show(self.old), "->", self.show(self.new), self.distance())
-        return "  ".join(part for part in parts if part)
-
-
 def differing(layout, old, old_at, new, new_at):
-    """The numbers in which two records of a layout differ; a NaN is equal to every NaN."""
+    """Places and bits of the numbers in which two records differ; every NaN equals every NaN."""
     before = layout.bits.unpack_from(old, old_at + 2)
     after = layout.bits.unpack_from(new, new_at + 2)
-    return [Number(layout.fields[i], layout.codes[i], a, b)
-            for i, (a, b) in enumerate(zip(before, after))
+    return [(i, a, b) for i, (a, b) in enumerate(zip(before, after))
             if a != b and not (layout.codes[i] == "d" and is_nan(a) and is_nan(b))]
+
+
+def shown(layout, i, bits):
+    """A number as it stands in a difference."""
+    if layout.codes[i] == "d":
+        return text(from_bits(bits))
+    return f"{bits} ({meaning(bits)})" if layout.mark == "NO" else str(bits)
+
+
+def distance(layout, i, old, new):
+    """How far apart two numbers are, in words."""
+    if layout.codes[i] != "d":
+        return "another refusal" if layout.mark == "NO" else f"{new - old:+,}"
+    if i in layout.flags:
+        return "another flag"
+    steps = ulps(old, new)
+    if steps is None:
+        return "NaN against a number"
+    return f"{steps:,} ulp" if steps else "sign of zero"
+
+
+def span(first, last):
+    return f"record {first}" if first == last else f"records {first} to {last}"
 
 
 class Report:
     """Prints differences up to a limit and counts all of them."""
 
     def __init__(self, limit):
-        self.out, self.limit, self.printed = Lines(), limit, 0
-        self.numbers, self.nan_bits = 0, 0
-        self.records = {}  # different records by the old file's mark
-        self.largest, self.where = 0, None
+        self.out, self.limit = Lines(), limit
+        self.differences, self.numbers, self.nan_bits = 0, 0, 0
+        self.records = {}  # different records by mark, that of the old file
+        self.largest, self.where = 0, ""
 
-    def line(self, text_line):
-        if self.limit is None or self.printed < self.limit:
-            self.out.add(text_line)
-        self.printed += 1
+    def room(self):
+        """Counts a difference; true if its line is to be printed."""
+        self.differences += 1
+        return self.limit is None or self.differences <= self.limit
 
-    def other_kind(self, number, old, new):
-        """Two records with different marks: another record, or a refusal on one side."""
-        self.records[old.mark] = self.records.get(old.mark, 0) + 1
-        self.line(f"record {number}  {old.mark} -> {new.mark}  {described(old)} -> {described(new)}")
+    def count_record(self, mark):
+        self.records[mark] = self.records.get(mark, 0) + 1
 
-    def changed(self, number, mark, numbers):
-        """Two records of one mark whose bytes differ."""
-        if not numbers:
+    def other_kind(self, number, mark, old, new):
+        """Two records of different marks, as when one side refuses."""
+        self.count_record(mark)
+        if self.room():
+            self.out.add(f"record {number}  {old}  ->  {new}")
+
+    def changed(self, place, layout, found):
+        """Two records of one mark that differ in bytes; in nothing but NaN bits if none is found."""
+        if not found:
             self.nan_bits += 1
             return
-        self.records[mark] = self.records.get(mark, 0) + 1
-        self.numbers += len(numbers)
-        for found in numbers:
-            steps = found.steps()
-            if steps is not None and steps > self.largest:
-                self.largest, self.where = steps, f"record {number} {mark} {found.field}"
-            if self.limit is None or self.printed < self.limit:
-                self.out.add(f"record {number}  {mark}  {found.line()}")
-            self.printed += 1
+        self.count_record(layout.mark)
+        self.numbers += len(found)
+        for i, old, new in found:
+            if layout.codes[i] == "d" and i not in layout.flags:
+                steps = ulps(old, new) or 0
+                if steps > self.largest:
+                    self.largest = steps
+                    self.where = f"{place} {layout.mark} {layout.fields[i]}"
+            if self.room():
+                self.out.add(f"{place}  {layout.mark}  {layout.fields[i]}  "
+                             f"{shown(layout, i, old)}  ->  {shown(layout, i, new)}  "
+                             f"{distance(layout, i, old, new)}")
+
+    def only_in(self, name, first, last):
+        """Records that the other file does not have."""
+        self.records["missing"] = last - first + 1
+        if self.room():
+            self.out.add(f"{span(first, last)}  in {name} alone")
+
+    def summary(self):
+        """What was counted, one line for each thing."""
+        if self.limit is not None and self.differences > self.limit:
+            yield count(self.differences - self.limit, "more difference") + " not printed"
+        if self.nan_bits:
+            yield "equal but for the bits of a NaN: " + count(self.nan_bits, "record")
+        if self.records:
+            marks = ", ".join(f"{mark} {number:,}" for mark, number in self.records.items())
+            yield f"different: {count(sum(self.records.values()), 'record')} ({marks}), " \
+                  f"{count(self.numbers, 'number')}"
+        if self.largest:
+            yield f"largest distance: {self.largest:,} ulp, {self.where}"
+
+
+def kind(data, at, layout):
+    """A record's mark, with the number if it is a refusal."""
+    return f"NO {shown(layout, 0, data[at + 2])}" if layout.mark == "NO" else layout.mark
+
+
+def compare(old, new, total, report):
+    """Record by record as bytes; numbers are looked at only where the bytes differ."""
+    progress = Progress("diff", total)
+    pairs = zip(walk(old, ANSWER), walk(new, ANSWER))
+    for number, ((old_at, before), (new_at, after)) in enumerate(pairs, 1):
+        if before is not after:
+            report.other_kind(number, before.mark, kind(old, old_at, before),
+                              kind(new, new_at, after))
+        elif old[old_at:old_at + before.size] != new[new_at:new_at + before.size]:
+            found = differing(before, old, old_at, new, new_at)
+            report.changed(f"record {number}", before, found)
+        if not number % Progress.STEP:
+            progress(number)
+    progress.end()
+
+
+def unreadable(found):
+    return any(damage.unreadable for damage in found.damages)
+
+
+def compare_ends(names, old, new, scans, report):
+    """Records that one file has too many, and the counts where both have them."""
+    counts = [found.records for found in scans]
+    if counts[0] != counts[1]:
+        longer = 0 if counts[0] > counts[1] else 1
+        first, last = min(counts) + 1, max(counts)
+        if unreadable(scans[1 - longer]):
+            report.out.add(f"{span(first, last)}  in {names[longer]} not compared")
+        else:
+            report.only_in(names[longer], first, last)
+    if scans[0].counts and scans[1].counts and scans[0].counts != scans[1].counts:
+        report.changed("end", END, differing(END, old, scans[0].end, new, scans[1].end))
+
+
+def say_damages(name, data, found, out):
+    """What keeps a file from being a whole answer."""
+    if unreadable(found) and guess(data) is JOB:
+        raise Failure(f"jobs: {name} is not an answer file; expected two (jobs show reads any file)")
+    for damage in found.damages:
+        out.add(f"{name}: byte {damage.at}: {damage.text}")
+
+
+def ending(found):
+    """The records and counts of a file in words."""
+    records = count(found.records, "record")
+    if found.counts:
+        return records + ", ZZ {:,} begun, {:,} answered, {:,} refused".format(*found.counts)
+    return records + (" could be read" if unreadable(found) else ", no ZZ")
+
+
+def diff(old_path, new_path, limit):
+    """The command: 0 equal and whole, 1 different or not whole, 2 not to be read."""
+    if old_path == new_path == "-":
+        raise Failure("jobs: OLD and NEW are both standard input; expected two files")
+    names = (f"OLD {old_path}", f"NEW {new_path}")
+    old, new = load(old_path), load(new_path)
+    scans = [scan(data, ANSWER, "reading") for data in (old, new)]
+    report = Report(limit)
+    for name, data, found in zip(names, (old, new), scans):
+        say_damages(name, data, found, report.out)
+    compare(old, new, min(found.records for found in scans), report)
+    compare_ends(names, old, new, scans, report)
+    whole = not any(found.damages for found in scans)
+    report.out.add(*report.summary())
+    if whole and not report.differences:
+        report.out.add(f"equal: {ending(scans[0])}")
+    else:
+        report.out.add(*(f"{name}: {ending(found)}" for name, found in zip(names, scans)))
+    report.out.flush()
+    if any(map(unreadable, scans)):
+        return UNREADABLE
+    return EQUAL if whole and not report.differences else DIFFERENT

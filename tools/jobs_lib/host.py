@@ -88,11 +88,16 @@ def pose_sigma(given):
     return given["left.sigma" if "left.sigma" in given else "pose.sigma"][0]
 
 
-# How each group that a line may leave out follows from the groups that it gives.
-COMPUTED = {
+# How each group that a record's text may leave out follows from the groups that it gives.
+RULES = {
     "values": lambda given: values(given["sigma"][0], squared_angle(given)),
     "up": lambda given: [exponential(pose_sigma(given))],
     "down": lambda given: [exponential(-pose_sigma(given))],
     "J": lambda given: rotation_jacobians(given["phi"])[0],
     "Jinv": lambda given: rotation_jacobians(given["phi"])[1],
 }
+
+
+def computed(name, given):
+    """A group that was left out; a NaN has no sign or bits of its own."""
+    return [x if x == x else NAN for x in RULES[name](given)]

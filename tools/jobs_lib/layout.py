@@ -6,6 +6,7 @@ import struct
 from typing import NamedTuple, Tuple
 
 MOST_RECORDS = 1_000_000  # the job program answers no more
+FLAG = ".scaled"  # a field that is the double 1 or 0
 
 REFUSALS = {
     1: "squared angle z below zero",
@@ -34,6 +35,7 @@ class Layout:
         self.mark, self.about, self.groups = mark, about, groups
         self.fields = [g.name + part for g in groups for part in g.parts]
         self.codes = "".join(g.code * len(g.parts) for g in groups)
+        self.flags = {i for i, field in enumerate(self.fields) if field.endswith(FLAG)}
         self.numbers = struct.Struct("<" + self.codes)
         self.bits = struct.Struct("<" + self.codes.replace("d", "Q"))
         self.size = 2 + self.numbers.size
@@ -52,8 +54,7 @@ WXYZ = (".w", ".x", ".y", ".z")
 ROWS = ("[0]", "[1]", "[2]")
 MATRIX = tuple(f"[{row}][{column}]" for column in range(3) for row in range(3))
 TEN = (".root", ".sin_half", ".cos_half", ".sin", ".E", ".M", ".E0", ".M0", ".up", ".down")
-COEFFICIENTS = (".v0", ".v1", ".v2", ".w0", ".w1", ".w2", ".dv1", ".dv2", ".chi_delta", ".scaled")
-FLAGS = (".scaled",)  # fields that are the double 1 or 0
+COEFFICIENTS = (".v0", ".v1", ".v2", ".w0", ".w1", ".w2", ".dv1", ".dv2", ".chi_delta", FLAG)
 
 SIGMA = Group("sigma", ONE, "log scale")
 VALUES = Group("values", TEN, "the ten function values")

@@ -1,15 +1,16 @@
 """`jobs make`: lines of text to a job file."""
+import io
 import itertools
 import re
 import sys
 
 from .doubles import BadNumber, read, shown
-from .host import COMPUTED
+from .host import computed
 from .layout import JOB, MOST_RECORDS
 from .records import load, name_of
-from .terminal import Failure, Progress, say
+from .terminal import Failure, Progress, count, say
 
-WORDS = re.compile(r";|[^\s,;]+")
+PLAIN = re.compile(r"[-+.0-9eE ]*")  # decimals and nothing else
 BYTE = re.compile(r"[0-9a-fA-F]{2}")
 MOST_MESSAGES = 20
 
@@ -22,78 +23,101 @@ class BadLine(ValueError):
     """A line that is no record; the text says what is wrong and what is expected."""
 
 
-def forms(layout):
-    """The ways to write a mark: how many numbers to which groups, the shortest first."""
-    missing = MAY_MISS[layout.mark]
-    found = {}
-    for present in itertools.product((False, True), repeat=len(missing)):
-        absent = {name for names, here in zip(missing, present) if not here for name in names}
-        groups = [g for g in layout.groups if g.name not in absent]
-        found[sum(len(g.parts) for g in groups)] = groups
-    return found
+class Form:
+    """A way to write a mark: the groups that are given."""
+
+    def __init__(self, groups):
+        self.groups = groups
+        sizes = [len(g.parts) for g in groups]
+        self.count = sum(sizes)
+        self.starts = dict(zip(itertools.accumulate([0, *sizes]), groups))
+
+    def text(self):
+        return f"{self.count} ({groups_text(self.groups)})"
 
 
-FORMS = {mark: forms(layout) for mark, layout in JOB.items()}
-NAMES = {mark: {g.name for g in layout.groups} for mark, layout in JOB.items()}
-
-
-def form_text(groups):
-    """`phi 3; rho 3; sigma`: a form for a message or a help."""
+def groups_text(groups):
+    """`phi 3; rho 3; sigma`, for a message or a help."""
     sizes = ((g.name, len(g.parts)) for g in groups)
     return "; ".join(name if size == 1 else f"{name} {size}" for name, size in sizes)
 
 
+def forms(layout):
+    """All ways to write a mark, by how many numbers they give."""
+    missing = MAY_MISS[layout.mark]
+    found = []
+    for present in itertools.product((False, True), repeat=len(missing)):
+        absent = {name for names, here in zip(missing, present) if not here for name in names}
+        found.append(Form([g for g in layout.groups if g.name not in absent]))
+    return {form.count: form for form in sorted(found, key=lambda form: form.count)}
+
+
+FORMS = {layout.mark: forms(layout) for layout in JOB.values()}
+SEPARATORS = {layout.mark: {";", *(g.name for g in layout.groups)} for layout in JOB.values()}
+
+
 def split(words, mark):
     """A line's numbers, and its separators: (how many numbers stand before, name or `;`)."""
-    numbers, separators = [], []
+    numbers, separators, known = [], [], SEPARATORS[mark]
     for word in words:
-        if word == ";" or word in NAMES[mark]:
+        if word in known:
             separators.append((len(numbers), word))
         else:
             numbers.append(word)
     return numbers, separators
 
 
-def check_separators(separators, groups, total):
-    """A `;` must stand between two groups, a name before its own; an end may have a `;`."""
-    starts, at = {}, 0
-    for group in groups:
-        starts[at] = group
-        at += len(group.parts)
+def check_separators(separators, form, total):
+    """A `;` must stand between two groups or at the end, a name before its own group."""
     for place, word in separators:
+        group = form.starts.get(place)
         if word == ";":
-            if place not in starts and place != at:
-                inside = starts[max(start for start in starts if start < place)]
-                raise BadLine(f"';' after {place} numbers is inside {inside.name}, "
+            if group is None and place < form.count:
+                inside = form.starts[max(start for start in form.starts if start < place)]
+                raise BadLine(f"';' after {count(place, 'number')} is inside {inside.name}, "
                               f"which takes {len(inside.parts)}")
-        elif place == total or place not in starts or starts[place].name != word:
-            here = starts[place].name if place in starts and place < total else "no group"
-            raise BadLine(f"{word} after {place} numbers, where {here} begins")
+        elif place == total or group is None or group.name != word:
+            here = group.name if group and place < total else "no group"
+            raise BadLine(f"{word} after {count(place, 'number')}, where {here} begins")
 
 
-def choose_form(mark, numbers, separators):
-    """The groups that a line gives; the number of its numbers decides."""
+def choose_form(mark, total, separators):
+    """The groups that a line gives: the number of its numbers decides."""
     known = FORMS[mark]
-    form = known.get(len(numbers))
-    expected = ", or ".join(f"{count} ({form_text(groups)})" for count, groups in known.items())
+    form = known.get(total)
     try:
-        check_separators(separators, form or known[max(known)], len(numbers))
+        check_separators(separators, form or known[max(known)], total)
         if form is None:
-            raise BadLine(f"{mark.decode()} has {len(numbers)} numbers")
+            raise BadLine(f"{mark} has {count(total, 'number')}")
     except BadLine as error:
-        raise BadLine(f"{error}; expected {expected}")
+        raise BadLine(f"{error}; expected " + ", or ".join(f.text() for f in known.values()))
     return form
+
+
+def read_all(words):
+    """The numbers of a line. Most lines hold plain decimals, which are read at once."""
+    if PLAIN.fullmatch(" ".join(words)):
+        try:
+            numbers = [float(word) for word in words]
+            if float("inf") not in numbers and float("-inf") not in numbers:
+                return numbers
+        except ValueError:
+            pass
+    try:
+        return [read(word) for word in words]
+    except BadNumber as error:
+        raise BadLine(str(error))
 
 
 def complete(layout, form, numbers):
     """All numbers of a record: those given, and in their places those that were left out."""
-    if len(numbers) == len(layout.fields):
+    if form.count == len(layout.fields):
         return numbers
     rest = iter(numbers)
-    given = {g.name: list(itertools.islice(rest, len(g.parts))) for g in form}
+    given = {g.name: list(itertools.islice(rest, len(g.parts))) for g in form.groups}
     for group in layout.groups:
         if group.name not in given:
-            given[group.name] = COMPUTED[group.name](given)
+            given[group.name] = computed(group.name, given)
     return itertools.chain.from_iterable(given[g.name] for g in layout.groups)
 
 
@@ -107,41 +131,36 @@ def raw_bytes(words):
 
 def record(line):
     """The bytes of one line without its comment; none for an empty one."""
-    words = WORDS.findall(line)
+    words = line.replace(";", " ; ").replace(",", " ").split()
     if not words:
         return b""
     if words[0] == "bytes":
         return raw_bytes(words[1:])
-    mark = words[0].encode("ascii", "replace")
-    if mark not in JOB:
-        marks = " ".join(layout.mark for layout in JOB.values())
-        hint = "; a job file goes to `jobs show`" if "\0" in line else ""
-        raise BadLine(f"unknown mark {shown(words[0])}; expected one of {marks}, or bytes{hint}")
+    mark = words[0]
+    if mark not in FORMS:
+        raise BadLine(f"unknown mark {shown(mark)}; expected one of {' '.join(FORMS)}, or bytes")
     texts, separators = split(words[1:], mark)
-    form = choose_form(mark, texts, separators)
-    try:
-        numbers = [read(word) for word in texts]
-    except BadNumber as error:
-        raise BadLine(str(error))
-    layout = JOB[mark]
-    return mark + layout.numbers.pack(*complete(layout, form, numbers))
+    form = choose_form(mark, len(texts), separators)
+    layout = JOB[mark.encode()]
+    return mark.encode() + layout.numbers.pack(*complete(layout, form, read_all(texts)))
 
 
 def job(name, lines):
     """The job file of all lines, or a Failure that lists the bad ones."""
     out, bad, records = bytearray(), [], 0
-    progress = Progress("make", len(lines), "lines")
+    progress = Progress("make", 0, "lines")
     for number, line in enumerate(lines, 1):
+        if b"\0" in line:
+            raise Failure(f"{name}:{number}: a zero byte; expected text (jobs show reads job files)")
         try:
             made = record(line.partition(b"#")[0].decode("utf-8", "replace"))
+            out += made
+            records += bool(made)
         except BadLine as error:
             bad.append(f"{name}:{number}: {error}")
             if len(bad) == MOST_MESSAGES:
                 bad.append(f"jobs: stopped after {MOST_MESSAGES} bad lines")
                 break
-            continue
-        out += made
-        records += bool(made)
         progress(number)
     progress.end()
     if bad:
@@ -156,7 +175,8 @@ def make(path):
     if sys.stdout.isatty():
         raise Failure("jobs: a job file is not text; send it to a file: jobs make FILE > jobs.bin")
     data = load(path)
-    out = job(name_of(path), bytes(data).split(b"\n"))
+    readline = io.BytesIO(data).readline if isinstance(data, bytes) else data.readline
+    out = job(name_of(path), iter(readline, b""))
     sys.stdout.buffer.write(out)
     sys.stdout.buffer.flush()
     return 0

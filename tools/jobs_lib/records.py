@@ -6,7 +6,7 @@ import sys
 from typing import NamedTuple
 
 from .layout import ANSWER, END, JOB
-from .terminal import Failure, Progress
+from .terminal import Failure, Progress, count
 
 STDIN = "(standard input)"
 ZZ = END.mark.encode()
@@ -18,7 +18,7 @@ class Damage(NamedTuple):
 
     at: int
     text: str
-    cut: bool  # all that is there is good, but the file ends too early
+    unreadable: bool  # no record can be read from there on, although bytes are there
 
 
 class Scan(NamedTuple):
@@ -68,32 +68,35 @@ def hexadecimal(some):
 
 
 def torn(data, at, table):
-    """The damage at byte `at`, where a walk over `table` stopped before the end."""
+    """The damage at byte `at`, where the records of `table` stop before the end."""
     left, mark = len(data) - at, bytes(data[at:at + 2])
     if left == 1:
-        return Damage(at, f"the file ends inside a mark, after {hexadecimal(mark)}", True)
+        return Damage(at, f"the file ends inside a mark, after {hexadecimal(mark)}", False)
     if mark in table:
         return Damage(at, f"the file ends inside a record: {table[mark].mark} takes "
-                          f"{table[mark].size} bytes, {left} are there", True)
-    return Damage(at, f"unknown mark {hexadecimal(mark)} ({ascii(mark.decode('latin-1'))})", False)
+                          f"{table[mark].size} bytes, {left} are there", False)
+    return Damage(at, f"unknown mark {hexadecimal(mark)} ({ascii(mark.decode('latin-1'))}); "
+                      f"{count(left, 'byte')} from there cannot be read", True)
 
 
 def end_damages(data, at, marks):
     """The damages of an answer file whose records end at byte `at`."""
     left = len(data) - at
     if data[at:at + 2] != ZZ:
-        missing = Damage(len(data), "ZZ and its counts are missing: the answer is not whole", True)
-        return [torn(data, at, ANSWER), missing] if left else [missing]
+        missing = Damage(len(data), "ZZ and its counts are missing: the answer is not whole", False)
+        found = [torn(data, at, ANSWER)] if left else []
+        return found if found and found[0].unreadable else [*found, missing]
     if left < END.size:
-        return [Damage(at, f"ZZ is short: {left} of {END.size} bytes: the answer is not whole", True)]
+        short = f"ZZ is short, {left} of {END.size} bytes: the answer is not whole"
+        return [Damage(at, short, False)]
     found = []
     begun, refused = sum(marks.values()), marks.get("NO", 0)
     counted = (begun, begun - refused, refused)
     if END.numbers.unpack_from(data, at + 2) != counted:
         found.append(Damage(at, "ZZ does not fit the records, which are {} begun, {} answered, "
-                                "{} refused".format(*counted), True))
+                                "{} refused".format(*counted), False))
     if left > END.size:
-        found.append(Damage(at + END.size, f"{left - END.size} bytes stand after ZZ", False))
+        found.append(Damage(at + END.size, f"{count(left - END.size, 'byte')} after ZZ", True))
     return found
 
 
@@ -117,19 +120,22 @@ def scan(data, table, what):
     return Scan(marks, end, damages, END.numbers.unpack_from(data, end + 2) if whole else None)
 
 
-def reach(data, table):
-    """How many bytes the first records take when read by a table."""
-    end = 0
-    for number, (at, layout) in enumerate(walk(data, table)):
-        end = at + layout.size
-        if number == GUESS:
-            break
-    return end
+def reading(data, table):
+    """How well a table reads the first records: 2 all, 1 cut, 0 damaged; and how many it reads."""
+    records, end = 0, 0
+    for at, layout in walk(data, table):
+        records, end = records + 1, at + layout.size
+        if records == GUESS:
+            return 2, records
+    mark = data[end:end + 2]
+    if end == len(data) or table is ANSWER and mark == ZZ:
+        return 2, records
+    return int(mark in table or len(mark) == 1), records
 
 
 def guess(data):
-    """The table that reads further; ZZ decides where both do as well, as with JI alone."""
-    job, answer = reach(data, JOB), reach(data, ANSWER)
-    if job == answer:
-        return ANSWER if data[-END.size:][:2] == ZZ else JOB
-    return JOB if job > answer else ANSWER
+    """The table that reads better; where both or none read all, ZZ at the end decides first."""
+    job, answer = reading(data, JOB), reading(data, ANSWER)
+    if data[-END.size:][:2] == ZZ and (job == answer or max(job, answer)[0] < 2):
+        return ANSWER
+    return JOB if job >= answer else ANSWER

@@ -1,12 +1,12 @@
 """`jobs show`: a job file or an answer file as text, one record a line."""
 import struct
 
-from .doubles import text
+from .doubles import NAN, text
 from .layout import ANSWER, END, JOB, MOST_RECORDS, REFUSALS
 from .records import guess, hexadecimal, load, name_of, scan, walk
 from .terminal import Failure, Lines, Progress, say
 
-MOST_RAW = 1024  # bytes that are shown of what is no record
+MOST_RAW = 32  # bytes that are shown of what begins with no mark
 
 
 def template(layout):
@@ -25,9 +25,10 @@ def meaning(refusal):
 def one_line(data, at, layout):
     """A record as a line, which `make` reads if it is a job's."""
     numbers = layout.numbers.unpack_from(data, at + 2)
-    line = TEMPLATES[layout] % numbers  # str is the shortest decimal, but hides a NaN's bits
-    if "nan" in line:
-        line = TEMPLATES[layout] % tuple(map(text, numbers))
+    line = TEMPLATES[layout] % numbers  # str is the shortest decimal
+    nans = line.count("nan")
+    if nans and layout.bits.unpack_from(data, at + 2).count(NAN) != nans:
+        line = TEMPLATES[layout] % tuple(map(text, numbers))  # a NaN with bits of its own
     if layout.mark == "NO":
         line += "  # " + meaning(*numbers)
     return [line]
@@ -46,9 +47,10 @@ def hex_lines(data, at, layout):
     return lines
 
 
-def raw_line(data, at):
-    """What stands where no record can be read, as a line that `make` reads."""
-    some = data[at:at + MOST_RAW]
+def raw_line(data, at, table):
+    """A cut record, or the first bytes where there is none, as a line that `make` reads."""
+    layout = table.get(data[at:at + 2])
+    some = data[at:at + (layout.size if layout else MOST_RAW)]
     more = len(data) - at - len(some)
     return f"bytes {hexadecimal(some)}" + (f"  # and {more:,} more" if more else "")
 
@@ -66,14 +68,14 @@ def print_records(data, table, wanted, lines_of):
     out.flush()
 
 
-def print_end(data, found, lines_of):
+def print_end(data, table, found, lines_of):
     """ZZ, and the bytes that are no record."""
     out, end = Lines(), found.end
     if found.counts:
         out.add(*lines_of(data, end, END))
         end += END.size
     if end < len(data):
-        out.add(raw_line(data, end))
+        out.add(raw_line(data, end, table))
     out.flush()
 
 
@@ -96,7 +98,7 @@ def show(path, table, wanted, as_bytes):
     lines_of = hex_lines if as_bytes else one_line
     if wanted is None:
         print_records(data, read_as, range(1, found.records + 1), lines_of)
-        print_end(data, found, lines_of)
+        print_end(data, read_as, found, lines_of)
     elif wanted.stop - 1 > found.records:
         raise Failure(f"jobs: no record {wanted.stop - 1:,} in {name}; it has {found.records:,}")
     else:

@@ -9,6 +9,11 @@ def say(message):
     sys.stderr.write(message + "\n")
 
 
+def count(number, what):
+    """`1 record`, `2,000 records`."""
+    return f"{number:,} {what}" + ("" if number == 1 else "s")
+
+
 class Failure(Exception):
     """Work that cannot go on; the text is the message, the status the program's."""
 

@@ -2,10 +2,12 @@
 // where 0 < sigma.
 ghost use mathlib.Core.Path.{_≡_};
 ghost use lib.Ieee.{binary64, neg};
-ghost use Rattle.coeffs.specs.Closed.{closedV0, closedW0, closedV, closedNine, closedVFrom, closedFrom};
+ghost use Rattle.coeffs.specs.Closed.{closedV0, closedW0, closedV, closedVFrom, closedFrom};
+ghost use Rattle.coeffs.specs.Shared.{closedWs, closedDvs, closedJoined, closedExps, closedEnds};
 use crate::values::at_zero;
 use circle::kernel::SincABD;
 use series::sim3::Coeffs4;
+use series::sim3::CoeffsPair;
 use series::sim3::Sim3Coeffs;
 
 // v0 by its series where `small`, else m1/sigma, and 1 where sigma is a zero.
@@ -51,32 +53,83 @@ fn v_from(sigma: f64, z: f64, t: SincABD, e: f64, m1: f64, v0: f64, form_b: bool
     }
 }
 
-// All nine, from v, chi_delta and w0.
-fn nine(sigma: f64, z: f64, t: SincABD, e: f64, v: Coeffs4, w0: f64) -> Sim3Coeffs
-    ensures { λ r. ⌜ r ≡ closedNine binary64 sigma z t e v w0 ⌝ }
+// w1 and w2.
+pub struct Ws {
+    pub w1: f64,
+    pub w2: f64,
+}
+
+// w1 and w2 from v1, v2 and w0.
+fn w_from(sigma: f64, z: f64, v: Coeffs4, w0: f64) -> Ws
+    ensures { λ r. ⌜ r ≡ closedWs binary64 sigma z v w0 ⌝ }
 {
-    let a = t.a;
-    let b = t.b;
-    let d = t.d;
-    let v1 = v.v1;
-    let v2 = v.v2;
     let delta = sigma * sigma + z;
-    let w2 = ((w0 + sigma * v2) - v1) / delta;
-    let w1 = v2 - sigma * w2;
-    let da = -(0.5 * (b - 2.0 * d));
-    let dsinc = -(0.5 * (a - b));
+    let w2 = ((w0 + sigma * v.v2) - v.v1) / delta;
+    Ws {
+        w1: v.v2 - sigma * w2,
+        w2,
+    }
+}
+
+// The z-derivatives of v1 and v2.
+pub struct Dvs {
+    pub dv1: f64,
+    pub dv2: f64,
+}
+
+// The derivatives from v2 and those of the circle functions.
+fn dv_from(sigma: f64, z: f64, t: SincABD, e: f64, v2: f64) -> Dvs
+    ensures { λ r. ⌜ r ≡ closedDvs binary64 sigma z t e v2 ⌝ }
+{
+    let delta = sigma * sigma + z;
+    let da = -(0.5 * (t.b - 2.0 * t.d));
+    let dsinc = -(0.5 * (t.a - t.b));
     let dv2 = ((sigma * e * da - e * dsinc) - v2) / delta;
-    let dv1 = e * da - sigma * dv2;
+    Dvs {
+        dv1: e * da - sigma * dv2,
+        dv2,
+    }
+}
+
+// All nine, put together.
+fn nine(v: Coeffs4, w0: f64, w: Ws, d: Dvs) -> Sim3Coeffs
+    ensures { λ r. ⌜ r ≡ closedJoined v w0 w d ⌝ }
+{
     Sim3Coeffs {
         v0: v.v0,
-        v1,
-        v2,
+        v1: v.v1,
+        v2: v.v2,
         w0,
-        w1,
-        w2,
-        dv1,
-        dv2,
+        w1: w.w1,
+        w2: w.w2,
+        dv1: d.dv1,
+        dv2: d.dv2,
         chi_delta: v.chi_delta,
+    }
+}
+
+// e^t and e^t - 1.
+pub struct Pair {
+    pub et: f64,
+    pub mt: f64,
+}
+
+// The exponential's numbers at one sign, from e^t and e^t - 1 at t = -|sigma|: e is e^sigma and m1 is
+// e^sigma - 1, both scaled by e^-sigma where 0 < sigma, and g is the scale, e^-sigma or 1.
+pub struct Exps {
+    pub e: f64,
+    pub m1: f64,
+    pub g: f64,
+}
+
+fn exps_of(sigma: f64, et: f64, mt: f64) -> Exps
+    ensures { λ r. ⌜ r ≡ closedExps sigma et mt ⌝ }
+{
+    let pos = 0.0 < sigma;
+    Exps {
+        e: ieee::pick(pos, 1.0, et),
+        m1: ieee::pick(pos, -mt, mt),
+        g: ieee::pick(pos, et, 1.0),
     }
 }
 
@@ -92,12 +145,9 @@ pub fn closed_v(
 ) -> Coeffs4
     ensures { λ r. ⌜ r ≡ closedVFrom binary64 sigma z t et mt «form_b» small ⌝ }
 {
-    let pos = 0.0 < sigma;
-    let e = ieee::pick(pos, 1.0, et);
-    let m1 = ieee::pick(pos, -mt, mt);
-    let g = ieee::pick(pos, et, 1.0);
-    let v0 = v0_of(sigma, g, m1, small);
-    v_from(sigma, z, t, e, m1, v0, form_b)
+    let x = exps_of(sigma, et, mt);
+    let v0 = v0_of(sigma, x.g, x.m1, small);
+    v_from(sigma, z, t, x.e, x.m1, v0, form_b)
 }
 
 // All nine, from the same.
@@ -112,11 +162,71 @@ pub fn closed_from(
 ) -> Sim3Coeffs
     ensures { λ r. ⌜ r ≡ closedFrom binary64 sigma z t et mt «form_b» small ⌝ }
 {
-    let pos = 0.0 < sigma;
-    let e = ieee::pick(pos, 1.0, et);
-    let m1 = ieee::pick(pos, -mt, mt);
-    let g = ieee::pick(pos, et, 1.0);
-    let v = closed_v(sigma, z, t, et, mt, form_b, small);
-    let w0 = w0_of(sigma, g, m1, small);
-    nine(sigma, z, t, e, v, w0)
+    let x = exps_of(sigma, et, mt);
+    let v0 = v0_of(sigma, x.g, x.m1, small);
+    let w0 = w0_of(sigma, x.g, x.m1, small);
+    let v = v_from(sigma, z, t, x.e, x.m1, v0, form_b);
+    let w = w_from(sigma, z, v, w0);
+    let d = dv_from(sigma, z, t, x.e, v.v2);
+    nine(v, w0, w, d)
+}
+
+// v0 and w0 at both signs.
+pub struct Ends {
+    pub v0: f64,
+    pub w0: f64,
+    pub v0_neg: f64,
+    pub w0_neg: f64,
+}
+
+// v0 and w0 at sigma, with the numbers x of the exponential, and at -sigma, with y.
+fn ends_of(sigma: f64, x: Exps, y: Exps, small: bool) -> Ends
+    ensures { λ r. ⌜ r ≡ closedEnds binary64 sigma x y small ⌝ }
+{
+    if small {
+        let v = series::pair::g1_pair(sigma);
+        let w = series::pair::g2_pair(sigma);
+        return Ends {
+            v0: x.g * v.pos,
+            w0: x.g * w.pos,
+            v0_neg: y.g * v.neg,
+            w0_neg: y.g * w.neg,
+        };
+    }
+    let minus = -sigma;
+    Ends {
+        v0: v0_of(sigma, x.g, x.m1, false),
+        w0: w0_of(sigma, x.g, x.m1, false),
+        v0_neg: v0_of(minus, y.g, y.m1, false),
+        w0_neg: w0_of(minus, y.g, y.m1, false),
+    }
+}
+
+// All nine at sigma, from et and mt, and at -sigma, from et_neg and mt_neg: the circle functions, the
+// squares and the Horner passes are shared.
+pub fn closed_both(
+    sigma: f64,
+    z: f64,
+    t: SincABD,
+    x: Pair,
+    y: Pair,
+    form_b: bool,
+    small: bool,
+) -> CoeffsPair
+    ensures { λ r. ⌜ r ≡ record { pos = closedFrom binary64 sigma z t (x .et) (x .mt) «form_b» small; neg = closedFrom binary64 (neg sigma) z t (y .et) (y .mt) «form_b» small } ⌝ }
+{
+    let minus = -sigma;
+    let p = exps_of(sigma, x.et, x.mt);
+    let n = exps_of(minus, y.et, y.mt);
+    let h = ends_of(sigma, p, n, small);
+    let a = v_from(sigma, z, t, p.e, p.m1, h.v0, form_b);
+    let b = v_from(minus, z, t, n.e, n.m1, h.v0_neg, form_b);
+    let wa = w_from(sigma, z, a, h.w0);
+    let wb = w_from(minus, z, b, h.w0_neg);
+    let da = dv_from(sigma, z, t, p.e, a.v2);
+    let db = dv_from(minus, z, t, n.e, b.v2);
+    CoeffsPair {
+        pos: nine(a, h.w0, wa, da),
+        neg: nine(b, h.w0_neg, wb, db),
+    }
 }

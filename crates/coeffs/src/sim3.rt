@@ -8,6 +8,8 @@ ghost use Rattle.coeffs.specs.Limits.{seriesBelow, formBBelow, w0Below, 
 ghost use Rattle.coeffs.specs.Group.{coeffsScaled, coeffsUnscale, coeffsUnscaleV, coeffsPlain, coeffsV, coeffsPair};
 ghost use Rattle.coeffs.specs.Shared.{closedPair};
 ghost use Rattle.coeffs.specs.Entries.{scaledTold, coeffsTold, vTold, vScaledTold, pairTold, scaledAnswer, coeffsAnswer, vAnswer, vScaledAnswer, pairAnswer};
+use crate::closed::Pair;
+use crate::closed::closed_both;
 use crate::closed::closed_from;
 use crate::closed::closed_v;
 use crate::values::Values;
@@ -223,14 +225,14 @@ pub fn sim3_v(sigma: f64, z: f64, v: Values) -> VAnswer
 fn closed_pair(sigma: f64, z: f64, delta: f64, t: SincABD, v: Values) -> ScaledPair
     ensures { λ r. ⌜ r ≡ closedPair binary64 sigma z delta t v ⌝ }
 {
-    let form_b = on_form_b(delta);
-    let small = w0_small(sigma);
-    let minus = -sigma;
     let zero = at_zero(sigma);
     let e = ieee::pick(zero, v.e0, v.e);
     let m = ieee::pick(zero, v.m0, v.m);
-    let a = closed_from(sigma, z, t, v.e, v.m, form_b, small);
-    let b = closed_from(minus, z, t, e, m, form_b, small);
+    let x = Pair { et: v.e, mt: v.m };
+    let y = Pair { et: e, mt: m };
+    let c = closed_both(sigma, z, t, x, y, on_form_b(delta), w0_small(sigma));
+    let a = c.pos;
+    let b = c.neg;
     ScaledPair {
         pos: Scaled {
             c: a,
@@ -238,7 +240,7 @@ fn closed_pair(sigma: f64, z: f64, delta: f64, t: SincABD, v: Values) -> ScaledP
         },
         neg: Scaled {
             c: b,
-            scaled: 0.0 < minus,
+            scaled: 0.0 < -sigma,
         },
     }
 }

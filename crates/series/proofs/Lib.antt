@@ -5,4 +5,3 @@ pub mod Mirror
 pub mod Sum
 pub mod Solo
 pub mod Pairs
-mod Examples

@@ -128,13 +128,22 @@ fn main() {
     match run() {
         Outcome::Done => {}
         Outcome::Unread => {
-            io::write_all(2, b"sim3_job: standard input could not be read: the output ends without ZZ and is not whole\n");
+            io::write_all(
+                2,
+                b"sim3_job: standard input could not be read: the output ends without ZZ and is not whole\n",
+            );
         }
         Outcome::Unwritten => {
-            io::write_all(2, b"sim3_job: standard output could not be written: what was written is not whole\n");
+            io::write_all(
+                2,
+                b"sim3_job: standard output could not be written: what was written is not whole\n",
+            );
         }
         Outcome::Worn => {
-            io::write_all(2, b"sim3_job: too many turns: the output ends without ZZ and is not whole\n");
+            io::write_all(
+                2,
+                b"sim3_job: too many turns: the output ends without ZZ and is not whole\n",
+            );
         }
     }
 }

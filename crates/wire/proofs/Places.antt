@@ -1,6 +1,6 @@
 -- The bytes at a place of a list, as code reads and stores them one by one. Assumes nothing.
 use Prim.Native.Nat.{ℕ, _+_, _≤_}
-use mathlib.Core.Path.{_≡_, refl, sym, ap, _∙_}
+use mathlib.Core.Path.{_≡_, sym, ap, _∙_}
 use mathlib.Core.List.{List, [], _∷_}
 use native.Mathlib.Numerals.{towards-suc}
 use lib.ListN.{length, getD, set}

@@ -1,7 +1,5 @@
 -- `wire::from_le_bytes` meets its contract: the sum is the number that the bytes make. Assumes nothing.
 use borrow.Author.Needs.{needs}
-use mathlib.Core.Path.{_≡_, ap, sym, _∙_}
-use lib.Ieee.{ofBits, binary64}
 use Rattle.wire.specs.Wire.{doubleOf}
 use Rattle.wire.proofs.Bytes.{word-eight}
 use Rattle.wire.proofs.from_le_bytes.Statement.{statement}

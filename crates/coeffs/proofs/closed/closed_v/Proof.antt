@@ -1,13 +1,13 @@
 -- `coeffs::closed::closed_v` meets its contract: by what its calls ensure and its tests say. Assumes nothing.
 use borrow.Author.Needs.{needs}
 use Rattle.coeffs.specs.Closed.{closedVFrom}
-use lib.Ieee.{ofBits}
+use Rattle.coeffs.specs.Shared.{closedExps}
 use Rattle.coeffs.proofs.closed.closed_v.Statement.{statement}
 use Rattle.coeffs.proofs.closed.closed_v.Tie as tie
 
 returns : tie.Need-returns
-unfolding closedVFrom ofBits
-returns c = simp (c .v-from .ensures, c .before .v0-of .ensures, c .before .before .pick3 .ensures, c .before .before .before .pick2 .ensures, c .before .before .before .before .pick .ensures)
+unfolding closedVFrom closedExps
+returns c = simp (c .v-from .ensures, c .before .v0-of .ensures, c .before .before .exps-of .ensures)
 
 pub closed-v-spec : {M : Type 1} → statement M
-closed-v-spec = tie.close (tie.spec (λ c κs. search needs) (λ c κs. search needs) (λ c κs. search needs) (λ c κs. search needs) (λ c κs. search needs) returns)
+closed-v-spec = tie.close (tie.spec (λ c κs. search needs) (λ c κs. search needs) (λ c κs. search needs) returns)

@@ -7,7 +7,7 @@ use Rattle.coeffs.proofs.sim3.closed_pair.Tie as tie
 
 returns : tie.Need-returns
 unfolding closedPair ofBits
-returns c = simp (c .closed-from2 .ensures, c .before .closed-from .ensures, c .before .before .pick2 .ensures, c .before .before .before .pick .ensures, c .before .before .before .before .at-zero .ensures, c .before .before .before .before .before .w0-small .ensures, c .before .before .before .before .before .before .on-form-b .ensures)
+returns c = simp (c .before .before .closed-both .ensures, c .before .before .before .w0-small .ensures, c .before .before .before .before .on-form-b .ensures, c .before .before .before .before .before .pick2 .ensures, c .before .before .before .before .before .before .pick .ensures, c .before .before .before .before .before .before .before .at-zero .ensures)
 
 pub closed-pair-spec : {M : Type 1} → statement M
-closed-pair-spec = tie.close (tie.spec (λ c κs. search needs) (λ c κs. search needs) (λ c κs. search needs) (λ c κs. search needs) (λ c κs. search needs) (λ c κs. search needs) (λ c κs. search needs) returns)
+closed-pair-spec = tie.close (tie.spec (λ c κs. search needs) (λ c κs. search needs) (λ c κs. search needs) (λ c κs. search needs) (λ c κs. search needs) (λ c κs. search needs) returns)

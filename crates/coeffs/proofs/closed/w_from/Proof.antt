@@ -1,0 +1,13 @@
+-- `coeffs::closed::w_from` meets its contract: operation by operation, as the definition has it. Assumes nothing.
+use mathlib.Core.Path.{refl}
+use Rattle.coeffs.specs.Shared.{closedWs}
+use Rattle.coeffs.specs.Limits.{coeffsDelta}
+use Rattle.coeffs.proofs.closed.w_from.Statement.{statement}
+use Rattle.coeffs.proofs.closed.w_from.Tie as tie
+
+returns : tie.Need-returns
+unfolding closedWs coeffsDelta
+returns c = refl
+
+pub w-from-spec : {M : Type 1} → statement M
+w-from-spec = tie.close (tie.spec returns)

@@ -1,0 +1,45 @@
+-- What is written at the end: the stores of the counts and of a refusal before them, and how many bytes they are. Assumes nothing.
+use Prim.Native.Nat.{ℕ, _+_, _≤_}
+use mathlib.Core.Path.{_≡_, refl}
+use mathlib.Core.Bool.{true}
+use mathlib.Core.List.{List, _++_}
+use native.Mathlib.Omega.{arith}
+use lib.ListN.{length}
+use lib.Seq.{sets}
+use Rattle.wire.specs.Wire.{countBytes}
+use Rattle.wire.proofs.Runs.{sizes, runs}
+use Rattle.marks.specs.Marks.{longest}
+use Rattle.marks.specs.Reply.{markBytes, noBytes}
+use Rattle.marks.proofs.Replies.{mark-length, no-length}
+use Rattle.job.specs.declared.Counts.{Counts}
+use Rattle.job.specs.declared.Reason.{Reason}
+use Rattle.job.specs.declared.Reason.the-variants.{More, Room, Bad, Full, End, Unknown, Cut}
+use Rattle.job.specs.Job.{trailer}
+use Rattle.job.specs.Feed.{closing, ends}
+
+pub trailer-run :
+    (c : Counts) (l : List ℕ) (i : ℕ) →
+    sets (sets (sets (sets l i (markBytes 90 90)) (i + 2) (countBytes (c .begun))) (i + 6) (countBytes (c .answered))) (i + 10) (countBytes (c .refused)) ≡ sets l i (trailer c)
+unfolding trailer
+trailer-run c l i = simp (runs, mark-length)
+
+pub trailer-length : (c : Counts) → length (trailer c) ≡ 14
+unfolding trailer
+trailer-length c = simp (sizes, mark-length)
+
+pub refused-run : (k : ℕ) (c : Counts) (l : List ℕ) (i : ℕ) → sets (sets l i (noBytes k)) (i + 3) (trailer c) ≡ sets l i (noBytes k ++ trailer c)
+refused-run k c l i = simp (runs, no-length)
+
+pub refused-length : (k : ℕ) (c : Counts) → length (noBytes k ++ trailer c) ≡ 17
+refused-length k c = simp (sizes, no-length, trailer-length)
+
+-- where the loop left room for the longest answer, the end has room
+pub closing-fits : (r : Reason) (c : Counts) (m room : ℕ) → m ≤ room → (ends r ≡ true → m + longest ≤ room) → m + length (closing r c) ≤ room
+unfolding closing
+closing-fits More c m room h k = omega arith
+closing-fits Room c m room h k = omega arith
+closing-fits Bad c m room h k = omega arith
+closing-fits Full c m room h k = omega (arith, k refl, trailer-length c)
+closing-fits End c m room h k = omega (arith, k refl, trailer-length c)
+closing-fits Unknown c m room h k = omega (arith, k refl, refused-length 6 c)
+closing-fits Cut c m room h k = omega (arith, k refl, refused-length 7 c)

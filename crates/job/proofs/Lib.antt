@@ -1,0 +1,12 @@
+-- The laws of the job, from one record to any run of a program.
+mod Never
+pub mod Heads
+pub mod Turns
+pub mod Loop
+pub mod Steps
+pub mod Ending
+pub mod Pieces
+pub mod Stream
+pub mod Whole
+pub mod Few
+pub mod Examples

@@ -1,0 +1,98 @@
+-- The record loop keeps to its definition: what holds at each turn, round the loop and out of it. Assumes nothing.
+use Prim.Native.Nat.{ℕ, suc, _+_, _-_, _≤_}
+use mathlib.Core.Path.{_≡_, refl, sym, ap, _∙_}
+use mathlib.Core.Bool.{Bool, true, false}
+use mathlib.Core.List.{List, _++_, append-nil}
+use native.Mathlib.Nat.{zero-add, add-zero, sub-zero}
+use native.Mathlib.Omega.{arith}
+use lib.ListN.{length, take, drop, length-drop, length-append, take-append-drop}
+use lib.Seq.{sets, sets-eq, length-sets, length-take-le, drop-drop, take-at, drop-at}
+use Rattle.wire.proofs.Runs.{sets-front}
+use Rattle.marks.specs.Marks.{longest}
+use Rattle.job.specs.declared.Counts.{Counts}
+use Rattle.job.specs.declared.Fed.{Fed}
+use Rattle.job.specs.declared.Reason.{Reason}
+use Rattle.job.specs.Counts.{countsMore}
+use Rattle.job.specs.Job.{took, foundOf}
+use Rattle.job.specs.Feed.{halt, after, recordsOf, toldPart}
+use Rattle.job.specs.Inner.{Sound}
+use Rattle.job.proofs.Heads.{taken}
+use Rattle.job.proofs.Turns.{records-took, after-after, counted-begun}
+
+pub counted-sound : (ok : Bool) (limit : ℕ) (c : Counts) → Sound limit c → (c .begun ≡ limit → ⊥) → Sound limit (countsMore ok c)
+unfolding countsMore
+counted-sound true limit c s h = let a : c .begun ≤ limit = s .few in record { few = omega arith; sum = omega (arith, s .sum) }
+counted-sound false limit c s h = let a : c .begun ≤ limit = s .few in record { few = omega arith; sum = omega (arith, s .sum) }
+
+-- The loop began with the counts c₀ and the output out₀, of which it has c and out now; it is done with `at` bytes and has written `to`.
+pub record Going (limit : ℕ) (input : List ℕ) (last : Bool) (c₀ : Counts) (out₀ : List ℕ) (c : Counts) (out : List ℕ) (at to : ℕ) : Type 0 where
+  pub sound : Sound limit c
+  pub inside : at ≤ length input
+  pub room : to ≤ length out
+  pub kept : length out ≡ length out₀
+  pub rest : drop to out ≡ drop to out₀
+  pub same :
+      recordsOf (limit - c₀ .begun) c₀ input last (length out₀) ≡
+      after at (take to out) (recordsOf (limit - c .begun) c (drop at input) last (length out₀ - to))
+
+pub going-start : (limit : ℕ) (input : List ℕ) (last : Bool) (c : Counts) (out : List ℕ) → Sound limit c → Going limit input last c out c out 0 0
+going-start limit input last c out s = record {
+  sound = s;
+  inside = omega arith;
+  room = omega arith;
+  kept = refl;
+  rest = refl;
+  same = rw (zero-add, sub-zero);
+}
+
+-- what the loop answers and what the output holds then
+abbrev pub Left : ℕ → List ℕ → Bool → Counts → List ℕ → Fed → List ℕ → Type 0
+Left limit input last c₀ out₀ f out =
+    (f ≡ toldPart (recordsOf (limit - c₀ .begun) c₀ input last (length out₀)))
+    × (out ≡ sets out₀ 0 (recordsOf (limit - c₀ .begun) c₀ input last (length out₀) .bytes))
+
+module _ {limit : ℕ} {input : List ℕ} {last : Bool} {c₀ : Counts} {out₀ : List ℕ} {c : Counts} {out : List ℕ} {at to : ℕ} (g : Going limit input last c₀ out₀ c out at to) where
+  -- out of the loop, with the output as it is
+  pub going-halt :
+      (r : Reason) (e : Counts) (f : Fed) → f ≡ record { reason = r; counts = e; used = at; written = to } →
+      recordsOf (limit - c .begun) c (drop at input) last (length out₀ - to) ≡ halt r e → Left limit input last c₀ out₀ f out
+  going-halt r e f told h =
+      let whole : recordsOf (limit - c₀ .begun) c₀ input last (length out₀) ≡ record { reason = r; counts = e; used = at; bytes = take to out } =
+      g .same ∙ ap (after at (take to out)) h ∙ simp (add-zero, append-nil) in
+      let n : length (take to out) ≡ to = length-take-le to out (g .room) in
+      let l : length (take to out) ≤ length out₀ = omega (arith, g .room, g .kept) in
+      rw whole (told ∙ simp n, sym (sets-front (take to out) out₀ l ∙ rw (n, ← (g .rest)) (take-append-drop to out)))
+
+  -- round it
+  pub going-took :
+      (ok : Bool) (k : ℕ) (b : List ℕ) → longest ≤ length out - to → (c .begun ≡ limit → ⊥) → foundOf (drop at input) ≡ took ok k b →
+      Going limit input last c₀ out₀ (countsMore ok c) (sets out to b) (at + k) (to + length b)
+  going-took ok k b h few e =
+      let t = taken (drop at input) ok k b e in
+      let whole : k ≤ length input - at = simp length-drop at (t .whole) in
+      let len : length out ≡ length out₀ = g .kept in
+      let ins : at ≤ length input = g .inside in
+      let short : length b ≤ longest = t .short in
+      let begun : c .begun ≤ limit = g .sound .few in
+      let eq : sets out to b ≡ take to out ++ b ++ drop (to + length b) out = sets-eq b out to (omega arith) in
+      let n : length (take to out ++ b) ≡ to + length b = length-append (take to out) b ∙ ap (λ (x : ℕ). x + length b) (length-take-le to out (g .room)) in
+      let tk : take (to + length b) (sets out to b) ≡ take to out ++ b = ap (take (to + length b)) eq ∙ take-at (take to out ++ b) _ (to + length b) n in
+      let one-less : limit - c .begun ≡ suc (limit - (c .begun + 1)) = omega arith in
+      let room : length out₀ - to - length b ≡ length out₀ - (to + length b) = omega arith in
+      let P = recordsOf (limit - (c .begun + 1)) (countsMore ok c) (drop (at + k) input) last (length out₀ - (to + length b)) in
+      let next : recordsOf (limit - c .begun) c (drop at input) last (length out₀ - to) ≡ after k b P =
+      ap (λ (x : ℕ). recordsOf x c (drop at input) last (length out₀ - to)) one-less
+      ∙ records-took (limit - (c .begun + 1)) c (drop at input) last (length out₀ - to) (omega arith) ok k b e
+      ∙ rw (room, drop-drop k at input) in
+      record {
+        sound = counted-sound ok limit c (g .sound) few;
+        inside = omega arith;
+        room = simp length-sets (omega arith);
+        kept = length-sets out to b ∙ g .kept;
+        rest =
+            ap (drop (to + length b)) eq ∙ drop-at (take to out ++ b) _ (to + length b) n
+            ∙ sym (drop-drop (length b) to out) ∙ ap (drop (length b)) (g .rest) ∙ drop-drop (length b) to out₀;
+        same =
+            g .same ∙ ap (after at (take to out)) next ∙ after-after at k (take to out) b P
+            ∙ (λ i. after (at + k) (sym tk i) (recordsOf (limit - sym (counted-begun ok c) i) (countsMore ok c) (drop (at + k) input) last (length out₀ - (to + length b))));
+      }

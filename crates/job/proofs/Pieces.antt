@@ -1,0 +1,113 @@
+-- One call: the loop's value fits the input and the output, and with the end written behind it it is `feedOf`. Assumes nothing.
+use Prim.Native.Nat.{ℕ, _+_, _-_, _≤_}
+use mathlib.Core.Path.{_≡_, refl, sym, ap, _∙_}
+use mathlib.Core.Bool.{Bool, true, false, _&&_}
+use mathlib.Core.List.{List, _++_}
+use native.Mathlib.Nat.{zero-add}
+use native.Mathlib.Omega.{arith}
+use borrow.Author.Tests.{leb-true, eqb-true, le-leb, eq-eqb}
+use lib.ListN.{length, drop, length-append, length-drop}
+use lib.Seq.{sets, length-sets}
+use lib.Dec.{leb}
+use Rattle.wire.proofs.Runs.{sets-front, sets-split}
+use Rattle.marks.specs.Marks.{longest}
+use Rattle.job.specs.declared.Counts.{Counts}
+use Rattle.job.specs.declared.Fed.{Fed}
+use Rattle.job.specs.declared.Reason.the-variants.{Bad}
+use Rattle.job.specs.Counts.{countsSound}
+use Rattle.job.specs.Feed.{Part, halt, closed, closing, ends, recordsOf, feedOf, toldPart}
+use Rattle.job.specs.Inner.{Sound}
+use Rattle.job.proofs.Never.{untrue}
+use Rattle.job.proofs.Heads.{taken}
+use Rattle.job.proofs.Turns.{records-by}
+use Rattle.job.proofs.Ending.{closing-fits}
+
+-- ---- the loop's value fits, and where it ends the job it leaves room for the end
+record Fits (xs : List ℕ) (room : ℕ) (p : Part) : Type 0 where
+  uses : p .used ≤ length xs
+  within : length (p .bytes) ≤ room
+  spare : ends (p .reason) ≡ true → length (p .bytes) + longest ≤ room
+
+records-fit : (n : ℕ) (c : Counts) (xs : List ℕ) (last : Bool) (room : ℕ) → Fits xs room (recordsOf n c xs last room)
+records-fit n c xs last room =
+    records-by last (λ n c xs room p. Fits xs room p)
+    (λ n c xs room h. record { uses = omega arith; within = omega arith; spare = λ u. untrue u })
+    (λ c xs room h. record { uses = omega arith; within = omega arith; spare = λ u. omega arith })
+    (λ n c xs room h f r e q s. record { uses = omega arith; within = omega arith; spare = λ u. omega arith })
+    (λ n c xs room h ok k b q p i.
+    let t = taken xs ok k b q in
+    let whole : k ≤ length xs = t .whole in
+    let short : length b ≤ longest = t .short in
+    let u : p .used ≤ length xs - k = simp length-drop at (i .uses) in
+    record { uses = omega arith; within = simp length-append (omega (arith, i .within)); spare = λ u. simp length-append (omega (arith, i .spare u)) })
+    n c xs room
+
+-- ---- the counts handed in
+and-left : (a b : Bool) → a && b ≡ true → a ≡ true
+and-left true b e = refl
+and-left false b e = untrue e
+
+and-right : (a b : Bool) → a && b ≡ true → b ≡ true
+and-right true b e = e
+and-right false b e = untrue e
+
+pub sound-is : (limit : ℕ) (c : Counts) → countsSound limit c ≡ true → Sound limit c
+unfolding countsSound
+sound-is limit c e =
+    let x = and-right (leb (c .begun) limit) _ e in
+    let a : c .answered ≤ c .begun = leb-true _ _ (and-left (leb (c .answered) (c .begun)) _ x) in
+    let b : c .refused ≡ c .begun - c .answered = eqb-true _ _ (and-right (leb (c .answered) (c .begun)) _ x) in
+    record { few = leb-true _ _ (and-left (leb (c .begun) limit) _ e); sum = omega arith }
+
+pub is-sound : (limit : ℕ) (c : Counts) → Sound limit c → countsSound limit c ≡ true
+unfolding countsSound
+is-sound limit c s =
+    let f : c .begun ≤ limit = s .few in
+    let e : c .answered + c .refused ≡ c .begun = s .sum in
+    rw (le-leb (c .begun) limit f, le-leb (c .answered) (c .begun) (omega arith), eq-eqb (c .refused) (c .begun - c .answered) (omega arith))
+
+pub feed-bad : (limit : ℕ) (c : Counts) (xs : List ℕ) (last : Bool) (room : ℕ) → countsSound limit c ≡ false → feedOf limit c xs last room ≡ halt Bad c
+unfolding feedOf
+feed-bad limit c xs last room e = rw e
+
+pub feed-good :
+    (limit : ℕ) (c : Counts) (xs : List ℕ) (last : Bool) (room : ℕ) → countsSound limit c ≡ true → feedOf limit c xs last room ≡ closed (recordsOf (limit - c .begun) c xs last room)
+unfolding feedOf
+feed-good limit c xs last room e = rw e
+
+-- ---- the counts are a job's, and the loop has answered l and left the output out₁
+pub record Looped (limit : ℕ) (c : Counts) (xs : List ℕ) (last : Bool) (out : List ℕ) (l : Fed) (out₁ : List ℕ) : Type 0 where
+  pub good : countsSound limit c ≡ true
+  pub told : l ≡ toldPart (recordsOf (limit - c .begun) c xs last (length out))
+  pub wrote : out₁ ≡ sets out 0 (recordsOf (limit - c .begun) c xs last (length out) .bytes)
+
+module _ {limit : ℕ} {c : Counts} {xs : List ℕ} {last : Bool} {out : List ℕ} {l : Fed} {out₁ : List ℕ} (k : Looped limit c xs last out l out₁) where
+  pub feed-room : ends (l .reason) ≡ true → l .written + longest ≤ length out₁
+  feed-room u = rw (k .told, k .wrote, length-sets) (records-fit (limit - c .begun) c xs last (length out) .spare (rw (k .told) at u))
+
+  pub feed-uses : l .used ≤ length xs
+  feed-uses = rw (k .told) (records-fit (limit - c .begun) c xs last (length out) .uses)
+
+  pub feed-within : l .written + length (closing (l .reason) (l .counts)) ≤ length out
+  feed-within =
+      let f = records-fit (limit - c .begun) c xs last (length out) in
+      rw (k .told) (closing-fits _ _ _ _ (f .within) (f .spare))
+
+  pub feed-told :
+      (n : ℕ) → n ≡ length (closing (l .reason) (l .counts)) →
+      record { reason = l .reason; counts = l .counts; used = l .used; written = l .written + n } ≡ toldPart (feedOf limit c xs last (length out))
+  feed-told n e = rw (e, k .told, feed-good limit c xs last (length out) (k .good), length-append)
+
+  pub feed-wrote :
+      (n : ℕ) (out₂ : List ℕ) → n ≡ length (closing (l .reason) (l .counts)) → out₂ ≡ sets out₁ (l .written) (closing (l .reason) (l .counts)) →
+      out₂ ≡ (feedOf limit c xs last (length out) .bytes) ++ drop (l .written + n) out
+  feed-wrote n out₂ e w =
+      let P = recordsOf (limit - c .begun) c xs last (length out) in
+      let B = closing (P .reason) (P .counts) in
+      let h : length (P .bytes ++ B) ≤ length out = simp length-append (rw (k .told) at feed-within) in
+      w
+      ∙ rw (e, k .told, k .wrote, feed-good limit c xs last (length out) (k .good))
+      (ap (λ (i : ℕ). sets (sets out 0 (P .bytes)) i B) (sym (zero-add (length (P .bytes))))
+      ∙ sym (sets-split (P .bytes) B out 0)
+      ∙ sets-front (P .bytes ++ B) out h
+      ∙ ap (λ (i : ℕ). P .bytes ++ B ++ drop i out) (length-append (P .bytes) B))

@@ -1,0 +1,14 @@
+-- `job::run` meets its contract: one call with all the input is the whole job, unless it ran out of room. Assumes nothing.
+use borrow.Author.Needs.{needs}
+use mathlib.Core.Path.{_≡_, _∙_}
+use Rattle.job.proofs.Whole.{whole}
+use Rattle.job.proofs.run.Statement.{statement}
+use Rattle.job.proofs.run.Tie as tie
+
+returns : tie.Need-returns
+returns c =
+    let f = c .before .before .feed in
+    (f .ensures .0, (f .ensures .1 .0, λ e. f .ensures .1 .0 ∙ rw (whole 1000000 (c .before .before .before .before .before .before .args .input .now) _ (rw (f .ensures .0) at e))))
+
+pub run-spec : {M : Type 1} → statement M
+run-spec = tie.close (tie.spec (λ c κs. search needs) (λ c. search needs) returns)

@@ -1,0 +1,272 @@
+// The job: records are read and answered one after another until the input ends, a mark is unknown,
+// a record is cut or the limit is met; then the counts are written. `feed` does this with the bytes
+// at hand, so that a program may read its input in any pieces.
+ghost use mathlib.Core.Path.{_≡_};
+ghost use mathlib.Core.Bool.{true, false};
+ghost use mathlib.Core.List.{_++_};
+ghost use Prim.Native.Nat.{_+_, _-_, _≤_};
+ghost use lib.ListN.{length, drop};
+ghost use lib.Seq.{sets};
+ghost use Rattle.wire.specs.Wire.{countBytes};
+ghost use Rattle.marks.specs.Marks.{longest};
+ghost use Rattle.marks.specs.Reply.{markBytes, noBytes};
+ghost use Rattle.job.specs.Counts.{countsNone, countsMore, countsSound};
+ghost use Rattle.job.specs.Job.{foundOf, trailer, jobOf};
+ghost use Rattle.job.specs.Feed.{Part, recordsOf, closing, ends, feedOf, toldPart};
+ghost use Rattle.job.specs.Inner.{Sound, toldFound, foundBytes};
+use marks::Look;
+use marks::Put;
+
+// No more records than these are begun.
+const LIMIT: u32 = 1_000_000;
+
+// How many records were begun, answered and refused. An unknown mark, a half mark and a cut record
+// count as begun and refused.
+pub struct Counts {
+    pub begun: u32,
+    pub answered: u32,
+    pub refused: u32,
+}
+
+// Why the record loop was left. `More`: the bytes at hand end within a record, or with one, and more
+// may come. `Room`: the output has no room for the longest answer. `Bad`: the counts handed in are
+// not those of a job. The other four end the job: the limit, the end of the input, an unknown mark,
+// a cut record.
+pub enum Reason {
+    More,
+    Room,
+    Bad,
+    Full,
+    End,
+    Unknown,
+    Cut,
+}
+
+// What a call did: why it stopped, the counts, how many bytes of the input it is done with, and how
+// many it wrote.
+pub struct Fed {
+    pub reason: Reason,
+    pub counts: Counts,
+    pub used: usize,
+    pub written: usize,
+}
+
+// What stands at the head of the input: a whole record, answered or refused, its length and how many
+// bytes were written; or why there is none.
+enum Step {
+    Took(bool, usize, usize),
+    End,
+    Unknown,
+    Cut,
+}
+
+// ---- one record
+fn one(s: &[u8], out: &mut [u8], to: usize) -> Step
+    requires { ⌜ to + longest ≤ length (now out) ⌝ }
+    ensures { λ r. ⌜ r ≡ toldFound (foundOf (now (s .entry))) ⌝ }
+    ensures { λ _. ⌜ now (out .exit) ≡ sets (now (out .entry)) to (foundBytes (foundOf (now (s .entry)))) ⌝ }
+{
+    if s.len() == 0 {
+        return Step::End;
+    }
+    if s.len() == 1 {
+        return Step::Cut;
+    }
+    let Look::Known(m) = marks::look_up(s[0], s[1]) else {
+        return Step::Unknown;
+    };
+    match marks::reply(m, &s[2..], &mut out[to..]) {
+        Put::Wrote(ok, written) => Step::Took(ok, 2 + marks::width(m), written),
+        Put::Short => Step::Cut,
+    }
+}
+
+// ---- the record loop
+fn counted(c: Counts, ok: bool) -> Counts
+    requires { ⌜ Sound 1000000 c ⌝ }
+    ensures { λ r. ⌜ r ≡ countsMore ok c ⌝ }
+{
+    if ok {
+        Counts {
+            begun: c.begun + 1,
+            answered: c.answered + 1,
+            refused: c.refused,
+        }
+    } else {
+        Counts {
+            begun: c.begun + 1,
+            answered: c.answered,
+            refused: c.refused + 1,
+        }
+    }
+}
+
+fn leave(reason: Reason, counts: Counts, used: usize, written: usize) -> Fed
+    ensures { λ r. ⌜ r ≡ record { reason = reason; counts = counts; used = used; written = written } ⌝ }
+{
+    Fed {
+        reason,
+        counts,
+        used,
+        written,
+    }
+}
+
+// The whole records at hand. Each turn asks first for the room of the longest answer, which is more
+// than a refusal and the counts take, and then for the limit, before it looks at a mark.
+fn records(c0: Counts, input: &[u8], last: bool, out: &mut [u8]) -> Fed
+    requires { ⌜ Sound 1000000 c0 ⌝ }
+    ensures { λ r. ⌜ r ≡ toldPart (recordsOf (1000000 - c0 .begun) c0 (now (input .entry)) last (length (now (out .entry)))) ⌝ }
+    ensures { λ _. ⌜ now (out .exit) ≡ sets (now (out .entry)) 0 (recordsOf (1000000 - c0 .begun) c0 (now (input .entry)) last (length (now (out .entry))) .bytes) ⌝ }
+{
+    let mut c = c0;
+    let mut at = 0;
+    let mut to = 0;
+    let left = loop {
+        if out.len() - to < marks::LONGEST {
+            break leave(Reason::Room, c, at, to);
+        }
+        if c.begun == LIMIT {
+            break leave(Reason::Full, c, at, to);
+        }
+        match one(&input[at..], out, to) {
+            Step::Took(ok, used, written) => {
+                c = counted(c, ok);
+                at += used;
+                to += written;
+            }
+            Step::End => {
+                if last {
+                    break leave(Reason::End, c, at, to);
+                }
+                break leave(Reason::More, c, at, to);
+            }
+            Step::Unknown => {
+                break leave(Reason::Unknown, counted(c, false), at, to);
+            }
+            Step::Cut => {
+                if last {
+                    break leave(Reason::Cut, counted(c, false), at, to);
+                }
+                break leave(Reason::More, c, at, to);
+            }
+        }
+    };
+    left
+}
+
+// ---- what is written at the end, and the whole
+fn put_no(out: &mut [u8], at: usize, number: u8)
+    requires { ⌜ at + 3 ≤ length (now out) ⌝ }
+    ensures { λ _. ⌜ now (out .exit) ≡ sets (now (out .entry)) at (noBytes number) ⌝ }
+{
+    out[at] = 78;
+    out[at + 1] = 79;
+    out[at + 2] = number;
+}
+
+fn put_zz(out: &mut [u8], at: usize)
+    requires { ⌜ at + 2 ≤ length (now out) ⌝ }
+    ensures { λ _. ⌜ now (out .exit) ≡ sets (now (out .entry)) at (markBytes 90 90) ⌝ }
+{
+    out[at] = 90;
+    out[at + 1] = 90;
+}
+
+fn put_count(out: &mut [u8], at: usize, n: u32)
+    requires { ⌜ at + 4 ≤ length (now out) ⌝ }
+    ensures { λ _. ⌜ now (out .exit) ≡ sets (now (out .entry)) at (countBytes n) ⌝ }
+{
+    let d = wire::count_to_le_bytes(n);
+    out[at] = d[0];
+    out[at + 1] = d[1];
+    out[at + 2] = d[2];
+    out[at + 3] = d[3];
+}
+
+fn put_trailer(out: &mut [u8], at: usize, c: Counts)
+    requires { ⌜ at + 14 ≤ length (now out) ⌝ }
+    ensures { λ _. ⌜ now (out .exit) ≡ sets (now (out .entry)) at (trailer c) ⌝ }
+{
+    put_zz(out, at);
+    put_count(out, at + 2, c.begun);
+    put_count(out, at + 6, c.answered);
+    put_count(out, at + 10, c.refused);
+}
+
+fn close(reason: Reason, c: Counts, out: &mut [u8], at: usize) -> usize
+    requires { ⌜ (ends reason ≡ true → at + longest ≤ length (now out)) ⌝ }
+    ensures { λ r. ⌜ r ≡ length (closing reason c) ⌝ }
+    ensures { λ _. ⌜ now (out .exit) ≡ sets (now (out .entry)) at (closing reason c) ⌝ }
+{
+    match reason {
+        Reason::Full => {
+            put_trailer(out, at, c);
+            14
+        }
+        Reason::End => {
+            put_trailer(out, at, c);
+            14
+        }
+        Reason::Unknown => {
+            put_no(out, at, 6);
+            put_trailer(out, at + 3, c);
+            17
+        }
+        Reason::Cut => {
+            put_no(out, at, 7);
+            put_trailer(out, at + 3, c);
+            17
+        }
+        Reason::More => 0,
+        Reason::Room => 0,
+        Reason::Bad => 0,
+    }
+}
+
+fn sound(c: Counts) -> bool
+    ensures { λ r. ⌜ r ≡ countsSound 1000000 c ⌝ }
+{
+    if c.begun <= LIMIT {
+        if c.answered <= c.begun {
+            return c.refused == c.begun - c.answered;
+        }
+    }
+    false
+}
+
+// One call with the bytes at hand, `last` where no more will come: handles whole records while the
+// output has room for the longest answer, and ends the job where there is a reason to. The bytes it
+// is done with are to be taken from the input, the counts and the rest handed in again. Counts that
+// are none of a job's are answered `Bad`, and nothing is written.
+pub fn feed(c: Counts, input: &[u8], last: bool, out: &mut [u8]) -> Fed
+    ensures { λ r. ⌜ r ≡ toldPart (feedOf 1000000 c (now (input .entry)) last (length (now (out .entry)))) ⌝ }
+    ensures { λ r. ⌜ now (out .exit) ≡ (feedOf 1000000 c (now (input .entry)) last (length (now (out .entry))) .bytes) ++ drop (r .written) (now (out .entry)) ⌝ }
+    ensures { λ r. ⌜ (r .used ≤ length (now (input .entry))) × (r .written ≤ length (now (out .entry))) ⌝ }
+{
+    if !sound(c) {
+        return leave(Reason::Bad, c, 0, 0);
+    }
+    let l = records(c, input, last, out);
+    let reason = l.reason;
+    let counts = l.counts;
+    let used = l.used;
+    let to = l.written;
+    let n = close(reason, counts, out, to);
+    leave(reason, counts, used, to + n)
+}
+
+// The whole job on one slice. Where `out` is too short the reason is `Room`, and the records that
+// found room are answered.
+pub fn run(input: &[u8], out: &mut [u8]) -> Fed
+    ensures { λ r. ⌜ r ≡ toldPart (feedOf 1000000 countsNone (now (input .entry)) true (length (now (out .entry)))) ⌝ }
+    ensures { λ r. ⌜ now (out .exit) ≡ (feedOf 1000000 countsNone (now (input .entry)) true (length (now (out .entry))) .bytes) ++ drop (r .written) (now (out .entry)) ⌝ }
+    ensures { λ r. ⌜ (ends (r .reason) ≡ true → now (out .exit) ≡ jobOf 1000000 (now (input .entry)) ++ drop (r .written) (now (out .entry))) ⌝ }
+{
+    let c = Counts {
+        begun: 0,
+        answered: 0,
+        refused: 0,
+    };
+    feed(c, input, true, out)
+}

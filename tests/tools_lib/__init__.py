@@ -1,0 +1,1 @@
+"""The tests that tests/tools runs, by what they are about."""

@@ -1,0 +1,109 @@
+"""Running the tool and the job program, files to try, and comparing."""
+import io
+import os
+import pathlib
+import random
+import subprocess
+import sys
+import tempfile
+
+ROOT = pathlib.Path(__file__).resolve().parent.parent.parent
+TOOL = ROOT / "tools" / "jobs"
+PROGRAM = pathlib.Path(os.environ.get("SIM3_JOB") or ROOT / "target" / "bin" / "sim3_job")
+WORK = tempfile.TemporaryDirectory()
+sys.path.insert(0, str(TOOL.parent))
+
+from jobs_lib import doubles
+from jobs_lib.cli import main as tool_main
+from jobs_lib.layout import ANSWER, END, JOB
+
+ONE, NAN, MINUS = 0x3FF0000000000000, doubles.NAN, 1 << 63
+
+# Numbers that are easily lost on the way through text.
+ODD = [0.0, -0.0, 1.0, -1.5, 5e-324, 1.7976931348623157e308, float("inf"), float("-inf"), 0.1,
+       *map(doubles.from_bits, (NAN, NAN | MINUS, 0x7FF0000000000001, 0x7FFFFFFFFFFFFFFF,
+                                0x000FFFFFFFFFFFFF, ONE + 1))]
+
+
+def with_program(test):
+    """Marks a test that is skipped where the job program is not built."""
+    test.with_program = True
+    return test
+
+
+def needs_program(test):
+    return getattr(test, "with_program", False)
+
+
+def jobs(*words, data=b"", status=0):
+    """Standard output and messages of tools/jobs; its exit status must be the one given."""
+    streams = sys.stdin, sys.stdout, sys.stderr
+    sys.stdin, sys.stdout = (io.TextIOWrapper(io.BytesIO(some)) for some in (data, b""))
+    sys.stderr = io.StringIO()
+    try:
+        try:
+            found = tool_main([str(word) for word in words])
+        except SystemExit as leaving:  # help, and wrong arguments
+            found = leaving.code
+        sys.stdout.flush()
+        out, messages = sys.stdout.buffer.getvalue(), sys.stderr.getvalue()
+    finally:
+        sys.stdin, sys.stdout, sys.stderr = streams
+    same(found, status, f"exit status of jobs {' '.join(map(str, words))} ({messages.strip()})")
+    return out, messages
+
+
+def program(data):
+    """The job program's answer."""
+    done = subprocess.run([PROGRAM], input=data, stdout=subprocess.PIPE)
+    same(done.returncode, 0, f"exit status of {PROGRAM}")
+    return done.stdout
+
+
+def file(name, data):
+    """A file with these bytes, for commands that take names."""
+    path = pathlib.Path(WORK.name) / name
+    path.write_bytes(data)
+    return path
+
+
+def same(found, expected, what):
+    assert found == expected, f"{what}:\n  found    {found!r}\n  expected {expected!r}"
+
+
+def holds(text, *parts):
+    for part in parts:
+        assert part in text, f"no {part!r} in:\n{text}"
+
+
+def records(table, seed, count):
+    """Records of the seven marks in turn, with ordinary and odd numbers."""
+    source, out = random.Random(seed), b""
+    for number in range(count):
+        layout = table[list(JOB)[number % len(JOB)]]
+        numbers = [source.choice(ODD) if source.random() < 0.3 else source.gauss(0, 10)
+                   for _ in layout.fields]
+        out += layout.mark.encode() + layout.numbers.pack(*numbers)
+    return out
+
+
+def end(begun, refused=0):
+    """ZZ and its counts."""
+    return b"ZZ" + END.numbers.pack(begun, begun - refused, refused)
+
+
+def answers():
+    """A whole answer file: every mark once, and a refusal."""
+    return records(ANSWER, 3, len(JOB)) + b"NO\1" + end(len(JOB) + 1, 1)
+
+
+def answers_with(mark, field, bits):
+    """The same with another number in a field of the one record of that mark."""
+    data, at = bytearray(answers()), 0
+    for layout in ANSWER.values():
+        if layout.mark == mark:
+            at += 2 + 8 * layout.fields.index(field)
+            data[at:at + 8] = bits.to_bytes(8, "little")
+            return bytes(data)
+        at += layout.size
+    raise KeyError(mark)

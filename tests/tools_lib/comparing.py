@@ -1,0 +1,82 @@
+"""`jobs diff`."""
+from .common import (MINUS, NAN, ONE, WORK, answers, answers_with, end, file, holds, jobs, records,
+                     same)
+from jobs_lib.layout import ANSWER, END, JOB
+
+
+def diff(old, new, status, *options):
+    text, messages = jobs("diff", *options, file("old", old), file("new", new), status=status)
+    same(messages, "", "messages")
+    return text.decode()
+
+
+def equal_files():
+    expected = "equal: 8 records, ZZ 8 begun, 7 answered, 1 refused\n"
+    same(diff(answers(), answers(), 0), expected, "diff of a file with itself")
+    same(diff(end(0), end(0), 0), "equal: 0 records, ZZ 0 begun, 0 answered, 0 refused\n", "diff")
+
+
+def one_changed_bit():
+    """It is found wherever it stands, with its record, field, values and distance."""
+    for mark, number, field in [("EX", 1, "pose.q.w"), ("CO", 2, "coeffs(-).dv2"),
+                                ("PA", 3, "left.b[1][2]"), ("PA", 3, "right_inv.e"),
+                                ("AC", 4, "point.z"), ("JI", 7, "inverse.f[2]")]:
+        text = diff(answers_with(mark, field, ONE), answers_with(mark, field, ONE + 1), 1)
+        holds(text, f"record {number}  {mark}  {field}  1.0  ->  1.0000000000000002  1 ulp\n",
+              f"different: 1 record ({mark} 1), 1 number\n",
+              f"largest distance: 1 ulp, record {number} {mark} {field}\n")
+
+
+def zeros_nans_flags():
+    def between(old, new, status=1, mark="IN", field="inverse.t.x"):
+        return diff(answers_with(mark, field, old), answers_with(mark, field, new), status)
+
+    holds(between(0, MINUS), "inverse.t.x  0.0  ->  -0.0  sign of zero\n")
+    holds(between(NAN, ONE), "nan  ->  1.0  NaN against a number\n")
+    holds(between(NAN, NAN | 1, 0), "the bits of a NaN: 1 record", "equal: 8 records")
+    holds(between(0, ONE, 1, "CO", "coeffs(+).scaled"), "scaled  0.0  ->  1.0  another flag\n")
+
+
+def refusals():
+    refused = b"NO\2" + answers()[66:-END.size] + end(8, 2)
+    text = diff(answers(), refused, 1)
+    holds(text, "record 1  EX  ->  NO 2 (e is +0 or -0", "end  ZZ  answered  7  ->  6  -1\n")
+    other = answers()[:-END.size - 1] + b"\2" + end(8, 1)
+    holds(diff(answers(), other, 1),
+          "record 8  NO  refusal  1 (squared angle z below zero)  ->  2 (e is")
+
+
+def missing_and_short_ends():
+    """They are said first, as is a cut record; equal bytes do not hide them."""
+    whole = answers()
+    for part, message in [(whole[:-END.size], "ZZ and its counts are missing"),
+                          (whole[:-1], "ZZ is short, 13"),
+                          (whole[:100], "the file ends inside a record: CO takes 162 bytes, 34")]:
+        for old, new, name in [(whole, part, "NEW"), (part, whole, "OLD"), (part, part, "OLD")]:
+            holds(diff(old, new, 1).splitlines()[0], name, message)
+    holds(diff(whole, whole[:100], 1), "records 2 to 8  in OLD", "1 record, no ZZ")
+
+
+def unreadable_files():
+    whole = answers()
+    text = diff(whole, whole[:66] + b"QQ" + whole[66:], 2)
+    holds(text.splitlines()[0], "NEW", "byte 66: unknown mark 51 51 ('QQ')")
+    holds(text, "records 2 to 8  in OLD", "not compared")
+    old, job = file("old", whole), file("job", records(JOB, 1, 7))
+    holds(jobs("diff", old, job, status=2)[1], f"NEW {job} is not an answer file", "expected")
+    holds(jobs("diff", old, WORK.name + "/none", status=2)[1], "cannot read", "No such file")
+    holds(jobs("diff", old, status=2)[1], "required: NEW")
+    holds(jobs("diff", "-", "-", status=2)[1], "both standard input")
+    holds(jobs("diff", "--limit", "x", old, old, status=2)[1], "expected a whole number")
+
+
+def limited_output():
+    old, new = (records(ANSWER, seed, 140) + end(140) for seed in (3, 5))
+    text = diff(old, new, 1, "--limit", "3")
+    same(sum(line.startswith("record ") for line in text.splitlines()), 3, "printed differences")
+    every = sum(line.startswith("record ") for line in diff(old, new, 1).splitlines())
+    holds(text, f"{every - 3:,} more differences not printed", "140 records (EX 20, CO 20")
+
+
+TESTS = [equal_files, one_changed_bit, zeros_nans_flags, refusals, missing_and_short_ends,
+         unreadable_files, limited_output]

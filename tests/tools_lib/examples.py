@@ -1,0 +1,97 @@
+"""The tool as a program, the page docs/JOB-FORMAT.md, examples/format and examples/jobs.bin."""
+import subprocess
+
+from .common import ROOT, TOOL, file, holds, jobs, program, same, with_program
+from jobs_lib import page
+from jobs_lib.layout import JOB
+
+PAGE = ROOT / "docs" / "JOB-FORMAT.md"
+FORMAT = ROOT / "examples" / "format"
+RENEW = "(tests/tools --renew writes it anew)"
+
+
+def as_a_program():
+    """The commands of the page, run as a user runs them."""
+    made = subprocess.run([TOOL, "make", ROOT / "examples" / "jobs.txt"], stdout=subprocess.PIPE)
+    same(made.returncode, 0, "make's exit status")
+    shown = subprocess.run([TOOL, "show"], input=made.stdout, stdout=subprocess.PIPE)
+    same((shown.returncode, shown.stdout), (0, jobs("show", data=made.stdout)[0]), "show")
+    job = file("job", made.stdout)
+    found = subprocess.run([TOOL, "diff", job, job], stdout=subprocess.PIPE, stderr=subprocess.PIPE)
+    same((found.returncode, found.stdout), (2, b""), "diff of job files")
+
+
+def help_has_examples():
+    for words in [["--help"], ["make", "--help"], ["show", "--help"], ["diff", "--help"]]:
+        holds(jobs(*words)[0].decode(), "example:\n", "tools/jobs ")
+    holds(jobs(status=2)[1], "COMMAND")
+    holds(jobs("shwo", status=2)[1], "shwo", "make", "show", "diff")
+
+
+def same_lines(found, expected, what):
+    for line, other in zip(found.splitlines(), expected.splitlines()):
+        same(line, other, f"a line of {what} {RENEW}")
+    same(found.rstrip(), expected.rstrip(), f"{what} {RENEW}")
+
+
+def page_parts():
+    return page.page_parts((FORMAT / "AC.txt").read_text())
+
+
+def page_is_current():
+    """The page's generated parts are those of the job table and of examples/format/AC.txt."""
+    text = PAGE.read_text()
+    same_lines(text, page.fill(text, page_parts()), PAGE.name)
+    for path in FORMAT.iterdir():
+        holds(text, f"examples/format/{path.name}")
+
+
+def example_jobs():
+    """Each example's job file follows from its lines of text."""
+    same({layout.mark for layout in JOB.values()} - {path.stem for path in FORMAT.iterdir()}, set(),
+         "marks without an example")
+    for path in FORMAT.iterdir():
+        whole = path.read_text()
+        text = page.example_text(whole)
+        made = page.example(text, jobs("make", data=text.encode())[0], b"")
+        same_lines(page.without_answer(whole), page.without_answer(made), path.name)
+
+
+def answered(path):
+    """An example's file as the program makes it today."""
+    text = page.example_text(path.read_text())
+    job = jobs("make", data=text.encode())[0]
+    return page.example(text, job, program(job))
+
+
+@with_program
+def example_answers():
+    """Each example's answer is the program's."""
+    for path in FORMAT.iterdir():
+        same_lines(path.read_text(), answered(path), path.name)
+
+
+@with_program
+def stored_job():
+    """Every record of examples/jobs.bin has its answer, and two runs are equal."""
+    data = (ROOT / "examples" / "jobs.bin").read_bytes()
+    answer = file("answers", program(data))
+    text = jobs("show", answer)[0].decode()
+    marks = " ".join(line.split()[0] for line in text.splitlines())
+    same(marks, "EX EX CO CO NO PA AC MU IN JI NO ZZ", "the answers' marks")
+    holds(text, "EX pose.q 1.0 0.0 0.0 0.0; pose.t 1.0 2.0 3.0; pose.sigma 0.0\n",
+          "AC point 5.0 7.0 9.0\n", "NO refusal 1", "NO refusal 2",
+          "ZZ begun 11; answered 9; refused 2\n")
+    again = jobs("diff", answer, file("again", program(data)))[0].decode()
+    holds(again, "equal: 11 records")
+
+
+def renew():
+    """Writes the examples and the page's generated parts anew; the program must be built."""
+    for path in FORMAT.iterdir():
+        path.write_text(answered(path))
+    PAGE.write_text(page.fill(PAGE.read_text(), page_parts()))
+    return 0
+
+
+TESTS = [as_a_program, help_has_examples, page_is_current, example_jobs, example_answers, stored_job]

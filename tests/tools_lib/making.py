@@ -1,0 +1,76 @@
+"""`jobs make`."""
+import struct
+
+from .common import ROOT, WORK, file, holds, jobs, records, same
+from jobs_lib import doubles, host
+from jobs_lib.layout import JOB
+
+
+def scope_example():
+    """The AC record of the scope, written in three ways."""
+    expected = b"AC" + struct.pack("<12d", 1, 0, 0, 0, 1, 2, 3, 0, 1, 4, 5, 6)
+    for line in ["AC 1 0 0 0 1 2 3 0 1 4 5 6", "  AC 1,0,0,0 , 1,2,3 ; 0 ; 4,5,6 # no up\r",
+                 "AC pose.q 1 0 0 0 pose.t 1 2 3; pose.sigma 0; up 0x1p0; point 4 5 6;"]:
+        same(jobs("make", data=f"# one record\n\n{line}\n".encode())[0], expected, line)
+
+
+def what_is_left_out():
+    """It is computed, in its place, and what is given is kept."""
+    short = b"PA 0.5 0 0 1 2 3 0.25\nMU 1 0 0 0 1 2 3 0.5 1 0 0 0 1 2 3 7\nIN 1 0 0 0 1 2 3 0.5\n"
+    made = jobs("make", data=short)[0]
+    whole = jobs("show", "--in", data=made)[0].decode()
+    values = " ".join(map(repr, host.values(0.25, 0.25)))
+    matrices = [" ".join(map(repr, m)) for m in host.rotation_jacobians([0.5, 0.0, 0.0])]
+    holds(whole, f"values {values}; J {matrices[0]}; Jinv {matrices[1]}\n",
+          f"up {host.exponential(0.5)!r}\n", f"down {host.exponential(-0.5)!r}\n")
+    for rest in (f"values {values}", f"J {matrices[0]}; Jinv {matrices[1]}"):
+        line = f"PA 0.5 0 0 1 2 3 0.25; {rest}"
+        same(jobs("make", data=line.encode())[0], made[:282], line)
+
+
+def stored_example():
+    """examples/jobs.bin is made from jobs.txt; another math library may move what is computed."""
+    made = jobs("make", ROOT / "examples" / "jobs.txt")[0]
+    stored = (ROOT / "examples" / "jobs.bin").read_bytes()
+    same(len(made), len(stored), "the length of examples/jobs.bin")
+    texts = [jobs("show", "--in", data=data)[0].decode() for data in (made, stored)]
+    for old, new in zip(*(text.replace(";", " ").split() for text in texts)):
+        if old != new:
+            steps = doubles.ulps(*(doubles.to_bits(doubles.read(word)) for word in (old, new)))
+            assert steps is not None and steps <= 2, f"examples/jobs.bin has {new}, made is {old}"
+    holds("\n" + texts[1], *(f"\n{layout.mark} " for layout in JOB.values()))
+
+
+def bad_lines():
+    """Every bad line is named with its place, what is wrong and what is expected."""
+    for line, wrong, expected in [
+            ("JI 1", "JI has 1 number;", "31 (block.a 9"),
+            ("EX 1 2 3", "EX has 3 numbers", "7 (phi 3; rho 3; sigma), or 17"),
+            ("AC 1 0 0 0 1 2 3 0 1 4 5 six", "'six' is not a number", "a decimal"),
+            ("ZZ 1 2 3", "unknown mark 'ZZ'", "EX CO PA AC MU IN JI"),
+            ("ex 1 2 3 4 5 6 7", "unknown mark 'ex'", "EX CO PA AC MU IN JI"),
+            ("EX 1 2; 3 4 5 6 7", "';' after 2 numbers is inside phi", "phi 3; rho 3"),
+            ("EX rho 1 2 3 phi 4 5 6 sigma 7", "rho after 0 numbers, where phi begins", "phi 3"),
+            ("EX phi 1 2 3; rho 4 5; sigma 7", "';' after 5 numbers is inside rho", "takes 3"),
+            ("EX 1 2 3 4 5 6 7 values", "values after 7 numbers, where no group begins", "17"),
+            ("CO 1 1e999", "'1e999' is beyond the largest double", "inf"),
+            ("IN 1 0 0 0 1 2 3 \u22121", "is not a number", "a decimal"),
+            ("bytes 5 51", "'5' is not a byte", "two hexadecimal digits")]:
+        out, messages = jobs("make", data=f"IN 1 0 0 0 1 2 3 0\n{line}\n".encode(), status=2)
+        same(out, b"", f"output for {line!r}")
+        holds(messages, "(standard input):2: ", wrong, "expected", expected, "nothing was written")
+
+
+def bad_files():
+    many = file("many.txt", b"EX\n" * 50)
+    messages = jobs("make", many, status=2)[1]
+    holds(messages, f"{many}:1: ", f"{many}:20: ", "stopped after 20 bad lines")
+    same(messages.count("EX has"), 20, "messages")
+    job = file("job", records(JOB, 1, 1))
+    holds(jobs("make", job, status=2)[1], "job:1: a zero byte", "expected text")
+    holds(jobs("make", WORK.name + "/none", status=2)[1], "cannot read", "No such file")
+    holds(jobs("make", WORK.name, status=2)[1], "cannot read", "Is a directory")
+    same(jobs("make", data=b"")[0], b"", "the job file of nothing")
+
+
+TESTS = [scope_example, what_is_left_out, stored_example, bad_lines, bad_files]

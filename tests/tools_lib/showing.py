@@ -1,0 +1,101 @@
+"""`jobs show`."""
+import struct
+
+from .common import answers, end, holds, jobs, records, same
+from jobs_lib.layout import ANSWER, END, JOB
+
+
+def layout_of_the_scope():
+    """Lengths of the records, and where some numbers stand, apart from the tool's own table."""
+    sizes = {"EX": (136, 64), "CO": (96, 160), "PA": (280, 992), "AC": (96, 24), "MU": (136, 64),
+             "IN": (72, 64), "JI": (248, 248)}
+    for layout in JOB.values():
+        out = ANSWER[layout.mark.encode()]
+        same((layout.size - 2, out.size - 2), sizes[layout.mark], f"bytes of {layout.mark}")
+    same(END.size, 14, "bytes of ZZ")
+    for table, mark, field, number in [
+            (JOB, b"EX", "sigma", 6), (JOB, b"EX", "values.cos_half", 9), (JOB, b"CO", "values.M0", 9),
+            (JOB, b"PA", "J[1][0]", 18), (JOB, b"PA", "Jinv[0][2]", 32), (JOB, b"AC", "up", 8),
+            (JOB, b"MU", "right.t.x", 12), (JOB, b"JI", "block.e", 30),
+            (ANSWER, b"CO", "coeffs(+).scaled", 9), (ANSWER, b"CO", "coeffs(-).dv2", 17),
+            (ANSWER, b"PA", "left.b[1][2]", 16), (ANSWER, b"PA", "right_inv.f[0]", 120)]:
+        same(table[mark].fields[number], field, f"number {number} of {mark.decode()}")
+
+
+def back_by_make():
+    """`make` turns the lines of `show` into the same bytes, for every mark and odd numbers."""
+    data = records(JOB, 2, 140)
+    text, messages = jobs("show", data=data)
+    same((text.count(b"\n"), messages), (140, ""), "lines and messages")
+    same(jobs("make", data=text)[0], data, "the bytes made again")
+
+
+def answers_as_text():
+    text = jobs("show", data=answers())[0].decode()
+    same(len(text.splitlines()), 9, "lines")
+    holds(text, "EX pose.q ", "; right_inv.e ", "NO refusal 1  # squared angle z below zero\n",
+          "ZZ begun 8; answered 7; refused 1\n")
+    odd = b"AC" + struct.pack("<3d", -0.0, float("nan"), float("-inf")) + end(1)
+    same(jobs("show", data=odd)[0], b"AC point -0.0 nan -inf\nZZ begun 1; answered 1; refused 0\n",
+         "odd numbers")
+
+
+def single_records():
+    """--record and --hex: the records asked for, no ZZ, and their bytes."""
+    text = jobs("show", "--hex", "--record", "8", data=answers())[0].decode()
+    at = len(answers()) - END.size - 3
+    same(text, f"{at:8}  4e 4f                    NO\n"
+               f"{at + 2:8}  01                       refusal = 1 (squared angle z below zero)\n",
+         "record 8")
+    text = jobs("show", "--record", "4-5", data=answers())[0].decode()
+    same([line[:2] for line in text.splitlines()], ["AC", "MU"], "records 4 and 5")
+    holds(jobs("show", "--record", "9", data=answers(), status=2)[1], "no record 9", "it has 8")
+    for word in ("0", "3-2", "x"):
+        holds(jobs("show", "--record", word, status=2)[1], "expected 7 or 7-9, from 1")
+
+
+def guesses():
+    """A file is a job file or an answer file by what it holds; JI alone by its ZZ."""
+    for mark, layout in JOB.items():
+        data = mark + bytes(layout.size - 2)
+        holds(jobs("show", data=data)[0].decode(), layout.groups[0].name)
+        data = mark + bytes(ANSWER[mark].size - 2) + end(1)
+        holds(jobs("show", data=data)[0].decode(), ANSWER[mark].groups[0].name, "ZZ begun 1")
+        holds(jobs("show", data=data[:-1], status=1)[0].decode(), ANSWER[mark].groups[0].name)
+    for length in (67, 100, 200, 300, 1000, 1500):
+        holds(jobs("show", data=answers()[:length], status=1)[0].decode(), "EX pose.q")
+    holds(jobs("show", data=answers()[:66] + b"QQ" + end(1), status=1)[0].decode(), "EX pose.q")
+    same(jobs("show", data=end(0))[0], b"ZZ begun 0; answered 0; refused 0\n", "no records")
+    same(jobs("show", data=b"")[0], b"", "an empty job file")
+
+
+def damaged_jobs():
+    """Where a job file is damaged the byte is named, and its bytes are shown all the same."""
+    good = records(JOB, 4, 2)
+    for bad, message in [
+            (b"QQ123", "byte 236: unknown mark 51 51 ('QQ')"),
+            (b"A", "byte 236: the file ends inside a mark, after 41"),
+            (b"AC" + bytes(9),
+             "byte 236: the file ends inside a record: AC takes 98 bytes, 11 are there")]:
+        text, messages = jobs("show", data=good + bad, status=1)
+        holds(messages, message, "--out reads it")
+        same(jobs("make", data=text)[0], good + bad, "the bytes made again")
+    holds(jobs("show", data=b"# " * 99, status=1)[0].decode(), "bytes 23 20 ", "# and 166 more\n")
+
+
+def damaged_answers():
+    whole = answers()
+    last = len(whole) - END.size
+    for data, message in [
+            (whole[:last], f"byte {last}: ZZ and its counts are missing"),
+            (whole[:-1], f"byte {last}: ZZ is short, 13 of 14 bytes"),
+            (whole[:100], "byte 66: the file ends inside a record: CO takes 162 bytes, 34 are"),
+            (whole[:66] + b"QQ" + whole[66:], "byte 66: unknown mark 51 51 ('QQ')"),
+            (whole + b"AC", f"byte {len(whole)}: 2 bytes after ZZ"),
+            (whole + whole, f"byte {len(whole)}: {len(whole):,} bytes after ZZ"),
+            (whole[:last] + end(9, 1), "ZZ does not fit the records, which are 8 begun, 7 answer")]:
+        holds(jobs("show", "--out", data=data, status=1)[1], message)
+
+
+TESTS = [layout_of_the_scope, back_by_make, answers_as_text, single_records, guesses, damaged_jobs,
+         damaged_answers]

@@ -1,0 +1,140 @@
+"""The command line of `jobs`: arguments, help, and what happens on failure."""
+import argparse
+import re
+import signal
+import sys
+
+from .diff import diff
+from .layout import ANSWER, JOB
+from .make import MAY_MISS, groups_text, make
+from .show import show
+from .terminal import Failure, say
+
+ABOUT = """\
+Job files of the Sim(3) engine: make them from text, show them as text, compare their answers.
+docs/JOB-FORMAT.md has the bytes of every record.
+
+example:
+  tools/jobs make examples/jobs.txt > jobs.bin
+  ./sim3-job < jobs.bin > answers.bin
+  tools/jobs show answers.bin
+  tools/jobs diff last-answers.bin answers.bin
+"""
+
+MAKE = """\
+Lines of text to a job file on standard output. A line is a mark and its numbers, separated by
+blanks or commas; `;` may stand between groups and a group's name before it. `#` starts a comment.
+A number is a decimal (1.5, -2e-3, -0), a hexadecimal (0x1.8p3), inf, -inf, nan, or 16 digits of
+bits (bits:3ff0000000000000). The line `bytes 51 51` puts bytes as they are.
+
+Numbers in brackets may be left out; they are then computed by Python's math.
+{forms}
+
+Where a line is bad, all bad lines are named and nothing is written; the exit status is 2.
+
+example:
+  echo 'EX 0.1 0.2 0.3  1 2 3  0.5' | tools/jobs make > jobs.bin
+  echo 'AC pose.q 1 0 0 0; pose.t 1 2 3; pose.sigma 0; point 4 5 6' | tools/jobs make > jobs.bin
+"""
+
+SHOW = """\
+A job file or an answer file as text, one record a line: numbers as the shortest decimals that read
+back exactly, refusals with their meaning, and the counts of ZZ. `jobs make` turns the lines of a
+job file into the same bytes again. Which of the two a file is is guessed unless it is said.
+
+Exit status: 0, or 1 where the file is damaged or cut (the byte is named), or 2 if it cannot be read.
+
+example:
+  tools/jobs show jobs.bin
+  ./sim3-job < jobs.bin | tools/jobs show
+  tools/jobs show --hex --record 3 answers.bin
+"""
+
+DIFF = """\
+Compares two answer files record by record. Each difference is a line with the record's number (from
+1), its mark, the field, both values and their distance in units in the last place. A NaN equals
+every NaN; zeros of different sign differ. A file that does not end in ZZ is named first.
+
+Exit status: 0 equal and whole, 1 different or not whole, 2 not to be read.
+
+example:
+  tools/jobs diff --limit 20 last-answers.bin answers.bin
+"""
+
+
+def forms_text():
+    """Each mark with its groups, those that may be left out in brackets."""
+    lines = []
+    for layout in JOB.values():
+        line = groups_text(layout.groups)
+        for names in MAY_MISS[layout.mark]:
+            part = groups_text([g for g in layout.groups if g.name in names])
+            line = line.replace("; " + part, f"; [{part}]")
+        lines.append(f"  {layout.mark}  {line}")
+    return "\n".join(lines)
+
+
+def record_range(word):
+    """`7` or `7-9` as the range of those record numbers."""
+    found = re.fullmatch(r"([0-9]+)(?:-([0-9]+))?", word)
+    first, last = (int(found[1]), int(found[2] or found[1])) if found else (0, 0)
+    if not 1 <= first <= last:
+        raise argparse.ArgumentTypeError(f"{word!r} is no record number; expected 7 or 7-9, from 1")
+    return range(first, last + 1)
+
+
+def limit(word):
+    if not re.fullmatch(r"[0-9]+", word):
+        raise argparse.ArgumentTypeError(f"{word!r} is no limit; expected a whole number from 0")
+    return int(word)
+
+
+def add_command(commands, name, about, summary):
+    return commands.add_parser(name, help=summary, description=about,
+                               formatter_class=argparse.RawDescriptionHelpFormatter)
+
+
+def parser():
+    top = argparse.ArgumentParser(prog="jobs", description=ABOUT,
+                                  formatter_class=argparse.RawDescriptionHelpFormatter)
+    commands = top.add_subparsers(dest="command", metavar="COMMAND", required=True)
+    one = add_command(commands, "make", MAKE.format(forms=forms_text()), "text to a job file")
+    one.add_argument("file", nargs="?", metavar="FILE", help="the text; standard input if not given")
+    one = add_command(commands, "show", SHOW, "a job or answer file to text")
+    kind = one.add_mutually_exclusive_group()
+    kind.add_argument("--in", dest="table", action="store_const", const=JOB, help="it is a job file")
+    kind.add_argument("--out", dest="table", action="store_const", const=ANSWER,
+                      help="it is an answer file")
+    one.add_argument("--hex", action="store_true", help="the bytes too, one number a line")
+    one.add_argument("--record", type=record_range, metavar="N[-M]", help="these records alone")
+    one.add_argument("file", nargs="?", metavar="FILE", help="the file; standard input if not given")
+    one = add_command(commands, "diff", DIFF, "compare two answer files")
+    one.add_argument("--limit", type=limit, metavar="N", help="print at most N differences")
+    one.add_argument("old", metavar="OLD")
+    one.add_argument("new", metavar="NEW")
+    return top
+
+
+def run(arguments):
+    if arguments.command == "make":
+        return make(arguments.file)
+    if arguments.command == "show":
+        return show(arguments.file, arguments.table, arguments.record, arguments.hex)
+    return diff(arguments.old, arguments.new, arguments.limit)
+
+
+def main(words):
+    if hasattr(signal, "SIGPIPE"):
+        signal.signal(signal.SIGPIPE, signal.SIG_DFL)  # a reader that leaves, as `head`, is no error
+    sys.stdout.reconfigure(errors="backslashreplace")  # a file's name may hold any bytes
+    try:
+        return run(parser().parse_args(words))
+    except Failure as failure:
+        say(str(failure))
+        return failure.status
+    except KeyboardInterrupt:
+        sys.stderr.write("\njobs: interrupted; the output is not whole\n")
+        return 130
+    except OSError as error:
+        sys.stderr.write(f"jobs: output stopped: {error.strerror}; it is not whole\n")
+        return 2
