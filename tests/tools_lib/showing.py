@@ -1,7 +1,7 @@
 """`jobs show`."""
 import struct
 
-from .common import answers, end, holds, jobs, records, same
+from .common import ROOT, answers, end, holds, jobs, records, same
 from jobs_lib.layout import ANSWER, END, JOB
 
 
@@ -28,6 +28,18 @@ def back_by_make():
     text, messages = jobs("show", data=data)
     same((text.count(b"\n"), messages), (140, ""), "lines and messages")
     same(jobs("make", data=text)[0], data, "the bytes made again")
+
+
+def stored_runs():
+    """The stored job files read back, but for what follows an unknown mark; the answers are whole."""
+    for path in sorted((ROOT / "tests" / "runs").glob("*.in")):
+        data, answer = path.read_bytes(), path.with_suffix(".out")
+        last = answer.read_bytes()[:-END.size][-3:]  # 6 and 7 answer what is damaged
+        text = jobs("show", "--in", path, status=1 if last in (b"NO\6", b"NO\7") else 0)[0]
+        made = jobs("make", data=text)[0]
+        same(made, data[:len(made)], f"{path.name}, shown and made again")
+        assert len(made) == len(data) or b" more\n" in text, f"{path.name} was not shown whole"
+        holds(jobs("show", answer)[0].decode(), "ZZ begun ")
 
 
 def answers_as_text():
@@ -97,5 +109,5 @@ def damaged_answers():
         holds(jobs("show", "--out", data=data, status=1)[1], message)
 
 
-TESTS = [layout_of_the_scope, back_by_make, answers_as_text, single_records, guesses, damaged_jobs,
-         damaged_answers]
+TESTS = [layout_of_the_scope, back_by_make, stored_runs, answers_as_text, single_records, guesses,
+         damaged_jobs, damaged_answers]

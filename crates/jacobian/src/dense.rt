@@ -4,6 +4,7 @@ ghost use Prim.Native.Nat.{_≤_};
 ghost use lib.Ieee.{binary64};
 ghost use Rattle.linalg.specs.Vector.{vec};
 ghost use Rattle.sim3.specs.Tangent.{tangent};
+ghost use Rattle.jacobian.specs.DenseRows.{sevenRows};
 ghost use Rattle.jacobian.specs.Dense.{columnAt, sevenOf, sevenFlat, sevenTranspose, sevenApply, jacSandwich, jacDense};
 use crate::jac::Sim3Jac;
 use linalg::vector::Vec3;
@@ -132,6 +133,23 @@ fn flat(m: Seven) -> [f64; 49]
     ]
 }
 
+// The numbers x, y and z of seven vectors, in a row each.
+pub struct Rows {
+    pub x: Sim3Tangent,
+    pub y: Sim3Tangent,
+    pub z: Sim3Tangent,
+}
+
+fn rows_of(a: Vec3, b: Vec3, c: Vec3, d: Vec3, e: Vec3, f: Vec3, g: Vec3) -> Rows
+    ensures { λ r. ⌜ r ≡ sevenRows a b c d e f g ⌝ }
+{
+    Rows {
+        x: seven_numbers(a.x, b.x, c.x, d.x, e.x, f.x, g.x),
+        y: seven_numbers(a.y, b.y, c.y, d.y, e.y, f.y, g.y),
+        z: seven_numbers(a.z, b.z, c.z, d.z, e.z, f.z, g.z),
+    }
+}
+
 // Rows for columns.
 fn transpose(m: Seven) -> Seven
     ensures { λ r. ⌜ r ≡ sevenTranspose m ⌝ }
@@ -143,70 +161,31 @@ fn transpose(m: Seven) -> Seven
     let e = m.c4;
     let f = m.c5;
     let g = m.c6;
+    let p = rows_of(a.phi, b.phi, c.phi, d.phi, e.phi, f.phi, g.phi);
+    let q = rows_of(a.rho, b.rho, c.rho, d.rho, e.rho, f.rho, g.rho);
+    let c0 = p.x;
+    let c1 = p.y;
+    let c2 = p.z;
+    let c3 = q.x;
+    let c4 = q.y;
+    let c5 = q.z;
+    let c6 = seven_numbers(
+        a.sigma,
+        b.sigma,
+        c.sigma,
+        d.sigma,
+        e.sigma,
+        f.sigma,
+        g.sigma,
+    );
     Seven {
-        c0: seven_numbers(
-            a.phi.x,
-            b.phi.x,
-            c.phi.x,
-            d.phi.x,
-            e.phi.x,
-            f.phi.x,
-            g.phi.x,
-        ),
-        c1: seven_numbers(
-            a.phi.y,
-            b.phi.y,
-            c.phi.y,
-            d.phi.y,
-            e.phi.y,
-            f.phi.y,
-            g.phi.y,
-        ),
-        c2: seven_numbers(
-            a.phi.z,
-            b.phi.z,
-            c.phi.z,
-            d.phi.z,
-            e.phi.z,
-            f.phi.z,
-            g.phi.z,
-        ),
-        c3: seven_numbers(
-            a.rho.x,
-            b.rho.x,
-            c.rho.x,
-            d.rho.x,
-            e.rho.x,
-            f.rho.x,
-            g.rho.x,
-        ),
-        c4: seven_numbers(
-            a.rho.y,
-            b.rho.y,
-            c.rho.y,
-            d.rho.y,
-            e.rho.y,
-            f.rho.y,
-            g.rho.y,
-        ),
-        c5: seven_numbers(
-            a.rho.z,
-            b.rho.z,
-            c.rho.z,
-            d.rho.z,
-            e.rho.z,
-            f.rho.z,
-            g.rho.z,
-        ),
-        c6: seven_numbers(
-            a.sigma,
-            b.sigma,
-            c.sigma,
-            d.sigma,
-            e.sigma,
-            f.sigma,
-            g.sigma,
-        ),
+        c0,
+        c1,
+        c2,
+        c3,
+        c4,
+        c5,
+        c6,
     }
 }
 

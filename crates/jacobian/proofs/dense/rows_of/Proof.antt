@@ -1,0 +1,12 @@
+-- `jacobian::dense::rows_of` meets its contract: by what its calls ensure and its tests say. Assumes nothing.
+use borrow.Author.Needs.{needs}
+use Rattle.jacobian.specs.DenseRows.{sevenRows}
+use Rattle.jacobian.proofs.dense.rows_of.Statement.{statement}
+use Rattle.jacobian.proofs.dense.rows_of.Tie as tie
+
+returns : tie.Need-returns
+unfolding sevenRows
+returns c = simp (c .seven-numbers3 .ensures, c .before .seven-numbers2 .ensures, c .before .before .seven-numbers .ensures)
+
+pub rows-of-spec : {M : Type 1} → statement M
+rows-of-spec = tie.close (tie.spec (λ c κs. search needs) (λ c κs. search needs) (λ c κs. search needs) returns)
