@@ -2,9 +2,13 @@
 use Prim.Native.Nat.{ℕ}
 use mathlib.Core.Path.{_≡_, refl}
 use mathlib.Core.List.{List, [], _∷_, _++_}
-use lib.Ieee.{ofBits, toBits, add}
+use lib.Ieee.{ofBits, toBits, add, sub, mul}
+use Rattle.linalg.specs.Vector.{vecScale, vecCross, vecAdd}
+use Rattle.so3.specs.So3.{so3Act}
+use Rattle.sim3.specs.Pose.{poseAct}
 use Rattle.wire.specs.Wire.{wordOf, wordBytes, doubleOf, doubleAt, doubleBytes, doublesBytes, countBytes}
 use Rattle.marks.specs.Marks.{markKnown, markOf, widthOf}
+use Rattle.marks.specs.Layout.{vecAt, quatAt, poseAt, vecNumbers}
 use Rattle.marks.specs.Reply.{markBytes, noBytes, replyOf, acOf}
 use Rattle.job.specs.Counts.{countsMore}
 use Rattle.job.specs.Job.{foundAt, foundOf, trailer, jobOn, jobFrom, jobOf}
@@ -34,7 +38,7 @@ record-in =
     ++ (zero ++ (one ++ (double 0x00 0x40 ++ (double 0x08 0x40 ++ (zero ++ (one ++ (double 0x10 0x40 ++ (double 0x14 0x40 ++ double 0x18 0x40)))))))))))
 
 answered : jobOf 1000000 record-in ≡ 0x41 ∷ 0x43 ∷ (double 0x14 0x40 ++ (double 0x1c 0x40 ++ (double 0x22 0x40 ++ counts 1 1 0)))
-unfolding ofBits toBits add wordOf wordBytes doubleOf doubleAt doubleBytes doublesBytes countBytes markKnown markOf widthOf markBytes replyOf acOf countsMore foundAt foundOf trailer jobOn jobFrom double zero one counts record-in
+unfolding ofBits toBits add sub mul vecScale vecCross vecAdd so3Act poseAct vecAt quatAt poseAt vecNumbers wordOf wordBytes doubleOf doubleAt doubleBytes doublesBytes countBytes markKnown markOf widthOf markBytes replyOf acOf countsMore foundAt foundOf trailer jobOn jobFrom double zero one counts record-in
 answered = refl
 
 -- nothing at all

@@ -1,0 +1,40 @@
+-- `marks::known` meets its contract: by what its calls ensure and its tests say. Assumes nothing.
+use borrow.Author.Tests.{ne-eqb}
+use Rattle.marks.specs.Marks.{markKnown}
+use Rattle.marks.proofs.known.Statement.{statement}
+use Rattle.marks.proofs.known.Tie as tie
+
+returns : tie.Need-returns
+unfolding markKnown
+returns c = simp (c .match .keys1)
+
+returns-2 : tie.Need-returns-2
+unfolding markKnown
+returns-2 c = simp (c .match .keys2)
+
+returns-3 : tie.Need-returns-3
+unfolding markKnown
+returns-3 c = simp (c .match .keys3)
+
+returns-4 : tie.Need-returns-4
+unfolding markKnown
+returns-4 c = simp (c .match .keys4)
+
+returns-5 : tie.Need-returns-5
+unfolding markKnown
+returns-5 c = simp (c .match .keys5)
+
+returns-6 : tie.Need-returns-6
+unfolding markKnown
+returns-6 c = simp (c .match .keys6)
+
+returns-7 : tie.Need-returns-7
+unfolding markKnown
+returns-7 c = simp (c .match .keys7)
+
+returns-8 : tie.Need-returns-8
+unfolding markKnown
+returns-8 c = simp (ne-eqb _ _ (c .match .rest .1), ne-eqb _ _ (c .match .rest .0 .1), ne-eqb _ _ (c .match .rest .0 .0 .1), ne-eqb _ _ (c .match .rest .0 .0 .0 .1), ne-eqb _ _ (c .match .rest .0 .0 .0 .0 .1), ne-eqb _ _ (c .match .rest .0 .0 .0 .0 .0 .1), ne-eqb _ _ (c .match .rest .0 .0 .0 .0 .0 .0 .1))
+
+pub known-spec : {M : Type 1} → statement M
+known-spec = tie.close (tie.spec returns returns-2 returns-3 returns-4 returns-5 returns-6 returns-7 returns-8)

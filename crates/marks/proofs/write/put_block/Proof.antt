@@ -1,0 +1,11 @@
+-- `marks::write::put_block` meets its contract: the runs of its parts are the run of the whole. Assumes nothing.
+use borrow.Author.Needs.{needs}
+use Rattle.marks.proofs.Numbers.{block-run}
+use Rattle.marks.proofs.write.put_block.Statement.{statement}
+use Rattle.marks.proofs.write.put_block.Tie as tie
+
+returns : tie.Need-returns
+returns c = let a = c .before .before .before .before .before .before .before .before .before .before .before .before .before .before .before .before .before .before .before .before .before .args in cc (block-run (a .j) (a .out .now) (a .at))
+
+pub put-block-spec : {M : Type 1} → statement M
+put-block-spec = tie.close (tie.spec (λ c κs. search needs) (λ c. search needs) (λ c κs. search needs) (λ c. search needs) (λ c κs. search needs) (λ c. search needs) (λ c κs. search needs) (λ c. search needs) (λ c κs. search needs) (λ c. search needs) returns)

@@ -1,0 +1,11 @@
+-- `marks::write::put_mat` meets its contract: the runs of its parts are the run of the whole. Assumes nothing.
+use borrow.Author.Needs.{needs}
+use Rattle.marks.proofs.Numbers.{mat-run}
+use Rattle.marks.proofs.write.put_mat.Statement.{statement}
+use Rattle.marks.proofs.write.put_mat.Tie as tie
+
+returns : tie.Need-returns
+returns c = let a = c .before .before .before .before .before .before .before .before .before .before .before .before .before .args in cc (mat-run (a .m) (a .out .now) (a .at))
+
+pub put-mat-spec : {M : Type 1} → statement M
+put-mat-spec = tie.close (tie.spec (λ c κs. search needs) (λ c. search needs) (λ c κs. search needs) (λ c. search needs) (λ c κs. search needs) (λ c. search needs) returns)

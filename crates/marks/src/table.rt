@@ -1,0 +1,129 @@
+// The job table: what the record of each mark is answered. Its bytes are read, the engine is asked,
+// and the answer is written.
+ghost use mathlib.Core.Path.{_≡_};
+ghost use Prim.Native.Nat.{_≤_};
+ghost use lib.ListN.{length};
+ghost use lib.Seq.{sets};
+ghost use Rattle.marks.specs.Marks.{widthOf, longest};
+ghost use Rattle.marks.specs.Reply.{exOf, coOf, paOf, acOf, muOf, inOf, jiOf, replyOf, toldReply};
+use crate::Mark;
+use crate::Put;
+use crate::answers::answer_block;
+use crate::answers::answer_block_pair;
+use crate::answers::answer_pose;
+use crate::answers::answer_scaled_pair;
+use crate::answers::answer_vec;
+use crate::answers::refuse;
+use crate::read::block_at;
+use crate::read::double_at;
+use crate::read::mat_at;
+use crate::read::pose_at;
+use crate::read::tangent_at;
+use crate::read::values_at;
+use crate::read::vec_at;
+use coeffs::sim3::PairAnswer;
+use jacobian::jac::JacAnswer;
+use sim3::sim3::Sim3;
+
+// The exponential of a tangent.
+fn ex(b: &[u8], out: &mut [u8]) -> Put
+    requires { ⌜ length (now b) ≡ 136 ⌝ }
+    requires { ⌜ longest ≤ length (now out) ⌝ }
+    ensures { λ r. ⌜ r ≡ toldReply (exOf (now (b .entry))) ⌝ }
+    ensures { λ _. ⌜ now (out .exit) ≡ sets (now (out .entry)) 0 (exOf (now (b .entry)) .bytes) ⌝ }
+{
+    let x = Sim3::exp(tangent_at(b, 0), values_at(b, 56));
+    answer_pose(out, 0x45, 0x58, x)
+}
+
+// The scaled pair of coefficients; refusal 1 for z < 0.
+fn co(b: &[u8], out: &mut [u8]) -> Put
+    requires { ⌜ length (now b) ≡ 96 ⌝ }
+    requires { ⌜ longest ≤ length (now out) ⌝ }
+    ensures { λ r. ⌜ r ≡ toldReply (coOf (now (b .entry))) ⌝ }
+    ensures { λ _. ⌜ now (out .exit) ≡ sets (now (out .entry)) 0 (coOf (now (b .entry)) .bytes) ⌝ }
+{
+    let sigma = double_at(b, 0);
+    let z = double_at(b, 8);
+    match coeffs::sim3::sim3_coeffs_scaled_pair(sigma, z, values_at(b, 16)) {
+        PairAnswer::Coeffs(p) => answer_scaled_pair(out, 0x43, 0x4f, p),
+        PairAnswer::Refused(n) => refuse(out, n),
+    }
+}
+
+// The block pair of a tangent.
+fn pa(b: &[u8], out: &mut [u8]) -> Put
+    requires { ⌜ length (now b) ≡ 280 ⌝ }
+    requires { ⌜ longest ≤ length (now out) ⌝ }
+    ensures { λ r. ⌜ r ≡ toldReply (paOf (now (b .entry))) ⌝ }
+    ensures { λ _. ⌜ now (out .exit) ≡ sets (now (out .entry)) 0 (paOf (now (b .entry)) .bytes) ⌝ }
+{
+    let tau = tangent_at(b, 0);
+    let v = values_at(b, 56);
+    let p = jacobian::pair::block_pair(tau, v, mat_at(b, 136), mat_at(b, 208));
+    answer_block_pair(out, 0x50, 0x41, p)
+}
+
+// A pose's action on a point.
+fn ac(b: &[u8], out: &mut [u8]) -> Put
+    requires { ⌜ length (now b) ≡ 96 ⌝ }
+    requires { ⌜ longest ≤ length (now out) ⌝ }
+    ensures { λ r. ⌜ r ≡ toldReply (acOf (now (b .entry))) ⌝ }
+    ensures { λ _. ⌜ now (out .exit) ≡ sets (now (out .entry)) 0 (acOf (now (b .entry)) .bytes) ⌝ }
+{
+    let p = pose_at(b, 0).act(double_at(b, 64), vec_at(b, 72));
+    answer_vec(out, 0x41, 0x43, p)
+}
+
+// The product of two poses.
+fn mu(b: &[u8], out: &mut [u8]) -> Put
+    requires { ⌜ length (now b) ≡ 136 ⌝ }
+    requires { ⌜ longest ≤ length (now out) ⌝ }
+    ensures { λ r. ⌜ r ≡ toldReply (muOf (now (b .entry))) ⌝ }
+    ensures { λ _. ⌜ now (out .exit) ≡ sets (now (out .entry)) 0 (muOf (now (b .entry)) .bytes) ⌝ }
+{
+    let x = pose_at(b, 0).mul(pose_at(b, 64), double_at(b, 128));
+    answer_pose(out, 0x4d, 0x55, x)
+}
+
+// The inverse of a pose.
+fn inv(b: &[u8], out: &mut [u8]) -> Put
+    requires { ⌜ length (now b) ≡ 72 ⌝ }
+    requires { ⌜ longest ≤ length (now out) ⌝ }
+    ensures { λ r. ⌜ r ≡ toldReply (inOf (now (b .entry))) ⌝ }
+    ensures { λ _. ⌜ now (out .exit) ≡ sets (now (out .entry)) 0 (inOf (now (b .entry)) .bytes) ⌝ }
+{
+    let x = pose_at(b, 0).inverse(double_at(b, 64));
+    answer_pose(out, 0x49, 0x4e, x)
+}
+
+// The inverse of a block; refusal 2 where e is a zero.
+fn ji(b: &[u8], out: &mut [u8]) -> Put
+    requires { ⌜ length (now b) ≡ 248 ⌝ }
+    requires { ⌜ longest ≤ length (now out) ⌝ }
+    ensures { λ r. ⌜ r ≡ toldReply (jiOf (now (b .entry))) ⌝ }
+    ensures { λ _. ⌜ now (out .exit) ≡ sets (now (out .entry)) 0 (jiOf (now (b .entry)) .bytes) ⌝ }
+{
+    match block_at(b, 0).inverse() {
+        JacAnswer::Block(j) => answer_block(out, 0x4a, 0x49, j),
+        JacAnswer::Refused(n) => refuse(out, n),
+    }
+}
+
+// The answer to the whole record with the mark m and the bytes b behind it.
+pub(crate) fn give(m: Mark, b: &[u8], out: &mut [u8]) -> Put
+    requires { ⌜ length (now b) ≡ widthOf m ⌝ }
+    requires { ⌜ longest ≤ length (now out) ⌝ }
+    ensures { λ r. ⌜ r ≡ toldReply (replyOf m (now (b .entry))) ⌝ }
+    ensures { λ _. ⌜ now (out .exit) ≡ sets (now (out .entry)) 0 (replyOf m (now (b .entry)) .bytes) ⌝ }
+{
+    match m {
+        Mark::Ex => ex(b, out),
+        Mark::Co => co(b, out),
+        Mark::Pa => pa(b, out),
+        Mark::Ac => ac(b, out),
+        Mark::Mu => mu(b, out),
+        Mark::In => inv(b, out),
+        Mark::Ji => ji(b, out),
+    }
+}
