@@ -12,7 +12,7 @@ use Rattle.circle.specs.Kernel.{notBelowZero, circleSincABD}
 use Rattle.circle.specs.declared.kernel.SincABD.{SincABD}
 use Rattle.series.specs.Series.{seriesFull, seriesPairAnswer}
 use Rattle.series.specs.declared.sim3.CoeffsPair.{CoeffsPair}
-use Rattle.series.proofs.Even.{neg-neg-mul}
+use Rattle.ieee.proofs.Sign.{mul-neg-neg}
 use Rattle.coeffs.specs.Values.{mirrored, atZero}
 use Rattle.coeffs.specs.Limits.{coeffsDelta, seriesBelow, formBBelow, w0Below, seriesDepth}
 use Rattle.coeffs.specs.Closed.{closedFrom}
@@ -25,7 +25,7 @@ use Rattle.coeffs.proofs.Arms.{series-answers, series-refuses, arm-answ
 
 pub delta-even : (f : Format) (sigma z : Float) → coeffsDelta f (neg sigma) z ≡ coeffsDelta f sigma z
 unfolding coeffsDelta
-delta-even f sigma z = rw (neg-neg-mul f sigma sigma) refl
+delta-even f sigma z = rw (mul-neg-neg f sigma sigma) refl
 
 -- ---- the pair in its two arms
 pub pair-series :
@@ -44,7 +44,7 @@ unfolding coeffsPair closedPair mirrored
 pair-closed f sigma z v t =
     let p = scaled-closed f sigma z v t in
     let n = scaled-closed f (neg sigma) z (mirrored sigma v) (ap (λ d. lt d (seriesBelow f)) (delta-even f sigma z) ∙ t) in
-    let e = simp (delta-even, neg-neg-mul) at n in
+    let e = simp (delta-even, mul-neg-neg) at n in
     λ i. record { pos = p i; neg = e i }
 
 -- ---- both answers behind one test

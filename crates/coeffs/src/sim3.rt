@@ -280,9 +280,8 @@ pub fn sim3_coeffs_scaled_pair(sigma: f64, z: f64, v: Values) -> PairAnswer
 // ---- the same at z = |phi|^2, which is never below zero: nothing is refused, and the refusing arm
 // of each match is never taken.
 
-fn no_coeffs() -> Sim3Coeffs
-    ensures { λ r. ⌜ r ≡ r ⌝ }
-{
+// What stands in an arm that is never taken.
+fn no_coeffs() -> Sim3Coeffs {
     Sim3Coeffs {
         v0: 0.0,
         v1: 0.0,

@@ -1,6 +1,5 @@
 -- The laws of the series, each over any format, and the pair theorem.
 pub mod Recip
-pub mod Even
 pub mod Mirror
 pub mod Sum
 pub mod Solo

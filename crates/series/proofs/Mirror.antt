@@ -8,13 +8,12 @@ use mathlib.Core.Bool.{Bool, true, false, not}
 use borrow.Author.Tests.{eq-eqb, ne-eqb}
 use lib.Ieee.{Float, Format, neg, add, sub, mul}
 use Rattle.ieee.specs.Signs.{plain, Same}
-use Rattle.ieee.proofs.Sign.{mul-neg-l, mul-neg-r}
+use Rattle.ieee.proofs.Sign.{mul-neg-l, mul-neg-r, mul-neg-neg}
 use Rattle.ieee.proofs.Signed.{order, add-same, sub-same, neg-add, neg-sub}
 use Rattle.ieee.proofs.Product.{mul-same}
 use Rattle.series.specs.Series.{seriesFirst, seriesNext, seriesLevel}
 use Rattle.series.specs.Turns.{odd}
 use Rattle.series.specs.declared.recurrence.Level.{Level}
-use Rattle.series.proofs.Even.{neg-neg-mul}
 
 -- -x where b, else x
 abbrev pub turned : Bool → Float → Float
@@ -44,11 +43,11 @@ mul-turned-r f false x y y' p = mul-same f x x y' y refl p
 
 -- sigma times a part, at -sigma: turned once more
 by-sigma : (f : Format) (b : Bool) (sigma y y' : Float) → Turned b y y' → Turned (not b) (mul f sigma y) (mul f (neg sigma) y')
-by-sigma f true sigma y y' p = mul-same f (neg sigma) (neg sigma) y' (neg y) refl p ∙ ap plain (neg-neg-mul f sigma y)
+by-sigma f true sigma y y' p = mul-same f (neg sigma) (neg sigma) y' (neg y) refl p ∙ ap plain (mul-neg-neg f sigma y)
 by-sigma f false sigma y y' p = mul-same f (neg sigma) (neg sigma) y' y refl p ∙ ap plain (mul-neg-l f sigma y)
 
 times-sigma : (f : Format) (b : Bool) (x x' sigma : Float) → Turned b x x' → Turned (not b) (mul f x sigma) (mul f x' (neg sigma))
-times-sigma f true x x' sigma p = mul-same f x' (neg x) (neg sigma) (neg sigma) p refl ∙ ap plain (neg-neg-mul f x sigma)
+times-sigma f true x x' sigma p = mul-same f x' (neg x) (neg sigma) (neg sigma) p refl ∙ ap plain (mul-neg-neg f x sigma)
 times-sigma f false x x' sigma p = mul-same f x' x (neg sigma) (neg sigma) p refl ∙ ap plain (mul-neg-r f x sigma)
 
 -- ---- a level: p, zeta and dzeta are turned by b, xi and dxi by its opposite

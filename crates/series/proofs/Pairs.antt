@@ -10,13 +10,12 @@ use borrow.Author.Tests.{eq-eqb, ne-eqb}
 use lib.Ieee.{Float, Format, neg, add, sub, fits}
 use lib.Ieee.Fits.{neg-fits, mul-fits}
 use Rattle.ieee.specs.Signs.{clear}
-use Rattle.ieee.proofs.Sign.{not-not}
+use Rattle.ieee.proofs.Sign.{not-not, mul-neg-neg}
 use Rattle.ieee.proofs.Clear.{add-is-same}
 use Rattle.series.specs.Recip.{recipFact}
 use Rattle.series.specs.Series.{seriesLevel, levelTerms, seriesTerms, seriesSum, seriesSums, seriesChi, seriesCoeffs, seriesFull}
 use Rattle.series.specs.Turns.{odd, gainFlip, sumsNone, sumsGain, sumsGainMirrored, tailTerms, sumsLastMirrored, pairTurn, pairTurns, pairSums, pairFull}
 use Rattle.series.specs.declared.recurrence.Sums.{Sums}
-use Rattle.series.proofs.Even.{delta-even}
 use Rattle.series.proofs.Mirror.{Turned, Mirror, mul-turned-l, odd-suc, level-mirror}
 use Rattle.series.proofs.Sum.{sum-fits, sum-clear, sumsBelow, tail-is}
 use Rattle.series.proofs.Solo.{last-is}
@@ -130,7 +129,7 @@ last-mirrored-is f sigma z k =
 -- chi times delta is even in sigma but for v0 and v2
 coeffs-even : (f : Format) (sigma z v0 w0 : Float) (s : Sums) → seriesCoeffs f (neg sigma) z v0 w0 s ≡ seriesCoeffs f sigma z v0 w0 s
 unfolding seriesCoeffs seriesChi
-coeffs-even f sigma z v0 w0 s = rw (delta-even f sigma z) refl
+coeffs-even f sigma z v0 w0 s = rw (mul-neg-neg f sigma sigma) refl
 
 pub pair-is : (f : Format) (sigma z : Float) (k : ℕ) → pairFull f sigma z k ≡ record { pos = seriesFull f sigma z k; neg = seriesFull f (neg sigma) z k }
 unfolding pairFull pairSums seriesFull

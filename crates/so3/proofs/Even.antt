@@ -1,7 +1,7 @@
 -- The negative of a rotation vector, in any format: its squared angle is the same, since (-x)(-x) is xx, and its exponential is the conjugate, since k(-x) is -(kx). Assumes nothing.
-use mathlib.Core.Path.{_≡_, refl, ap, _∙_}
+use mathlib.Core.Path.{_≡_, refl, _∙_}
 use lib.Ieee.{Float, Format, neg, add, mul}
-use Rattle.ieee.proofs.Sign.{neg-neg, mul-neg-l, mul-neg-r}
+use Rattle.ieee.proofs.Sign.{mul-neg-r, mul-neg-neg}
 use Rattle.linalg.specs.Vector.{vecDot, vecNormSq, vecNeg}
 use Rattle.linalg.specs.declared.vector.Vec3.{Vec3}
 use Rattle.circle.specs.Kernel.{circleExp}
@@ -14,12 +14,9 @@ pub norm-sq-is : (f : Format) (v : Vec3) → so3NormSq f v ≡ vecNormSq f v
 unfolding so3NormSq vecNormSq vecDot
 norm-sq-is f v = refl
 
-square-even : (f : Format) (x : Float) → mul f (neg x) (neg x) ≡ mul f x x
-square-even f x = mul-neg-l f x (neg x) ∙ ap neg (mul-neg-r f x x) ∙ neg-neg (mul f x x)
-
 pub norm-sq-even : (f : Format) (v : Vec3) → vecNormSq f (vecNeg v) ≡ vecNormSq f v
 unfolding vecNormSq vecDot vecNeg
-norm-sq-even f v = λ i. add f (add f (square-even f (v .x) i) (square-even f (v .y) i)) (square-even f (v .z) i)
+norm-sq-even f v = λ i. add f (add f (mul-neg-neg f (v .x) (v .x) i) (mul-neg-neg f (v .y) (v .y) i)) (mul-neg-neg f (v .z) (v .z) i)
 
 -- ---- the exponential, on the same root, sine and cosine
 pub exp-conjugate : (f : Format) (φ : Vec3) (root sh ch : Float) → so3Exp f (vecNeg φ) root sh ch ≡ quatConjugate (so3Exp f φ root sh ch)
