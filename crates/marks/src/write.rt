@@ -7,7 +7,6 @@ ghost use lib.Seq.{sets};
 ghost use Rattle.wire.specs.Wire.{doubleBytes, doublesBytes};
 ghost use Rattle.marks.specs.Reply.{markBytes, noBytes};
 ghost use Rattle.marks.specs.Layout.{vecNumbers, matNumbers, quatNumbers, poseNumbers, blockNumbers, blockPairNumbers, coeffsNumbers, scaledNumbers, scaledPairNumbers};
-use coeffs::sim3::Scaled;
 use coeffs::sim3::ScaledPair;
 use jacobian::jac::Sim3Jac;
 use jacobian::pair::BlockPair;
@@ -123,18 +122,18 @@ fn put_coeffs(out: &mut [u8], at: usize, c: Sim3Coeffs)
 }
 
 // The coefficients, and the flag as 1 or 0.
-fn put_scaled(out: &mut [u8], at: usize, s: Scaled)
+fn put_scaled(out: &mut [u8], at: usize, c: Sim3Coeffs, scaled: bool)
     requires { ⌜ at + 80 ≤ length (now out) ⌝ }
-    ensures { λ _. ⌜ now (out .exit) ≡ sets (now (out .entry)) at (doublesBytes (scaledNumbers s)) ⌝ }
+    ensures { λ _. ⌜ now (out .exit) ≡ sets (now (out .entry)) at (doublesBytes (scaledNumbers (record { c = c; scaled = scaled }))) ⌝ }
 {
-    put_coeffs(out, at, s.c);
-    put_double(out, at + 72, ieee::pick(s.scaled, 1.0, 0.0));
+    put_coeffs(out, at, c);
+    put_double(out, at + 72, ieee::pick(scaled, 1.0, 0.0));
 }
 
 pub(crate) fn put_scaled_pair(out: &mut [u8], at: usize, p: ScaledPair)
     requires { ⌜ at + 160 ≤ length (now out) ⌝ }
     ensures { λ _. ⌜ now (out .exit) ≡ sets (now (out .entry)) at (doublesBytes (scaledPairNumbers p)) ⌝ }
 {
-    put_scaled(out, at, p.pos);
-    put_scaled(out, at + 80, p.neg);
+    put_scaled(out, at, p.pos.c, p.pos.scaled);
+    put_scaled(out, at + 80, p.neg.c, p.neg.scaled);
 }

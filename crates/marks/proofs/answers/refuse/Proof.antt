@@ -5,7 +5,7 @@ use Rattle.marks.proofs.answers.refuse.Statement.{statement}
 use Rattle.marks.proofs.answers.refuse.Tie as tie
 
 returns : tie.Need-returns
-returns c = (refused (c .before .before .before .before .before .args .number), cc)
+returns c = (refused (c .before .before .before .before .before .args .number), c .before .before .put-no .ensures)
 
 pub refuse-spec : {M : Type 1} → statement M
 refuse-spec = tie.close (tie.spec (λ c κs. search needs) (λ c. search needs) returns)

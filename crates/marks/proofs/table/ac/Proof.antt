@@ -6,7 +6,7 @@ use Rattle.marks.proofs.table.ac.Tie as tie
 
 returns : tie.Need-returns
 unfolding acOf
-returns c = rw (← (c .before .before .before .before .before .before .before .pose-at .ensures), ← (c .before .before .before .before .before .before .double-at .ensures), ← (c .before .before .before .before .before .vec-at .ensures), ← (c .before .before .before .before .act .ensures)) (c .before .before .answer-vec .ensures)
+returns c = rw (c .before .before .before .before .act .ensures, c .before .before .before .before .before .before .before .pose-at .ensures, c .before .before .before .before .before .before .double-at .ensures, c .before .before .before .before .before .vec-at .ensures) at (c .before .before .answer-vec .ensures)
 
 pub ac-spec : {M : Type 1} → statement M
 ac-spec = tie.close (tie.spec (λ c κs. search needs) (λ c κs. search needs) (λ c κs. search needs) (λ c κs. search needs) (λ c κs. search needs) (λ c. search needs) returns)

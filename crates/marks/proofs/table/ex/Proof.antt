@@ -6,7 +6,7 @@ use Rattle.marks.proofs.table.ex.Tie as tie
 
 returns : tie.Need-returns
 unfolding exOf
-returns c = rw (← (c .before .before .before .before .before .before .tangent-at .ensures), ← (c .before .before .before .before .before .values-at .ensures), ← (c .before .before .before .before .exp .ensures)) (c .before .before .answer-pose .ensures)
+returns c = rw (c .before .before .before .before .exp .ensures, c .before .before .before .before .before .before .tangent-at .ensures, c .before .before .before .before .before .values-at .ensures) at (c .before .before .answer-pose .ensures)
 
 pub ex-spec : {M : Type 1} → statement M
 ex-spec = tie.close (tie.spec (λ c κs. search needs) (λ c κs. search needs) (λ c κs. search needs) (λ c κs. search needs) (λ c. search needs) returns)

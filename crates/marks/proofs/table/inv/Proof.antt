@@ -6,7 +6,7 @@ use Rattle.marks.proofs.table.inv.Tie as tie
 
 returns : tie.Need-returns
 unfolding inOf
-returns c = rw (← (c .before .before .before .before .before .before .pose-at .ensures), ← (c .before .before .before .before .before .double-at .ensures), ← (c .before .before .before .before .inverse .ensures)) (c .before .before .answer-pose .ensures)
+returns c = rw (c .before .before .before .before .inverse .ensures, c .before .before .before .before .before .before .pose-at .ensures, c .before .before .before .before .before .double-at .ensures) at (c .before .before .answer-pose .ensures)
 
 pub inv-spec : {M : Type 1} → statement M
 inv-spec = tie.close (tie.spec (λ c κs. search needs) (λ c κs. search needs) (λ c κs. search needs) (λ c κs. search needs) (λ c. search needs) returns)

@@ -6,7 +6,7 @@ use Rattle.marks.proofs.table.mu.Tie as tie
 
 returns : tie.Need-returns
 unfolding muOf
-returns c = rw (← (c .before .before .before .before .before .before .before .pose-at .ensures), ← (c .before .before .before .before .before .before .pose-at2 .ensures), ← (c .before .before .before .before .before .double-at .ensures), ← (c .before .before .before .before .mul .ensures)) (c .before .before .answer-pose .ensures)
+returns c = rw (c .before .before .before .before .mul .ensures, c .before .before .before .before .before .before .before .pose-at .ensures, c .before .before .before .before .before .before .pose-at2 .ensures, c .before .before .before .before .before .double-at .ensures) at (c .before .before .answer-pose .ensures)
 
 pub mu-spec : {M : Type 1} → statement M
 mu-spec = tie.close (tie.spec (λ c κs. search needs) (λ c κs. search needs) (λ c κs. search needs) (λ c κs. search needs) (λ c κs. search needs) (λ c. search needs) returns)

@@ -9,7 +9,7 @@ answer-block-pair-requires c κs = c .before .before .before .before .before .be
 
 returns : tie.Need-returns
 unfolding paOf
-returns c = rw (← (c .before .before .before .before .before .before .before .before .tangent-at .ensures), ← (c .before .before .before .before .before .before .before .values-at .ensures), ← (c .before .before .before .before .before .before .mat-at .ensures), ← (c .before .before .before .before .before .mat-at2 .ensures), ← (c .before .before .before .before .block-pair .ensures)) (c .before .before .answer-block-pair .ensures)
+returns c = rw (c .before .before .before .before .block-pair .ensures, c .before .before .before .before .before .before .before .before .tangent-at .ensures, c .before .before .before .before .before .before .before .values-at .ensures, c .before .before .before .before .before .before .mat-at .ensures, c .before .before .before .before .before .mat-at2 .ensures) at (c .before .before .answer-block-pair .ensures)
 
 pub pa-spec : {M : Type 1} → statement M
 pa-spec = tie.close (tie.spec (λ c κs. search needs) (λ c κs. search needs) (λ c κs. search needs) (λ c κs. search needs) (λ c κs. search needs) answer-block-pair-requires (λ c. search needs) returns)
