@@ -9,12 +9,12 @@ use lib.Seq.{sets, sets-eq, length-take-le, drop-append-le, drop-drop}
 use Rattle.wire.proofs.Bytes.{double-length, count-length, doubles-length}
 
 -- it needs no bound
-pub sets-split : (a b l : List ℕ) (i : ℕ) → sets l i (a ++ b) ≡ sets (sets l i a) (i + length a) b
+pub sets-split : {A : Type 0} (a b l : List A) (i : ℕ) → sets l i (a ++ b) ≡ sets (sets l i a) (i + length a) b
 sets-split [] b l i = rw add-zero
 sets-split (x ∷ a) b l i = rw (add-suc, ← suc-add i (length a)) (sets-split a b (set l i x) (suc i))
 
 -- the whole list after a run from its start
-pub sets-front : (b l : List ℕ) → length b ≤ length l → sets l 0 b ≡ b ++ drop (length b) l
+pub sets-front : {A : Type 0} (b l : List A) → length b ≤ length l → sets l 0 b ≡ b ++ drop (length b) l
 sets-front b l h =
     let e : 0 + length b ≡ length b = omega arith in
     sets-eq b l 0 (omega arith) ∙ ap (λ (k : ℕ). b ++ drop k l) e

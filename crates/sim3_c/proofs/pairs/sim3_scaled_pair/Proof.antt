@@ -1,0 +1,23 @@
+-- `sim3_c::pairs::sim3_scaled_pair` meets its contract: the lists are read, the engine is asked, and its answer is written or the refusal handed on. Assumes nothing.
+use borrow.Author.Needs.{needs}
+use mathlib.Core.Path.{refl}
+use Rattle.coeffs.specs.Entries.{pairTold}
+use Rattle.sim3_c.specs.Layout.{valuesTold}
+use Rattle.sim3_c.specs.Calls.{status, written, scaledPairCall}
+use Rattle.sim3_c.proofs.pairs.sim3_scaled_pair.Statement.{statement}
+use Rattle.sim3_c.proofs.pairs.sim3_scaled_pair.Tie as tie
+
+returns : tie.Need-returns
+unfolding status written scaledPairCall valuesTold
+returns c = rw (← (c .before .before .values-from .ensures), c .enum-told .given .1) (refl, refl)
+
+returns-2 : tie.Need-returns-2
+unfolding status written scaledPairCall pairTold valuesTold
+returns-2 c = rw (← (c .before .before .before .before .before .before .before .before .before .before .before .values-from .ensures), c .before .before .before .before .before .before .before .before .before .v .given .1, ← (c .before .before .before .before .before .before .before .sim3-coeffs-scaled-pair .ensures), c .before .before .before .before .before .p .given .1) (c .before .before .put-scaled-pair .ensures)
+
+returns-3 : tie.Need-returns-3
+unfolding status written scaledPairCall pairTold valuesTold
+returns-3 c = rw (← (c .before .before .before .before .before .before .before .values-from .ensures), c .before .before .before .before .before .v .given .1, ← (c .before .before .before .sim3-coeffs-scaled-pair .ensures), c .before .n .given .1) (refl, refl)
+
+pub sim3-scaled-pair-spec : {M : Type 1} → statement M
+sim3-scaled-pair-spec = tie.close (tie.spec (λ c κs. search needs) (λ c. search needs) (λ c. search needs) returns (λ c κs. search needs) (λ c. search needs) (λ c κs. search needs) (λ c. search needs) (λ c. search needs) (λ c. search needs) returns-2 returns-3)

@@ -1,0 +1,13 @@
+-- `sim3_c::write::set_mat` meets its contract: the runs of its columns are its run. Assumes nothing.
+use borrow.Author.Needs.{needs}
+use Rattle.sim3_c.proofs.Stores.{mat-stored}
+use Rattle.sim3_c.proofs.write.set_mat.Statement.{statement}
+use Rattle.sim3_c.proofs.write.set_mat.Tie as tie
+
+returns : tie.Need-returns
+returns c =
+    let a = c .before .before .before .before .before .before .before .before .before .before .before .before .before .args in
+    rw (c .before .before .set-three3 .ensures, c .before .before .before .before .before .before .set-three2 .ensures, c .before .before .before .before .before .before .before .before .before .before .set-three .ensures) (mat-stored (a .m) (a .out .now) (a .at))
+
+pub set-mat-spec : {M : Type 1} → statement M
+set-mat-spec = tie.close (tie.spec (λ c κs. search needs) (λ c. search needs) (λ c κs. search needs) (λ c. search needs) (λ c κs. search needs) (λ c. search needs) returns)

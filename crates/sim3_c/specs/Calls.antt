@@ -1,0 +1,94 @@
+-- What each exported function answers: 0 and the numbers in `out`, or the number of a refusal and `out` as it was. A list is refused by 8 where its length is not the one that is due; lists of points by document 01's 5.
+use Prim.Native.Nat.{ℕ}
+use mathlib.Core.Bool.{cond}
+use mathlib.Core.List.{List}
+use lib.Dec.{eqb}
+use lib.ListN.{length}
+use lib.Ieee.{Float, binary64}
+use Rattle.linalg.specs.Answer.{Answer, answers, refuses, andThen}
+use Rattle.linalg.specs.declared.vector.Vec3.{Vec3}
+use Rattle.coeffs.specs.Entries.{pairAnswer}
+use Rattle.sim3.specs.Pose.{poseMul, poseInverse, poseMulInv, poseInvMul, poseRenormalized}
+use Rattle.sim3.specs.Exp.{poseExp}
+use Rattle.sim3.specs.Points.{pointsAnswer, pointsOut, poseActMany, poseActEach}
+use Rattle.jacobian.specs.Jac.{jacInverseAnswer}
+use Rattle.jacobian.specs.Pair.{blockPair}
+use Rattle.jacobian.specs.Side.{poseAdjoint, actJacobiansRight, actJacobiansLeft, composeJacobiansRight, composeJacobiansLeft, inverseJacobianRight, inverseJacobianLeft}
+use Rattle.marks.specs.Layout.{poseNumbers, blockNumbers, blockPairNumbers, scaledPairNumbers}
+use Rattle.sim3_c.specs.Layout.{wrongLength, vecFrom, matFrom, poseFrom, tangentFrom, valuesFrom, blockFrom, twoNumbers, actNumbers}
+
+-- ---- what is returned, and what `out` then holds
+unfoldable pub status : Answer (List Float) → ℕ
+status (answers l) = 0
+status (refuses n) = n
+
+unfoldable pub written : Answer (List Float) → List Float → List Float
+written (answers l) out = l
+written (refuses n) out = out
+
+-- numbers for an `out` that has just their length
+unfoldable pub fitting : List Float → List Float → Answer (List Float)
+fitting out l = cond (eqb (length out) (length l)) (answers l) (refuses wrongLength)
+
+-- ---- poses
+unfoldable pub expCall : List Float → List Float → List Float → Answer (List Float)
+expCall tau values out = andThen (tangentFrom tau) (λ t. andThen (valuesFrom values) (λ v. fitting out (poseNumbers (poseExp binary64 t v))))
+
+unfoldable pub mulCall : List Float → List Float → Float → List Float → Answer (List Float)
+mulCall x y up out = andThen (poseFrom x) (λ a. andThen (poseFrom y) (λ b. fitting out (poseNumbers (poseMul binary64 a b up))))
+
+unfoldable pub inverseCall : List Float → Float → List Float → Answer (List Float)
+inverseCall x down out = andThen (poseFrom x) (λ a. fitting out (poseNumbers (poseInverse binary64 a down)))
+
+unfoldable pub mulInvCall : List Float → List Float → Float → List Float → Answer (List Float)
+mulInvCall x y ds out = andThen (poseFrom x) (λ a. andThen (poseFrom y) (λ b. fitting out (poseNumbers (poseMulInv binary64 a b ds))))
+
+unfoldable pub invMulCall : List Float → List Float → Float → List Float → Answer (List Float)
+invMulCall x y down out = andThen (poseFrom x) (λ a. andThen (poseFrom y) (λ b. fitting out (poseNumbers (poseInvMul binary64 a b down))))
+
+-- in place: the list is read and then written
+unfoldable pub renormalizeCall : List Float → Answer (List Float)
+renormalizeCall x = andThen (poseFrom x) (λ a. fitting x (poseNumbers (poseRenormalized binary64 a)))
+
+-- ---- lists of points: every point moved
+unfoldable pub actCall : (Vec3 → Vec3) → List Float → List Float → Answer (List Float)
+actCall g pts out = andThen (pointsAnswer pts out) (λ done. answers (pointsOut g pts out))
+
+unfoldable pub actManyCall : List Float → Float → List Float → List Float → Answer (List Float)
+actManyCall x up pts out = andThen (poseFrom x) (λ a. actCall (poseActMany binary64 a up) pts out)
+
+unfoldable pub actEachCall : List Float → Float → List Float → List Float → Answer (List Float)
+actEachCall x up pts out = andThen (poseFrom x) (λ a. actCall (poseActEach binary64 a up) pts out)
+
+-- ---- the pairs
+unfoldable pub scaledPairCall : Float → Float → List Float → List Float → Answer (List Float)
+scaledPairCall sigma z values out = andThen (valuesFrom values) (λ v. andThen (pairAnswer binary64 sigma z v) (λ p. fitting out (scaledPairNumbers p)))
+
+unfoldable pub blockPairCall : List Float → List Float → List Float → List Float → List Float → Answer (List Float)
+blockPairCall tau values jl jlInv out =
+    andThen (tangentFrom tau) (λ t. andThen (valuesFrom values) (λ v. andThen (matFrom jl) (λ j. andThen (matFrom jlInv) (λ i. fitting out (blockPairNumbers (blockPair binary64 t v j i))))))
+
+-- ---- blocks
+unfoldable pub blockInverseCall : List Float → List Float → Answer (List Float)
+blockInverseCall j out = andThen (blockFrom j) (λ b. andThen (jacInverseAnswer binary64 b) (λ i. fitting out (blockNumbers i)))
+
+unfoldable pub adjointCall : List Float → Float → List Float → Answer (List Float)
+adjointCall x up out = andThen (poseFrom x) (λ a. fitting out (blockNumbers (poseAdjoint binary64 a up)))
+
+unfoldable pub actJacobiansRightCall : List Float → Float → List Float → List Float → Answer (List Float)
+actJacobiansRightCall x up p out = andThen (poseFrom x) (λ a. andThen (vecFrom p) (λ b. fitting out (actNumbers (actJacobiansRight binary64 a up b))))
+
+unfoldable pub actJacobiansLeftCall : List Float → Float → List Float → List Float → Answer (List Float)
+actJacobiansLeftCall x up p out = andThen (poseFrom x) (λ a. andThen (vecFrom p) (λ b. fitting out (actNumbers (actJacobiansLeft binary64 a up b))))
+
+unfoldable pub composeJacobiansRightCall : List Float → Float → List Float → Answer (List Float)
+composeJacobiansRightCall y down out = andThen (poseFrom y) (λ b. fitting out (twoNumbers (composeJacobiansRight binary64 b down)))
+
+unfoldable pub composeJacobiansLeftCall : List Float → Float → List Float → Answer (List Float)
+composeJacobiansLeftCall x up out = andThen (poseFrom x) (λ a. fitting out (twoNumbers (composeJacobiansLeft binary64 a up)))
+
+unfoldable pub inverseJacobianRightCall : List Float → Float → List Float → Answer (List Float)
+inverseJacobianRightCall x up out = andThen (poseFrom x) (λ a. fitting out (blockNumbers (inverseJacobianRight binary64 a up)))
+
+unfoldable pub inverseJacobianLeftCall : List Float → Float → List Float → Answer (List Float)
+inverseJacobianLeftCall x down out = andThen (poseFrom x) (λ a. fitting out (blockNumbers (inverseJacobianLeft binary64 a down)))

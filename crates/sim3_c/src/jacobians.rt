@@ -1,0 +1,126 @@
+// Jacobian blocks, as a, b, c, f, e: the matrix with the rows (a, 0, 0), (b, c, f), (0, 0, e). Right is
+// X Exp(tau), left Exp(tau) X.
+ghost use mathlib.Core.Path.{_≡_};
+ghost use Rattle.sim3_c.specs.Calls.{status, written, blockInverseCall, adjointCall, actJacobiansRightCall, actJacobiansLeftCall, composeJacobiansRightCall, composeJacobiansLeftCall, inverseJacobianRightCall, inverseJacobianLeftCall};
+use crate::read::BlockRead;
+use crate::read::PoseRead;
+use crate::read::VecRead;
+use crate::read::block_from;
+use crate::read::pose_from;
+use crate::read::vec_from;
+use crate::write::put_act;
+use crate::write::put_block;
+use crate::write::put_two;
+use jacobian::jac::JacAnswer;
+use jacobian::side::act_jacobians_left;
+use jacobian::side::act_jacobians_right;
+use jacobian::side::adjoint;
+use jacobian::side::compose_jacobians_left;
+use jacobian::side::compose_jacobians_right;
+use jacobian::side::inverse_jacobian_left;
+use jacobian::side::inverse_jacobian_right;
+
+// The inverse of a block; refusal 2 where e is a zero.
+#[no_mangle]
+pub extern "C" fn sim3_block_inverse(j: &[f64], out: &mut [f64]) -> u32
+    ensures { λ r. ⌜ r ≡ status (blockInverseCall (now (j .entry)) (now (out .entry))) ⌝ }
+    ensures { λ _. ⌜ now (out .exit) ≡ written (blockInverseCall (now (j .entry)) (now (out .entry))) (now (out .entry)) ⌝ }
+{
+    let BlockRead::Got(b) = block_from(j) else {
+        return 8;
+    };
+    match b.inverse() {
+        JacAnswer::Block(i) => put_block(out, i),
+        JacAnswer::Refused(n) => n as u32,
+    }
+}
+
+// Ad_X; up is e^sigma of X.
+#[no_mangle]
+pub extern "C" fn sim3_adjoint(x: &[f64], up: f64, out: &mut [f64]) -> u32
+    ensures { λ r. ⌜ r ≡ status (adjointCall (now (x .entry)) up (now (out .entry))) ⌝ }
+    ensures { λ _. ⌜ now (out .exit) ≡ written (adjointCall (now (x .entry)) up (now (out .entry))) (now (out .entry)) ⌝ }
+{
+    let PoseRead::Got(a) = pose_from(x) else {
+        return 8;
+    };
+    put_block(out, adjoint(a, up))
+}
+
+// Of X p, right: by phi, rho, sigma and by p; up is e^sigma of X.
+#[no_mangle]
+pub extern "C" fn sim3_act_jacobians_right(x: &[f64], up: f64, p: &[f64], out: &mut [f64]) -> u32
+    ensures { λ r. ⌜ r ≡ status (actJacobiansRightCall (now (x .entry)) up (now (p .entry)) (now (out .entry))) ⌝ }
+    ensures { λ _. ⌜ now (out .exit) ≡ written (actJacobiansRightCall (now (x .entry)) up (now (p .entry)) (now (out .entry))) (now (out .entry)) ⌝ }
+{
+    let PoseRead::Got(a) = pose_from(x) else {
+        return 8;
+    };
+    let VecRead::Got(b) = vec_from(p) else {
+        return 8;
+    };
+    put_act(out, act_jacobians_right(a, up, b))
+}
+
+// Of X p, left: by phi, rho, sigma and by p; up is e^sigma of X.
+#[no_mangle]
+pub extern "C" fn sim3_act_jacobians_left(x: &[f64], up: f64, p: &[f64], out: &mut [f64]) -> u32
+    ensures { λ r. ⌜ r ≡ status (actJacobiansLeftCall (now (x .entry)) up (now (p .entry)) (now (out .entry))) ⌝ }
+    ensures { λ _. ⌜ now (out .exit) ≡ written (actJacobiansLeftCall (now (x .entry)) up (now (p .entry)) (now (out .entry))) (now (out .entry)) ⌝ }
+{
+    let PoseRead::Got(a) = pose_from(x) else {
+        return 8;
+    };
+    let VecRead::Got(b) = vec_from(p) else {
+        return 8;
+    };
+    put_act(out, act_jacobians_left(a, up, b))
+}
+
+// Of X Y, right: by X and by Y, which read Y alone; down is e^-sigma of Y.
+#[no_mangle]
+pub extern "C" fn sim3_compose_jacobians_right(y: &[f64], down: f64, out: &mut [f64]) -> u32
+    ensures { λ r. ⌜ r ≡ status (composeJacobiansRightCall (now (y .entry)) down (now (out .entry))) ⌝ }
+    ensures { λ _. ⌜ now (out .exit) ≡ written (composeJacobiansRightCall (now (y .entry)) down (now (out .entry))) (now (out .entry)) ⌝ }
+{
+    let PoseRead::Got(a) = pose_from(y) else {
+        return 8;
+    };
+    put_two(out, compose_jacobians_right(a, down))
+}
+
+// Of X Y, left: by X and by Y, which read X alone; up is e^sigma of X.
+#[no_mangle]
+pub extern "C" fn sim3_compose_jacobians_left(x: &[f64], up: f64, out: &mut [f64]) -> u32
+    ensures { λ r. ⌜ r ≡ status (composeJacobiansLeftCall (now (x .entry)) up (now (out .entry))) ⌝ }
+    ensures { λ _. ⌜ now (out .exit) ≡ written (composeJacobiansLeftCall (now (x .entry)) up (now (out .entry))) (now (out .entry)) ⌝ }
+{
+    let PoseRead::Got(a) = pose_from(x) else {
+        return 8;
+    };
+    put_two(out, compose_jacobians_left(a, up))
+}
+
+// Of X^-1, right; up is e^sigma of X.
+#[no_mangle]
+pub extern "C" fn sim3_inverse_jacobian_right(x: &[f64], up: f64, out: &mut [f64]) -> u32
+    ensures { λ r. ⌜ r ≡ status (inverseJacobianRightCall (now (x .entry)) up (now (out .entry))) ⌝ }
+    ensures { λ _. ⌜ now (out .exit) ≡ written (inverseJacobianRightCall (now (x .entry)) up (now (out .entry))) (now (out .entry)) ⌝ }
+{
+    let PoseRead::Got(a) = pose_from(x) else {
+        return 8;
+    };
+    put_block(out, inverse_jacobian_right(a, up))
+}
+
+// Of X^-1, left; down is e^-sigma of X.
+#[no_mangle]
+pub extern "C" fn sim3_inverse_jacobian_left(x: &[f64], down: f64, out: &mut [f64]) -> u32
+    ensures { λ r. ⌜ r ≡ status (inverseJacobianLeftCall (now (x .entry)) down (now (out .entry))) ⌝ }
+    ensures { λ _. ⌜ now (out .exit) ≡ written (inverseJacobianLeftCall (now (x .entry)) down (now (out .entry))) (now (out .entry)) ⌝ }
+{
+    let PoseRead::Got(a) = pose_from(x) else {
+        return 8;
+    };
+    put_block(out, inverse_jacobian_left(a, down))
+}

@@ -1,0 +1,56 @@
+// The paired evaluations: the coefficients for both signs of sigma, the Jacobian blocks of both sides.
+ghost use mathlib.Core.Path.{_≡_};
+ghost use Rattle.sim3_c.specs.Calls.{status, written, scaledPairCall, blockPairCall};
+use crate::read::MatRead;
+use crate::read::TangentRead;
+use crate::read::ValuesRead;
+use crate::read::mat_from;
+use crate::read::tangent_from;
+use crate::read::values_from;
+use crate::write::put_block_pair;
+use crate::write::put_scaled_pair;
+use coeffs::sim3::PairAnswer;
+use coeffs::sim3::sim3_coeffs_scaled_pair;
+use jacobian::pair::block_pair;
+
+// The scaled-form coefficients at sigma and at -sigma; z is the squared angle.
+#[no_mangle]
+pub extern "C" fn sim3_scaled_pair(sigma: f64, z: f64, values: &[f64], out: &mut [f64]) -> u32
+    ensures { λ r. ⌜ r ≡ status (scaledPairCall sigma z (now (values .entry)) (now (out .entry))) ⌝ }
+    ensures { λ _. ⌜ now (out .exit) ≡ written (scaledPairCall sigma z (now (values .entry)) (now (out .entry))) (now (out .entry)) ⌝ }
+{
+    let ValuesRead::Got(v) = values_from(values) else {
+        return 8;
+    };
+    match sim3_coeffs_scaled_pair(sigma, z, v) {
+        PairAnswer::Coeffs(p) => put_scaled_pair(out, p),
+        PairAnswer::Refused(n) => n as u32,
+    }
+}
+
+// J_l, its inverse, J_r and its inverse, with the values of the tangent, J_l(phi) and its inverse.
+#[no_mangle]
+pub extern "C" fn sim3_block_pair(
+    tau: &[f64],
+    values: &[f64],
+    jl: &[f64],
+    jl_inv: &[f64],
+    out: &mut [f64],
+) -> u32
+    ensures { λ r. ⌜ r ≡ status (blockPairCall (now (tau .entry)) (now (values .entry)) (now (jl .entry)) (now («jl_inv» .entry)) (now (out .entry))) ⌝ }
+    ensures { λ _. ⌜ now (out .exit) ≡ written (blockPairCall (now (tau .entry)) (now (values .entry)) (now (jl .entry)) (now («jl_inv» .entry)) (now (out .entry))) (now (out .entry)) ⌝ }
+{
+    let TangentRead::Got(t) = tangent_from(tau) else {
+        return 8;
+    };
+    let ValuesRead::Got(v) = values_from(values) else {
+        return 8;
+    };
+    let MatRead::Got(j) = mat_from(jl) else {
+        return 8;
+    };
+    let MatRead::Got(i) = mat_from(jl_inv) else {
+        return 8;
+    };
+    put_block_pair(out, block_pair(t, v, j, i))
+}

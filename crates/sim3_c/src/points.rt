@@ -1,0 +1,39 @@
+// The action of a pose on a list of points, three numbers each. sim3_act_many has the bits of the
+// Rust's act_many; sim3_act_each moves each point as the mark AC does.
+ghost use mathlib.Core.Path.{_≡_};
+ghost use Rattle.sim3_c.specs.Calls.{status, written, actManyCall, actEachCall};
+use crate::read::PoseRead;
+use crate::read::pose_from;
+use sim3::points::Listed;
+use sim3::points::act_each;
+use sim3::points::act_many;
+
+// Every point by the matrix s R; up is e^sigma of X.
+#[no_mangle]
+pub extern "C" fn sim3_act_many(x: &[f64], up: f64, pts: &[f64], out: &mut [f64]) -> u32
+    ensures { λ r. ⌜ r ≡ status (actManyCall (now (x .entry)) up (now (pts .entry)) (now (out .entry))) ⌝ }
+    ensures { λ _. ⌜ now (out .exit) ≡ written (actManyCall (now (x .entry)) up (now (pts .entry)) (now (out .entry))) (now (out .entry)) ⌝ }
+{
+    let PoseRead::Got(a) = pose_from(x) else {
+        return 8;
+    };
+    match act_many(a, up, pts, out) {
+        Listed::Written => 0,
+        Listed::Refused(n) => n as u32,
+    }
+}
+
+// Every point by itself; up is e^sigma of X.
+#[no_mangle]
+pub extern "C" fn sim3_act_each(x: &[f64], up: f64, pts: &[f64], out: &mut [f64]) -> u32
+    ensures { λ r. ⌜ r ≡ status (actEachCall (now (x .entry)) up (now (pts .entry)) (now (out .entry))) ⌝ }
+    ensures { λ _. ⌜ now (out .exit) ≡ written (actEachCall (now (x .entry)) up (now (pts .entry)) (now (out .entry))) (now (out .entry)) ⌝ }
+{
+    let PoseRead::Got(a) = pose_from(x) else {
+        return 8;
+    };
+    match act_each(a, up, pts, out) {
+        Listed::Written => 0,
+        Listed::Refused(n) => n as u32,
+    }
+}

@@ -1,0 +1,154 @@
+// The things that stand in a list's numbers; Wrong where the list has another length. Matrices go
+// column by column.
+ghost use mathlib.Core.Path.{_≡_};
+ghost use Prim.Native.Nat.{_+_, _≤_};
+ghost use lib.ListN.{length};
+ghost use Rattle.sim3_c.specs.Layout.{vecIn, matIn, vecFrom, matFrom, poseFrom, tangentFrom, valuesFrom, blockFrom, vecTold, matTold, poseTold, tangentTold, valuesTold, blockTold};
+use coeffs::values::Values;
+use jacobian::jac::Sim3Jac;
+use linalg::matrix::Mat3;
+use linalg::vector::Vec3;
+use sim3::sim3::Sim3;
+use sim3::tangent::Sim3Tangent;
+use so3::quat::Quat;
+
+pub enum VecRead {
+    Got(Vec3),
+    Wrong,
+}
+
+pub enum MatRead {
+    Got(Mat3),
+    Wrong,
+}
+
+pub enum PoseRead {
+    Got(Sim3),
+    Wrong,
+}
+
+pub enum TangentRead {
+    Got(Sim3Tangent),
+    Wrong,
+}
+
+pub enum ValuesRead {
+    Got(Values),
+    Wrong,
+}
+
+pub enum BlockRead {
+    Got(Sim3Jac),
+    Wrong,
+}
+
+fn vec_in(l: &[f64], at: usize) -> Vec3
+    requires { ⌜ at + 3 ≤ length (now l) ⌝ }
+    ensures { λ r. ⌜ r ≡ vecIn (now (l .entry)) at ⌝ }
+{
+    Vec3 {
+        x: l[at],
+        y: l[at + 1],
+        z: l[at + 2],
+    }
+}
+
+fn mat_in(l: &[f64], at: usize) -> Mat3
+    requires { ⌜ at + 9 ≤ length (now l) ⌝ }
+    ensures { λ r. ⌜ r ≡ matIn (now (l .entry)) at ⌝ }
+{
+    Mat3 {
+        c0: vec_in(l, at),
+        c1: vec_in(l, at + 3),
+        c2: vec_in(l, at + 6),
+    }
+}
+
+pub(crate) fn vec_from(l: &[f64]) -> VecRead
+    ensures { λ r. ⌜ vecTold r ≡ vecFrom (now (l .entry)) ⌝ }
+{
+    if l.len() != 3 {
+        return VecRead::Wrong;
+    }
+    VecRead::Got(vec_in(l, 0))
+}
+
+pub(crate) fn mat_from(l: &[f64]) -> MatRead
+    ensures { λ r. ⌜ matTold r ≡ matFrom (now (l .entry)) ⌝ }
+{
+    if l.len() != 9 {
+        return MatRead::Wrong;
+    }
+    MatRead::Got(mat_in(l, 0))
+}
+
+// Quaternion w x y z, t, sigma.
+pub(crate) fn pose_from(l: &[f64]) -> PoseRead
+    ensures { λ r. ⌜ poseTold r ≡ poseFrom (now (l .entry)) ⌝ }
+{
+    if l.len() != 8 {
+        return PoseRead::Wrong;
+    }
+    let q = Quat {
+        w: l[0],
+        x: l[1],
+        y: l[2],
+        z: l[3],
+    };
+    PoseRead::Got(Sim3 {
+        q,
+        t: vec_in(l, 4),
+        sigma: l[7],
+    })
+}
+
+// phi, rho, sigma.
+pub(crate) fn tangent_from(l: &[f64]) -> TangentRead
+    ensures { λ r. ⌜ tangentTold r ≡ tangentFrom (now (l .entry)) ⌝ }
+{
+    if l.len() != 7 {
+        return TangentRead::Wrong;
+    }
+    TangentRead::Got(Sim3Tangent {
+        phi: vec_in(l, 0),
+        rho: vec_in(l, 3),
+        sigma: l[6],
+    })
+}
+
+// The ten function values.
+pub(crate) fn values_from(l: &[f64]) -> ValuesRead
+    ensures { λ r. ⌜ valuesTold r ≡ valuesFrom (now (l .entry)) ⌝ }
+{
+    if l.len() != 10 {
+        return ValuesRead::Wrong;
+    }
+    ValuesRead::Got(Values {
+        root: l[0],
+        sin_half: l[1],
+        cos_half: l[2],
+        sin: l[3],
+        e: l[4],
+        m: l[5],
+        e0: l[6],
+        m0: l[7],
+        up: l[8],
+        down: l[9],
+    })
+}
+
+// a, b, c, f, e.
+pub(crate) fn block_from(l: &[f64]) -> BlockRead
+    ensures { λ r. ⌜ blockTold r ≡ blockFrom (now (l .entry)) ⌝ }
+{
+    if l.len() != 31 {
+        return BlockRead::Wrong;
+    }
+    BlockRead::Got(Sim3Jac {
+        a: mat_in(l, 0),
+        b: mat_in(l, 9),
+        c: mat_in(l, 18),
+        f: vec_in(l, 27),
+        e: l[30],
+    })
+}
