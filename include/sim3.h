@@ -1,0 +1,110 @@
+/* sim3.h: the proved Sim(3) engine for C. Link target/staticlib/libsim3_c.a, which `rt staticlib sim3_c` makes (x86-64).
+ *
+ * Lists. Every list is a pointer and the count of its numbers. A pointer is never null, points to that many doubles, and `out` overlaps no other list of the
+ * call. That is all that is asked of a caller: every count and every number is taken, NaN and infinities included.
+ *
+ * Answers. A call returns 0 and has written all of `out`, or the number of a refusal and has written nothing:
+ *     1  z is below zero                        (sim3_scaled_pair)
+ *     2  e is +0 or -0                          (sim3_block_inverse)
+ *     5  a list of points has a wrong length    (sim3_act_many, sim3_act_each: a multiple of 3, at most 65,535 numbers, `out` as long as `pts`)
+ *     8  another list has a wrong length; the right one stands in brackets below
+ * A wrong length of an input is refused before the numbers are looked at, and of `out` after.
+ *
+ * Orders.
+ *     pose     [8]   quaternion w x y z, translation x y z, sigma
+ *     tangent  [7]   phi x y z, rho x y z, sigma
+ *     matrix   [9]   column by column
+ *     block   [31]   a [9], b [9], c [9], f [3], e [1]: the 7 by 7 matrix with the rows (a 0 0), (b c f), (0 0 e)
+ *     values  [10]   functions of z = |phi|^2 and sigma, which the caller computes:
+ *         0 root      square root of z
+ *         1 sin_half  sine of half the root          2 cos_half  its cosine
+ *         3 sin       sine of the root
+ *         4 e         e^t                            5 m         e^t - 1          with t = -|sigma|, and t = sigma where sigma is +0, -0 or NaN
+ *         6 e0        the same two for -sigma        7 m0        in place of sigma; read only where sigma is +0 or -0
+ *         8 up        e^sigma                        9 down      e^-sigma
+ *     The values of the negative tangent are the mirrored ones: up and down change places, e and e0, m and m0 change places where sigma is a zero, the rest
+ *     stays; and its rotation Jacobians are the transposed ones. The paired functions mirror by themselves: hand in the tangent's own.
+ * Right means X Exp(tau), left Exp(tau) X. Jacobians are by tau, in the order phi, rho, sigma.
+ */
+#ifndef SIM3_H
+#define SIM3_H
+
+#include <stddef.h>
+#include <stdint.h>
+
+#ifdef __cplusplus
+extern "C" {
+#endif
+
+/* What a call returns. */
+enum {
+    SIM3_OK = 0,
+    SIM3_BELOW_ZERO = 1,
+    SIM3_E_IS_ZERO = 2,
+    SIM3_POINTS_LENGTH = 5,
+    SIM3_LIST_LENGTH = 8
+};
+
+/* ---- poses */
+
+/* Exp(tau). tau [7], values [10]; out [8]. */
+uint32_t sim3_exp(const double *tau, size_t tau_n, const double *values, size_t values_n, double *out, size_t out_n);
+
+/* X Y. x [8], y [8], up = e^sigma of X; out [8]. */
+uint32_t sim3_mul(const double *x, size_t x_n, const double *y, size_t y_n, double up, double *out, size_t out_n);
+
+/* X^-1. x [8], down = e^-sigma of X; out [8]. */
+uint32_t sim3_inverse(const double *x, size_t x_n, double down, double *out, size_t out_n);
+
+/* X Y^-1. x [8], y [8], ds = e^(sigma of X - sigma of Y); out [8]. */
+uint32_t sim3_mul_inv(const double *x, size_t x_n, const double *y, size_t y_n, double ds, double *out, size_t out_n);
+
+/* Y^-1 X. x [8], y [8], down = e^-sigma of Y; out [8]. */
+uint32_t sim3_inv_mul(const double *x, size_t x_n, const double *y, size_t y_n, double down, double *out, size_t out_n);
+
+/* One Newton step that brings the quaternion nearer to length 1, in place. x [8]. */
+uint32_t sim3_renormalize(double *x, size_t x_n);
+
+/* ---- lists of points, three numbers each: every point moved to s R p + t. x [8], up = e^sigma of X. */
+
+/* By the matrix s R, formed once: the bits of helicoid's act_many. */
+uint32_t sim3_act_many(const double *x, size_t x_n, double up, const double *pts, size_t pts_n, double *out, size_t out_n);
+
+/* Each point by itself: the bits of the job's mark AC. */
+uint32_t sim3_act_each(const double *x, size_t x_n, double up, const double *pts, size_t pts_n, double *out, size_t out_n);
+
+/* ---- both signs, both sides, from one evaluation */
+
+/* The coefficients v0 v1 v2 w0 w1 w2 dv1 dv2 chi_delta and their flag (1: still to be multiplied by e^sigma, else 0) at sigma, then at -sigma.
+ * values [10]; out [20]. Refusal 1 where z is below zero. */
+uint32_t sim3_scaled_pair(double sigma, double z, const double *values, size_t values_n, double *out, size_t out_n);
+
+/* J_l(tau), its inverse, J_r(tau), its inverse. tau [7], values [10], jl [9] = J_l(phi) of the rotation, jl_inv [9] its inverse; out [124]: four blocks. */
+uint32_t sim3_block_pair(const double *tau, size_t tau_n, const double *values, size_t values_n, const double *jl, size_t jl_n, const double *jl_inv,
+                         size_t jl_inv_n, double *out, size_t out_n);
+
+/* ---- blocks */
+
+/* The inverse of a block, by adjugates. j [31]; out [31]. Refusal 2 where e is a zero. A singular a or c is divided by its zero. */
+uint32_t sim3_block_inverse(const double *j, size_t j_n, double *out, size_t out_n);
+
+/* Ad_X. x [8], up = e^sigma of X; out [31]. */
+uint32_t sim3_adjoint(const double *x, size_t x_n, double up, double *out, size_t out_n);
+
+/* Of X p by X and by p. x [8], up = e^sigma of X, p [3]; out [30]: three rows by phi [9], by rho [9], by sigma [3], and s R [9]. */
+uint32_t sim3_act_jacobians_right(const double *x, size_t x_n, double up, const double *p, size_t p_n, double *out, size_t out_n);
+uint32_t sim3_act_jacobians_left(const double *x, size_t x_n, double up, const double *p, size_t p_n, double *out, size_t out_n);
+
+/* Of X Y by X and by Y; out [62]: two blocks. Right reads Y alone: y [8], down = e^-sigma of Y. Left reads X alone: x [8], up = e^sigma of X. */
+uint32_t sim3_compose_jacobians_right(const double *y, size_t y_n, double down, double *out, size_t out_n);
+uint32_t sim3_compose_jacobians_left(const double *x, size_t x_n, double up, double *out, size_t out_n);
+
+/* Of X^-1; out [31]. Right: x [8], up = e^sigma of X. Left: x [8], down = e^-sigma of X. */
+uint32_t sim3_inverse_jacobian_right(const double *x, size_t x_n, double up, double *out, size_t out_n);
+uint32_t sim3_inverse_jacobian_left(const double *x, size_t x_n, double down, double *out, size_t out_n);
+
+#ifdef __cplusplus
+}
+#endif
+
+#endif
