@@ -256,6 +256,17 @@ pub fn feed(c: Counts, input: &[u8], last: bool, out: &mut [u8]) -> Fed
     leave(reason, counts, used, to + n)
 }
 
+// Of a job that has not begun.
+pub fn no_counts() -> Counts
+    ensures { λ r. ⌜ r ≡ countsNone ⌝ }
+{
+    Counts {
+        begun: 0,
+        answered: 0,
+        refused: 0,
+    }
+}
+
 // The whole job on one slice. Where `out` is too short the reason is `Room`, and the records that
 // found room are answered.
 pub fn run(input: &[u8], out: &mut [u8]) -> Fed
@@ -263,10 +274,5 @@ pub fn run(input: &[u8], out: &mut [u8]) -> Fed
     ensures { λ r. ⌜ now (out .exit) ≡ (feedOf 1000000 countsNone (now (input .entry)) true (length (now (out .entry))) .bytes) ++ drop (r .written) (now (out .entry)) ⌝ }
     ensures { λ r. ⌜ (ends (r .reason) ≡ true → now (out .exit) ≡ jobOf 1000000 (now (input .entry)) ++ drop (r .written) (now (out .entry))) ⌝ }
 {
-    let c = Counts {
-        begun: 0,
-        answered: 0,
-        refused: 0,
-    };
-    feed(c, input, true, out)
+    feed(no_counts(), input, true, out)
 }

@@ -78,11 +78,7 @@ fn run() -> Outcome {
     let buf: &mut [u8] = &mut space;
     let mut room = io::large_buffer();
     let out: &mut [u8] = &mut room;
-    let mut c = Counts {
-        begun: 0,
-        answered: 0,
-        refused: 0,
-    };
+    let mut c = job::no_counts();
     let mut have = 0;
     let mut hungry = true;
     let mut last = false;
@@ -93,9 +89,7 @@ fn run() -> Outcome {
         }
         budget -= 1;
         match fill(buf, have, hungry, last) {
-            Filled::Failed => {
-                break Outcome::Unread;
-            }
+            Filled::Failed => break Outcome::Unread,
             Filled::Bytes(n, ended) => {
                 have += n;
                 last = ended;
@@ -108,15 +102,9 @@ fn run() -> Outcome {
                 c = f.counts;
                 let reason = f.reason;
                 match reason {
-                    Reason::More => {
-                        hungry = true;
-                    }
-                    Reason::Room => {
-                        hungry = false;
-                    }
-                    _ => {
-                        break Outcome::Done;
-                    }
+                    Reason::More => hungry = true,
+                    Reason::Room => hungry = false,
+                    _ => break Outcome::Done,
                 }
             }
         }

@@ -7,8 +7,8 @@ use Rattle.job.proofs.run.Tie as tie
 
 returns : tie.Need-returns
 returns c =
-    let f = c .before .before .feed in
-    (f .ensures .0, (f .ensures .1 .0, λ e. f .ensures .1 .0 ∙ rw (whole 1000000 (c .before .before .before .before .before .before .args .input .now) _ (rw (f .ensures .0) at e))))
+    let f = rw (c .before .before .before .before .no-counts .ensures) at (c .before .before .feed .ensures) in
+    (f .0, (f .1 .0, λ e. f .1 .0 ∙ rw (whole 1000000 (c .before .before .before .before .before .before .before .args .input .now) _ (rw (f .0) at e))))
 
 pub run-spec : {M : Type 1} → statement M
-run-spec = tie.close (tie.spec (λ c κs. search needs) (λ c. search needs) returns)
+run-spec = tie.close (tie.spec (λ c κs. search needs) (λ c κs. search needs) (λ c. search needs) returns)

@@ -25,6 +25,7 @@ run-spec =
     (λ c. search needs)
     (λ c κs. search needs)
     (λ c. search needs)
+    (λ c κs. search needs)
     (λ c. (omega arith, search needs, search needs, λ e. omega arith))
     (λ c. search needs)
     (λ c κs. (omega arith, λ e. omega (arith, c .before .before .loop .inv .3 e)))
