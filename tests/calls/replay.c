@@ -2,7 +2,9 @@
 //
 // Reads standard input, writes standard output. A record is one byte, the function's id, and its inputs as 8-byte
 // little-endian words; an answer is the byte 0 and the outputs, or a refusal's number alone. Every NaN is written
-// 7ff8000000000000. An id that is no function and a cut record end the program with a message and status 2.
+// 7ff8000000000000. An id that is no function and a cut record end the program with a message and status 2. With the
+// word --tally it then writes to standard error a line for each function that was called: its id, its calls, and its
+// calls that were refused with 1, 2, 3, 4 and 5.
 //
 // tests/calls/build compiles it, with calls.h and table.h, which it makes from functions.py.
 #include "calls.h"
@@ -32,12 +34,13 @@ static size_t whole(const double *w) {
 
 #include "table.h"
 
-enum { BUFFER = 1 << 20, MOST_WORDS = 256, MOST_IN_LIST = 100000, MOST_NUMBERS = 256 };
+enum { BUFFER = 1 << 20, MOST_WORDS = 256, MOST_IN_LIST = 100000, MOST_NUMBERS = 256, REFUSALS = 5 };
 
 static unsigned char input[BUFFER], output[BUFFER];
 static size_t held, used; // bytes in input and in output
 static double list_in[MOST_IN_LIST], list_out[MOST_IN_LIST];
 static unsigned long long record, place; // of the record at hand: its number from 1 on, and its first byte
+static unsigned long long calls[256], refused[256][REFUSALS + 1];
 
 static void flush(void) {
     if (fwrite(output, 1, used, stdout) != used || fflush(stdout) != 0) {
@@ -55,8 +58,10 @@ static void stop(const char *what, unsigned long long number) {
     exit(2);
 }
 
-// Adds an answer to the output.
-static void answer(uint32_t status, const double *numbers, size_t n) {
+// Counts a call and adds its answer to the output.
+static void answer(unsigned char id, uint32_t status, const double *numbers, size_t n) {
+    if (status > REFUSALS) stop("the answer has the status %llu, which is no refusal", status);
+    calls[id]++, refused[id][status]++;
     if (status != 0) n = 0;
     if (BUFFER - used < 1 + 8 * n) flush();
     output[used++] = (unsigned char)status;
@@ -76,14 +81,14 @@ static size_t take(const unsigned char *at, size_t n) {
     if (n < length) return 0;
     memcpy(w, at + 1, length - 1);
     if (f->list == NULL) {
-        answer(f->run(w, out), out, f->numbers);
+        answer(at[0], f->run(w, out), out, f->numbers);
         return length;
     }
     size_t count = whole(w + f->words - 1);
     if (count > MOST_IN_LIST) stop("a list of %llu numbers, more than 100000", count);
     if (n - length < 8 * count) return 0;
     memcpy(list_in, at + length, 8 * count);
-    answer(f->list(w, list_in, count, list_out, count), list_out, count);
+    answer(at[0], f->list(w, list_in, count, list_out, count), list_out, count);
     return length + 8 * count;
 }
 
@@ -99,7 +104,21 @@ static void feed(void) {
     held -= at;
 }
 
-int main(void) {
+static void tally(void) {
+    for (int id = 0; id < 256; id++) {
+        if (calls[id] == 0) continue;
+        fprintf(stderr, "%d %llu", id, calls[id]);
+        for (int number = 1; number <= REFUSALS; number++) fprintf(stderr, " %llu", refused[id][number]);
+        fprintf(stderr, "\n");
+    }
+}
+
+int main(int count, char **words) {
+    bool tallied = count == 2 && strcmp(words[1], "--tally") == 0;
+    if (count > 1 && !tallied) {
+        fprintf(stderr, "usage: replay [--tally] < RECORDS > ANSWERS\n");
+        return 2;
+    }
     record = 1;
     for (;;) {
         size_t more = fread(input + held, 1, BUFFER - held, stdin);
@@ -110,5 +129,6 @@ int main(void) {
     if (ferror(stdin)) stop("standard input could not be read", 0);
     if (held != 0) stop("the record is cut: %llu bytes are there", held);
     flush();
+    if (tallied) tally();
     return 0;
 }
