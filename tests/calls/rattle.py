@@ -91,6 +91,27 @@ def putter(kind, width):
     return head + "{\n" + "".join(f"    {row}\n" for row in rows) + "}\n"
 
 
+def maker(kind):
+    """The function that makes an array of a small value."""
+    rows, numbers = [], []
+    for field, k, _ in fields(kind):
+        if k == "num":
+            numbers.append(f"v.{field}")
+        else:
+            rows.append(f"    let {field} = v.{field};\n")
+            numbers += [f"{field}.{name}" for name, _, _ in fields(k)]
+    return f"\nfn of_{kind}(v: {TYPES[kind][0]}) -> [f64; {WIDTHS[kind]}] {{\n{''.join(rows)}    [{', '.join(numbers)}]\n}}\n"
+
+
+def is_small(f):
+    """Whether the result is one value that an array literal takes."""
+    return len(f.gives) == 1 and f.gives[0].kind in TYPES and given(f) < 10
+
+
+def makers():
+    return [maker(kind) for kind in dict.fromkeys(f.gives[0].kind for f in FUNCTIONS if is_small(f))]
+
+
 def needed(kind, width):
     """The kinds whose putters a putter calls, itself last."""
     inner = [k for _, k, _ in fields(kind)] if kind in TYPES else []
@@ -99,7 +120,7 @@ def needed(kind, width):
 
 def putters():
     wanted = [("seven", 49)]
-    for f in FUNCTIONS:
+    for f in [f for f in FUNCTIONS if not is_small(f)]:
         wanted += [pair for p in f.gives if p.kind in TYPES for pair in needed(p.kind, given(f))]
     return [putter(kind, width) for kind, width in dict.fromkeys(wanted)]
 
@@ -133,6 +154,8 @@ def outputs(f):
     """The statements that store the result r."""
     if f.gives[0].kind in ARRAYS:
         return ["*out = r;"]
+    if is_small(f):
+        return [f"*out = of_{f.gives[0].kind}(r);"]
     lines, at = [], 0
     for p in f.gives:
         lines.append(stored(p.kind, given(f), at, p.name))
@@ -164,4 +187,4 @@ def wrapper(f):
 
 
 def source():
-    return "".join([HEAD, *takers(), *putters(), *(wrapper(f) for f in FUNCTIONS)])
+    return "".join([HEAD, *takers(), *makers(), *putters(), *(wrapper(f) for f in FUNCTIONS)])
