@@ -67,16 +67,13 @@ def difference(data, wanted, got):
     """Where the answers first differ, or None."""
     at = 0
     for number, (f, start, end, count) in enumerate(walk(data), 1):
-        length = 1 + 8 * count if wanted[at:at + 1] == b"\0" else 1
-        due, is_ = wanted[at:at + length], got[at:at + length]
-        if is_[:1] != due[:1]:
-            is_ = is_[:1]
+        due, is_ = (answers[at:at + (1 + 8 * count if answers[at:at + 1] == b"\0" else 1)] for answers in (wanted, got))
         if not due:
             return f"record {number}, {f.id} {f.name}: no answer is stored for it"
         if due != is_:
             head = f"record {number} (byte {start}) differs: {f.id} {f.name}"
             return f"{head}\n  in     {words(data[start + 1:end])}\n  wanted {told(due)}\n  got    {told(is_)}{number_apart(due, is_)}"
-        at += length
+        at += len(due)
     if len(wanted) != at or len(got) != at:
         return f"the answers to all records are {at} bytes; wanted has {len(wanted)}, got has {len(got)}"
     return None
