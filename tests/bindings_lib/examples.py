@@ -9,11 +9,17 @@ from sim3.raw import library
 SOURCES = {"c": "examples/c/join.c", "python": "examples/python/join.py", "rust": "examples/rust/join.rs"}
 
 
+# The refusals that every example shows, in words.
+SHOWN = [r"refusal 1: z is .*below zero", r"refusal 2: e, the last number", r"refusal 5: .*(no multiple of 3|list of points has a wrong length)"]
+ALSO_SHOWN = {"c": [r"refusal 8: a list has a wrong length"], "python": [r"refusal 8: tau has 6 numbers; expected 7"],
+              "rust": [r"refusal 5: out has 6 numbers where pts has 9"]}
+
+
 def runs(language):
     done = subprocess.run([ROOT / "examples" / language / "run"], stdout=subprocess.PIPE, stderr=subprocess.STDOUT, text=True)
     assert done.returncode == 0, f"examples/{language}/run has exit status {done.returncode}:\n{done.stdout}"
-    for part in ("refusal 1:", "refusal 2:", "refusal 5:", "every answer is the one known by hand"):
-        assert part in done.stdout, f"examples/{language}/run does not say {part!r}:\n{done.stdout}"
+    for part in (*SHOWN, *ALSO_SHOWN[language], "every answer is the one known by hand"):
+        assert re.search(part, done.stdout), f"examples/{language}/run does not say {part!r}:\n{done.stdout}"
 
 
 def c_example():

@@ -2,7 +2,7 @@
 import collections
 import struct
 
-from .common import ROOT, Skipped, compare, size
+from .common import ROOT, compare, same, size
 from sim3 import raw
 
 LISTS = ROOT / "tests/calls/lists"
@@ -62,18 +62,15 @@ def compare_file(path, seen):
         compare(f"{path.name}, record {number}", name, data, refusal, told)
         answer_at += 1 + width
         seen[identity] += 1
-    same_end = f"{path.name}: {answer_at} of {len(answers)} bytes of answers are of these records"
-    assert answer_at == len(answers), same_end
+    same(answer_at, len(answers), f"{path.name}: bytes of answers to these records")
 
 
-def stored_lists(folder=LISTS):
-    if not folder.is_dir():
-        raise Skipped(f"no folder {folder.relative_to(ROOT)}")
+def stored_lists():
     seen = collections.Counter()
-    for path in sorted(folder.glob("*.in")):
+    for path in sorted(LISTS.glob("*.in")):
         compare_file(path, seen)
     missing = [identity for identity in CALLS if not seen[identity]]
-    assert not missing, f"no stored records of the ids {missing}"
+    assert not missing, f"no records of the ids {missing} in tests/calls/lists"
 
 
 TESTS = [stored_lists]

@@ -135,7 +135,7 @@ def wrong_numbers():
 
 def refusals_in_words():
     same(fails(sim3.Refusal, ["z is -1.0", "squared angle"], sim3.scaled_pair, 0, -1).number, 1, "number for z = -1")
-    same(fails(sim3.Refusal, ["e, ", "-0.0", "no inverse"], sim3.block_inverse, [1] * 30 + [-0.0]).number, 2, "number for e = -0")
+    same(fails(sim3.Refusal, ["e, the last number of j, is -0.0", "no inverse"], sim3.block_inverse, [1] * 30 + [-0.0]).number, 2, "number for e = -0")
     assert issubclass(sim3.Refusal, ValueError), "a refusal is a ValueError"
 
 
@@ -148,11 +148,11 @@ def loaded_from():
 def other_library():
     """A library that is missing, no library, or another one, is said with what to do."""
     code = "import sys; sys.path.insert(0, 'bindings/python'); import sim3; sim3.renormalize([1] * 8)"
-    for path in ("/no/such/library.so", "README.md", loaded_from()):
+    for path, what in (("/no/such/library.so", "no shared library"), ("README.md", "invalid ELF"), (loaded_from(), "undefined symbol")):
         done = subprocess.run([sys.executable, "-B", "-c", code], cwd=ROOT, env={**os.environ, "SIM3_LIBRARY": path},
                               stderr=subprocess.PIPE, text=True)
         last = (done.stderr.strip().splitlines() or [""])[-1]
-        for part in ("LibraryMissing", path, "bindings/build"):
+        for part in ("LibraryMissing", path, what, "bindings/build"):
             assert done.returncode and part in last, f"SIM3_LIBRARY={path}: {done.stderr or 'an answer'}"
 
 
