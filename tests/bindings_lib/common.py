@@ -4,6 +4,7 @@ import os
 import pathlib
 import shutil
 import struct
+import subprocess
 import sys
 
 ROOT = pathlib.Path(__file__).resolve().parent.parent.parent
@@ -30,6 +31,27 @@ def compiler(default, variable):
 
 def same(found, expected, what):
     assert found == expected, f"{what}:\n  found    {found!r}\n  expected {expected!r}"
+
+
+def run(words, data=b""):
+    """What a command writes; its exit status must be 0."""
+    done = subprocess.run(words, input=data, stdout=subprocess.PIPE, stderr=subprocess.PIPE, cwd=ROOT)
+    same(done.returncode, 0, f"exit status of {words[0]} ({done.stderr.decode().strip()})")
+    return done.stdout
+
+
+def rust_program(source, work):
+    """A program over the Rust binding, built in the folder `work`."""
+    rust = [compiler("rustc", None), "--edition", "2021", "-O", "-D", "warnings"]
+    compiler("cc", None)  # by which rustc links
+    program = f"{work}/program"
+    run([*rust, "--crate-type", "rlib", "-L", "target/staticlib", "--out-dir", work, "bindings/rust/sim3.rs"])
+    run([*rust, "-L", work, "--extern", "sim3", "-o", program, source])
+    return program
+
+
+def packed(numbers):
+    return struct.pack(f"<{len(numbers)}d", *numbers)
 
 
 def doubles(data):

@@ -1,10 +1,8 @@
 """The host's values of the three bindings: the same numbers, and those that tools/jobs make fills in."""
 import random
-import struct
-import subprocess
 import tempfile
 
-from .common import ROOT, bits, compiler, same
+from .common import bits, compiler, packed, run, rust_program, same
 from jobs_lib.doubles import text
 from jobs_lib.layout import JOB
 from sim3 import host
@@ -30,22 +28,12 @@ def of_python(case):
     return [*host.tangent_values(tau), *jl, *jl_inv, host.up(x), host.down(x), host.ds(x, y)]
 
 
-def packed(numbers):
-    return struct.pack(f"<{len(numbers)}d", *numbers)
-
-
 def compare(what, found, width):
     """Holds bytes of `width` numbers a case to Python's first numbers of that case."""
     same(len(found), 8 * width * len(cases()), f"bytes of {what}")
     for i, case in enumerate(cases()):
         same(bits(found[8 * width * i:8 * width * (i + 1)]), bits(packed(of_python(case)[:width])),
              f"{what}, case {i}: {case}")
-
-
-def run(words, data):
-    done = subprocess.run(words, input=data, stdout=subprocess.PIPE, stderr=subprocess.PIPE, cwd=ROOT)
-    same(done.returncode, 0, f"{words[0]} ({done.stderr.decode().strip()})")
-    return done.stdout
 
 
 def python_and_c():
@@ -57,12 +45,9 @@ def python_and_c():
 
 
 def python_and_rust():
-    rust = [compiler("rustc", None), "--edition", "2021", "-O"]
-    compiler("cc", None)  # by which rustc links
     with tempfile.TemporaryDirectory() as work:
-        run([*rust, "--crate-type", "rlib", "-L", "target/staticlib", "--out-dir", work, "bindings/rust/sim3.rs"], b"")
-        run([*rust, "-L", work, "--extern", "sim3", "-o", f"{work}/host", "tests/bindings_lib/host.rs"], b"")
-        compare("bindings/rust/host.rs", run([f"{work}/host"], b"".join(map(packed, cases()))), 31)
+        program = rust_program("tests/bindings_lib/host.rs", work)
+        compare("bindings/rust/host.rs", run([program], b"".join(map(packed, cases()))), 31)
 
 
 def made(mark, lines):

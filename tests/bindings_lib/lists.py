@@ -30,7 +30,7 @@ def record(data, at, name, reads):
     takes = raw.FUNCTIONS[name].takes
     count = TWO_POSES_AND_A_NUMBER if reads else sum(1 if k == raw.NUMBER else raw.KINDS[k][0] for _, k in takes)
     numbers = data[start:start + 8 * count]
-    assert len(numbers) == 8 * count, f"the record at byte {at} is cut"
+    assert len(numbers) == 8 * count, f"a record of sim3_{name} is cut, at byte {at}"
     if reads:
         numbers_read = b"".join(numbers[8 * first:8 * last] for first, last in reads)
         return numbers_read, start + 8 * count
@@ -54,6 +54,7 @@ def compare_file(path, seen):
         if calls[at] not in CALLS:
             assert number == 1, f"{path.name}, record {number}: id {calls[at]} among others that are called"
             return
+        assert answer_at < len(answers), f"{path.name}, record {number} has no stored answer"
         identity, refusal = calls[at], answers[answer_at]
         name, reads = CALLS[identity]
         data, at = record(calls, at, name, reads)

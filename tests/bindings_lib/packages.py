@@ -4,13 +4,12 @@ import ctypes
 import os
 import random
 import shutil
-import struct
 import subprocess
 import sys
 import tempfile
 
 import sim3
-from .common import ROOT, answered, bits, doubles, same
+from .common import ROOT, answered, bits, doubles, packed, same
 from sim3 import host, numbers, raw
 
 # What an argument is where it is left out, by the arguments that are there.
@@ -39,7 +38,7 @@ def flat(answer):
 
 def bare(name, given):
     """The bits of the bare call's answer."""
-    data = b"".join(struct.pack(f"<{len(x)}d", *x) if isinstance(x, list) else struct.pack("<d", x) for x in given.values())
+    data = b"".join(packed(x if isinstance(x, list) else [x]) for x in given.values())
     status, out = answered(name, data)
     same(status, 0, f"sim3_{name}")
     return bits(out)
