@@ -89,6 +89,17 @@ def nothing_lent_is_changed():
         same(given, before, f"arguments after sim3.{name}")
 
 
+def refused_lists_are_let_go():
+    """Who catches a refusal can change the length of the list at once."""
+    for name, argument, wrong in (("exp", "tau", [1.0] * 6), ("act_many", "pts", [1.0] * 7)):
+        long = array.array("d", wrong)
+        try:
+            getattr(sim3, name)(**{**arguments(name, random.Random(4)), argument: long})
+        except sim3.Refusal:
+            long.append(1.0)
+        same(len(long), len(wrong) + 1, f"length after a refusal of sim3.{name}")
+
+
 def buffers_are_not_copied():
     long = array.array("d", bytes(8 * 65_535))
     same(ctypes.addressof(numbers.lent("long", long)), long.buffer_info()[0], "address of a lent array")
@@ -175,5 +186,5 @@ def build_without_tools():
         assert done.returncode == 2 and "'archives'" in done.stderr, f"with a wrong word: {done}"
 
 
-TESTS = [same_as_bare_calls, parts_of_answers, forms_of_a_list, nothing_lent_is_changed, buffers_are_not_copied, wrong_lists, wrong_numbers,
+TESTS = [same_as_bare_calls, parts_of_answers, forms_of_a_list, nothing_lent_is_changed, refused_lists_are_let_go, buffers_are_not_copied, wrong_lists, wrong_numbers,
          refusals_in_words, other_library, build_without_tools]

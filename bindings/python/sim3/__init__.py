@@ -28,8 +28,10 @@ def read(name, argument, x):
     """A list of one argument, which has the length of its kind."""
     kind = dict(raw.FUNCTIONS[name].takes)[argument]
     found = lent(f"sim3.{name}: {argument}", x)
-    if kind != raw.POINTS and len(found) != raw.KINDS[kind][0]:
-        raise wrong_length(name, argument, kind, len(found))
+    count = len(found)
+    if kind != raw.POINTS and count != raw.KINDS[kind][0]:
+        del found  # so that who catches the refusal can change the length of x
+        raise wrong_length(name, argument, kind, count)
     return found
 
 
@@ -54,7 +56,9 @@ def ask(name, *arguments):
     out = array.array("d", [0.0]) * size
     refused = raw.call(name, *given.values(), over(out, size))
     if refused:
-        raise explained(refused, name, given)
+        refusal = explained(refused, name, given)
+        given.clear()  # so that who catches it can change the length of pts
+        raise refusal
     return parts(out, made.gives)
 
 

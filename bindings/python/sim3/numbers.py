@@ -52,7 +52,7 @@ def lent(where, x):
         if not view.c_contiguous:
             raise TypeError(f"{where} is a buffer with gaps; expected doubles without gaps: copy it first")
         return over(x, view.nbytes // 8)
-    if isinstance(x, collections.abc.Sequence) and not isinstance(x, TEXT):
+    if isinstance(x, (array.array, collections.abc.Sequence)) and not isinstance(x, TEXT):
         copy = of_sequence(where, x)
         return over(copy, len(copy))
     what = type(x).__name__ + ("" if view is None else f", a buffer of format {view.format!r}")
