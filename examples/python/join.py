@@ -99,4 +99,8 @@ def main():
 
 
 if __name__ == "__main__":
-    sys.exit(main())
+    try:
+        sys.exit(main())
+    except sim3.LibraryMissing as missing:
+        print(missing, file=sys.stderr)
+        sys.exit(2)
