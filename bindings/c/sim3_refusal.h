@@ -1,0 +1,24 @@
+/* sim3_refusal.h: what a number that a function of sim3.h returns means, and what to do, in words. */
+#ifndef SIM3_REFUSAL_H
+#define SIM3_REFUSAL_H
+
+#include "sim3.h"
+
+static inline const char *sim3_refusal_text(uint32_t number) {
+    switch (number) {
+    case SIM3_OK:
+        return "answered";
+    case SIM3_BELOW_ZERO:
+        return "z is below zero; hand in a squared angle";
+    case SIM3_E_IS_ZERO:
+        return "e, the last number of the block, is zero; such a block has no inverse, so leave it out or look at e first";
+    case SIM3_POINTS_LENGTH:
+        return "a list of points has a wrong length; hand in x y z of every point, at most 65,535 numbers, and an out as long as pts";
+    case SIM3_LIST_LENGTH:
+        return "a list has a wrong length; sim3.h states the right one of each argument in brackets";
+    default:
+        return "no refusal of this library; the header and the library do not belong together";
+    }
+}
+
+#endif

@@ -1,0 +1,103 @@
+"""The C functions of include/sim3.h as ctypes sees them: one table of their arguments, the shared
+library that has them, and the bare call. What the table says is trusted; tests/bindings compares it
+with the header.
+"""
+import ctypes
+import functools
+import os
+import pathlib
+from typing import NamedTuple, Tuple
+
+NUMBER, POINTS = "number", "points"
+
+# How many doubles a list of each kind has, and what they are.
+KINDS = {
+    "pose": (8, "quaternion w x y z, translation x y z, sigma"),
+    "tangent": (7, "phi x y z, rho x y z, sigma"),
+    "values": (10, "root sin_half cos_half sin e m e0 m0 up down"),
+    "matrix": (9, "column by column"),
+    "block": (31, "a 9, b 9, c 9, f 3, e"),
+    "vector": (3, "x y z"),
+    "coefficients": (10, "v0 v1 v2 w0 w1 w2 dv1 dv2 chi_delta and the flag"),
+}
+
+
+class Function(NamedTuple):
+    """The arguments before `out`, each a name and a kind, and the kinds that `out` holds in a row."""
+
+    takes: Tuple[Tuple[str, str], ...]
+    gives: Tuple[str, ...]
+
+
+def function(takes, gives):
+    """`x:pose up:number` and `block block` as a Function."""
+    pairs = tuple(tuple(word.split(":")) for word in takes.split())
+    return Function(pairs, tuple(gives.split()))
+
+
+# renormalize works in place, so it has no `out`. The functions of points write a list as long as theirs.
+FUNCTIONS = {
+    "exp": function("tau:tangent values:values", "pose"),
+    "mul": function("x:pose y:pose up:number", "pose"),
+    "inverse": function("x:pose down:number", "pose"),
+    "mul_inv": function("x:pose y:pose ds:number", "pose"),
+    "inv_mul": function("x:pose y:pose down:number", "pose"),
+    "renormalize": function("x:pose", ""),
+    "act_many": function("x:pose up:number pts:points", "points"),
+    "act_each": function("x:pose up:number pts:points", "points"),
+    "scaled_pair": function("sigma:number z:number values:values", "coefficients coefficients"),
+    "block_pair": function("tau:tangent values:values jl:matrix jl_inv:matrix", "block block block block"),
+    "block_inverse": function("j:block", "block"),
+    "adjoint": function("x:pose up:number", "block"),
+    "act_jacobians_right": function("x:pose up:number p:vector", "matrix matrix vector matrix"),
+    "act_jacobians_left": function("x:pose up:number p:vector", "matrix matrix vector matrix"),
+    "compose_jacobians_right": function("y:pose down:number", "block block"),
+    "compose_jacobians_left": function("x:pose up:number", "block block"),
+    "inverse_jacobian_right": function("x:pose up:number", "block"),
+    "inverse_jacobian_left": function("x:pose down:number", "block"),
+}
+
+
+class LibraryMissing(OSError):
+    """The shared library is not there or is none of this engine; the text says what to do."""
+
+
+def library_path():
+    """The environment variable SIM3_LIBRARY, or where bindings/build puts the library."""
+    named = os.environ.get("SIM3_LIBRARY")
+    return pathlib.Path(named) if named else \
+        pathlib.Path(__file__).resolve().parents[3] / "target" / "bindings" / "libsim3_c.so"
+
+
+@functools.lru_cache(maxsize=None)
+def library():
+    """The C functions by name, loaded at the first call."""
+    path = library_path()
+    if not path.exists():
+        raise LibraryMissing(f"sim3: no shared library {path}; bindings/build makes it, "
+                             "or SIM3_LIBRARY names another place")
+    try:
+        loaded = ctypes.CDLL(str(path.resolve()))
+        return {name: declared(loaded["sim3_" + name], made) for name, made in FUNCTIONS.items()}
+    except (OSError, AttributeError) as error:
+        raise LibraryMissing(f"sim3: {path} is no library of this engine: {error}; "
+                             "remove it and run bindings/build") from None
+
+
+def declared(symbol, made):
+    """A C function with the types of its arguments: a list is a pointer and a count."""
+    lists = [ctypes.POINTER(ctypes.c_double), ctypes.c_size_t]
+    symbol.argtypes = [kind for _, what in made.takes
+                       for kind in ([ctypes.c_double] if what == NUMBER else lists)]
+    symbol.argtypes = symbol.argtypes + (lists if made.gives else [])
+    symbol.restype = ctypes.c_uint32
+    return symbol
+
+
+def call(name, *arguments):
+    """What a C function returns: 0, or the number of a refusal. A list is a ctypes array of doubles,
+    and `out` must share no bytes with another."""
+    words = []
+    for argument in arguments:
+        words += (argument, len(argument)) if isinstance(argument, ctypes.Array) else (argument,)
+    return library()[name](*words)

@@ -1,0 +1,49 @@
+"""What the engine does not answer, as an exception that says which argument and what to do."""
+from .raw import KINDS
+
+MOST_NUMBERS = 65_535  # of a list of points
+
+
+class Refusal(ValueError):
+    """A refusal of the engine. `number` is its number in include/sim3.h: 1, 2, 5 or 8."""
+
+    def __init__(self, number, text):
+        super().__init__(number, text)
+        self.number = number
+
+    def __str__(self):
+        return self.args[1]
+
+
+def refusal(number, name, text):
+    return Refusal(number, f"sim3.{name}: refusal {number}: {text}")
+
+
+def numbers(count):
+    return f"{count:,} number" + ("" if count == 1 else "s")
+
+
+def wrong_length(name, argument, kind, found):
+    due, order = KINDS[kind]
+    return refusal(8, name, f"{argument} has {numbers(found)}; expected {due} ({kind}: {order})")
+
+
+def points_text(found):
+    if found % 3:
+        return f"pts has {numbers(found)}, which is no multiple of 3; hand in x y z of every point, flat"
+    return f"pts has {numbers(found)}; at most {MOST_NUMBERS:,} ({MOST_NUMBERS // 3:,} points) are " \
+           "taken at once, so move it in pieces"
+
+
+def explained(number, name, given):
+    """The exception for a number that a C function returned; `given` has its arguments by name."""
+    if number == 1:
+        return refusal(1, name, f"z is {given['z']!r}, below zero; hand in a squared angle, "
+                                "as sim3.host.norm_sq(phi) gives it")
+    if number == 2:
+        return refusal(2, name, f"e, the last number of j, is {given['j'][30]!r}; such a block has no "
+                                "inverse, so leave it out or look at e first")
+    if number == 5:
+        return refusal(5, name, points_text(len(given["pts"])))
+    return refusal(number, name, "the library refused what this package takes for right; they do not "
+                                 "belong together, so run bindings/build")

@@ -1,0 +1,279 @@
+//! The C functions of include/sim3.h, and the only unsafe code of this crate: each is called through a
+//! function over slices. The declarations are trusted; tests/bindings compares them with the header.
+
+#![allow(unsafe_code)]
+
+#[link(name = "sim3_c", kind = "static")]
+extern "C" {
+    fn sim3_exp(
+        tau: *const f64,
+        tau_n: usize,
+        values: *const f64,
+        values_n: usize,
+        out: *mut f64,
+        out_n: usize,
+    ) -> u32;
+    fn sim3_mul(
+        x: *const f64,
+        x_n: usize,
+        y: *const f64,
+        y_n: usize,
+        up: f64,
+        out: *mut f64,
+        out_n: usize,
+    ) -> u32;
+    fn sim3_inverse(x: *const f64, x_n: usize, down: f64, out: *mut f64, out_n: usize) -> u32;
+    fn sim3_mul_inv(
+        x: *const f64,
+        x_n: usize,
+        y: *const f64,
+        y_n: usize,
+        ds: f64,
+        out: *mut f64,
+        out_n: usize,
+    ) -> u32;
+    fn sim3_inv_mul(
+        x: *const f64,
+        x_n: usize,
+        y: *const f64,
+        y_n: usize,
+        down: f64,
+        out: *mut f64,
+        out_n: usize,
+    ) -> u32;
+    fn sim3_renormalize(x: *mut f64, x_n: usize) -> u32;
+    fn sim3_act_many(
+        x: *const f64,
+        x_n: usize,
+        up: f64,
+        pts: *const f64,
+        pts_n: usize,
+        out: *mut f64,
+        out_n: usize,
+    ) -> u32;
+    fn sim3_act_each(
+        x: *const f64,
+        x_n: usize,
+        up: f64,
+        pts: *const f64,
+        pts_n: usize,
+        out: *mut f64,
+        out_n: usize,
+    ) -> u32;
+    fn sim3_scaled_pair(
+        sigma: f64,
+        z: f64,
+        values: *const f64,
+        values_n: usize,
+        out: *mut f64,
+        out_n: usize,
+    ) -> u32;
+    fn sim3_block_pair(
+        tau: *const f64,
+        tau_n: usize,
+        values: *const f64,
+        values_n: usize,
+        jl: *const f64,
+        jl_n: usize,
+        jl_inv: *const f64,
+        jl_inv_n: usize,
+        out: *mut f64,
+        out_n: usize,
+    ) -> u32;
+    fn sim3_block_inverse(j: *const f64, j_n: usize, out: *mut f64, out_n: usize) -> u32;
+    fn sim3_adjoint(x: *const f64, x_n: usize, up: f64, out: *mut f64, out_n: usize) -> u32;
+    fn sim3_act_jacobians_right(
+        x: *const f64,
+        x_n: usize,
+        up: f64,
+        p: *const f64,
+        p_n: usize,
+        out: *mut f64,
+        out_n: usize,
+    ) -> u32;
+    fn sim3_act_jacobians_left(
+        x: *const f64,
+        x_n: usize,
+        up: f64,
+        p: *const f64,
+        p_n: usize,
+        out: *mut f64,
+        out_n: usize,
+    ) -> u32;
+    fn sim3_compose_jacobians_right(
+        y: *const f64,
+        y_n: usize,
+        down: f64,
+        out: *mut f64,
+        out_n: usize,
+    ) -> u32;
+    fn sim3_compose_jacobians_left(
+        x: *const f64,
+        x_n: usize,
+        up: f64,
+        out: *mut f64,
+        out_n: usize,
+    ) -> u32;
+    fn sim3_inverse_jacobian_right(
+        x: *const f64,
+        x_n: usize,
+        up: f64,
+        out: *mut f64,
+        out_n: usize,
+    ) -> u32;
+    fn sim3_inverse_jacobian_left(
+        x: *const f64,
+        x_n: usize,
+        down: f64,
+        out: *mut f64,
+        out_n: usize,
+    ) -> u32;
+}
+
+// LISTS, the reason why each call below is sound. The C functions ask of their caller that no pointer is
+// null, that each points to as many doubles as its count says, and that what is written overlaps no other
+// list. A pointer and a count here are one slice's own, which is never null and aligned, even when it is
+// empty; and what is written is borrowed mutably, so no other slice overlaps it. All else, every count and
+// every number, they are proved to take.
+
+pub fn exp(tau: &[f64], values: &[f64], out: &mut [f64]) -> u32 {
+    // SAFETY: LISTS.
+    unsafe {
+        sim3_exp(
+            tau.as_ptr(),
+            tau.len(),
+            values.as_ptr(),
+            values.len(),
+            out.as_mut_ptr(),
+            out.len(),
+        )
+    }
+}
+
+pub fn mul(x: &[f64], y: &[f64], up: f64, out: &mut [f64]) -> u32 {
+    // SAFETY: LISTS.
+    unsafe { sim3_mul(x.as_ptr(), x.len(), y.as_ptr(), y.len(), up, out.as_mut_ptr(), out.len()) }
+}
+
+pub fn inverse(x: &[f64], down: f64, out: &mut [f64]) -> u32 {
+    // SAFETY: LISTS.
+    unsafe { sim3_inverse(x.as_ptr(), x.len(), down, out.as_mut_ptr(), out.len()) }
+}
+
+pub fn mul_inv(x: &[f64], y: &[f64], ds: f64, out: &mut [f64]) -> u32 {
+    // SAFETY: LISTS.
+    unsafe {
+        sim3_mul_inv(x.as_ptr(), x.len(), y.as_ptr(), y.len(), ds, out.as_mut_ptr(), out.len())
+    }
+}
+
+pub fn inv_mul(x: &[f64], y: &[f64], down: f64, out: &mut [f64]) -> u32 {
+    // SAFETY: LISTS.
+    unsafe {
+        sim3_inv_mul(x.as_ptr(), x.len(), y.as_ptr(), y.len(), down, out.as_mut_ptr(), out.len())
+    }
+}
+
+pub fn renormalize(x: &mut [f64]) -> u32 {
+    // SAFETY: LISTS.
+    unsafe { sim3_renormalize(x.as_mut_ptr(), x.len()) }
+}
+
+pub fn act_many(x: &[f64], up: f64, pts: &[f64], out: &mut [f64]) -> u32 {
+    // SAFETY: LISTS.
+    unsafe {
+        sim3_act_many(x.as_ptr(), x.len(), up, pts.as_ptr(), pts.len(), out.as_mut_ptr(), out.len())
+    }
+}
+
+pub fn act_each(x: &[f64], up: f64, pts: &[f64], out: &mut [f64]) -> u32 {
+    // SAFETY: LISTS.
+    unsafe {
+        sim3_act_each(x.as_ptr(), x.len(), up, pts.as_ptr(), pts.len(), out.as_mut_ptr(), out.len())
+    }
+}
+
+pub fn scaled_pair(sigma: f64, z: f64, values: &[f64], out: &mut [f64]) -> u32 {
+    // SAFETY: LISTS.
+    unsafe {
+        sim3_scaled_pair(sigma, z, values.as_ptr(), values.len(), out.as_mut_ptr(), out.len())
+    }
+}
+
+pub fn block_pair(tau: &[f64], values: &[f64], jl: &[f64], jl_inv: &[f64], out: &mut [f64]) -> u32 {
+    // SAFETY: LISTS.
+    unsafe {
+        sim3_block_pair(
+            tau.as_ptr(),
+            tau.len(),
+            values.as_ptr(),
+            values.len(),
+            jl.as_ptr(),
+            jl.len(),
+            jl_inv.as_ptr(),
+            jl_inv.len(),
+            out.as_mut_ptr(),
+            out.len(),
+        )
+    }
+}
+
+pub fn block_inverse(j: &[f64], out: &mut [f64]) -> u32 {
+    // SAFETY: LISTS.
+    unsafe { sim3_block_inverse(j.as_ptr(), j.len(), out.as_mut_ptr(), out.len()) }
+}
+
+pub fn adjoint(x: &[f64], up: f64, out: &mut [f64]) -> u32 {
+    // SAFETY: LISTS.
+    unsafe { sim3_adjoint(x.as_ptr(), x.len(), up, out.as_mut_ptr(), out.len()) }
+}
+
+pub fn act_jacobians_right(x: &[f64], up: f64, p: &[f64], out: &mut [f64]) -> u32 {
+    // SAFETY: LISTS.
+    unsafe {
+        sim3_act_jacobians_right(
+            x.as_ptr(),
+            x.len(),
+            up,
+            p.as_ptr(),
+            p.len(),
+            out.as_mut_ptr(),
+            out.len(),
+        )
+    }
+}
+
+pub fn act_jacobians_left(x: &[f64], up: f64, p: &[f64], out: &mut [f64]) -> u32 {
+    // SAFETY: LISTS.
+    unsafe {
+        sim3_act_jacobians_left(
+            x.as_ptr(),
+            x.len(),
+            up,
+            p.as_ptr(),
+            p.len(),
+            out.as_mut_ptr(),
+            out.len(),
+        )
+    }
+}
+
+pub fn compose_jacobians_right(y: &[f64], down: f64, out: &mut [f64]) -> u32 {
+    // SAFETY: LISTS.
+    unsafe { sim3_compose_jacobians_right(y.as_ptr(), y.len(), down, out.as_mut_ptr(), out.len()) }
+}
+
+pub fn compose_jacobians_left(x: &[f64], up: f64, out: &mut [f64]) -> u32 {
+    // SAFETY: LISTS.
+    unsafe { sim3_compose_jacobians_left(x.as_ptr(), x.len(), up, out.as_mut_ptr(), out.len()) }
+}
+
+pub fn inverse_jacobian_right(x: &[f64], up: f64, out: &mut [f64]) -> u32 {
+    // SAFETY: LISTS.
+    unsafe { sim3_inverse_jacobian_right(x.as_ptr(), x.len(), up, out.as_mut_ptr(), out.len()) }
+}
+
+pub fn inverse_jacobian_left(x: &[f64], down: f64, out: &mut [f64]) -> u32 {
+    // SAFETY: LISTS.
+    unsafe { sim3_inverse_jacobian_left(x.as_ptr(), x.len(), down, out.as_mut_ptr(), out.len()) }
+}

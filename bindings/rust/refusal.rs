@@ -1,0 +1,54 @@
+//! What the engine does not answer.
+
+use std::fmt;
+
+/// A refusal of the engine. The arrays' sizes are in the types, so number 8, another list of a wrong
+/// length, cannot arise here.
+#[derive(Clone, Copy, Debug, PartialEq, Eq)]
+pub enum Refusal {
+    /// 1: z is below zero.
+    BelowZero,
+    /// 2: e of a block is a zero.
+    EIsZero,
+    /// 5: `pts` is no multiple of 3 or longer than 65,535, or `out` has another length.
+    PointsLength { pts: usize, out: usize },
+}
+
+impl Refusal {
+    /// Its number in include/sim3.h.
+    pub fn number(self) -> u32 {
+        match self {
+            Refusal::BelowZero => 1,
+            Refusal::EIsZero => 2,
+            Refusal::PointsLength { .. } => 5,
+        }
+    }
+}
+
+impl fmt::Display for Refusal {
+    fn fmt(&self, f: &mut fmt::Formatter) -> fmt::Result {
+        write!(f, "refusal {}: ", self.number())?;
+        match *self {
+            Refusal::BelowZero => {
+                write!(f, "z is below zero; hand in a squared angle, as host::norm_sq gives it")
+            }
+            Refusal::EIsZero => {
+                write!(f, "e, the last number of the block, is zero; such a block has no inverse, so leave it out or look at e first")
+            }
+            Refusal::PointsLength { pts, .. } if pts % 3 != 0 => {
+                write!(f, "pts has {pts} numbers, which is no multiple of 3; hand in x y z of every point, flat")
+            }
+            Refusal::PointsLength { pts, out } if pts != out => {
+                write!(
+                    f,
+                    "out has {out} numbers where pts has {pts}; hand in an out of the same length"
+                )
+            }
+            Refusal::PointsLength { pts, .. } => {
+                write!(f, "pts has {pts} numbers; at most 65535 (21845 points) are taken at once, so move it in pieces")
+            }
+        }
+    }
+}
+
+impl std::error::Error for Refusal {}

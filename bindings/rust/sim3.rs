@@ -1,0 +1,220 @@
+//! The proved Sim(3) engine for Rust: poses with scale, lists of points, Jacobians. No other crates.
+//!
+//! ```sh
+//! bindings/build archive
+//! rustc --edition 2021 -O --crate-type rlib -L target/staticlib --out-dir target/bindings bindings/rust/sim3.rs
+//! rustc --edition 2021 -O -L target/bindings --extern sim3 mine.rs
+//! ```
+//!
+//! Arrays have their sizes in the types, in the orders that include/sim3.h states. The host's values
+//! (`values`, `up`, `down`, `ds`, `jl`, `jl_inv`) are the caller's; [`host`] computes them. Every
+//! number is taken, NaN and infinities too. What can be refused answers a [`Refusal`].
+
+#![deny(unsafe_code)]
+
+pub mod host;
+mod raw;
+mod refusal;
+
+pub use refusal::Refusal;
+
+/// Quaternion w x y z, translation x y z, sigma.
+pub type Pose = [f64; 8];
+/// phi x y z, rho x y z, sigma.
+pub type Tangent = [f64; 7];
+/// root, sin_half, cos_half, sin, e, m, e0, m0, up, down.
+pub type Values = [f64; 10];
+/// x y z.
+pub type Vector = [f64; 3];
+/// Column by column.
+pub type Matrix = [f64; 9];
+/// a 9, b 9, c 9, f 3, e: the 7 by 7 matrix with the rows (a 0 0), (b c f), (0 0 e).
+pub type Block = [f64; 31];
+/// v0 v1 v2 w0 w1 w2 dv1 dv2 chi_delta, and the flag: 1 where they are still to be multiplied by
+/// e^sigma, else 0.
+pub type Coefficients = [f64; 10];
+
+/// The four blocks of [`block_pair`].
+#[derive(Clone, Copy, Debug, PartialEq)]
+pub struct BlockPair {
+    pub left: Block,
+    pub left_inv: Block,
+    pub right: Block,
+    pub right_inv: Block,
+}
+
+/// X p by phi, rho and sigma of X, and by p.
+#[derive(Clone, Copy, Debug, PartialEq)]
+pub struct ActJacobians {
+    pub phi: Matrix,
+    pub rho: Matrix,
+    pub sigma: Vector,
+    pub point: Matrix,
+}
+
+// ---- what a C function answered
+
+/// N numbers from a place on; `all` has them.
+fn part<const N: usize>(all: &[f64], at: usize) -> [f64; N] {
+    let mut found = [0.0; N];
+    found.copy_from_slice(&all[at..at + N]);
+    found
+}
+
+/// An answer that the proofs rule out.
+fn foreign(refused: u32) -> ! {
+    panic!("sim3: refusal {refused}: libsim3_c.a does not belong to this crate; bindings/build makes it")
+}
+
+/// The numbers of a call that refuses nothing, since the lengths are in the types.
+fn sure<const N: usize>(call: impl FnOnce(&mut [f64]) -> u32) -> [f64; N] {
+    let mut out = [0.0; N];
+    match call(&mut out) {
+        0 => out,
+        refused => foreign(refused),
+    }
+}
+
+/// The numbers of a call, or its one refusal.
+fn or_refusal<const N: usize>(
+    refusal: Refusal,
+    call: impl FnOnce(&mut [f64]) -> u32,
+) -> Result<[f64; N], Refusal> {
+    let mut out = [0.0; N];
+    match call(&mut out) {
+        0 => Ok(out),
+        refused if refused == refusal.number() => Err(refusal),
+        refused => foreign(refused),
+    }
+}
+
+/// Whether a list was written.
+fn listed(refused: u32, pts: usize, out: usize) -> Result<(), Refusal> {
+    let refusal = Refusal::PointsLength { pts, out };
+    or_refusal::<0>(refusal, |_| refused).map(|_| ())
+}
+
+// ---- poses
+
+/// Exp(tau).
+pub fn exp(tau: &Tangent, values: &Values) -> Pose {
+    sure(|out| raw::exp(tau, values, out))
+}
+
+/// X Y; `up` is e^sigma of X.
+pub fn mul(x: &Pose, y: &Pose, up: f64) -> Pose {
+    sure(|out| raw::mul(x, y, up, out))
+}
+
+/// X⁻¹; `down` is e^-sigma of X.
+pub fn inverse(x: &Pose, down: f64) -> Pose {
+    sure(|out| raw::inverse(x, down, out))
+}
+
+/// X Y⁻¹; `ds` is e^(sigma of X - sigma of Y).
+pub fn mul_inv(x: &Pose, y: &Pose, ds: f64) -> Pose {
+    sure(|out| raw::mul_inv(x, y, ds, out))
+}
+
+/// Y⁻¹ X; `down` is e^-sigma of Y.
+pub fn inv_mul(x: &Pose, y: &Pose, down: f64) -> Pose {
+    sure(|out| raw::inv_mul(x, y, down, out))
+}
+
+/// One Newton step that brings the quaternion nearer to length 1, in place.
+pub fn renormalize(x: &mut Pose) {
+    sure::<0>(|_| raw::renormalize(x));
+}
+
+// ---- lists of points, flat: x y z of every point, at most 65,535 numbers, `out` as long as `pts`.
+// A list of [f64; 3] is flat by as_flattened.
+
+/// Every point moved by the matrix s R, formed once: the bits of helicoid's act_many. `up` is e^sigma
+/// of X. A refusal leaves `out` as it was.
+pub fn act_many(x: &Pose, up: f64, pts: &[f64], out: &mut [f64]) -> Result<(), Refusal> {
+    listed(raw::act_many(x, up, pts, out), pts.len(), out.len())
+}
+
+/// Every point moved by itself: the bits of the job's mark AC. `up` is e^sigma of X. A refusal leaves
+/// `out` as it was.
+pub fn act_each(x: &Pose, up: f64, pts: &[f64], out: &mut [f64]) -> Result<(), Refusal> {
+    listed(raw::act_each(x, up, pts, out), pts.len(), out.len())
+}
+
+// ---- both signs, both sides, from one evaluation
+
+/// The coefficients at sigma and at -sigma; refused where z is below zero.
+pub fn scaled_pair(
+    sigma: f64,
+    z: f64,
+    values: &Values,
+) -> Result<(Coefficients, Coefficients), Refusal> {
+    let out: [f64; 20] =
+        or_refusal(Refusal::BelowZero, |out| raw::scaled_pair(sigma, z, values, out))?;
+    Ok((part(&out, 0), part(&out, 10)))
+}
+
+/// J_l(tau), its inverse, J_r(tau), its inverse; `jl` is J_l(phi) of the rotation, `jl_inv` its
+/// inverse.
+pub fn block_pair(tau: &Tangent, values: &Values, jl: &Matrix, jl_inv: &Matrix) -> BlockPair {
+    let out: [f64; 124] = sure(|out| raw::block_pair(tau, values, jl, jl_inv, out));
+    BlockPair {
+        left: part(&out, 0),
+        left_inv: part(&out, 31),
+        right: part(&out, 62),
+        right_inv: part(&out, 93),
+    }
+}
+
+// ---- blocks
+
+/// The inverse of a block, by adjugates; refused where e is a zero.
+pub fn block_inverse(j: &Block) -> Result<Block, Refusal> {
+    or_refusal(Refusal::EIsZero, |out| raw::block_inverse(j, out))
+}
+
+/// Ad_X; `up` is e^sigma of X.
+pub fn adjoint(x: &Pose, up: f64) -> Block {
+    sure(|out| raw::adjoint(x, up, out))
+}
+
+fn act_jacobians(out: [f64; 30]) -> ActJacobians {
+    ActJacobians {
+        phi: part(&out, 0),
+        rho: part(&out, 9),
+        sigma: part(&out, 18),
+        point: part(&out, 21),
+    }
+}
+
+/// Of X p for X Exp(tau); `up` is e^sigma of X.
+pub fn act_jacobians_right(x: &Pose, up: f64, p: &Vector) -> ActJacobians {
+    act_jacobians(sure(|out| raw::act_jacobians_right(x, up, p, out)))
+}
+
+/// Of X p for Exp(tau) X; `up` is e^sigma of X.
+pub fn act_jacobians_left(x: &Pose, up: f64, p: &Vector) -> ActJacobians {
+    act_jacobians(sure(|out| raw::act_jacobians_left(x, up, p, out)))
+}
+
+/// Of X Y, right: by X and by Y, which read Y alone; `down` is e^-sigma of Y.
+pub fn compose_jacobians_right(y: &Pose, down: f64) -> (Block, Block) {
+    let out: [f64; 62] = sure(|out| raw::compose_jacobians_right(y, down, out));
+    (part(&out, 0), part(&out, 31))
+}
+
+/// Of X Y, left: by X and by Y, which read X alone; `up` is e^sigma of X.
+pub fn compose_jacobians_left(x: &Pose, up: f64) -> (Block, Block) {
+    let out: [f64; 62] = sure(|out| raw::compose_jacobians_left(x, up, out));
+    (part(&out, 0), part(&out, 31))
+}
+
+/// Of X⁻¹, right; `up` is e^sigma of X.
+pub fn inverse_jacobian_right(x: &Pose, up: f64) -> Block {
+    sure(|out| raw::inverse_jacobian_right(x, up, out))
+}
+
+/// Of X⁻¹, left; `down` is e^-sigma of X.
+pub fn inverse_jacobian_left(x: &Pose, down: f64) -> Block {
+    sure(|out| raw::inverse_jacobian_left(x, down, out))
+}

@@ -1,0 +1,125 @@
+/* The engine from C: two runs of shots are joined by a similarity, a staff line's points are moved, Jacobian blocks are taken, and refusals are shown. Every
+ * answer is compared with numbers known by hand; exit status 1 and a message where one is wrong. examples/c/run builds and runs it. */
+#include <stdio.h>
+
+#include "sim3.h"
+#include "sim3_host.h"
+#include "sim3_refusal.h"
+
+#define COUNT(list) (sizeof(list) / sizeof((list)[0]))
+
+static const double QUARTER = 1.5707963267948966; /* half of pi */
+static const double DOUBLE = 0.6931471805599453;  /* logarithm of 2 */
+static const double HALF_ROOT = 0.7071067811865476; /* root of 1/2 */
+static int wrong = 0;
+
+/* A call that must be answered. */
+static void asked(const char *what, uint32_t refused) {
+    if (refused == SIM3_OK) return;
+    printf("%s: refusal %u: %s\n", what, (unsigned)refused, sim3_refusal_text(refused));
+    wrong = 1;
+}
+
+/* Prints a list, and says where it is not the one known by hand. */
+static void known(const char *what, const double *found, const double *due, size_t count) {
+    printf("%s:", what);
+    for (size_t i = 0; i < count; i++) printf(" %.6g", found[i]);
+    printf("\n");
+    for (size_t i = 0; i < count; i++)
+        if (!(fabs(found[i] - due[i]) <= 1e-12)) {
+            printf("%s: WRONG: number %zu is %.17g and not %.17g\n", what, i, found[i], due[i]);
+            wrong = 1;
+        }
+}
+
+/* The camera hand: a shot stands in both runs, at x in the first and at y in the second. X Y^-1 takes the second run's places to the first's. */
+static void join_runs(double join[8]) {
+    const double turn[7] = {0, 0, QUARTER, 0, 0, 0, DOUBLE}; /* a quarter turn about z, and twice the size */
+    const double shift[8] = {1, 0, 0, 0, 10, 22, 30, 0};
+    const double y[8] = {1, 0, 0, 0, 1, 0, 0, 0}, next[8] = {1, 0, 0, 0, 2, 0, 0, 0};
+    double values[10], turned[8], x[8], placed[8], back[8];
+
+    sim3_host_tangent_values(turn, values);
+    asked("exp", sim3_exp(turn, 7, values, 10, turned, 8));
+    asked("mul", sim3_mul(shift, 8, turned, 8, sim3_host_up(shift), x, 8));
+    asked("join", sim3_mul_inv(x, 8, y, 8, sim3_host_ds(x, y), join, 8));
+    asked("next shot", sim3_mul(join, 8, next, 8, sim3_host_up(join), placed, 8));
+    asked("and back", sim3_inv_mul(placed, 8, join, 8, sim3_host_down(join), back, 8));
+
+    known("join", join, (const double[]){HALF_ROOT, 0, 0, HALF_ROOT, 10, 20, 30, DOUBLE}, 8);
+    known("next shot", placed, (const double[]){HALF_ROOT, 0, 0, HALF_ROOT, 10, 24, 30, DOUBLE}, 8);
+    known("and back", back, next, 8);
+}
+
+/* The page flattener: the points of a staff line, x y z of each. */
+static void move_line(const double join[8]) {
+    const double line[9] = {0, 0, 0, 1, 0, 0, 2, 0, 0};
+    const double due[9] = {10, 20, 30, 10, 22, 30, 10, 24, 30};
+    double moved[9];
+
+    asked("act_many", sim3_act_many(join, 8, sim3_host_up(join), line, COUNT(line), moved, COUNT(moved)));
+    known("staff line", moved, due, COUNT(due));
+    asked("act_each", sim3_act_each(join, 8, sim3_host_up(join), line, COUNT(line), moved, COUNT(moved)));
+    known("point by point", moved, due, COUNT(due));
+}
+
+/* A block times a tangent: the rows (a 0 0), (b c f), (0 0 e). */
+static void times(const double *block, const double tau[7], double out[7]) {
+    const double *a = block, *b = block + 9, *c = block + 18, *f = block + 27;
+    for (int row = 0; row < 3; row++) {
+        out[row] = 0;
+        out[3 + row] = f[row] * tau[6];
+        for (int k = 0; k < 3; k++) {
+            out[row] += a[row + 3 * k] * tau[k];
+            out[3 + row] += b[row + 3 * k] * tau[k] + c[row + 3 * k] * tau[3 + k];
+        }
+    }
+    out[6] = block[30] * tau[6];
+}
+
+/* The adjuster: J_l, its inverse, J_r and its inverse from one evaluation. Each leaves its own tangent as it is. */
+static void adjust(const double join[8]) {
+    const double tau[7] = {0.1, -0.2, 0.3, 1, 2, 3, 0.5}, p[3] = {1, 0, 0};
+    const char *names[4] = {"left", "left inverse", "right", "right inverse"};
+    double values[10], jl[9], jl_inv[9], blocks[124], by[30], same[7];
+
+    sim3_host_tangent_values(tau, values);
+    sim3_host_rotation_jacobians(tau, jl, jl_inv);
+    asked("block_pair", sim3_block_pair(tau, 7, values, 10, jl, 9, jl_inv, 9, blocks, 124));
+    asked("act_jacobians", sim3_act_jacobians_left(join, 8, sim3_host_up(join), p, 3, by, 30));
+
+    for (int i = 0; i < 4; i++) {
+        times(blocks + 31 * i, tau, same);
+        known(names[i], same, tau, 7);
+    }
+    known("moved point by sigma", by + 18, (const double[]){10, 22, 30}, 3);
+}
+
+/* A call that must be refused, with this number. */
+static void refused(const char *what, uint32_t number, uint32_t due) {
+    printf("%s: refusal %u: %s\n", what, (unsigned)number, sim3_refusal_text(number));
+    if (number != due) {
+        printf("%s: WRONG: refusal %u is due\n", what, (unsigned)due);
+        wrong = 1;
+    }
+}
+
+static void refusals(const double join[8]) {
+    const double tau[7] = {0}, values[10] = {0}, block[31] = {0}, pts[7] = {0};
+    double out[31];
+
+    refused("exp with six numbers", sim3_exp(tau, 6, values, 10, out, 8), SIM3_LIST_LENGTH);
+    refused("block_inverse with e = 0", sim3_block_inverse(block, 31, out, 31), SIM3_E_IS_ZERO);
+    refused("scaled_pair with z = -1", sim3_scaled_pair(0, -1, values, 10, out, 20), SIM3_BELOW_ZERO);
+    refused("act_many with seven numbers", sim3_act_many(join, 8, 2, pts, 7, out, 7), SIM3_POINTS_LENGTH);
+}
+
+int main(void) {
+    double join[8];
+    join_runs(join);
+    move_line(join);
+    adjust(join);
+    refusals(join);
+    printf(wrong ? "example: WRONG, see above\n" : "example: every answer is the one known by hand\n");
+    return wrong;
+}

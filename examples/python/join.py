@@ -1,0 +1,106 @@
+#!/usr/bin/env python3
+"""The engine from Python: two runs of shots are joined by a similarity, a staff line's points are
+moved, Jacobian blocks are taken, and refusals are shown. Every answer is compared with numbers known
+by hand; exit status 1 and a message where one is wrong. examples/python/run builds what it needs.
+"""
+import array
+import math
+import pathlib
+import sys
+
+sys.dont_write_bytecode = True  # the source tree stays as it is
+sys.path.insert(0, str(pathlib.Path(__file__).resolve().parents[2] / "bindings" / "python"))
+
+import sim3
+
+HALF_ROOT, DOUBLE = math.sqrt(0.5), math.log(2)
+wrong = []
+
+
+def known(what, found, due):
+    """Prints a list, and says where it is not the one known by hand."""
+    print(f"{what}:", *(f"{x:.6g}" for x in found))
+    if len(found) != len(due):
+        wrong.append(f"{what}: {len(found)} numbers and not {len(due)}")
+    for i, (x, y) in enumerate(zip(found, due)):
+        if not abs(x - y) <= 1e-12:
+            wrong.append(f"{what}: number {i} is {x!r} and not {y!r}")
+
+
+def join_runs():
+    """The camera hand: a shot stands in both runs, at x in the first and at y in the second. X Y^-1
+    takes the second run's places to the first's."""
+    turned = sim3.exp([0, 0, math.pi / 2, 0, 0, 0, math.log(2)])  # a quarter turn about z, and twice the size
+    x = sim3.mul([1, 0, 0, 0, 10, 22, 30, 0], turned)
+    y = [1, 0, 0, 0, 1, 0, 0, 0]
+    join = sim3.mul_inv(x, y)
+    placed = sim3.mul(join, [1, 0, 0, 0, 2, 0, 0, 0])  # the second run's next shot
+    back = sim3.inv_mul(placed, join)
+    known("join", join, [HALF_ROOT, 0, 0, HALF_ROOT, 10, 20, 30, DOUBLE])
+    known("next shot", placed, [HALF_ROOT, 0, 0, HALF_ROOT, 10, 24, 30, DOUBLE])
+    known("and back", back, [1, 0, 0, 0, 2, 0, 0, 0])
+    return join
+
+
+def move_line(join):
+    """The page flattener: the points of a staff line, x y z of each."""
+    line = array.array("d", [0, 0, 0, 1, 0, 0, 2, 0, 0])
+    moved = sim3.act_many(join, line)
+    known("staff line", moved, [10, 20, 30, 10, 22, 30, 10, 24, 30])
+    known("point by point", sim3.act_each(join, line), [10, 20, 30, 10, 22, 30, 10, 24, 30])
+
+
+def times(block, tau):
+    """A block times a tangent: the rows (a 0 0), (b c f), (0 0 e)."""
+    a, b, c, f, e = block[:9], block[9:18], block[18:27], block[27:30], block[30]
+    phi, rho, sigma = tau[:3], tau[3:6], tau[6]
+    rows = range(3)
+    return [*(sum(a[r + 3 * k] * phi[k] for k in rows) for r in rows),
+            *(sum(b[r + 3 * k] * phi[k] + c[r + 3 * k] * rho[k] for k in rows) + f[r] * sigma for r in rows),
+            e * sigma]
+
+
+def adjust(join):
+    """The adjuster: both sides from one evaluation. Each block leaves its own tangent as it is."""
+    tau = [0.1, -0.2, 0.3, 1, 2, 3, 0.5]
+    left, left_inv, right, right_inv = sim3.block_pair(tau)
+    by_phi, by_rho, by_sigma, by_point = sim3.act_jacobians_left(join, [1, 0, 0])
+    known("left", times(left, tau), tau)
+    known("left inverse", times(left_inv, tau), tau)
+    known("right", times(right, tau), tau)
+    known("right inverse", times(right_inv, tau), tau)
+    known("moved point by sigma", by_sigma, [10, 22, 30])
+
+
+def refused(number, function, *arguments):
+    """A call that must be refused, with this number."""
+    try:
+        function(*arguments)
+    except sim3.Refusal as refusal:
+        print(refusal)
+        if refusal.number != number:
+            wrong.append(f"{function.__name__}: refusal {refusal.number} and not {number}")
+    else:
+        wrong.append(f"{function.__name__}: an answer and not refusal {number}")
+
+
+def main():
+    join = join_runs()
+    move_line(join)
+    adjust(join)
+    refused(8, sim3.exp, [0] * 6)
+    refused(2, sim3.block_inverse, [0] * 31)
+    refused(1, sim3.scaled_pair, 0, -1)
+    refused(5, sim3.act_many, join, [0] * 7)
+    for message in wrong:
+        print(f"WRONG: {message}")
+    print("example: WRONG, see above" if wrong else "example: every answer is the one known by hand")
+    return 1 if wrong else 0
+
+
+if __name__ == "__main__":
+    try:
+        sys.exit(main())
+    except sim3.LibraryMissing as missing:
+        print(missing, file=sys.stderr)
+        sys.exit(2)

@@ -1,0 +1,132 @@
+//! The engine from Rust: two runs of shots are joined by a similarity, a staff line's points are
+//! moved, Jacobian blocks are taken, and refusals are shown. Every answer is compared with numbers
+//! known by hand; exit status 1 and a message where one is wrong. examples/rust/run builds and runs it.
+
+use sim3::{host, Block, Pose, Refusal, Tangent};
+use std::f64::consts::{FRAC_1_SQRT_2 as HALF_ROOT, FRAC_PI_2, LN_2};
+use std::process::ExitCode;
+
+/// Prints a list; whether it is the one known by hand.
+fn known(what: &str, found: &[f64], due: &[f64]) -> bool {
+    println!("{what}: {found:.6?}");
+    let good =
+        found.len() == due.len() && found.iter().zip(due).all(|(x, y)| (x - y).abs() <= 1e-12);
+    if !good {
+        println!("{what}: WRONG: {found:?} and not {due:?}");
+    }
+    good
+}
+
+/// The camera hand: a shot stands in both runs, at x in the first and at y in the second. X Y⁻¹ takes
+/// the second run's places to the first's.
+fn join_runs() -> (Pose, bool) {
+    let turn = [0.0, 0.0, FRAC_PI_2, 0.0, 0.0, 0.0, LN_2]; // a quarter turn about z, and twice the size
+    let turned = sim3::exp(&turn, &host::tangent_values(&turn));
+    let shift = [1.0, 0.0, 0.0, 0.0, 10.0, 22.0, 30.0, 0.0];
+    let x = sim3::mul(&shift, &turned, host::up(&shift));
+    let y = [1.0, 0.0, 0.0, 0.0, 1.0, 0.0, 0.0, 0.0];
+    let join = sim3::mul_inv(&x, &y, host::ds(&x, &y));
+    let next = [1.0, 0.0, 0.0, 0.0, 2.0, 0.0, 0.0, 0.0]; // the second run's next shot
+    let placed = sim3::mul(&join, &next, host::up(&join));
+    let back = sim3::inv_mul(&placed, &join, host::down(&join));
+    let good = [
+        known("join", &join, &[HALF_ROOT, 0.0, 0.0, HALF_ROOT, 10.0, 20.0, 30.0, LN_2]),
+        known("next shot", &placed, &[HALF_ROOT, 0.0, 0.0, HALF_ROOT, 10.0, 24.0, 30.0, LN_2]),
+        known("and back", &back, &next),
+    ];
+    (join, good.iter().all(|&x| x))
+}
+
+/// The page flattener: the points of a staff line.
+fn move_line(join: &Pose) -> Result<bool, Refusal> {
+    let line = [[0.0, 0.0, 0.0], [1.0, 0.0, 0.0], [2.0, 0.0, 0.0]];
+    let mut moved = [[0.0; 3]; 3];
+    sim3::act_many(join, host::up(join), line.as_flattened(), moved.as_flattened_mut())?;
+    let due = [10.0, 20.0, 30.0, 10.0, 22.0, 30.0, 10.0, 24.0, 30.0];
+    let many = known("staff line", moved.as_flattened(), &due);
+    sim3::act_each(join, host::up(join), line.as_flattened(), moved.as_flattened_mut())?;
+    Ok(known("point by point", moved.as_flattened(), &due) && many)
+}
+
+/// A block times a tangent: the rows (a 0 0), (b c f), (0 0 e).
+fn times(block: &Block, tau: &Tangent) -> Tangent {
+    let mut out = [0.0; 7];
+    for row in 0..3 {
+        out[3 + row] = block[27 + row] * tau[6];
+        for k in 0..3 {
+            out[row] += block[row + 3 * k] * tau[k];
+            out[3 + row] += block[9 + row + 3 * k] * tau[k] + block[18 + row + 3 * k] * tau[3 + k];
+        }
+    }
+    out[6] = block[30] * tau[6];
+    out
+}
+
+/// The adjuster: both sides from one evaluation. Each block leaves its own tangent as it is.
+fn adjust(join: &Pose) -> bool {
+    let tau = [0.1, -0.2, 0.3, 1.0, 2.0, 3.0, 0.5];
+    let (jl, jl_inv) = host::rotation_jacobians(&host::phi(&tau));
+    let pair = sim3::block_pair(&tau, &host::tangent_values(&tau), &jl, &jl_inv);
+    let by = sim3::act_jacobians_left(join, host::up(join), &[1.0, 0.0, 0.0]);
+    let good = [
+        known("left", &times(&pair.left, &tau), &tau),
+        known("left inverse", &times(&pair.left_inv, &tau), &tau),
+        known("right", &times(&pair.right, &tau), &tau),
+        known("right inverse", &times(&pair.right_inv, &tau), &tau),
+        known("moved point by sigma", &by.sigma, &[10.0, 22.0, 30.0]),
+    ];
+    good.iter().all(|&x| x)
+}
+
+/// Shows a call that must be refused with this number.
+fn refused<T>(what: &str, number: u32, answer: Result<T, Refusal>) -> bool {
+    let found = match answer {
+        Ok(_) => 0,
+        Err(refusal) => {
+            println!("{what}: {refusal}");
+            refusal.number()
+        }
+    };
+    if found != number {
+        println!("{what}: WRONG: {found} and not refusal {number}");
+    }
+    found == number
+}
+
+fn refusals(join: &Pose) -> bool {
+    let mut short = [0.0; 6];
+    let good = [
+        refused(
+            "act_many with an out of six numbers",
+            5,
+            sim3::act_many(join, 2.0, &[0.0; 9], &mut short),
+        ),
+        refused(
+            "act_many with seven numbers",
+            5,
+            sim3::act_many(join, 2.0, &[0.0; 7], &mut [0.0; 7]),
+        ),
+        refused("block_inverse with e = 0", 2, sim3::block_inverse(&[0.0; 31])),
+        refused("scaled_pair with z = -1", 1, sim3::scaled_pair(0.0, -1.0, &[0.0; 10])),
+    ];
+    good.iter().all(|&x| x)
+}
+
+fn main() -> ExitCode {
+    let (join, joined) = join_runs();
+    let moved = move_line(&join).unwrap_or_else(|refusal| {
+        println!("staff line: WRONG: {refusal}");
+        false
+    });
+    let (adjusted, shown) = (adjust(&join), refusals(&join));
+    let good = joined && moved && adjusted && shown;
+    println!(
+        "example: {}",
+        if good { "every answer is the one known by hand" } else { "WRONG, see above" }
+    );
+    if good {
+        ExitCode::SUCCESS
+    } else {
+        ExitCode::FAILURE
+    }
+}

@@ -1,0 +1,60 @@
+"""What the bindings declare of the C functions against include/sim3.h: names, arguments in order, and their types."""
+import re
+
+from .common import ROOT, same
+from sim3 import raw
+
+TYPES = {"const double *": "in", "double *": "out", "size_t": "count", "double": "number",
+         "*const f64": "in", "*mut f64": "out", "usize": "count", "f64": "number"}
+
+
+def of_header():
+    """Each function of the header: its arguments as (name, type)."""
+    text = (ROOT / "include/sim3.h").read_text()
+    found = {}
+    for name, arguments in re.findall(r"^uint32_t sim3_(\w+)\(([^)]*)\);", text, re.M):
+        words = [re.fullmatch(r"(.*?)(\w+)", " ".join(a.split())).groups() for a in arguments.split(",")]
+        found[name] = [(argument, TYPES[kind.strip()]) for kind, argument in words]
+    return found
+
+
+def of_rust():
+    text = (ROOT / "bindings/rust/raw.rs").read_text()
+    found = {}
+    for name, arguments in re.findall(r"^ +fn sim3_(\w+)\(([^)]*)\) -> u32;", text, re.M):
+        words = [a.split(":") for a in arguments.split(",") if a.strip()]
+        found[name] = [(argument.strip(), TYPES[kind.strip()]) for argument, kind in words]
+    return found
+
+
+def of_python():
+    """The table as it goes to ctypes, where a list written in place is an out."""
+    found = {}
+    for name, made in raw.FUNCTIONS.items():
+        arguments = []
+        for argument, kind in made.takes:
+            place = "in" if made.gives else "out"
+            arguments += [(argument, "number")] if kind == raw.NUMBER else [(argument, place), (argument + "_n", "count")]
+        found[name] = arguments + ([("out", "out"), ("out_n", "count")] if made.gives else [])
+    return found
+
+
+def header_and_python():
+    same(of_python(), of_header(), "the table of bindings/python/sim3/raw.py")
+
+
+def header_and_rust():
+    same(of_rust(), of_header(), "the declarations of bindings/rust/raw.rs")
+
+
+def unsafe_in_one_file():
+    """Each unsafe block has its reason on the line before, and there is none outside raw.rs."""
+    for path in sorted((ROOT / "bindings/rust").glob("*.rs")):
+        lines = path.read_text().splitlines()
+        for number, line in enumerate(lines, 1):
+            if re.search(r"\bunsafe\b", line.split("//")[0]):
+                assert path.name == "raw.rs", f"{path.name}:{number}: unsafe outside raw.rs"
+                assert "// SAFETY:" in lines[number - 2], f"{path.name}:{number}: unsafe without its reason"
+
+
+TESTS = [header_and_python, header_and_rust, unsafe_in_one_file]

@@ -1,0 +1,95 @@
+//! Every function of bindings/rust for tests/bindings: reads records of 102 doubles from standard
+//! input, the arguments in the order of `Arguments`, calls each function once, and writes their
+//! numbers in the order of include/sim3.h.
+
+use sim3::*;
+use std::io::{self, Read, Write};
+
+/// Takes the next N numbers.
+fn next<const N: usize>(from: &mut &[f64]) -> [f64; N] {
+    let (found, rest) = from.split_at(N);
+    *from = rest;
+    found.try_into().unwrap()
+}
+
+struct Arguments {
+    tau: Tangent,
+    values: Values,
+    x: Pose,
+    y: Pose,
+    jl: Matrix,
+    jl_inv: Matrix,
+    j: Block,
+    p: Vector,
+    pts: [f64; 12],
+    numbers: [f64; 5],
+}
+
+fn read(mut from: &[f64]) -> Arguments {
+    let from = &mut from;
+    Arguments {
+        tau: next(from),
+        values: next(from),
+        x: next(from),
+        y: next(from),
+        jl: next(from),
+        jl_inv: next(from),
+        j: next(from),
+        p: next(from),
+        pts: next(from),
+        numbers: next(from),
+    }
+}
+
+fn poses(a: &Arguments, out: &mut Vec<f64>) -> Result<(), Refusal> {
+    let [up, down, ds, ..] = a.numbers;
+    out.extend(exp(&a.tau, &a.values));
+    out.extend(mul(&a.x, &a.y, up));
+    out.extend(inverse(&a.x, down));
+    out.extend(mul_inv(&a.x, &a.y, ds));
+    out.extend(inv_mul(&a.x, &a.y, down));
+    let mut near = a.x;
+    renormalize(&mut near);
+    out.extend(near);
+    let mut moved = [0.0; 12];
+    act_many(&a.x, up, &a.pts, &mut moved)?;
+    out.extend(moved);
+    act_each(&a.x, up, &a.pts, &mut moved)?;
+    out.extend(moved);
+    Ok(())
+}
+
+fn blocks(a: &Arguments, out: &mut Vec<f64>) -> Result<(), Refusal> {
+    let [up, down, _, sigma, z] = a.numbers;
+    let (pos, neg) = scaled_pair(sigma, z, &a.values)?;
+    out.extend([pos, neg].as_flattened());
+    let pair = block_pair(&a.tau, &a.values, &a.jl, &a.jl_inv);
+    out.extend([pair.left, pair.left_inv, pair.right, pair.right_inv].as_flattened());
+    out.extend(block_inverse(&a.j)?);
+    out.extend(adjoint(&a.x, up));
+    for by in [act_jacobians_right(&a.x, up, &a.p), act_jacobians_left(&a.x, up, &a.p)] {
+        out.extend([by.phi, by.rho].as_flattened());
+        out.extend(by.sigma);
+        out.extend(by.point);
+    }
+    for (first, second) in [compose_jacobians_right(&a.y, down), compose_jacobians_left(&a.x, up)] {
+        out.extend([first, second].as_flattened());
+    }
+    out.extend(inverse_jacobian_right(&a.x, up));
+    out.extend(inverse_jacobian_left(&a.x, down));
+    Ok(())
+}
+
+fn main() -> io::Result<()> {
+    let mut bytes = Vec::new();
+    io::stdin().read_to_end(&mut bytes)?;
+    let numbers: Vec<f64> =
+        bytes.chunks_exact(8).map(|b| f64::from_le_bytes(b.try_into().unwrap())).collect();
+    let mut out = Vec::new();
+    for record in numbers.chunks_exact(102) {
+        let a = read(record);
+        poses(&a, &mut out).and_then(|()| blocks(&a, &mut out)).map_err(io::Error::other)?;
+    }
+    let written: Vec<u8> = out.iter().flat_map(|x| x.to_le_bytes()).collect();
+    io::stdout().write_all(&written)
+}

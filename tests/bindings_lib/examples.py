@@ -1,0 +1,55 @@
+"""The examples run and find their answers right, and the README's snippets are theirs."""
+import re
+import subprocess
+import textwrap
+
+from .common import ROOT, compiler
+from sim3.raw import library
+
+SOURCES = {"c": "examples/c/join.c", "python": "examples/python/join.py", "rust": "examples/rust/join.rs"}
+
+
+# The refusals that every example shows, in words.
+SHOWN = [r"refusal 1: z is .*below zero", r"refusal 2: e, the last number", r"refusal 5: .*(no multiple of 3|list of points has a wrong length)"]
+ALSO_SHOWN = {"c": [r"refusal 8: a list has a wrong length"], "python": [r"refusal 8: tau has 6 numbers; expected 7"],
+              "rust": [r"refusal 5: out has 6 numbers where pts has 9"]}
+
+
+def runs(language):
+    done = subprocess.run([ROOT / "examples" / language / "run"], stdout=subprocess.PIPE, stderr=subprocess.STDOUT, text=True)
+    assert done.returncode == 0, f"examples/{language}/run has exit status {done.returncode}:\n{done.stdout}"
+    for part in (*SHOWN, *ALSO_SHOWN[language], "every answer is the one known by hand"):
+        assert re.search(part, done.stdout), f"examples/{language}/run does not say {part!r}:\n{done.stdout}"
+
+
+def c_example():
+    compiler("cc", "CC")
+    runs("c")
+
+
+def python_example():
+    library()  # which says what is missing
+    runs("python")
+
+
+def rust_example():
+    compiler("rustc", None)
+    compiler("cc", None)  # by which rustc links
+    runs("rust")
+
+
+def lines_of(text):
+    return [line.strip() for line in textwrap.dedent(text).splitlines() if line.strip()]
+
+
+def snippets():
+    """Each block of C, Python or Rust in the README stands in the example of its language, line by line."""
+    found = re.findall(r"^```(c|python|rust)\n(.*?)^```", (ROOT / "README.md").read_text(), re.M | re.S)
+    assert {language for language, _ in found} == set(SOURCES), f"snippets of {[language for language, _ in found]}"
+    for language, text in found:
+        wanted, there = lines_of(text), lines_of((ROOT / SOURCES[language]).read_text())
+        places = range(len(there) - len(wanted) + 1)
+        assert any(there[i:i + len(wanted)] == wanted for i in places), f"not in {SOURCES[language]}:\n{text}"
+
+
+TESTS = [c_example, python_example, rust_example, snippets]

@@ -1,0 +1,190 @@
+"""The Python package: the same numbers as the bare calls, nothing changed that was lent, and what it says to wrong input."""
+import array
+import ctypes
+import os
+import random
+import shutil
+import subprocess
+import sys
+import tempfile
+
+import sim3
+from .common import ROOT, answered, bits, doubles, packed, same
+from sim3 import host, numbers, raw
+
+# What an argument is where it is left out, by the arguments that are there.
+LEFT_OUT = {
+    "values": lambda a: host.tangent_values(a["tau"]) if "tau" in a else host.values(a["sigma"], a["z"]),
+    "jl": lambda a: host.rotation_jacobians(a["tau"][:3])[0], "jl_inv": lambda a: host.rotation_jacobians(a["tau"][:3])[1],
+    "ds": lambda a: host.exponential(a["x"][7] - a["y"][7]), "up": lambda a: host.exponential(a["x"][7]),
+    "down": lambda a: host.exponential(-a["y" if "y" in a else "x"][7]),
+}
+
+
+def arguments(name, source):
+    """Ordinary arguments by name."""
+    found = {}
+    for argument, kind in raw.FUNCTIONS[name].takes:
+        count = 12 if kind == raw.POINTS else 1 if kind == raw.NUMBER else raw.KINDS[kind][0]
+        some = [source.uniform(0.1, 1.5) for _ in range(count)]
+        found[argument] = some[0] if kind == raw.NUMBER else some
+    return found
+
+
+def flat(answer):
+    parts = answer if isinstance(answer, tuple) else (answer,)
+    return bits(b"".join(part.tobytes() for part in parts))
+
+
+def bare(name, given):
+    """The bits of the bare call's answer."""
+    data = b"".join(packed(x if isinstance(x, list) else [x]) for x in given.values())
+    status, out = answered(name, data)
+    same(status, 0, f"sim3_{name}")
+    return bits(out)
+
+
+def same_as_bare_calls():
+    """Every argument given, and then those left out that the host computes."""
+    source = random.Random(7)
+    for name in raw.FUNCTIONS:
+        for _ in range(20):
+            given = arguments(name, source)
+            same(flat(getattr(sim3, name)(**given)), bare(name, given), f"sim3.{name}")
+            kept = {argument: x for argument, x in given.items() if argument not in LEFT_OUT}
+            full = {argument: LEFT_OUT[argument](given) if argument in LEFT_OUT else x for argument, x in given.items()}
+            same(flat(getattr(sim3, name)(**kept)), bare(name, full), f"sim3.{name} with the host's values")
+
+
+def parts_of_answers():
+    """An answer of several lists is cut where the C function's lists begin."""
+    for name, made in raw.FUNCTIONS.items():
+        answer = getattr(sim3, name)(**arguments(name, random.Random(8)))
+        if len(made.gives) > 1:
+            same([len(part) for part in answer], [raw.KINDS[kind][0] for kind in made.gives], f"lists of sim3.{name}")
+        else:
+            assert isinstance(answer, array.array), f"sim3.{name} answers {type(answer)}"
+
+
+def forms_of_a_list():
+    """Lists, tuples and buffers give the same; odd places and read-only bytes too."""
+    x, points = [1.0, 0.5, 0.25, 0.125, 1.0, 2.0, 3.0, 0.5], [float(i) for i in range(12)]
+    due = sim3.act_many(x, points)
+    packed = array.array("d", points)
+    shifted = bytearray(b"\0" + packed.tobytes())
+    for what, form in [("tuple", tuple(points)), ("ints", [int(p) for p in points]), ("array", packed), ("floats of C", array.array("f", points)),
+                       ("view", memoryview(packed)), ("rows", memoryview(packed).cast("B").cast("d", [4, 3])),
+                       ("read-only", memoryview(packed.tobytes()).cast("d")), ("odd place", memoryview(shifted)[1:].cast("d")),
+                       ("ctypes", doubles(packed.tobytes()))]:
+        same(sim3.act_many(x, form), due, f"sim3.act_many of {what}")
+    same(sim3.act_many(x, []), array.array("d"), "no points")
+
+
+def nothing_lent_is_changed():
+    source = random.Random(9)
+    for name in raw.FUNCTIONS:
+        given = {a: array.array("d", x) if isinstance(x, list) else x for a, x in arguments(name, source).items()}
+        before = {a: x[:] if isinstance(x, array.array) else x for a, x in given.items()}
+        getattr(sim3, name)(**given)
+        same(given, before, f"arguments after sim3.{name}")
+
+
+def refused_lists_are_let_go():
+    """Who catches a refusal can change the length of the list at once."""
+    for name, argument, wrong in (("exp", "tau", [1.0] * 6), ("act_many", "pts", [1.0] * 7)):
+        long = array.array("d", wrong)
+        try:
+            getattr(sim3, name)(**{**arguments(name, random.Random(4)), argument: long})
+        except sim3.Refusal:
+            long.append(1.0)
+        same(len(long), len(wrong) + 1, f"length after a refusal of sim3.{name}")
+
+
+def buffers_are_not_copied():
+    long = array.array("d", bytes(8 * 65_535))
+    same(ctypes.addressof(numbers.lent("long", long)), long.buffer_info()[0], "address of a lent array")
+
+
+def fails(kind, parts, function, *given, **named):
+    """A call that raises this kind of exception, whose text has these parts."""
+    try:
+        answer = function(*given, **named)
+    except kind as error:
+        for part in parts:
+            assert part in str(error), f"no {part!r} in {error}"
+        return error
+    raise AssertionError(f"{function.__name__}{given}{named} answered {answer}")
+
+
+def wrong_lists():
+    """Each list of each function: a wrong length, none, a text, bytes, a number, a text among the numbers."""
+    for name, made in raw.FUNCTIONS.items():
+        for argument, kind in made.takes:
+            if kind == raw.NUMBER:
+                continue
+            good, number = arguments(name, random.Random(3)), 5 if kind == raw.POINTS else 8
+            function, where = getattr(sim3, name), f"sim3.{name}: "
+            for wrong in ([*good[argument], 1.0], good[argument][1:], *([[]] if number == 8 else [[0] * 65_538])):
+                found = fails(sim3.Refusal, [where, f"refusal {number}", argument + " has"], function, **{**good, argument: wrong})
+                same(found.number, number, f"number of {found}")
+            for wrong in ("1234567", b"12345678" * 8, 7, {1: 2}, (x for x in good[argument]), [*good[argument][1:], "1"], [good[argument]],
+                          memoryview(array.array("d", good[argument] * 2))[::2]):
+                fails(TypeError, [where, argument, "expected"], function, **{**good, argument: wrong})
+            fails(OverflowError, [where, argument], function, **{**good, argument: [10 ** 400, *good[argument][1:]]})
+            if argument not in LEFT_OUT:
+                fails(TypeError, [where, argument, "NoneType"], function, **{**good, argument: None})
+
+
+def wrong_numbers():
+    for name, made in raw.FUNCTIONS.items():
+        for argument in [a for a, kind in made.takes if kind == raw.NUMBER]:
+            good = arguments(name, random.Random(3))
+            for wrong in ("1", [1.0], b"1", *([] if argument in LEFT_OUT else [None])):
+                fails(TypeError, [f"sim3.{name}: {argument}", "expected a number"], getattr(sim3, name), **{**good, argument: wrong})
+
+
+def refusals_in_words():
+    same(fails(sim3.Refusal, ["z is -1.0", "squared angle"], sim3.scaled_pair, 0, -1).number, 1, "number for z = -1")
+    same(fails(sim3.Refusal, ["e, the last number of j, is -0.0", "no inverse"], sim3.block_inverse, [1] * 30 + [-0.0]).number, 2, "number for e = -0")
+    assert issubclass(sim3.Refusal, ValueError), "a refusal is a ValueError"
+
+
+def loaded_from():
+    """The C library's own file, a shared library without these functions."""
+    with open("/proc/self/maps") as maps:
+        return next(line.split()[-1] for line in maps if "/libc.so" in line or "/libc-" in line)
+
+
+def other_library():
+    """A library that is missing, no library, or another one, is said with what to do."""
+    code = "import sys; sys.path.insert(0, 'bindings/python'); import sim3; sim3.renormalize([1] * 8)"
+    for path, what in (("/no/such/library.so", "no shared library"), ("README.md", "invalid ELF"), (loaded_from(), "undefined symbol")):
+        done = subprocess.run([sys.executable, "-B", "-c", code], cwd=ROOT, env={**os.environ, "SIM3_LIBRARY": path},
+                              stderr=subprocess.PIPE, text=True)
+        last = (done.stderr.strip().splitlines() or [""])[-1]
+        for part in ("LibraryMissing", path, what, "bindings/build"):
+            assert done.returncode and part in last, f"SIM3_LIBRARY={path}: {done.stderr or 'an answer'}"
+
+
+def build_without_tools():
+    """bindings/build names the tool that is missing, and leaves nothing half made."""
+    with tempfile.TemporaryDirectory() as work:
+        for folder in ("bindings", "crates", "target/staticlib", "bin"):
+            os.makedirs(f"{work}/{folder}")
+        shutil.copy(ROOT / "bindings/build", f"{work}/bindings/build")
+        open(f"{work}/crates.txt", "w").close()
+        for tool in ("bash", "dirname", "find", "head", "mkdir", "mv", "rm", "touch"):
+            os.symlink(shutil.which(tool), f"{work}/bin/{tool}")
+        build = [f"{work}/bin/bash", f"{work}/bindings/build"]
+        environment = {"PATH": f"{work}/bin"}
+        done = subprocess.run(build, env=environment, stderr=subprocess.PIPE, text=True)
+        assert done.returncode == 2 and "'rt'" in done.stderr, f"without rt: {done}"
+        shutil.copy(ROOT / "target/staticlib/libsim3_c.a", f"{work}/target/staticlib")
+        done = subprocess.run(build, env=environment, stderr=subprocess.PIPE, text=True)
+        assert done.returncode == 2 and "'cc'" in done.stderr, f"without cc: {done}"
+        done = subprocess.run([*build, "archives"], env=environment, stderr=subprocess.PIPE, text=True)
+        assert done.returncode == 2 and "'archives'" in done.stderr, f"with a wrong word: {done}"
+
+
+TESTS = [same_as_bare_calls, parts_of_answers, forms_of_a_list, nothing_lent_is_changed, refused_lists_are_let_go, buffers_are_not_copied, wrong_lists, wrong_numbers,
+         refusals_in_words, other_library, build_without_tools]
