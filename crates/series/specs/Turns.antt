@@ -94,7 +94,10 @@ unfoldable pub soloTurns : Format → Float → Float → ℕ → Turns
 soloTurns f sigma z zero = record { level = seriesFirst; sums = sumsNone }
 soloTurns f sigma z (suc j) = soloTurn f sigma z (recipFact f (j + 1)) (recipFact f (j + 2)) (soloTurns f sigma z j)
 
--- ---- v alone
+-- ---- v alone: before the first level, a turn, and n turns
+unfoldable pub vNone : TurnsV
+vNone = record { p = f1; xi = f0; zeta = f0; v1 = f0; v2 = f0 }
+
 unfoldable pub vTurn : Format → Float → Float → Float → TurnsV → TurnsV
 vTurn f sigma z r1 s =
     record {
@@ -106,7 +109,7 @@ vTurn f sigma z r1 s =
     }
 
 unfoldable pub vTurns : Format → Float → Float → ℕ → TurnsV
-vTurns f sigma z zero = record { p = f1; xi = f0; zeta = f0; v1 = f0; v2 = f0 }
+vTurns f sigma z zero = vNone
 vTurns f sigma z (suc j) = vTurn f sigma z (recipFact f (j + 1)) (vTurns f sigma z j)
 
 -- ---- both signs
