@@ -9,10 +9,13 @@ use Rattle.linalg.specs.Answer.{Answer, answers, refuses}
 use Rattle.circle.specs.Tables.{Row, cosHalfRow, kRow, aRow, bRow, dRow, rowTable, rowTerms, rowLimit, shortTerms, expShortLimit, fiveShortLimit}
 use Rattle.circle.specs.declared.kernel.ExpCoeffs.{ExpCoeffs}
 use Rattle.circle.specs.declared.kernel.SincABD.{SincABD}
+use Rattle.circle.specs.declared.kernel.SincA.{SincA}
 use Rattle.circle.specs.declared.kernel.ExpCoeffsAnswer.{ExpCoeffsAnswer}
 use Rattle.circle.specs.declared.kernel.ExpCoeffsAnswer.the-variants as exp
 use Rattle.circle.specs.declared.kernel.SincABDAnswer.{SincABDAnswer}
 use Rattle.circle.specs.declared.kernel.SincABDAnswer.the-variants as abd
+use Rattle.circle.specs.declared.kernel.SincAAnswer.{SincAAnswer}
+use Rattle.circle.specs.declared.kernel.SincAAnswer.the-variants as two
 use Rattle.circle.specs.declared.kernel.SincAnswer.{SincAnswer}
 use Rattle.circle.specs.declared.kernel.SincAnswer.the-variants as sinc
 
@@ -24,6 +27,10 @@ expCoeffsTold (exp.Refused n) = refuses n
 unfoldable pub sincABDTold : SincABDAnswer → Answer SincABD
 sincABDTold (abd.Coeffs c) = answers c
 sincABDTold (abd.Refused n) = refuses n
+
+unfoldable pub sincATold : SincAAnswer → Answer SincA
+sincATold (two.Coeffs c) = answers c
+sincATold (two.Refused n) = refuses n
 
 unfoldable pub sincTold : SincAnswer → Answer Float
 sincTold (sinc.Number x) = answers x
@@ -91,6 +98,12 @@ circleSincABD f z root sh ch s =
       d = rowMember f short dRow z (exactD f z a);
     }
 
+-- sinc and a of these, which do not read s
+unfoldable pub circleSincA : Format → Float → Float → Float → Float → SincA
+circleSincA f z root sh ch =
+    let c = circleSincABD f z root sh ch f0 in
+    record { sinc = c .sinc; a = c .a }
+
 -- ---- the entries: refusal 1 for z below zero, which -0 and NaN are not
 abbrev pub notBelowZero : {A : Type 0} → Float → A → Answer A
 notBelowZero z x = cond (lt z f0) (refuses 1) (answers x)
@@ -103,3 +116,6 @@ circleSincAnswer f z root sh ch = notBelowZero z (circleSinc f z root sh ch)
 
 unfoldable pub circleSincABDAnswer : Format → Float → Float → Float → Float → Float → Answer SincABD
 circleSincABDAnswer f z root sh ch s = notBelowZero z (circleSincABD f z root sh ch s)
+
+unfoldable pub circleSincAAnswer : Format → Float → Float → Float → Float → Answer SincA
+circleSincAAnswer f z root sh ch = notBelowZero z (circleSincA f z root sh ch)

@@ -7,7 +7,7 @@ ghost use lib.Ieee.{binary64, lt};
 ghost use Rattle.ieee.specs.Numbers.{f0};
 ghost use Rattle.linalg.specs.Vector.{vecNormSq};
 ghost use Rattle.circle.specs.Rows.{rowNamed};
-ghost use Rattle.circle.specs.Kernel.{expCoeffsTold, sincABDTold, sincTold, hornerSum, rowSeries, rowWhole, rowOwn, exactA, exactB, exactD, sincFrom, circleExp, circleSincABD, circleExpAnswer, circleSincAnswer, circleSincABDAnswer};
+ghost use Rattle.circle.specs.Kernel.{expCoeffsTold, sincABDTold, sincATold, sincTold, hornerSum, rowSeries, rowWhole, rowOwn, exactA, exactB, exactD, sincFrom, circleExp, circleSincABD, circleSincA, circleExpAnswer, circleSincAnswer, circleSincABDAnswer, circleSincAAnswer};
 use crate::generated;
 use crate::generated::Row;
 use linalg::vector::Vec3;
@@ -18,12 +18,20 @@ pub struct ExpCoeffs {
     pub cos_half: f64,
 }
 
-// sin x/x, (1 - cos x)/x^2, (x - sin x)/x^3, (x^2/2 - 1 + cos x)/x^4.
+// (1 - cos x)/x^2, (x - sin x)/x^3, sin x/x, (x^2/2 - 1 + cos x)/x^4. a and b stand together because
+// the compiler forms and stores them as one vector: read as halves of other vectors, which another
+// order brings about, they would have to wait for the store.
 pub struct SincABD {
-    pub sinc: f64,
     pub a: f64,
     pub b: f64,
+    pub sinc: f64,
     pub d: f64,
+}
+
+// sin x/x and (1 - cos x)/x^2 alone.
+pub struct SincA {
+    pub sinc: f64,
+    pub a: f64,
 }
 
 // The coefficients, or refusal 1.
@@ -35,6 +43,12 @@ pub enum ExpCoeffsAnswer {
 // The coefficients, or refusal 1.
 pub enum SincABDAnswer {
     Coeffs(SincABD),
+    Refused(u8),
+}
+
+// The coefficients, or refusal 1.
+pub enum SincAAnswer {
+    Coeffs(SincA),
     Refused(u8),
 }
 
@@ -186,6 +200,36 @@ pub fn sinc_a_b_d(z: f64, root: f64, sin_half: f64, cos_half: f64, sin: f64) -> 
         return SincABDAnswer::Refused(1);
     }
     SincABDAnswer::Coeffs(five_group(z, root, sin_half, cos_half, sin))
+}
+
+// sinc and a of the group of five alone, with its bits.
+fn two_group(z: f64, root: f64, sin_half: f64, cos_half: f64) -> SincA
+    ensures { λ r. ⌜ r ≡ circleSincA binary64 z root «sin_half» «cos_half» ⌝ }
+{
+    if z < generated::FIVE_SHORT_BELOW {
+        let n = generated::SHORT_TERMS;
+        let sinc = sinc_from(series(Row::K, n, z), series(Row::CosHalf, n, z));
+        let a = series(Row::A, n, z);
+        return SincA { sinc, a };
+    }
+    if z < generated::COS_HALF_BELOW {
+        let sinc = sinc_from(whole(Row::K, z), whole(Row::CosHalf, z));
+        let a = whole(Row::A, z);
+        return SincA { sinc, a };
+    }
+    let sinc = sinc_from(own_arm(Row::K, z, sin_half / root), cos_half);
+    let a = own_arm(Row::A, z, a_from(z, sin_half));
+    SincA { sinc, a }
+}
+
+// sinc and a of `sinc_a_b_d` alone, which the closed form of V reads; refusal 1 for z below zero.
+pub fn sinc_a(z: f64, root: f64, sin_half: f64, cos_half: f64) -> SincAAnswer
+    ensures { λ r. ⌜ sincATold r ≡ circleSincAAnswer binary64 z root «sin_half» «cos_half» ⌝ }
+{
+    if negative(z) {
+        return SincAAnswer::Refused(1);
+    }
+    SincAAnswer::Coeffs(two_group(z, root, sin_half, cos_half))
 }
 
 // sin x/x = 2 k cos(x/2).

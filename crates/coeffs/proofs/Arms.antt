@@ -10,13 +10,15 @@ use Rattle.linalg.specs.Answer.{Answer, answers, refuses, andThen}
 use Rattle.linalg.specs.Vector.{vecNormSq}
 use Rattle.linalg.specs.declared.vector.Vec3.{Vec3}
 use Rattle.linalg.proofs.Answers.{refused-as, answered-as, answered-at, not-refused, both-as}
-use Rattle.circle.specs.Kernel.{notBelowZero, circleSincABD}
+use Rattle.circle.specs.Kernel.{notBelowZero, circleSincABD, circleSincA}
 use Rattle.circle.specs.declared.kernel.SincABD.{SincABD}
+use Rattle.circle.specs.declared.kernel.SincA.{SincA}
 use Rattle.circle.proofs.Angle.{norm-not-below}
 use Rattle.series.specs.Series.{seriesFull, seriesV, coeffs4, seriesGuard, seriesAnswer, seriesPairAnswer}
 use Rattle.series.specs.declared.sim3.CoeffsPair.{CoeffsPair}
 use Rattle.coeffs.specs.Limits.{coeffsDelta, seriesBelow, formBBelow, w0Below, seriesDepth}
-use Rattle.coeffs.specs.Closed.{closedFrom, closedVFrom, closedNine}
+use Rattle.coeffs.specs.Closed.{closedFrom, closedV, closedVFrom, closedNine}
+use Rattle.coeffs.specs.Shared.{closedOnly}
 use Rattle.coeffs.specs.Group.{coeffsScaled, coeffsVScaled, coeffsUnscale, coeffsUnscaleV, coeffsPlain, coeffsV}
 use Rattle.coeffs.specs.declared.values.Values.{Values}
 use Rattle.coeffs.specs.declared.sim3.Scaled.{Scaled}
@@ -80,10 +82,10 @@ pub v-closed :
     (f : Format) (sigma z : Float) (v : Values) → lt (coeffsDelta f sigma z) (seriesBelow f) ≡ false →
     coeffsVScaled f sigma z v
     ≡ record {
-      c = closedVFrom f sigma z (circleSincABD f z (v .root) (v .«sin_half») (v .«cos_half») (v .sin)) (v .e) (v .m) (le (formBBelow f) (coeffsDelta f sigma z)) (lt (mul f sigma sigma) (w0Below f));
+      c = closedVFrom f sigma z (closedOnly (circleSincA f z (v .root) (v .«sin_half») (v .«cos_half»))) (v .e) (v .m) (le (formBBelow f) (coeffsDelta f sigma z)) (lt (mul f sigma sigma) (w0Below f));
       scaled = lt f0 sigma;
     }
-unfolding coeffsVScaled coeffs4 closedFrom closedNine
+unfolding coeffsVScaled coeffs4 closedFrom closedNine closedVFrom closedV closedOnly circleSincA circleSincABD
 v-closed f sigma z v t = rw (scaled-closed f sigma z v t) refl
 
 -- ---- the closed arm, from what the circle functions answer
@@ -94,10 +96,10 @@ scaled-closed-answers f sigma z v t h r =
     arm-answers z _ t _ (λ x. record { c = closedFrom f sigma z x (v .e) (v .m) (le (formBBelow f) (coeffsDelta f sigma z)) (lt (mul f sigma sigma) (w0Below f)); scaled = lt f0 sigma }) (scaled-closed f sigma z v h) r
 
 pub v-closed-answers :
-    (f : Format) (sigma z : Float) (v : Values) (t : SincABD) → lt (coeffsDelta f sigma z) (seriesBelow f) ≡ false → notBelowZero z (circleSincABD f z (v .root) (v .«sin_half») (v .«cos_half») (v .sin)) ≡ answers t →
-    notBelowZero z (coeffsVScaled f sigma z v) ≡ answers (record { c = closedVFrom f sigma z t (v .e) (v .m) (le (formBBelow f) (coeffsDelta f sigma z)) (lt (mul f sigma sigma) (w0Below f)); scaled = lt f0 sigma })
+    (f : Format) (sigma z : Float) (v : Values) (t : SincA) → lt (coeffsDelta f sigma z) (seriesBelow f) ≡ false → notBelowZero z (circleSincA f z (v .root) (v .«sin_half») (v .«cos_half»)) ≡ answers t →
+    notBelowZero z (coeffsVScaled f sigma z v) ≡ answers (record { c = closedVFrom f sigma z (closedOnly t) (v .e) (v .m) (le (formBBelow f) (coeffsDelta f sigma z)) (lt (mul f sigma sigma) (w0Below f)); scaled = lt f0 sigma })
 v-closed-answers f sigma z v t h r =
-    arm-answers z _ t _ (λ x. record { c = closedVFrom f sigma z x (v .e) (v .m) (le (formBBelow f) (coeffsDelta f sigma z)) (lt (mul f sigma sigma) (w0Below f)); scaled = lt f0 sigma }) (v-closed f sigma z v h) r
+    arm-answers z _ t _ (λ x. record { c = closedVFrom f sigma z (closedOnly x) (v .e) (v .m) (le (formBBelow f) (coeffsDelta f sigma z)) (lt (mul f sigma sigma) (w0Below f)); scaled = lt f0 sigma }) (v-closed f sigma z v h) r
 
 -- ---- unscaled, from the scaled answer
 pub plain-answers : (f : Format) (sigma z : Float) (v : Values) (s : Scaled) → notBelowZero z (coeffsScaled f sigma z v) ≡ answers s → notBelowZero z (coeffsPlain f sigma z v) ≡ answers (coeffsUnscale f (s .c) (v .up) (s .scaled))

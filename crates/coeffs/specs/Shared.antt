@@ -5,6 +5,7 @@ use Rattle.ieee.specs.Numbers.{f0, f2, half}
 use Rattle.series.specs.declared.sim3.Sim3Coeffs.{Sim3Coeffs}
 use Rattle.series.specs.declared.sim3.Coeffs4.{Coeffs4}
 use Rattle.circle.specs.declared.kernel.SincABD.{SincABD}
+use Rattle.circle.specs.declared.kernel.SincA.{SincA}
 use Rattle.coeffs.specs.Values.{atZero}
 use Rattle.coeffs.specs.Limits.{coeffsDelta, formBBelow, w0Below}
 use Rattle.coeffs.specs.Closed.{closedE, closedM, closedG, closedV0, closedW0, closedFrom}
@@ -14,6 +15,10 @@ use Rattle.coeffs.specs.declared.closed.Exps.{Exps}
 use Rattle.coeffs.specs.declared.closed.Ends.{Ends}
 use Rattle.coeffs.specs.declared.values.Values.{Values}
 use Rattle.coeffs.specs.declared.sim3.ScaledPair.{ScaledPair}
+
+-- the circle functions with those alone that v reads
+unfoldable pub closedOnly : SincA → SincABD
+closedOnly t = record { a = t .a; b = f0; sinc = t .sinc; d = f0 }
 
 -- the parts of the nine, and the nine from them
 unfoldable pub closedWs : Format → Float → Float → Coeffs4 → Float → Ws

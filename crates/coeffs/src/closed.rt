@@ -3,8 +3,9 @@
 ghost use mathlib.Core.Path.{_≡_};
 ghost use lib.Ieee.{binary64, neg};
 ghost use Rattle.coeffs.specs.Closed.{closedV0, closedW0, closedV, closedVFrom, closedFrom};
-ghost use Rattle.coeffs.specs.Shared.{closedWs, closedDvs, closedJoined, closedExps, closedEnds};
+ghost use Rattle.coeffs.specs.Shared.{closedOnly, closedWs, closedDvs, closedJoined, closedExps, closedEnds};
 use crate::values::at_zero;
+use circle::kernel::SincA;
 use circle::kernel::SincABD;
 use series::sim3::Coeffs4;
 use series::sim3::CoeffsPair;
@@ -133,21 +134,33 @@ fn exps_of(sigma: f64, et: f64, mt: f64) -> Exps
     }
 }
 
+// The circle functions from those that v reads: b and d are left zero.
+fn only(t: SincA) -> SincABD
+    ensures { λ r. ⌜ r ≡ closedOnly t ⌝ }
+{
+    SincABD {
+        a: t.a,
+        b: 0.0,
+        sinc: t.sinc,
+        d: 0.0,
+    }
+}
+
 // v and chi_delta alone, from the circle functions t and from e^t, e^t - 1 at t = -|sigma|.
 pub fn closed_v(
     sigma: f64,
     z: f64,
-    t: SincABD,
+    t: SincA,
     et: f64,
     mt: f64,
     form_b: bool,
     small: bool,
 ) -> Coeffs4
-    ensures { λ r. ⌜ r ≡ closedVFrom binary64 sigma z t et mt «form_b» small ⌝ }
+    ensures { λ r. ⌜ r ≡ closedVFrom binary64 sigma z (closedOnly t) et mt «form_b» small ⌝ }
 {
     let x = exps_of(sigma, et, mt);
     let v0 = v0_of(sigma, x.g, x.m1, small);
-    v_from(sigma, z, t, x.e, x.m1, v0, form_b)
+    v_from(sigma, z, only(t), x.e, x.m1, v0, form_b)
 }
 
 // All nine, from the same.

@@ -14,6 +14,7 @@ use crate::closed::closed_from;
 use crate::closed::closed_v;
 use crate::values::Values;
 use crate::values::at_zero;
+use circle::kernel::SincAAnswer;
 use circle::kernel::SincABD;
 use circle::kernel::SincABDAnswer;
 use linalg::vector::Vec3;
@@ -180,8 +181,8 @@ pub fn sim3_v_scaled(sigma: f64, z: f64, v: Values) -> VScaledAnswer
             }
         }
     }
-    match circle::kernel::sinc_a_b_d(z, v.root, v.sin_half, v.cos_half, v.sin) {
-        SincABDAnswer::Coeffs(t) => {
+    match circle::kernel::sinc_a(z, v.root, v.sin_half, v.cos_half) {
+        SincAAnswer::Coeffs(t) => {
             let form_b = on_form_b(delta);
             let small = w0_small(sigma);
             let c = closed_v(sigma, z, t, v.e, v.m, form_b, small);
@@ -190,7 +191,7 @@ pub fn sim3_v_scaled(sigma: f64, z: f64, v: Values) -> VScaledAnswer
                 scaled: 0.0 < sigma,
             })
         }
-        SincABDAnswer::Refused(n) => VScaledAnswer::Refused(n),
+        SincAAnswer::Refused(n) => VScaledAnswer::Refused(n),
     }
 }
 

@@ -63,7 +63,7 @@ unfolding odd
 odd-clear d zero k l = tt
 odd-clear d (suc q) k l = tt
 
-cond-clear : (b : Bool) (x y : Float) → T (clear x) → T (clear y) → T (clear (cond b x y))
+pub cond-clear : (b : Bool) (x y : Float) → T (clear x) → T (clear y) → T (clear (cond b x y))
 cond-clear true x y p q = p
 cond-clear false x y p q = q
 
@@ -71,7 +71,7 @@ units-clear : (f : Format) (q k : ℕ) → T (clear (units f false q k))
 unfolding units
 units-clear f q k = cond-clear (ltb (q * 2 ^ k) (2 ^ (low f + suc (emax f)))) (odd (suc (prec f)) false q k (low f)) (inf false) (odd-clear (suc (prec f)) q k (low f)) tt
 
-round-clear-false : (f : Format) (a c : ℕ) → T (clear (round f false a c))
+pub round-clear-false : (f : Format) (a c : ℕ) → T (clear (round f false a c))
 round-clear-false f a c = rw (round-is f false a c) (units-clear f _ _)
 
 -- ---- `sum`

@@ -6,7 +6,7 @@ use native.Mathlib.Numerals.{add-one}
 use lib.Ieee.{Float, Format, add, mul}
 use Rattle.series.specs.Recip.{recipFact}
 use Rattle.series.specs.Series.{seriesFirst, seriesNext, seriesLevel, levelTerms, seriesTerms, seriesSum, seriesSums, gSeries}
-use Rattle.series.specs.Turns.{sumsNone, sumsGain, tailTerms, sumsLast, soloTurn, soloTurns, vTurn, vTurns}
+use Rattle.series.specs.Turns.{sumsNone, sumsGain, tailTerms, sumsLast, soloTurn, soloTurns, vNone, vTurn, vTurns}
 use Rattle.series.specs.declared.recurrence.TurnsV.{TurnsV}
 use Rattle.series.proofs.Sum.{sumsBelow, sum-more, tail-is}
 
@@ -61,7 +61,7 @@ v-are :
       v1 = seriesSum f (λ j. seriesTerms f sigma z j .v1) n;
       v2 = seriesSum f (λ j. seriesTerms f sigma z j .v2) n;
     }
-unfolding vTurns vTurn seriesFirst seriesNext seriesLevel levelTerms seriesSum
+unfolding vTurns vNone vTurn seriesFirst seriesNext seriesLevel levelTerms seriesSum
 v-are f sigma z zero = refl
 v-are f sigma z (suc n) = ap (vTurn f sigma z (recipFact f (n + 1))) (v-are f sigma z n)
 

@@ -94,7 +94,10 @@ unfoldable pub soloTurns : Format → Float → Float → ℕ → Turns
 soloTurns f sigma z zero = record { level = seriesFirst; sums = sumsNone }
 soloTurns f sigma z (suc j) = soloTurn f sigma z (recipFact f (j + 1)) (recipFact f (j + 2)) (soloTurns f sigma z j)
 
--- ---- v alone
+-- ---- v alone: before the first level, a turn, and n turns
+unfoldable pub vNone : TurnsV
+vNone = record { p = f1; xi = f0; zeta = f0; v1 = f0; v2 = f0 }
+
 unfoldable pub vTurn : Format → Float → Float → Float → TurnsV → TurnsV
 vTurn f sigma z r1 s =
     record {
@@ -106,7 +109,7 @@ vTurn f sigma z r1 s =
     }
 
 unfoldable pub vTurns : Format → Float → Float → ℕ → TurnsV
-vTurns f sigma z zero = record { p = f1; xi = f0; zeta = f0; v1 = f0; v2 = f0 }
+vTurns f sigma z zero = vNone
 vTurns f sigma z (suc j) = vTurn f sigma z (recipFact f (j + 1)) (vTurns f sigma z j)
 
 -- ---- both signs
@@ -136,14 +139,13 @@ pairFull f sigma z k =
       neg = seriesCoeffs f sigma z (gSeries f (neg sigma) 1 k) (gSeries f (neg sigma) 2 k) (pairSums f sigma z k .neg);
     }
 
--- ---- Horner's sums at both signs: a term in front, with the reciprocal r; and five, with those of index n to n + 4
+-- ---- Horner's sums at both signs: a term in front, with the reciprocal r; and two, with those of index n and n + 1
 unfoldable pub gTerm : Format → Float → Float → Float → GPair → GPair
 gTerm f sigma minus r g = record { pos = add f r (mul f sigma (g .pos)); neg = add f r (mul f minus (g .neg)) }
 
-unfoldable pub gFive : Format → Float → Float → ℕ → GPair → GPair
-gFive f sigma minus n g =
-    let a = gTerm f sigma minus (recipFact f (n + 4)) g in
-    let b = gTerm f sigma minus (recipFact f (n + 3)) a in
-    let c = gTerm f sigma minus (recipFact f (n + 2)) b in
-    let d = gTerm f sigma minus (recipFact f (n + 1)) c in
-    gTerm f sigma minus (recipFact f n) d
+unfoldable pub gTwo : Format → Float → ℕ → GPair → GPair
+gTwo f sigma n g = gTerm f sigma (neg sigma) (recipFact f n) (gTerm f sigma (neg sigma) (recipFact f (n + 1)) g)
+
+-- a term in front by a product with sigma at both signs, with the term s at -sigma
+unfoldable pub gTurn : Format → Float → Float → Float → GPair → GPair
+gTurn f sigma r s g = record { pos = add f r (mul f sigma (g .pos)); neg = add f s (mul f sigma (g .neg)) }

@@ -6,7 +6,7 @@ ghost use mathlib.Core.Bool.{true, false};
 ghost use Prim.Native.Nat.{_+_, _≤_};
 ghost use lib.Ieee.{binary64, neg};
 ghost use Rattle.series.specs.Series.{gSeriesPair, w0Terms, seriesFull, seriesPairTold, seriesPairAnswer};
-ghost use Rattle.series.specs.Turns.{sumsGainMirrored, sumsLastMirrored, pairTurn, pairTurns, pairSums, gTerm, gFive};
+ghost use Rattle.series.specs.Turns.{sumsGainMirrored, sumsLastMirrored, pairTurn, pairTurns, pairSums, gTerm, gTwo, gTurn};
 use crate::generated_sim3::recip_fact;
 use crate::recurrence;
 use crate::recurrence::Sums;
@@ -212,27 +212,42 @@ pub fn g1_pair(sigma: f64) -> GPair
     g_term(sigma, -sigma, recip_fact(1), g)
 }
 
-// w0 of the closed arm at small sigma: 15 terms.
+// w0 of the closed arm at small sigma: 15 terms, of the reciprocals 16 to 2.
 pub fn g2_pair(sigma: f64) -> GPair
     ensures { λ r. ⌜ r ≡ gSeriesPair binary64 sigma 2 (w0Terms binary64) ⌝ }
 {
-    let minus = -sigma;
     let none = GPair { pos: 0.0, neg: 0.0 };
-    let last = g_five(sigma, minus, 12, none);
-    let middle = g_five(sigma, minus, 7, last);
-    g_five(sigma, minus, 2, middle)
+    let last = g_term(sigma, -sigma, recip_fact(16), none);
+    let a = g_two(sigma, 14, last);
+    let b = g_two(sigma, 12, a);
+    let c = g_two(sigma, 10, b);
+    let d = g_two(sigma, 8, c);
+    let e = g_two(sigma, 6, d);
+    let h = g_two(sigma, 4, e);
+    g_two(sigma, 2, h)
 }
 
-// Five more terms in front, those of the reciprocals n to n + 4, at both signs.
-fn g_five(sigma: f64, minus: f64, n: usize, g: GPair) -> GPair
-    requires { ⌜ n ≤ 12 ⌝ }
-    ensures { λ r. ⌜ r ≡ gFive binary64 sigma minus n g ⌝ }
+// Two more terms in front, those of the reciprocals n and n + 1, at both signs. At -sigma the inner
+// sum is formed with its sign turned, so that both signs take the same products by sigma, which the
+// compiler works as one vector.
+fn g_two(sigma: f64, n: usize, g: GPair) -> GPair
+    requires { ⌜ n ≤ 14 ⌝ }
+    ensures { λ r. ⌜ r ≡ gTwo binary64 sigma n g ⌝ }
 {
-    let a = g_term(sigma, minus, recip_fact(n + 4), g);
-    let b = g_term(sigma, minus, recip_fact(n + 3), a);
-    let c = g_term(sigma, minus, recip_fact(n + 2), b);
-    let d = g_term(sigma, minus, recip_fact(n + 1), c);
-    g_term(sigma, minus, recip_fact(n), d)
+    let r = recip_fact(n);
+    let s = recip_fact(n + 1);
+    let a = g_turn(sigma, s, -s, g);
+    g_turn(sigma, r, r, a)
+}
+
+// A term in front by a product with sigma: r at sigma, s at -sigma.
+fn g_turn(sigma: f64, r: f64, s: f64, g: GPair) -> GPair
+    ensures { λ x. ⌜ x ≡ gTurn binary64 sigma r s g ⌝ }
+{
+    GPair {
+        pos: r + sigma * g.pos,
+        neg: s + sigma * g.neg,
+    }
 }
 
 // One more term in front, with the reciprocal r.

@@ -7,7 +7,7 @@ use Rattle.coeffs.proofs.closed.closed_v.Tie as tie
 
 returns : tie.Need-returns
 unfolding closedVFrom closedExps
-returns c = simp (c .v-from .ensures, c .before .v0-of .ensures, c .before .before .exps-of .ensures)
+returns c = simp (c .v-from .ensures, c .before .only .ensures, c .before .before .v0-of .ensures, c .before .before .before .exps-of .ensures)
 
 pub closed-v-spec : {M : Type 1} → statement M
-closed-v-spec = tie.close (tie.spec (λ c κs. search needs) (λ c κs. search needs) (λ c κs. search needs) returns)
+closed-v-spec = tie.close (tie.spec (λ c κs. search needs) (λ c κs. search needs) (λ c κs. search needs) (λ c κs. search needs) returns)

@@ -3,7 +3,7 @@ use borrow.Author.Needs.{needs}
 use mathlib.Core.Path.{_≡_, sym, ap, _∙_}
 use lib.Ieee.{binary64, ofBits}
 use Rattle.series.specs.Series.{seriesVTold, seriesVAnswer}
-use Rattle.circle.specs.Kernel.{sincABDTold, circleSincABDAnswer}
+use Rattle.circle.specs.Kernel.{sincATold, circleSincAAnswer}
 use Rattle.coeffs.specs.Limits.{coeffsDelta}
 use Rattle.coeffs.specs.Entries.{vScaledTold, vScaledAnswer}
 use Rattle.coeffs.proofs.Arms.{series-answers, series-refuses, arm-refuses, v-series, v-closed-answers}
@@ -23,16 +23,16 @@ unfolding vScaledTold vScaledAnswer seriesVTold seriesVAnswer
 returns-2 c = sym (series-refuses (c .before .before .before .before .before .before .before .args .z) _ _ _ _ (c .before .before .before .before .depth .ensures .1) (sym (c .before .before .before .series-v .ensures) ∙ ap seriesVTold (c .before .n .given .1)))
 
 returns-3 : tie.Need-returns-3
-unfolding vScaledTold vScaledAnswer sincABDTold circleSincABDAnswer coeffsDelta ofBits
+unfolding vScaledTold vScaledAnswer sincATold circleSincAAnswer coeffsDelta ofBits
 returns-3 c =
     let a = c .before .before .before .before .before .before .before .before .before .args in
     let t = sym (c .before .before .before .before .before .before .before .before .on-series .ensures) ∙ c .before .before .before .before .before .before .before .if1 .left in
     simp (c .closed-v .ensures, c .before .w0-small .ensures, c .before .before .on-form-b .ensures)
-    (sym (v-closed-answers binary64 (a .sigma) (a .z) (a .v) _ t (sym (c .before .before .before .before .before .before .sinc-a-b-d .ensures) ∙ ap sincABDTold (c .before .before .before .before .t .given .1))))
+    (sym (v-closed-answers binary64 (a .sigma) (a .z) (a .v) _ t (sym (c .before .before .before .before .before .before .sinc-a .ensures) ∙ ap sincATold (c .before .before .before .before .t .given .1))))
 
 returns-4 : tie.Need-returns-4
-unfolding vScaledTold vScaledAnswer sincABDTold circleSincABDAnswer
-returns-4 c = sym (arm-refuses (c .before .before .before .before .before .before .args .z) _ _ _ (sym (c .before .before .before .sinc-a-b-d .ensures) ∙ ap sincABDTold (c .before .n2 .given .1)))
+unfolding vScaledTold vScaledAnswer sincATold circleSincAAnswer
+returns-4 c = sym (arm-refuses (c .before .before .before .before .before .before .args .z) _ _ _ (sym (c .before .before .before .sinc-a .ensures) ∙ ap sincATold (c .before .n2 .given .1)))
 
 pub sim3-v-scaled-spec : {M : Type 1} → statement M
 sim3-v-scaled-spec = tie.close (tie.spec (λ c κs. search needs) (λ c κs. search needs) (λ c κs. search needs) (λ c. search needs) returns (λ c. search needs) returns-2 (λ c κs. search needs) (λ c. search needs) (λ c κs. search needs) (λ c κs. search needs) (λ c κs. search needs) (λ c. search needs) returns-3 returns-4)

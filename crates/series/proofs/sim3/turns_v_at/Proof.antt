@@ -1,8 +1,8 @@
--- `series::sim3::turns_v_at` meets its contract: after j turns the loop holds `vTurns` at j, and it stops at k + 1. Assumes nothing.
+-- `series::sim3::turns_v_at` meets its contract: the shortest arm's turns are written out; after j turns the loop holds `vTurns` at j, and it stops at k + 1. Assumes nothing.
 use mathlib.Core.Path.{_≡_, refl}
 use Prim.Native.Nat.{_+_, _-_, _≤_}
 use native.Mathlib.Omega.{arith}
-use lib.Ieee.{binary64, ofBits}
+use lib.Ieee.{binary64}
 use Rattle.series.specs.Turns.{vTurns}
 use Rattle.series.proofs.Solo.{v-more}
 use Rattle.series.proofs.sim3.turns_v_at.Statement.{statement}
@@ -15,15 +15,18 @@ abbrev μ-loop : tie.MeasureT-loop
 μ-loop sigma z k s₀ j₀ end s j = k + 1 - j
 
 loop-holds : tie.Need-loop-holds Inv-loop μ-loop
-unfolding vTurns ofBits
-loop-holds c = (omega arith, refl)
+unfolding vTurns
+loop-holds c = (omega arith, c .none-v .ensures)
 
 loop-again : tie.Need-loop-again Inv-loop μ-loop
 loop-again c = (omega arith, cc (v-more binary64 _ _ (c .before .before .before .loop .j)))
 
 returns : tie.Need-returns Inv-loop μ-loop
-returns c =
-    let last : c .before .loop .j ≡ c .before .before .args .k + 1 = omega arith in
+returns c = rw (c .before .if1 .taken) (c .seven-turns-v .ensures)
+
+returns-2 : tie.Need-returns-2 Inv-loop μ-loop
+returns-2 c =
+    let last : c .before .loop .j ≡ c .before .before .before .before .args .k + 1 = omega arith in
     cc
 
 pub turns-v-at-spec : {M : Type 1} → statement M
@@ -32,6 +35,9 @@ turns-v-at-spec =
     (tie.spec
     Inv-loop
     μ-loop
+    (λ c κs. tt)
+    returns
+    (λ c κs. tt)
     (λ c. omega arith)
     loop-holds
     (λ c. omega arith)
@@ -40,4 +46,4 @@ turns-v-at-spec =
     (λ c. omega arith)
     (λ c. omega arith)
     loop-again
-    returns)
+    returns-2)

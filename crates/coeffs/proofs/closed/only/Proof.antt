@@ -1,0 +1,13 @@
+-- `coeffs::closed::only` meets its contract: operation by operation, as the definition has it. Assumes nothing.
+use mathlib.Core.Path.{refl}
+use Rattle.coeffs.specs.Shared.{closedOnly}
+use lib.Ieee.{ofBits}
+use Rattle.coeffs.proofs.closed.only.Statement.{statement}
+use Rattle.coeffs.proofs.closed.only.Tie as tie
+
+returns : tie.Need-returns
+unfolding closedOnly ofBits
+returns c = refl
+
+pub only-spec : {M : Type 1} → statement M
+only-spec = tie.close (tie.spec returns)
