@@ -1,9 +1,11 @@
 // 7x7 matrices as 49 numbers, column by column.
 ghost use mathlib.Core.Path.{_≡_};
-ghost use Prim.Native.Nat.{_≤_};
+ghost use Prim.Native.Nat.{_+_, _≤_};
 ghost use lib.Ieee.{binary64};
+ghost use lib.ListN.{length};
+ghost use lib.Seq.{sets};
 ghost use Rattle.linalg.specs.Vector.{vec};
-ghost use Rattle.sim3.specs.Tangent.{tangent};
+ghost use Rattle.sim3.specs.Tangent.{tangent, tangentToDense};
 ghost use Rattle.jacobian.specs.DenseRows.{sevenRows};
 ghost use Rattle.jacobian.specs.Dense.{columnAt, sevenOf, sevenFlat, sevenTranspose, sevenApply, jacSandwich, jacDense};
 use crate::jac::Sim3Jac;
@@ -69,68 +71,35 @@ fn columns(m: [f64; 49]) -> Seven
     }
 }
 
+// A column's seven numbers, stored from a place on.
+fn put_column(out: &mut [f64], at: usize, t: Sim3Tangent)
+    requires { ⌜ at + 7 ≤ length (now out) ⌝ }
+    ensures { λ _. ⌜ now (out .exit) ≡ sets (now (out .entry)) at (tangentToDense t) ⌝ }
+{
+    let phi = t.phi;
+    let rho = t.rho;
+    out[at] = phi.x;
+    out[at + 1] = phi.y;
+    out[at + 2] = phi.z;
+    out[at + 3] = rho.x;
+    out[at + 4] = rho.y;
+    out[at + 5] = rho.z;
+    out[at + 6] = t.sigma;
+}
+
 // The flat matrix of the columns.
 fn flat(m: Seven) -> [f64; 49]
     ensures { λ r. ⌜ r ≡ sevenFlat m ⌝ }
 {
-    let a = m.c0;
-    let b = m.c1;
-    let c = m.c2;
-    let d = m.c3;
-    let e = m.c4;
-    let f = m.c5;
-    let g = m.c6;
-    [
-        a.phi.x,
-        a.phi.y,
-        a.phi.z,
-        a.rho.x,
-        a.rho.y,
-        a.rho.z,
-        a.sigma,
-        b.phi.x,
-        b.phi.y,
-        b.phi.z,
-        b.rho.x,
-        b.rho.y,
-        b.rho.z,
-        b.sigma,
-        c.phi.x,
-        c.phi.y,
-        c.phi.z,
-        c.rho.x,
-        c.rho.y,
-        c.rho.z,
-        c.sigma,
-        d.phi.x,
-        d.phi.y,
-        d.phi.z,
-        d.rho.x,
-        d.rho.y,
-        d.rho.z,
-        d.sigma,
-        e.phi.x,
-        e.phi.y,
-        e.phi.z,
-        e.rho.x,
-        e.rho.y,
-        e.rho.z,
-        e.sigma,
-        f.phi.x,
-        f.phi.y,
-        f.phi.z,
-        f.rho.x,
-        f.rho.y,
-        f.rho.z,
-        f.sigma,
-        g.phi.x,
-        g.phi.y,
-        g.phi.z,
-        g.rho.x,
-        g.rho.y,
-        g.rho.z,
-        g.sigma,
-    ]
+    let mut out = [0.0; 49];
+    put_column(&mut out, 0, m.c0);
+    put_column(&mut out, 7, m.c1);
+    put_column(&mut out, 14, m.c2);
+    put_column(&mut out, 21, m.c3);
+    put_column(&mut out, 28, m.c4);
+    put_column(&mut out, 35, m.c5);
+    put_column(&mut out, 42, m.c6);
+    out
 }
 
 // The numbers x, y and z of seven vectors, in a row each.

@@ -1,4 +1,5 @@
--- `jacobian::dense::flat` meets its contract: operation by operation, as the definition has it. Assumes nothing.
+-- `jacobian::dense::flat` meets its contract: the columns stored one behind another fill the matrix. Assumes nothing.
+use borrow.Author.Needs.{needs}
 use mathlib.Core.Path.{refl}
 use Rattle.jacobian.specs.Dense.{sevenFlat}
 use Rattle.sim3.specs.Tangent.{tangentToDense}
@@ -7,7 +8,7 @@ use Rattle.jacobian.proofs.dense.flat.Tie as tie
 
 returns : tie.Need-returns
 unfolding sevenFlat tangentToDense
-returns c = refl
+returns c = rw (c .before .put-column7 .ensures, c .before .before .before .before .put-column6 .ensures, c .before .before .before .before .before .before .before .put-column5 .ensures, c .before .before .before .before .before .before .before .before .before .before .put-column4 .ensures, c .before .before .before .before .before .before .before .before .before .before .before .before .before .put-column3 .ensures, c .before .before .before .before .before .before .before .before .before .before .before .before .before .before .before .before .put-column2 .ensures, c .before .before .before .before .before .before .before .before .before .before .before .before .before .before .before .before .before .before .before .put-column .ensures) refl
 
 pub flat-spec : {M : Type 1} → statement M
-flat-spec = tie.close (tie.spec returns)
+flat-spec = tie.close (tie.spec (λ c. search needs) (λ c κs. search needs) (λ c. search needs) (λ c κs. search needs) (λ c. search needs) (λ c κs. search needs) (λ c. search needs) (λ c κs. search needs) (λ c. search needs) (λ c κs. search needs) (λ c. search needs) (λ c κs. search needs) (λ c. search needs) (λ c κs. search needs) returns)
