@@ -6,12 +6,9 @@ ghost use lib.ListN.{length};
 ghost use lib.Seq.{sets};
 ghost use Rattle.marks.specs.Marks.{markKnown, markOf, widthOf};
 ghost use Rattle.marks.specs.Reply.{putOf, putBytes};
-use crate::table::give;
+use crate::places::replies::answered;
 
-mod read; // the numbers in a record's bytes
-mod write; // marks, refusals and numbers in the output
-mod answers; // whole answers and refusals
-mod table; // the answer of each mark
+mod places; // the bytes of a record, and what each is answered
 
 // No answer has more bytes.
 pub const LONGEST: usize = 994;
@@ -90,12 +87,5 @@ pub fn reply(m: Mark, rest: &[u8], out: &mut [u8]) -> Put
     ensures { λ r. ⌜ r ≡ putOf m (now (rest .entry)) (length (now (out .entry))) ⌝ }
     ensures { λ _. ⌜ now (out .exit) ≡ sets (now (out .entry)) 0 (putBytes m (now (rest .entry)) (length (now (out .entry)))) ⌝ }
 {
-    if out.len() < LONGEST {
-        return Put::Short;
-    }
-    let w = width(m);
-    if rest.len() < w {
-        return Put::Short;
-    }
-    give(m, &rest[0..w], out)
+    answered(m, rest, out)
 }

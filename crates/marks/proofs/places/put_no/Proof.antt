@@ -1,0 +1,14 @@
+-- `marks::places::put_no` meets its contract: the three stores are the run of three bytes. Assumes nothing.
+use borrow.Author.Needs.{needs}
+use native.Mathlib.Omega.{arith}
+use lib.ListN.{length-set}
+use Rattle.marks.specs.Reply.{noBytes}
+use Rattle.marks.proofs.places.put_no.Statement.{statement}
+use Rattle.marks.proofs.places.put_no.Tie as tie
+
+returns : tie.Need-returns
+unfolding noBytes
+returns c = search needs
+
+pub put-no-spec : {M : Type 1} → statement M
+put-no-spec = tie.close (tie.spec (λ c. search needs) (λ c. simp length-set (omega arith)) (λ c. simp length-set (omega arith)) (λ c. simp length-set) returns)
