@@ -60,16 +60,17 @@ impl Sim3Jac {
     }
 
     // (A^-1, -C^-1 B A^-1, C^-1, -C^-1 f / e, 1 / e), by the adjugates of A and C; refusal 2 where e
-    // is a zero. A zero determinant is divided by.
+    // is a zero. A zero determinant is divided by. C^-1 is formed first and before the test of e: the
+    // compiler then packs the products better.
     pub fn inverse(self) -> JacAnswer
         ensures { λ r. ⌜ jacTold r ≡ jacInverseAnswer binary64 self ⌝ }
     {
         let e = self.e;
+        let ci = self.c.inverse_adj().inv;
         if (e <= 0.0) & (0.0 <= e) {
             return JacAnswer::Refused(2);
         }
         let ai = self.a.inverse_adj().inv;
-        let ci = self.c.inverse_adj().inv;
         let ei = 1.0 / e;
         JacAnswer::Block(Sim3Jac {
             a: ai,

@@ -1,15 +1,16 @@
 -- Moving the points of a list one after another, for any motion g: after i turns the first i triples are moved and the rest is as it was. Assumes nothing.
-use Prim.Native.Nat.{ℕ, zero, suc, _+_, _*_, _/_, _%_, _≤_}
-use mathlib.Core.Path.{_≡_, refl, sym, ap, subst}
+use Prim.Native.Nat.{ℕ, zero, suc, _+_, _*_, _-_, _/_, _%_, _≤_}
+use mathlib.Core.Path.{_≡_, refl, sym, ap, subst, _∙_}
 use mathlib.Core.Bool.{true, _&&_}
 use mathlib.Core.List.{List, [], _∷_, _++_, append-assoc, append-nil}
 use native.Mathlib.Numerals.{add-one}
 use native.Mathlib.Omega.{arith}
 use lib.Dec.{T, eqb, leb, eqb→eq}
-use lib.ListN.{getD, set, length, drop, length-append}
-use lib.Seq.{drop-cons, drop-length}
+use lib.ListN.{getD, set, length, take, drop, length-append, length-drop}
+use lib.Seq.{drop-cons, drop-length, getD-drop, drop-drop}
 use lib.Ieee.{Float, nan}
 use lib.Ieee.Fits.{and-l, and-r}
+use borrow.Rule.Slice.PartAt.{part-to-end}
 use Rattle.linalg.specs.declared.vector.Vec3.{Vec3}
 use Rattle.sim3.specs.Points.{pointAt, pointNumbers, pointsMoved, pointsAccepted}
 use Rattle.sim3.specs.Stores.{putPoint}
@@ -47,6 +48,23 @@ moved-more g l out i h =
 -- after the last triple nothing is left
 pub moved-all : (g : Vec3 → Vec3) (l out : List Float) (i : ℕ) → i * 3 ≡ length out → pointsMoved g l i ++ drop (i * 3) out ≡ pointsMoved g l i
 moved-all g l out i e = rw (e, drop-length) (append-nil (pointsMoved g l i))
+
+-- ---- reading from what is left of a list: its first triple, and what is left after it
+pub left-first : (l : List Float) (i : ℕ) → pointAt (drop (i * 3) l) 0 ≡ pointAt l i
+unfolding pointAt
+left-first l i =
+    let n : i * 3 + 0 ≡ i * 3 = omega arith in
+    simp (getD-drop, n)
+
+pub left-next : (l r : List Float) (i : ℕ) → r ≡ drop (i * 3) l → take (length r - 3) (drop 3 r) ≡ drop ((i + 1) * 3) l
+left-next l r i e =
+    let n : (i + 1) * 3 ≡ i * 3 + 3 = omega arith in
+    rw n (part-to-end r 3 ∙ rw e (drop-drop 3 (i * 3) l))
+
+pub left-length : (l r : List Float) (i : ℕ) → r ≡ drop (i * 3) l → i * 3 + 3 ≤ length l → length (take (length r - 3) (drop 3 r)) + (i + 1) * 3 ≡ length l
+left-length l r i e h =
+    let d : length (drop ((i + 1) * 3) l) ≡ length l - (i + 1) * 3 = length-drop ((i + 1) * 3) l in
+    rw (left-next l r i e) (omega arith)
 
 -- ---- what the test of the lists says: whole triples, and an output as long
 pub accepted-thirds : (n k : ℕ) → pointsAccepted n k ≡ true → (n / 3 * 3 ≡ n) × (n / 3 * 3 ≡ k)

@@ -44,13 +44,17 @@ fn mat_act(m: Mat3, t: Vec3, p: Vec3) -> Vec3
     m.mul_vec(p).add(t)
 }
 
+// Reads from what is left of pts: the compiler then loads two points as three vectors, where an index
+// into the whole list makes it load number by number.
 fn many(m: Mat3, t: Vec3, pts: &[f64], out: &mut [f64], n: usize)
     requires { ⌜ (n * 3 ≡ length (now pts)) × (n * 3 ≡ length (now out)) ⌝ }
     ensures { λ _. ⌜ now (out .exit) ≡ pointsMoved (matAct binary64 m t) (now (pts .entry)) n ⌝ }
 {
+    let mut rest = pts;
     let mut i = 0;
     while i < n {
-        let p = mat_act(m, t, point_at(pts, i));
+        let p = mat_act(m, t, point_at(rest, 0));
+        rest = &rest[3..];
         put_point(out, i * 3, p);
         i += 1;
     }
