@@ -1,3 +1,4 @@
+-- `ieee::from_bits` meets its contract: a pattern above that of infinity is a NaN, and every other is its own double. Assumes nothing.
 use borrow.Author.Needs.{needs}
 use borrow.Author.Tests.{lt-ltb, le-ltb}
 use Prim.Native.Nat.{ℕ, _%_, _<_, _≤_}

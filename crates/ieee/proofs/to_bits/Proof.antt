@@ -1,3 +1,4 @@
+-- `ieee::to_bits` meets its contract: what does not equal itself is the NaN, and any other double has its own pattern. Assumes nothing.
 use mathlib.Core.Path.{refl, _≡_, sym, subst, ap}
 use mathlib.Core.Bool.{Bool, not, true, false}
 use lib.Dec.{T}
