@@ -3,12 +3,12 @@ use Prim.Native.Nat.{ℕ}
 use mathlib.Core.Path.{_≡_, refl}
 use mathlib.Core.List.{List, [], _∷_, _++_}
 use lib.Ieee.{ofBits, toBits, add, sub, mul}
-use Rattle.linalg.specs.Vector.{vecScale, vecCross, vecAdd}
+use Rattle.linalg.specs.Vector.{vecScale, vecCross, vecAdd, vecNumbers}
 use Rattle.so3.specs.So3.{so3Act}
 use Rattle.sim3.specs.Pose.{poseAct}
 use Rattle.wire.specs.Wire.{wordOf, wordBytes, doubleOf, doubleAt, doubleBytes, doublesBytes, countBytes}
 use Rattle.marks.specs.Marks.{markKnown, markOf, widthOf}
-use Rattle.marks.specs.Layout.{vecAt, quatAt, poseAt, vecNumbers}
+use Rattle.marks.specs.Layout.{vecAt, quatAt, poseAt}
 use Rattle.marks.specs.Reply.{markBytes, noBytes, replyOf, acOf}
 use Rattle.job.specs.Counts.{countsMore}
 use Rattle.job.specs.Job.{foundAt, foundOf, trailer, jobOn, jobFrom, jobOf}

@@ -1,9 +1,14 @@
 -- Vectors, in the operations of a format f. Sums run left to right.
+use mathlib.Core.List.{List, [], _∷_}
 use lib.Ieee.{Float, Format, neg, add, sub, mul, div}
 use Rattle.linalg.specs.declared.vector.Vec3.{Vec3}
 
 abbrev pub vec : Float → Float → Float → Vec3
 vec x y z = record { x = x; y = y; z = z }
+
+-- the three numbers in a row
+unfoldable pub vecNumbers : Vec3 → List Float
+vecNumbers a = a .x ∷ a .y ∷ a .z ∷ []
 
 -- x₀ ⊕ x₁ ⊕ x₂
 abbrev pub sum3 : Format → Float → Float → Float → Float

@@ -4,14 +4,14 @@ use mathlib.Core.Path.{_≡_, refl}
 use mathlib.Core.Bool.{true}
 use mathlib.Core.List.{List, [], _∷_, _++_}
 use lib.Ieee.{ofBits, toBits, add, sub, mul, lt, le}
-use Rattle.linalg.specs.Vector.{vecScale, vecCross, vecAdd}
+use Rattle.linalg.specs.Vector.{vecScale, vecCross, vecAdd, vecNumbers}
 use Rattle.coeffs.specs.Entries.{beside, scaledAnswer, pairAnswer}
 use Rattle.so3.specs.So3.{so3Act}
 use Rattle.sim3.specs.Pose.{poseAct}
 use Rattle.jacobian.specs.Jac.{jacInverseAnswer}
 use Rattle.wire.specs.Wire.{wordOf, wordBytes, doubleOf, doubleAt, doubleBytes, doublesBytes}
 use Rattle.marks.specs.declared.Mark.the-variants.{Co, Ac, Ji}
-use Rattle.marks.specs.Layout.{vecAt, quatAt, poseAt, blockAt, vecNumbers}
+use Rattle.marks.specs.Layout.{vecAt, quatAt, poseAt, blockAt}
 use Rattle.marks.specs.Reply.{markBytes, refusal, replyFrom, coOf, acOf, jiOf, replyOf}
 
 -- the bytes of numbers that are given by their bits

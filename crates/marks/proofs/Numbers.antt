@@ -19,7 +19,8 @@ use Rattle.jacobian.specs.declared.pair.BlockPair.{BlockPair}
 use Rattle.wire.specs.Wire.{doubleBytes, doublesBytes}
 use Rattle.wire.proofs.Bytes.{doubles-append}
 use Rattle.wire.proofs.Runs.{runs}
-use Rattle.marks.specs.Layout.{vecNumbers, matNumbers, quatNumbers, poseNumbers, blockNumbers, blockPairNumbers, coeffsNumbers, scaledNumbers, scaledPairNumbers}
+use Rattle.linalg.specs.Vector.{vecNumbers}
+use Rattle.marks.specs.Layout.{matNumbers, quatNumbers, poseNumbers, blockNumbers, blockPairNumbers, coeffsNumbers, scaledNumbers, scaledPairNumbers}
 
 -- ---- how many
 pub vec-count : (v : Vec3) → length (vecNumbers v) ≡ 3

@@ -4,7 +4,7 @@ use mathlib.Core.Bool.{cond}
 use mathlib.Core.List.{List, [], _∷_, _++_}
 use lib.Ieee.{Float}
 use Rattle.ieee.specs.Numbers.{f0, f1}
-use Rattle.linalg.specs.Vector.{vec}
+use Rattle.linalg.specs.Vector.{vec, vecNumbers}
 use Rattle.linalg.specs.Matrix.{mat}
 use Rattle.linalg.specs.declared.vector.Vec3.{Vec3}
 use Rattle.linalg.specs.declared.matrix.Mat3.{Mat3}
@@ -62,9 +62,6 @@ unfoldable pub blockAt : List ℕ → ℕ → Sim3Jac
 blockAt b at = blocks (matAt b at) (matAt b (at + 72)) (matAt b (at + 144)) (vecAt b (at + 216)) (doubleAt b (at + 240))
 
 -- ---- written
-unfoldable pub vecNumbers : Vec3 → List Float
-vecNumbers v = v .x ∷ v .y ∷ v .z ∷ []
-
 unfoldable pub matNumbers : Mat3 → List Float
 matNumbers m = vecNumbers (m .c0) ++ (vecNumbers (m .c1) ++ vecNumbers (m .c2))
 

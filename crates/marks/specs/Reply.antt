@@ -17,7 +17,8 @@ use Rattle.marks.specs.declared.Mark.the-variants.{Ex, Co, Pa, Ac, Mu, I
 use Rattle.marks.specs.declared.Put.{Put}
 use Rattle.marks.specs.declared.Put.the-variants.{Wrote, Short}
 use Rattle.marks.specs.Marks.{widthOf, longest}
-use Rattle.marks.specs.Layout.{vecAt, matAt, poseAt, tangentAt, valuesAt, blockAt, vecNumbers, poseNumbers, blockNumbers, blockPairNumbers, scaledPairNumbers}
+use Rattle.linalg.specs.Vector.{vecNumbers}
+use Rattle.marks.specs.Layout.{vecAt, matAt, poseAt, tangentAt, valuesAt, blockAt, poseNumbers, blockNumbers, blockPairNumbers, scaledPairNumbers}
 
 -- a record is answered or refused, and these bytes are written
 pub record Reply : Type 0 where

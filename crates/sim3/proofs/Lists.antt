@@ -11,12 +11,13 @@ use lib.Seq.{drop-cons, drop-length, getD-drop, drop-drop}
 use lib.Ieee.{Float, nan}
 use lib.Ieee.Fits.{and-l, and-r}
 use borrow.Rule.Slice.PartAt.{part-to-end}
+use Rattle.linalg.specs.Vector.{vecNumbers}
 use Rattle.linalg.specs.declared.vector.Vec3.{Vec3}
-use Rattle.sim3.specs.Points.{pointAt, pointNumbers, pointsMoved, pointsAccepted}
+use Rattle.sim3.specs.Points.{pointAt, pointsMoved, pointsAccepted}
 use Rattle.sim3.specs.Stores.{putPoint}
 
 pub moved-length : (g : Vec3 → Vec3) (l : List Float) (n : ℕ) → length (pointsMoved g l n) ≡ n * 3
-unfolding pointsMoved pointNumbers
+unfolding pointsMoved vecNumbers
 moved-length g l zero = refl
 moved-length g l (suc n) =
     let h : length (pointsMoved g l n) ≡ n * 3 = moved-length g l n in
@@ -27,8 +28,8 @@ seam : (p : List Float) (x y z : Float) (r : List Float) (a b c : Float) → set
 seam [] x y z r a b c = refl
 seam (q ∷ p) x y z r a b c = ap (λ (l : List Float). q ∷ l) (seam p x y z r a b c)
 
-put-seam : (p out : List Float) (k : ℕ) (v : Vec3) → length p ≡ k → k + 3 ≤ length out → putPoint (p ++ drop k out) k v ≡ (p ++ pointNumbers v) ++ drop (k + 3) out
-unfolding putPoint pointNumbers
+put-seam : (p out : List Float) (k : ℕ) (v : Vec3) → length p ≡ k → k + 3 ≤ length out → putPoint (p ++ drop k out) k v ≡ (p ++ vecNumbers v) ++ drop (k + 3) out
+unfolding putPoint vecNumbers
 put-seam p out k v e h =
     let c0 : drop k out ≡ getD out k nan ∷ drop (suc k) out = drop-cons out k nan (omega arith) in
     let c1 : drop (suc k) out ≡ getD out (suc k) nan ∷ drop (suc (suc k)) out = drop-cons out (suc k) nan (omega arith) in

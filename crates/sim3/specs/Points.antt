@@ -1,12 +1,12 @@
 -- Lists of points, three numbers each, and the two actions on them.
 use Prim.Native.Nat.{ℕ, zero, suc, _+_, _*_, _/_, _%_}
 use mathlib.Core.Bool.{Bool, cond, _&&_}
-use mathlib.Core.List.{List, [], _∷_, _++_}
+use mathlib.Core.List.{List, [], _++_}
 use lib.Dec.{eqb, leb}
 use lib.ListN.{getD, length}
 use lib.Ieee.{Float, nan, Format}
 use Rattle.linalg.specs.Answer.{Answer, answers, refuses}
-use Rattle.linalg.specs.Vector.{vec, vecAdd}
+use Rattle.linalg.specs.Vector.{vec, vecNumbers, vecAdd}
 use Rattle.linalg.specs.Matrix.{matScale, matMulVec}
 use Rattle.linalg.specs.declared.vector.Vec3.{Vec3}
 use Rattle.linalg.specs.declared.matrix.Mat3.{Mat3}
@@ -16,17 +16,14 @@ use Rattle.sim3.specs.declared.sim3.Sim3.{Sim3}
 use Rattle.sim3.specs.declared.points.Listed.{Listed}
 use Rattle.sim3.specs.declared.points.Listed.the-variants as listed
 
--- triple i of a list, and the three numbers of a point
+-- triple i of a list
 unfoldable pub pointAt : List Float → ℕ → Vec3
 pointAt l i = vec (getD l (i * 3) nan) (getD l (i * 3 + 1) nan) (getD l (i * 3 + 2) nan)
-
-unfoldable pub pointNumbers : Vec3 → List Float
-pointNumbers p = p .x ∷ p .y ∷ p .z ∷ []
 
 -- the first n triples, each moved by g, in their places
 unfoldable pub pointsMoved : (Vec3 → Vec3) → List Float → ℕ → List Float
 pointsMoved g l zero = []
-pointsMoved g l (suc n) = pointsMoved g l n ++ pointNumbers (g (pointAt l n))
+pointsMoved g l (suc n) = pointsMoved g l n ++ vecNumbers (g (pointAt l n))
 
 -- a multiple of 3 long, at most 65,535 numbers, and the output as long as the input
 abbrev pub pointsAccepted : ℕ → ℕ → Bool

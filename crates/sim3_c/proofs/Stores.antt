@@ -21,7 +21,8 @@ use Rattle.jacobian.specs.declared.pair.BlockPair.{BlockPair}
 use Rattle.jacobian.specs.declared.side.ActJacobians.{ActJacobians}
 use Rattle.jacobian.specs.declared.side.TwoJacobians.{TwoJacobians}
 use Rattle.wire.proofs.Runs.{sets-split}
-use Rattle.marks.specs.Layout.{vecNumbers, matNumbers, quatNumbers, poseNumbers, blockNumbers, blockPairNumbers, coeffsNumbers, scaledNumbers, scaledPairNumbers}
+use Rattle.linalg.specs.Vector.{vecNumbers}
+use Rattle.marks.specs.Layout.{matNumbers, quatNumbers, poseNumbers, blockNumbers, blockPairNumbers, coeffsNumbers, scaledNumbers, scaledPairNumbers}
 use Rattle.marks.proofs.Numbers.{quat-count, vec-count, mat-count, block-count, scaled-count}
 use Rattle.sim3_c.specs.Layout.{twoNumbers, actNumbers}
 

@@ -6,7 +6,7 @@ use lib.Dec.{eqb}
 use lib.ListN.{getD, length}
 use lib.Ieee.{Float, nan}
 use Rattle.linalg.specs.Answer.{Answer, answers, refuses}
-use Rattle.linalg.specs.Vector.{vec}
+use Rattle.linalg.specs.Vector.{vec, vecNumbers}
 use Rattle.linalg.specs.Matrix.{mat}
 use Rattle.linalg.specs.declared.vector.Vec3.{Vec3}
 use Rattle.linalg.specs.declared.matrix.Mat3.{Mat3}
@@ -20,7 +20,7 @@ use Rattle.jacobian.specs.Jac.{blocks}
 use Rattle.jacobian.specs.declared.jac.Sim3Jac.{Sim3Jac}
 use Rattle.jacobian.specs.declared.side.ActJacobians.{ActJacobians}
 use Rattle.jacobian.specs.declared.side.TwoJacobians.{TwoJacobians}
-use Rattle.marks.specs.Layout.{vecNumbers, matNumbers, blockNumbers}
+use Rattle.marks.specs.Layout.{matNumbers, blockNumbers}
 use Rattle.sim3_c.specs.declared.read.VecRead.{VecRead}
 use Rattle.sim3_c.specs.declared.read.VecRead.the-variants as vecs
 use Rattle.sim3_c.specs.declared.read.MatRead.{MatRead}

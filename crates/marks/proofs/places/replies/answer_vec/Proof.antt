@@ -1,7 +1,7 @@
 -- `marks::places::replies::answer_vec` meets its contract: the mark and the numbers are the run of the answer. Assumes nothing.
 use borrow.Author.Needs.{needs}
 use mathlib.Core.Path.{_∙_}
-use Rattle.marks.specs.Layout.{vecNumbers}
+use Rattle.linalg.specs.Vector.{vecNumbers}
 use Rattle.marks.proofs.Numbers.{vec-count}
 use Rattle.marks.proofs.Replies.{answered}
 use Rattle.marks.proofs.places.replies.answer_vec.Statement.{statement}
