@@ -1,6 +1,9 @@
--- The paper's whole output for one AC record, and each other way in which a job stops, computed from the definition. Assumes nothing.
-use Prim.Native.Nat.{ℕ}
+-- The whole output for one AC record, each other way in which a job stops, and how long a record of each mark is, computed from the definition. Assumes nothing.
+use Prim.Native.Nat.{ℕ, _+_, _-_}
 use mathlib.Core.Path.{_≡_, refl}
+use mathlib.Core.Bool.{Bool, true, false, _&&_}
+use lib.Dec.{eqb}
+use lib.ListN.{replicate}
 use mathlib.Core.List.{List, [], _∷_, _++_}
 use lib.Ieee.{ofBits, toBits, add, sub, mul}
 use Rattle.linalg.specs.Vector.{vecScale, vecCross, vecAdd, vecNumbers}
@@ -11,7 +14,7 @@ use Rattle.marks.specs.Marks.{markKnown, markOf, widthOf}
 use Rattle.marks.specs.Layout.{vecAt, quatAt, poseAt}
 use Rattle.marks.specs.Reply.{markBytes, noBytes, replyOf, acOf}
 use Rattle.job.specs.Counts.{countsMore}
-use Rattle.job.specs.Job.{foundAt, foundOf, trailer, jobOn, jobFrom, jobOf}
+use Rattle.job.specs.Job.{Found, took, ended, unknown, cut, foundAt, foundOf, trailer, jobOn, jobFrom, jobOf, jobLimit}
 
 -- a double by its two greatest bytes, the others 0
 double : ℕ → ℕ → List ℕ
@@ -37,27 +40,27 @@ record-in =
     ++ (zero
     ++ (zero ++ (one ++ (double 0x00 0x40 ++ (double 0x08 0x40 ++ (zero ++ (one ++ (double 0x10 0x40 ++ (double 0x14 0x40 ++ double 0x18 0x40)))))))))))
 
-answered : jobOf 1000000 record-in ≡ 0x41 ∷ 0x43 ∷ (double 0x14 0x40 ++ (double 0x1c 0x40 ++ (double 0x22 0x40 ++ counts 1 1 0)))
-unfolding ofBits toBits add sub mul vecScale vecCross vecAdd so3Act poseAct vecAt quatAt poseAt vecNumbers wordOf wordBytes doubleOf doubleAt doubleBytes doublesBytes countBytes markKnown markOf widthOf markBytes replyOf acOf countsMore foundAt foundOf trailer jobOn jobFrom double zero one counts record-in
+answered : jobOf jobLimit record-in ≡ 0x41 ∷ 0x43 ∷ (double 0x14 0x40 ++ (double 0x1c 0x40 ++ (double 0x22 0x40 ++ counts 1 1 0)))
+unfolding ofBits toBits add sub mul vecScale vecCross vecAdd so3Act poseAct vecAt quatAt poseAt vecNumbers wordOf wordBytes doubleOf doubleAt doubleBytes doublesBytes countBytes markKnown markOf markBytes replyOf acOf countsMore foundAt foundOf trailer jobOn jobFrom double zero one counts record-in
 answered = refl
 
 -- nothing at all
-empty : jobOf 1000000 [] ≡ counts 0 0 0
+empty : jobOf jobLimit [] ≡ counts 0 0 0
 unfolding wordBytes countBytes markBytes foundOf trailer jobOn jobFrom counts
 empty = refl
 
 -- half a mark
-half : jobOf 1000000 (0x41 ∷ []) ≡ 0x4e ∷ 0x4f ∷ 7 ∷ counts 1 0 1
+half : jobOf jobLimit (0x41 ∷ []) ≡ 0x4e ∷ 0x4f ∷ 7 ∷ counts 1 0 1
 unfolding wordBytes countBytes markBytes noBytes countsMore foundOf trailer jobOn jobFrom counts
 half = refl
 
 -- a record that is cut after its mark
-cut-short : jobOf 1000000 (0x41 ∷ 0x43 ∷ 0 ∷ []) ≡ 0x4e ∷ 0x4f ∷ 7 ∷ counts 1 0 1
-unfolding wordBytes countBytes markKnown markOf widthOf markBytes noBytes countsMore foundAt foundOf trailer jobOn jobFrom counts
+cut-short : jobOf jobLimit (0x41 ∷ 0x43 ∷ 0 ∷ []) ≡ 0x4e ∷ 0x4f ∷ 7 ∷ counts 1 0 1
+unfolding wordBytes countBytes markKnown markOf markBytes noBytes countsMore foundAt foundOf trailer jobOn jobFrom counts
 cut-short = refl
 
 -- a mark that is not in the table, with nothing behind it
-unlisted : jobOf 1000000 (0x51 ∷ 0x51 ∷ []) ≡ 0x4e ∷ 0x4f ∷ 6 ∷ counts 1 0 1
+unlisted : jobOf jobLimit (0x51 ∷ 0x51 ∷ []) ≡ 0x4e ∷ 0x4f ∷ 6 ∷ counts 1 0 1
 unfolding wordBytes countBytes markKnown markOf markBytes noBytes countsMore foundAt foundOf trailer jobOn jobFrom counts
 unlisted = refl
 
@@ -65,3 +68,44 @@ unlisted = refl
 at-limit : jobOf 0 (0x51 ∷ 0x51 ∷ []) ≡ counts 0 0 0
 unfolding wordBytes countBytes markBytes trailer jobFrom counts
 at-limit = refl
+
+-- ---- with so many bytes behind its mark a record is whole, and with one fewer it is cut
+record Row : Type 0 where
+  first : ℕ
+  second : ℕ
+  bytes : ℕ
+
+-- how many bytes are taken where a whole record stands at the head, its mark among them
+taken : Found → ℕ
+taken (took ok k b) = k
+taken ended = 0
+taken unknown = 0
+taken cut = 0
+
+isCut : Found → Bool
+isCut (took ok k b) = false
+isCut ended = false
+isCut unknown = false
+isCut cut = true
+
+table : List Row
+table =
+    record { first = 0x45; second = 0x58; bytes = 136 }
+    ∷ record { first = 0x43; second = 0x4f; bytes = 96 }
+    ∷ record { first = 0x50; second = 0x41; bytes = 280 }
+    ∷ record { first = 0x41; second = 0x43; bytes = 96 }
+    ∷ record { first = 0x4d; second = 0x55; bytes = 136 }
+    ∷ record { first = 0x49; second = 0x4e; bytes = 72 }
+    ∷ record { first = 0x4a; second = 0x49; bytes = 248 }
+    ∷ []
+
+found : Row → ℕ → Found
+found r n = foundOf (r .first ∷ r .second ∷ replicate n 0)
+
+right : List Row → Bool
+right [] = true
+right (r ∷ rs) = eqb (taken (found r (r .bytes))) (2 + r .bytes) && (isCut (found r (r .bytes - 1)) && right rs)
+
+lengths : right table ≡ true
+unfolding right table found taken isCut foundOf foundAt markOf markKnown
+lengths = refl

@@ -1,5 +1,5 @@
 -- The laws of the job, from one record to any run of a program.
-mod Never
+pub mod Never
 pub mod Heads
 pub mod Turns
 pub mod Loop
@@ -9,4 +9,5 @@ pub mod Pieces
 pub mod Stream
 pub mod Whole
 pub mod Few
+pub mod Progress
 pub mod Examples

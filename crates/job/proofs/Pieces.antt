@@ -91,7 +91,8 @@ module _ {limit : ℕ} {c : Counts} {xs : List ℕ} {last : Bool} {out : List �
   pub feed-within : l .written + length (closing (l .reason) (l .counts)) ≤ length out
   feed-within =
       let f = records-fit (limit - c .begun) c xs last (length out) in
-      rw (k .told) (closing-fits _ _ _ _ (f .within) (f .spare))
+      let P = recordsOf (limit - c .begun) c xs last (length out) in
+      rw (k .told) (closing-fits (P .reason) (P .counts) _ _ (f .within) (f .spare))
 
   pub feed-told :
       (n : ℕ) → n ≡ length (closing (l .reason) (l .counts)) →

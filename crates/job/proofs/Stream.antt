@@ -9,8 +9,7 @@ use lib.ListN.{length, take, drop, length-append}
 use lib.Seq.{take-append-le, drop-append-le, drop-drop}
 use lib.Dec.{ltb}
 use Rattle.marks.specs.declared.Mark.{Mark}
-use Rattle.marks.specs.declared.Look.{Look}
-use Rattle.marks.specs.declared.Look.the-variants as look
+use Rattle.linalg.specs.Answer.{Answer, answers, refuses}
 use Rattle.marks.specs.Marks.{markOf, widthOf, longest}
 use Rattle.marks.specs.Reply.{replyOf}
 use Rattle.job.specs.declared.Counts.{Counts}
@@ -18,8 +17,8 @@ use Rattle.job.specs.declared.Reason.{Reason}
 use Rattle.job.specs.declared.Reason.the-variants.{Room, Full, End, Unknown, Cut, More}
 use Rattle.job.specs.Counts.{countsMore, countsSound}
 use Rattle.job.specs.Job.{Found, took, ended, unknown, cut, foundAt, foundOf, jobOn, jobFrom}
-use Rattle.job.specs.Feed.{Part, halt, after, closing, recordsOf, feedOf}
-use Rattle.job.specs.Run.{jobWith, goesOn}
+use Rattle.job.specs.Feed.{goesOn, Part, halt, after, closing, closingOf, recordsOf, feedOf}
+use Rattle.job.specs.Run.{jobWith}
 use Rattle.job.proofs.Never.{untrue}
 use Rattle.job.proofs.Heads.{taken}
 use Rattle.job.proofs.Turns.{Stops, at-end, at-pause, at-unknown, at-cut, at-part, records-by, counted-begun}
@@ -36,17 +35,17 @@ settled cut = false
 
 cut-more :
     (t : Bool) (m : Mark) (s ys : List ℕ) → ltb (length s) (widthOf m) ≡ t → (f : Found) →
-    (let r = replyOf m (take (widthOf m) s) in cond t cut (took (r .ok) (2 + widthOf m) (r .bytes))) ≡ f → settled f ≡ true → foundAt (look.Known m) (s ++ ys) ≡ f
+    (let r = replyOf m (take (widthOf m) s) in cond t cut (took (r .ok) (2 + widthOf m) (r .bytes))) ≡ f → settled f ≡ true → foundAt (answers m) (s ++ ys) ≡ f
 unfolding foundAt
 cut-more true m s ys e f q k = untrue (rw (← q) at k)
 cut-more false m s ys e f q k =
     let h : widthOf m ≤ length s = ltb-false (length s) (widthOf m) e in
     rw (le-ltb (length (s ++ ys)) (widthOf m) (simp length-append (omega arith)), take-append-le (widthOf m) s ys h) q
 
-at-more : (v : Look) (s ys : List ℕ) (f : Found) → foundAt v s ≡ f → settled f ≡ true → foundAt v (s ++ ys) ≡ f
+at-more : (v : Answer Mark) (s ys : List ℕ) (f : Found) → foundAt v s ≡ f → settled f ≡ true → foundAt v (s ++ ys) ≡ f
 unfolding foundAt
-at-more look.Unknown s ys f q k = q
-at-more (look.Known m) s ys f q k = cut-more (ltb (length s) (widthOf m)) m s ys refl f q k
+at-more (refuses k₁) s ys f q k = q
+at-more (answers m) s ys f q k = cut-more (ltb (length s) (widthOf m)) m s ys refl f q k
 
 found-more : (xs ys : List ℕ) (f : Found) → foundOf xs ≡ f → settled f ≡ true → foundOf (xs ++ ys) ≡ f
 unfolding foundOf
@@ -60,15 +59,15 @@ unfolding jobFrom jobOn
 job-took n c xs ok k b e = rw e
 
 job-ended : (n : ℕ) (c : Counts) (xs : List ℕ) → foundOf xs ≡ ended → jobFrom (suc n) c xs ≡ closing End c
-unfolding jobFrom jobOn closing
+unfolding jobFrom jobOn closingOf
 job-ended n c xs e = rw e
 
 job-unknown : (n : ℕ) (c : Counts) (xs : List ℕ) → foundOf xs ≡ unknown → jobFrom (suc n) c xs ≡ closing Unknown (countsMore false c)
-unfolding jobFrom jobOn closing
+unfolding jobFrom jobOn closingOf
 job-unknown n c xs e = rw e
 
 job-cut : (n : ℕ) (c : Counts) (xs : List ℕ) → foundOf xs ≡ cut → jobFrom (suc n) c xs ≡ closing Cut (countsMore false c)
-unfolding jobFrom jobOn closing
+unfolding jobFrom jobOn closingOf
 job-cut n c xs e = rw e
 
 -- ---- one part, and the rest
@@ -81,15 +80,15 @@ module _ (limit : ℕ) (ys : List ℕ) (last : Bool) (alone : last ≡ true → 
   Onward n c xs room p = limit - c .begun ≡ n → jobFrom n c (xs ++ ys) ≡ onward p xs
 
   at-room : (n : ℕ) (c : Counts) (xs : List ℕ) (room : ℕ) → room < longest → Onward n c xs room (halt Room c)
-  unfolding closing
+  unfolding closingOf
   at-room n c xs room h e = rw e
 
   at-full : (c : Counts) (xs : List ℕ) (room : ℕ) → longest ≤ room → Onward 0 c xs room (halt Full c)
-  unfolding closing jobFrom
+  unfolding closingOf jobFrom
   at-full c xs room h e = sym (append-nil _)
 
   waits : (n : ℕ) (c : Counts) (xs : List ℕ) → limit - c .begun ≡ n → jobFrom n c (xs ++ ys) ≡ onward (halt More c) xs
-  unfolding closing
+  unfolding closingOf
   waits n c xs i = rw i
 
   at-stop :

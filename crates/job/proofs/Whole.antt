@@ -11,8 +11,8 @@ use Rattle.job.specs.declared.Reason.{Reason}
 use Rattle.job.specs.declared.Reason.the-variants.{More, Room, Bad, Full, End, Unknown, Cut}
 use Rattle.job.specs.Counts.{countsNone, countsSound}
 use Rattle.job.specs.Job.{Found, jobOf}
-use Rattle.job.specs.Feed.{Part, ends, recordsOf, feedOf}
-use Rattle.job.specs.Run.{jobWith, goesOn, Run, reads, feeds, stops}
+use Rattle.job.specs.Feed.{goesOn, Part, ends, recordsOf, feedOf}
+use Rattle.job.specs.Run.{jobWith, Run, reads, feeds, stops, StreamTheorem}
 use Rattle.job.specs.Inner.{Sound}
 use Rattle.job.proofs.Turns.{Stops, at-end, at-pause, at-unknown, at-cut, at-part, records-by, counted-begun}
 use Rattle.job.proofs.Loop.{counted-sound}
@@ -55,8 +55,7 @@ run-job limit c kept coming out s (feeds {out = o} last room m g r) =
     ∙ sym (stream limit coming last m c kept room s ∙ rw g)
 run-job limit c kept coming out s (stops last room m g) = sym (stream limit coming last m c kept room s ∙ rw g (append-nil _))
 
--- a program that starts with nothing read writes the job's bytes for the whole input
-pub run-whole : (limit : ℕ) (xs out : List ℕ) → Run limit countsNone [] xs out → out ≡ jobOf limit xs
+pub run-whole : StreamTheorem
 run-whole limit xs out r = run-job limit countsNone [] xs out (none-sound limit) r ∙ rw (sub-zero limit)
 
 -- ---- the whole input at once

@@ -4,7 +4,7 @@ use mathlib.Core.Bool.{Bool, true, false, cond}
 use mathlib.Core.List.{List, [], _++_}
 use lib.ListN.{length, drop}
 use lib.Dec.{ltb}
-use Rattle.marks.specs.Marks.{longest}
+use Rattle.marks.specs.Marks.{longest, longestRecord, unknownMark, cutRecord}
 use Rattle.marks.specs.Reply.{noBytes}
 use Rattle.job.specs.declared.Counts.{Counts}
 use Rattle.job.specs.declared.Fed.{Fed}
@@ -41,15 +41,32 @@ recordsOf (suc n) c xs last room =
     cond (ltb room longest) (halt Room c)
     (partOn last (foundOf xs) c (λ ok k bytes. recordsOf n (countsMore ok c) (drop k xs) last (room - length bytes)))
 
+-- what a reason says: the caller is to call again, with more bytes or more room; the counts handed in are none of a job's; the job has ended; or it has ended by a
+-- refusal. The first two are no refusals: nothing is written for them.
+pub data Told : Type 0 where
+  again : Told
+  unsound : Told
+  over : Told
+  refused : ℕ → Told
+
+abbrev pub reasonTold : Reason → Told
+reasonTold More = again
+reasonTold Room = again
+reasonTold Bad = unsound
+reasonTold Full = over
+reasonTold End = over
+reasonTold Unknown = refused unknownMark
+reasonTold Cut = refused cutRecord
+
 -- what is written when the loop was left: the refusal, if any, and the counts
-unfoldable pub closing : Reason → Counts → List ℕ
-closing More c = []
-closing Room c = []
-closing Bad c = []
-closing Full c = trailer c
-closing End c = trailer c
-closing Unknown c = noBytes 6 ++ trailer c
-closing Cut c = noBytes 7 ++ trailer c
+unfoldable pub closingOf : Told → Counts → List ℕ
+closingOf again c = []
+closingOf unsound c = []
+closingOf over c = trailer c
+closingOf (refused k) c = noBytes k ++ trailer c
+
+abbrev pub closing : Reason → Counts → List ℕ
+closing r c = closingOf (reasonTold r) c
 
 abbrev pub closed : Part → Part
 closed p = record { reason = p .reason; counts = p .counts; used = p .used; bytes = p .bytes ++ closing (p .reason) (p .counts) }
@@ -62,12 +79,28 @@ feedOf limit c xs last room = cond (countsSound limit c) (closed (recordsOf (lim
 abbrev pub toldPart : Part → Fed
 toldPart p = record { reason = p .reason; counts = p .counts; used = p .used; written = length (p .bytes) }
 
--- the reasons that end the job
+-- whether the job has ended, and whether a call is to be made again
+abbrev pub endsBy : Told → Bool
+endsBy again = false
+endsBy unsound = false
+endsBy over = true
+endsBy (refused k) = true
+
 abbrev pub ends : Reason → Bool
-ends More = false
-ends Room = false
-ends Bad = false
-ends Full = true
-ends End = true
-ends Unknown = true
-ends Cut = true
+ends r = endsBy (reasonTold r)
+
+abbrev pub againBy : Told → Bool
+againBy again = true
+againBy unsound = false
+againBy over = false
+againBy (refused k) = false
+
+abbrev pub goesOn : Reason → Bool
+goesOn r = againBy (reasonTold r)
+
+-- ---- what the caller of a call provides for: an output with less room than this takes no answer, and of an input that a call waits on fewer bytes than these are left
+abbrev pub answerRoom : ℕ
+answerRoom = longest
+
+abbrev pub recordRoom : ℕ
+recordRoom = longestRecord

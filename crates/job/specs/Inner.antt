@@ -1,5 +1,5 @@
 -- What the private functions answer and ask for; no public contract cites it.
-use Prim.Native.Nat.{ℕ, _+_, _≤_}
+use Prim.Native.Nat.{ℕ, _+_, _*_, _≤_}
 use mathlib.Core.Path.{_≡_}
 use mathlib.Core.List.{List, []}
 use lib.ListN.{length}
@@ -12,6 +12,10 @@ use Rattle.job.specs.Job.{Found, took, ended, unknown, cut}
 pub record Sound (limit : ℕ) (c : Counts) : Type 0 where
   pub few : c .begun ≤ limit
   pub sum : c .answered + c .refused ≡ c .begun
+
+-- the bytes of ZZ and three counts
+abbrev pub trailerLength : ℕ
+trailerLength = 2 + 3 * 4
 
 abbrev pub toldFound : Found → Step
 toldFound (took ok k bytes) = Took ok k (length bytes)

@@ -5,24 +5,13 @@ use mathlib.Core.Bool.{Bool, true, false}
 use mathlib.Core.List.{List, [], _++_}
 use lib.ListN.{drop}
 use Rattle.job.specs.declared.Counts.{Counts}
-use Rattle.job.specs.declared.Reason.{Reason}
-use Rattle.job.specs.declared.Reason.the-variants.{More, Room, Bad, Full, End, Unknown, Cut}
-use Rattle.job.specs.Job.{jobFrom}
-use Rattle.job.specs.Feed.{feedOf}
+use Rattle.job.specs.Counts.{countsNone}
+use Rattle.job.specs.Job.{jobFrom, jobOf}
+use Rattle.job.specs.Feed.{feedOf, goesOn}
 
 -- the job from the counts c on, where xs is still to be read
 abbrev pub jobWith : ℕ → Counts → List ℕ → List ℕ
 jobWith limit c xs = jobFrom (limit - c .begun) c xs
-
--- the reasons after which a call is made again
-abbrev pub goesOn : Reason → Bool
-goesOn More = true
-goesOn Room = true
-goesOn Bad = false
-goesOn Full = false
-goesOn End = false
-goesOn Unknown = false
-goesOn Cut = false
 
 -- Any run from the counts c, with the bytes `kept` in hand and those `coming` still unread, that writes `out`: it reads some bytes, or feeds what it has, with
 -- any room, and goes on with what was not used, until a reason ends it. `last` is said only where nothing more is coming.
@@ -37,3 +26,7 @@ pub data Run (limit : ℕ) : Counts → List ℕ → List ℕ → List ℕ → T
       {c : Counts} {kept coming : List ℕ} (last : Bool) (room : ℕ) → (last ≡ true → coming ≡ []) →
       goesOn (feedOf limit c kept last room .reason) ≡ false →
       Run limit c kept coming (feedOf limit c kept last room .bytes)
+
+-- the stream theorem: however a program reads and feeds, it writes what the job writes for the whole input
+abbrev pub StreamTheorem : Type 0
+StreamTheorem = (limit : ℕ) (xs out : List ℕ) → Run limit countsNone [] xs out → out ≡ jobOf limit xs

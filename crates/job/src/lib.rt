@@ -8,17 +8,26 @@ ghost use Prim.Native.Nat.{_+_, _-_, _≤_};
 ghost use lib.ListN.{length, drop};
 ghost use lib.Seq.{sets};
 ghost use Rattle.wire.specs.Wire.{countBytes};
-ghost use Rattle.marks.specs.Marks.{longest};
+ghost use Rattle.marks.specs.Marks.{longest, letterZ};
 ghost use Rattle.marks.specs.Reply.{markBytes, noBytes};
 ghost use Rattle.job.specs.Counts.{countsNone, countsMore, countsSound};
-ghost use Rattle.job.specs.Job.{foundOf, trailer, jobOf};
+ghost use Rattle.job.specs.Job.{foundOf, trailer, jobOf, jobLimit};
 ghost use Rattle.job.specs.Feed.{Part, recordsOf, closing, ends, feedOf, toldPart};
-ghost use Rattle.job.specs.Inner.{Sound, toldFound, foundBytes};
+ghost use Rattle.job.specs.Inner.{Sound, toldFound, foundBytes, trailerLength};
 use marks::Look;
 use marks::Put;
 
 // No more records than these are begun.
 const LIMIT: u32 = 1_000_000;
+
+// The refusals that end a job: a mark that is not in the table, and an input that ends inside a mark
+// or record.
+const UNKNOWN_MARK: u8 = 6;
+
+const CUT_RECORD: u8 = 7;
+
+// How many bytes the counts take, their mark among them.
+const TRAILER: usize = 2 + 3 * 4;
 
 // How many records were begun, answered and refused. An unknown mark, a half mark and a cut record
 // count as begun and refused.
@@ -78,12 +87,13 @@ fn one(s: &[u8], out: &mut [u8], to: usize) -> Step
     match marks::reply(m, &s[2..], &mut out[to..]) {
         Put::Wrote(ok, written) => Step::Took(ok, 2 + marks::width(m), written),
         Put::Short => Step::Cut,
+        Put::Room => Step::End, // there is room, so this is never told
     }
 }
 
 // ---- the record loop
 fn counted(c: Counts, ok: bool) -> Counts
-    requires { ⌜ Sound 1000000 c ⌝ }
+    requires { ⌜ Sound jobLimit c ⌝ }
     ensures { λ r. ⌜ r ≡ countsMore ok c ⌝ }
 {
     if ok {
@@ -115,9 +125,9 @@ fn leave(reason: Reason, counts: Counts, used: usize, written: usize) -> Fed
 // The whole records at hand. Each turn asks first for the room of the longest answer, which is more
 // than a refusal and the counts take, and then for the limit, before it looks at a mark.
 fn records(c0: Counts, input: &[u8], last: bool, out: &mut [u8]) -> Fed
-    requires { ⌜ Sound 1000000 c0 ⌝ }
-    ensures { λ r. ⌜ r ≡ toldPart (recordsOf (1000000 - c0 .begun) c0 (now (input .entry)) last (length (now (out .entry)))) ⌝ }
-    ensures { λ _. ⌜ now (out .exit) ≡ sets (now (out .entry)) 0 (recordsOf (1000000 - c0 .begun) c0 (now (input .entry)) last (length (now (out .entry))) .bytes) ⌝ }
+    requires { ⌜ Sound jobLimit c0 ⌝ }
+    ensures { λ r. ⌜ r ≡ toldPart (recordsOf (jobLimit - c0 .begun) c0 (now (input .entry)) last (length (now (out .entry)))) ⌝ }
+    ensures { λ _. ⌜ now (out .exit) ≡ sets (now (out .entry)) 0 (recordsOf (jobLimit - c0 .begun) c0 (now (input .entry)) last (length (now (out .entry))) .bytes) ⌝ }
 {
     let mut c = c0;
     let mut at = 0;
@@ -160,17 +170,17 @@ fn put_no(out: &mut [u8], at: usize, number: u8)
     requires { ⌜ at + 3 ≤ length (now out) ⌝ }
     ensures { λ _. ⌜ now (out .exit) ≡ sets (now (out .entry)) at (noBytes number) ⌝ }
 {
-    out[at] = 78;
-    out[at + 1] = 79;
+    out[at] = b'N';
+    out[at + 1] = b'O';
     out[at + 2] = number;
 }
 
 fn put_zz(out: &mut [u8], at: usize)
     requires { ⌜ at + 2 ≤ length (now out) ⌝ }
-    ensures { λ _. ⌜ now (out .exit) ≡ sets (now (out .entry)) at (markBytes 90 90) ⌝ }
+    ensures { λ _. ⌜ now (out .exit) ≡ sets (now (out .entry)) at (markBytes letterZ letterZ) ⌝ }
 {
-    out[at] = 90;
-    out[at + 1] = 90;
+    out[at] = b'Z';
+    out[at + 1] = b'Z';
 }
 
 fn put_count(out: &mut [u8], at: usize, n: u32)
@@ -184,40 +194,40 @@ fn put_count(out: &mut [u8], at: usize, n: u32)
     out[at + 3] = d[3];
 }
 
-fn put_trailer(out: &mut [u8], at: usize, c: Counts)
-    requires { ⌜ at + 14 ≤ length (now out) ⌝ }
+// ZZ and the counts. Answers how many bytes they are.
+fn put_trailer(out: &mut [u8], at: usize, c: Counts) -> usize
+    requires { ⌜ at + trailerLength ≤ length (now out) ⌝ }
+    ensures { λ r. ⌜ r ≡ length (trailer c) ⌝ }
     ensures { λ _. ⌜ now (out .exit) ≡ sets (now (out .entry)) at (trailer c) ⌝ }
 {
     put_zz(out, at);
     put_count(out, at + 2, c.begun);
     put_count(out, at + 6, c.answered);
     put_count(out, at + 10, c.refused);
+    TRAILER
 }
 
+// The refusal that ends a job, and the counts.
+fn put_refused(out: &mut [u8], at: usize, number: u8, c: Counts) -> usize
+    requires { ⌜ at + (3 + trailerLength) ≤ length (now out) ⌝ }
+    ensures { λ r. ⌜ r ≡ length (noBytes number ++ trailer c) ⌝ }
+    ensures { λ _. ⌜ now (out .exit) ≡ sets (now (out .entry)) at (noBytes number ++ trailer c) ⌝ }
+{
+    put_no(out, at, number);
+    3 + put_trailer(out, at + 3, c)
+}
+
+// What is written when the loop was left.
 fn close(reason: Reason, c: Counts, out: &mut [u8], at: usize) -> usize
     requires { ⌜ (ends reason ≡ true → at + longest ≤ length (now out)) ⌝ }
     ensures { λ r. ⌜ r ≡ length (closing reason c) ⌝ }
     ensures { λ _. ⌜ now (out .exit) ≡ sets (now (out .entry)) at (closing reason c) ⌝ }
 {
     match reason {
-        Reason::Full => {
-            put_trailer(out, at, c);
-            14
-        }
-        Reason::End => {
-            put_trailer(out, at, c);
-            14
-        }
-        Reason::Unknown => {
-            put_no(out, at, 6);
-            put_trailer(out, at + 3, c);
-            17
-        }
-        Reason::Cut => {
-            put_no(out, at, 7);
-            put_trailer(out, at + 3, c);
-            17
-        }
+        Reason::Full => put_trailer(out, at, c),
+        Reason::End => put_trailer(out, at, c),
+        Reason::Unknown => put_refused(out, at, UNKNOWN_MARK, c),
+        Reason::Cut => put_refused(out, at, CUT_RECORD, c),
         Reason::More => 0,
         Reason::Room => 0,
         Reason::Bad => 0,
@@ -225,7 +235,7 @@ fn close(reason: Reason, c: Counts, out: &mut [u8], at: usize) -> usize
 }
 
 fn sound(c: Counts) -> bool
-    ensures { λ r. ⌜ r ≡ countsSound 1000000 c ⌝ }
+    ensures { λ r. ⌜ r ≡ countsSound jobLimit c ⌝ }
 {
     if c.begun <= LIMIT {
         if c.answered <= c.begun {
@@ -240,8 +250,8 @@ fn sound(c: Counts) -> bool
 // is done with are to be taken from the input, the counts and the rest handed in again. Counts that
 // are none of a job's are answered `Bad`, and nothing is written.
 pub fn feed(c: Counts, input: &[u8], last: bool, out: &mut [u8]) -> Fed
-    ensures { λ r. ⌜ r ≡ toldPart (feedOf 1000000 c (now (input .entry)) last (length (now (out .entry)))) ⌝ }
-    ensures { λ r. ⌜ now (out .exit) ≡ (feedOf 1000000 c (now (input .entry)) last (length (now (out .entry))) .bytes) ++ drop (r .written) (now (out .entry)) ⌝ }
+    ensures { λ r. ⌜ r ≡ toldPart (feedOf jobLimit c (now (input .entry)) last (length (now (out .entry)))) ⌝ }
+    ensures { λ r. ⌜ now (out .exit) ≡ (feedOf jobLimit c (now (input .entry)) last (length (now (out .entry))) .bytes) ++ drop (r .written) (now (out .entry)) ⌝ }
     ensures { λ r. ⌜ (r .used ≤ length (now (input .entry))) × (r .written ≤ length (now (out .entry))) ⌝ }
 {
     if !sound(c) {
@@ -270,9 +280,9 @@ pub fn no_counts() -> Counts
 // The whole job on one slice. Where `out` is too short the reason is `Room`, and the records that
 // found room are answered.
 pub fn run(input: &[u8], out: &mut [u8]) -> Fed
-    ensures { λ r. ⌜ r ≡ toldPart (feedOf 1000000 countsNone (now (input .entry)) true (length (now (out .entry)))) ⌝ }
-    ensures { λ r. ⌜ now (out .exit) ≡ (feedOf 1000000 countsNone (now (input .entry)) true (length (now (out .entry))) .bytes) ++ drop (r .written) (now (out .entry)) ⌝ }
-    ensures { λ r. ⌜ (ends (r .reason) ≡ true → now (out .exit) ≡ jobOf 1000000 (now (input .entry)) ++ drop (r .written) (now (out .entry))) ⌝ }
+    ensures { λ r. ⌜ r ≡ toldPart (feedOf jobLimit countsNone (now (input .entry)) true (length (now (out .entry)))) ⌝ }
+    ensures { λ r. ⌜ now (out .exit) ≡ (feedOf jobLimit countsNone (now (input .entry)) true (length (now (out .entry))) .bytes) ++ drop (r .written) (now (out .entry)) ⌝ }
+    ensures { λ r. ⌜ (ends (r .reason) ≡ true → now (out .exit) ≡ jobOf jobLimit (now (input .entry)) ++ drop (r .written) (now (out .entry))) ⌝ }
 {
     feed(no_counts(), input, true, out)
 }

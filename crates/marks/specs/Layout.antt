@@ -1,5 +1,5 @@
 -- How numbers stand in records: what is read from a place of a record's bytes on, and what is written. Matrices go column by column.
-use Prim.Native.Nat.{ℕ, _+_}
+use Prim.Native.Nat.{ℕ, _+_, _*_}
 use mathlib.Core.Bool.{cond}
 use mathlib.Core.List.{List, [], _∷_, _++_}
 use lib.Ieee.{Float}
@@ -23,6 +23,33 @@ use Rattle.jacobian.specs.declared.jac.Sim3Jac.{Sim3Jac}
 use Rattle.jacobian.specs.declared.pair.BlockPair.{BlockPair}
 use Rattle.wire.specs.Wire.{doubleAt}
 
+-- ---- how many numbers each has
+abbrev pub vecCount : ℕ
+vecCount = 3
+
+abbrev pub matCount : ℕ
+matCount = 3 * vecCount
+
+-- quaternion, t, σ
+abbrev pub poseCount : ℕ
+poseCount = 4 + vecCount + 1
+
+-- φ, ρ, σ
+abbrev pub tangentCount : ℕ
+tangentCount = 2 * vecCount + 1
+
+-- the ten function values
+abbrev pub valuesCount : ℕ
+valuesCount = 10
+
+-- a, b, c, f, e
+abbrev pub blockCount : ℕ
+blockCount = 3 * matCount + vecCount + 1
+
+-- nine coefficients and the flag, for σ and for -σ
+abbrev pub scaledPairCount : ℕ
+scaledPairCount = 2 * (9 + 1)
+
 -- ---- read
 unfoldable pub vecAt : List ℕ → ℕ → Vec3
 vecAt b at = vec (doubleAt b at) (doubleAt b (at + 8)) (doubleAt b (at + 16))
@@ -33,15 +60,12 @@ matAt b at = mat (vecAt b at) (vecAt b (at + 24)) (vecAt b (at + 48))
 unfoldable pub quatAt : List ℕ → ℕ → Quat
 quatAt b at = quat (doubleAt b at) (doubleAt b (at + 8)) (doubleAt b (at + 16)) (doubleAt b (at + 24))
 
--- quaternion, t, σ: 8 numbers
 unfoldable pub poseAt : List ℕ → ℕ → Sim3
 poseAt b at = pose (quatAt b at) (vecAt b (at + 32)) (doubleAt b (at + 56))
 
--- φ, ρ, σ: 7 numbers
 unfoldable pub tangentAt : List ℕ → ℕ → Sim3Tangent
 tangentAt b at = tangent (vecAt b at) (vecAt b (at + 24)) (doubleAt b (at + 48))
 
--- the ten function values
 unfoldable pub valuesAt : List ℕ → ℕ → Values
 valuesAt b at =
     record {
@@ -57,7 +81,6 @@ valuesAt b at =
       down = doubleAt b (at + 72);
     }
 
--- a, b, c, f, e: 31 numbers
 unfoldable pub blockAt : List ℕ → ℕ → Sim3Jac
 blockAt b at = blocks (matAt b at) (matAt b (at + 72)) (matAt b (at + 144)) (vecAt b (at + 216)) (doubleAt b (at + 240))
 

@@ -1,3 +1,3 @@
-pub mod Marks
 pub mod Layout
+pub mod Marks
 pub mod Reply

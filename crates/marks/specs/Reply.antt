@@ -1,6 +1,6 @@
 -- What a record is answered: its mark and numbers, or NO and the number of the refusal.
 use Prim.Native.Nat.{ℕ}
-use mathlib.Core.Bool.{Bool, true, false, cond, _||_}
+use mathlib.Core.Bool.{Bool, true, false, cond}
 use mathlib.Core.List.{List, [], _∷_, _++_}
 use lib.ListN.{length, take}
 use lib.Dec.{ltb}
@@ -15,8 +15,8 @@ use Rattle.wire.specs.Wire.{doubleAt, doublesBytes}
 use Rattle.marks.specs.declared.Mark.{Mark}
 use Rattle.marks.specs.declared.Mark.the-variants.{Ex, Co, Pa, Ac, Mu, In, Ji}
 use Rattle.marks.specs.declared.Put.{Put}
-use Rattle.marks.specs.declared.Put.the-variants.{Wrote, Short}
-use Rattle.marks.specs.Marks.{widthOf, longest}
+use Rattle.marks.specs.declared.Put.the-variants.{Wrote, Short, Room}
+use Rattle.marks.specs.Marks.{widthOf, longest, cutRecord, letterN, letterO}
 use Rattle.linalg.specs.Vector.{vecNumbers}
 use Rattle.marks.specs.Layout.{vecAt, matAt, poseAt, tangentAt, valuesAt, blockAt, poseNumbers, blockNumbers, blockPairNumbers, scaledPairNumbers}
 
@@ -30,7 +30,7 @@ markBytes a b = a ∷ b ∷ []
 
 -- NO and the number of a refusal
 unfoldable pub noBytes : ℕ → List ℕ
-noBytes k = 78 ∷ 79 ∷ k ∷ []
+noBytes k = letterN ∷ letterO ∷ k ∷ []
 
 -- the mark and the numbers
 abbrev pub answer : ℕ → ℕ → List Float → Reply
@@ -84,14 +84,27 @@ replyOf Ji b = jiOf b
 
 -- ---- what `reply` does with the bytes behind a mark and an output of some room
 
-unfoldable pub tooShort : Mark → List ℕ → ℕ → Bool
-tooShort m rest room = ltb room longest || ltb (length rest) (widthOf m)
+-- what becomes of a record: answered or refused by its mark's own rule, and how many bytes are written; refused before that, and nothing is written; or the output has
+-- too little room for any answer, which is no refusal: the record can be handed in again
+pub data Became : Type 0 where
+  wrote : Bool → ℕ → Became
+  refused : ℕ → Became
+  roomless : Became
+
+-- what each case of `Put` says
+abbrev pub putTold : Put → Became
+putTold (Wrote ok n) = wrote ok n
+putTold Short = refused cutRecord
+putTold Room = roomless
 
 abbrev pub toldReply : Reply → Put
 toldReply r = Wrote (r .ok) (length (r .bytes))
 
-unfoldable pub putOf : Mark → List ℕ → ℕ → Put
-putOf m rest room = cond (tooShort m rest room) Short (toldReply (replyOf m (take (widthOf m) rest)))
+unfoldable pub putOf : Mark → List ℕ → ℕ → Became
+putOf m rest room =
+    let r = replyOf m (take (widthOf m) rest) in
+    cond (ltb room longest) roomless
+    (cond (ltb (length rest) (widthOf m)) (refused cutRecord) (wrote (r .ok) (length (r .bytes))))
 
 unfoldable pub putBytes : Mark → List ℕ → ℕ → List ℕ
-putBytes m rest room = cond (tooShort m rest room) [] (replyOf m (take (widthOf m) rest) .bytes)
+putBytes m rest room = cond (ltb room longest) [] (cond (ltb (length rest) (widthOf m)) [] (replyOf m (take (widthOf m) rest) .bytes))

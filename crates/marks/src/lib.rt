@@ -4,14 +4,57 @@ ghost use mathlib.Core.Path.{_≡_};
 ghost use Prim.Native.Nat.{_+_, _*_};
 ghost use lib.ListN.{length};
 ghost use lib.Seq.{sets};
-ghost use Rattle.marks.specs.Marks.{markKnown, markOf, widthOf};
-ghost use Rattle.marks.specs.Reply.{putOf, putBytes};
+ghost use Rattle.marks.specs.Marks.{markKnown, markOf, lookTold, widthOf};
+ghost use Rattle.marks.specs.Reply.{putOf, putTold, putBytes};
 use crate::places::replies::answered;
 
 mod places; // the bytes of a record, and what each is answered
 
+// How many numbers a record's parts have, and how many bytes a number has.
+const NUMBER: usize = 8;
+
+const VEC: usize = 3;
+
+const MAT: usize = 3 * VEC;
+
+const POSE: usize = 4 + VEC + 1;
+
+const TANGENT: usize = 2 * VEC + 1;
+
+const VALUES: usize = 10;
+
+const BLOCK: usize = 3 * MAT + VEC + 1;
+
+const SCALED_PAIR: usize = 2 * (9 + 1);
+
+// How many bytes a record has behind its mark.
+const EX_WIDTH: usize = NUMBER * (TANGENT + VALUES);
+
+const CO_WIDTH: usize = NUMBER * (2 + VALUES);
+
+const PA_WIDTH: usize = NUMBER * (TANGENT + VALUES + 2 * MAT);
+
+const AC_WIDTH: usize = NUMBER * (POSE + 1 + VEC);
+
+const MU_WIDTH: usize = NUMBER * (2 * POSE + 1);
+
+const IN_WIDTH: usize = NUMBER * (POSE + 1);
+
+const JI_WIDTH: usize = NUMBER * BLOCK;
+
+// How many bytes an answer has, its mark among them.
+const VEC_ANSWER: usize = 2 + NUMBER * VEC;
+
+const POSE_ANSWER: usize = 2 + NUMBER * POSE;
+
+const BLOCK_ANSWER: usize = 2 + NUMBER * BLOCK;
+
+const SCALED_PAIR_ANSWER: usize = 2 + NUMBER * SCALED_PAIR;
+
+const BLOCK_PAIR_ANSWER: usize = 2 + NUMBER * (4 * BLOCK);
+
 // No answer has more bytes.
-pub const LONGEST: usize = 994;
+pub const LONGEST: usize = BLOCK_PAIR_ANSWER;
 
 pub enum Mark {
     Ex,
@@ -30,10 +73,11 @@ pub enum Look {
 }
 
 // What became of a record: answered or refused, and how many bytes were written; or the input was
-// shorter than the record or the output shorter than the longest answer, and nothing was written.
+// shorter than the record, or the output shorter than the longest answer, and nothing was written.
 pub enum Put {
     Wrote(bool, usize),
     Short,
+    Room,
 }
 
 // The two bytes as one number.
@@ -45,7 +89,7 @@ fn key(a: u8, b: u8) -> u16
 
 // What the two bytes of that number are.
 fn known(k: u16) -> Look
-    ensures { λ r. ⌜ r ≡ markKnown k ⌝ }
+    ensures { λ r. ⌜ lookTold r ≡ markKnown k ⌝ }
 {
     match k {
         0x4558 => Look::Known(Mark::Ex),
@@ -61,7 +105,7 @@ fn known(k: u16) -> Look
 
 // What two bytes are in the job table.
 pub fn look_up(a: u8, b: u8) -> Look
-    ensures { λ r. ⌜ r ≡ markOf a b ⌝ }
+    ensures { λ r. ⌜ lookTold r ≡ markOf a b ⌝ }
 {
     known(key(a, b))
 }
@@ -71,20 +115,20 @@ pub fn width(m: Mark) -> usize
     ensures { λ r. ⌜ r ≡ widthOf m ⌝ }
 {
     match m {
-        Mark::Ex => 136,
-        Mark::Co => 96,
-        Mark::Pa => 280,
-        Mark::Ac => 96,
-        Mark::Mu => 136,
-        Mark::In => 72,
-        Mark::Ji => 248,
+        Mark::Ex => EX_WIDTH,
+        Mark::Co => CO_WIDTH,
+        Mark::Pa => PA_WIDTH,
+        Mark::Ac => AC_WIDTH,
+        Mark::Mu => MU_WIDTH,
+        Mark::In => IN_WIDTH,
+        Mark::Ji => JI_WIDTH,
     }
 }
 
 // Writes the answer to the record with the mark m, whose bytes behind the mark begin `rest`, to the
 // front of `out`. Nothing is written where `rest` is shorter than the record or `out` than LONGEST.
 pub fn reply(m: Mark, rest: &[u8], out: &mut [u8]) -> Put
-    ensures { λ r. ⌜ r ≡ putOf m (now (rest .entry)) (length (now (out .entry))) ⌝ }
+    ensures { λ r. ⌜ putTold r ≡ putOf m (now (rest .entry)) (length (now (out .entry))) ⌝ }
     ensures { λ _. ⌜ now (out .exit) ≡ sets (now (out .entry)) 0 (putBytes m (now (rest .entry)) (length (now (out .entry)))) ⌝ }
 {
     answered(m, rest, out)

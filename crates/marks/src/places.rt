@@ -140,8 +140,8 @@ fn put_no(out: &mut [u8], number: u8)
     requires { ⌜ 3 ≤ length (now out) ⌝ }
     ensures { λ _. ⌜ now (out .exit) ≡ sets (now (out .entry)) 0 (noBytes number) ⌝ }
 {
-    out[0] = 78;
-    out[1] = 79;
+    out[0] = b'N';
+    out[1] = b'O';
     out[2] = number;
 }
 

@@ -1,1 +1,3 @@
 mod Moves
+mod Underway
+mod Nearer

@@ -3,6 +3,7 @@ use borrow.Author.Needs.{needs}
 use native.Mathlib.Omega.{arith}
 use mathlib.Core.Path.{refl, sym, _∙_}
 use borrow.Author.Tests.{not-true, not-false}
+use Rattle.job.specs.Job.{jobLimit}
 use Rattle.job.proofs.Pieces.{sound-is, feed-bad, Looped, feed-room, feed-uses, feed-within, feed-told, feed-wrote}
 use Rattle.job.proofs.feed.Statement.{statement}
 use Rattle.job.proofs.feed.Tie as tie
@@ -11,7 +12,7 @@ use Rattle.job.proofs.feed.Tie as tie
 looped :
     (p : tie.After-records) →
     let a = p .before .before .before .before .before .before .args in
-    Looped 1000000 (a .c) (a .input .now) (a .last) (a .out .now) (p .records .result) (p .records .last .1 .1 .1 .0)
+    Looped jobLimit (a .c) (a .input .now) (a .last) (a .out .now) (p .records .result) (p .records .last .1 .1 .1 .0)
 looped p = record {
   good = sym (p .before .before .before .sound .ensures) ∙ not-false _ (p .before .before .if1 .left);
   told = p .records .ensures .0;
@@ -21,10 +22,10 @@ looped p = record {
 returns : tie.Need-returns
 returns c =
     let a = c .before .before .before .before .before .args in
-    rw (c .leave .ensures, feed-bad 1000000 (a .c) (a .input .now) (a .last) _ (sym (c .before .before .sound .ensures) ∙ not-true _ (c .before .if1 .taken))) (refl, (refl, search needs))
+    rw (c .leave .ensures, feed-bad jobLimit (a .c) (a .input .now) (a .last) _ (sym (c .before .before .sound .ensures) ∙ not-true _ (c .before .if1 .taken))) (refl, (refl, search needs))
 
 records-requires : tie.Need-records-requires
-records-requires c κs = sound-is 1000000 (c .before .before .before .before .before .args .c) (sym (c .before .before .sound .ensures) ∙ not-false _ (c .before .if1 .left))
+records-requires c κs = sound-is jobLimit (c .before .before .before .before .before .args .c) (sym (c .before .before .sound .ensures) ∙ not-false _ (c .before .if1 .left))
 
 close-requires : tie.Need-close-requires
 close-requires c κs = feed-room (looped (c .before .before .before .before))

@@ -4,6 +4,7 @@ use native.Mathlib.Omega.{arith}
 use Prim.Native.Nat.{_+_, _-_, _≤_}
 use mathlib.Core.Path.{_≡_, ap, _∙_}
 use lib.ListN.{length}
+use Rattle.job.specs.Job.{jobLimit}
 use Rattle.job.proofs.Turns.{counted-begun}
 use Rattle.job.proofs.Loop.{Going, going-start}
 use Rattle.job.proofs.Steps.{left-room, left-full, Turn, round, left-end, left-pause, left-unknown, left-cut, left-part}
@@ -11,17 +12,17 @@ use Rattle.job.proofs.records.Statement.{statement}
 use Rattle.job.proofs.records.Tie as tie
 
 abbrev Inv-loop : tie.InvT-loop
-Inv-loop input last out₀ c₀ at₀ to₀ out c at to = Going 1000000 input last c₀ out₀ c out at to
+Inv-loop input last out₀ c₀ at₀ to₀ out c at to = Going jobLimit input last c₀ out₀ c out at to
 
 abbrev μ-loop : tie.MeasureT-loop
-μ-loop input last out₀ c₀ at₀ to₀ out c at to = 1000000 - c .begun
+μ-loop input last out₀ c₀ at₀ to₀ out c at to = jobLimit - c .begun
 
 -- what is known where the record at the head has been asked for
 turn :
     (p : tie.After-one Inv-loop μ-loop) →
     let t = p .before .before .before .before .before .before in
     let a = t .before .before .before .args in
-    Turn 1000000 (a .input .now) (a .last) (a .c0) (a .out .now) (t .loop .c) (t .loop .out) (t .loop .at) (t .loop .to) (p .one .result) (p .one .last .1 .0)
+    Turn jobLimit (a .input .now) (a .last) (a .c0) (a .out .now) (t .loop .c) (t .loop .out) (t .loop .at) (t .loop .to) (p .one .result) (p .one .last .1 .0)
 turn p = record {
   going = p .before .before .before .before .before .before .loop .inv;
   room = p .before .before .before .before .before .if1 .left;
@@ -33,7 +34,7 @@ turn p = record {
 loop-holds : tie.Need-loop-holds Inv-loop μ-loop
 loop-holds c =
     let a = c .before .before .args in
-    going-start 1000000 (a .input .now) (a .last) (a .c0) (a .out .now) (c .before .before .pre)
+    going-start jobLimit (a .input .now) (a .last) (a .c0) (a .out .now) (c .before .before .pre)
 
 sub-if1 : tie.Need-sub-if1 Inv-loop μ-loop
 sub-if1 c = c .loop .inv .room
@@ -76,7 +77,7 @@ add-to c =
 loop-less : tie.Need-loop-less Inv-loop μ-loop
 loop-less c =
     let L = c .before .before .before .before .before .before .before .before .before .before .before .before .loop in
-    let few : L .c .begun ≤ 1000000 = L .inv .sound .few in
+    let few : L .c .begun ≤ jobLimit = L .inv .sound .few in
     let e : c .counted .result .begun ≡ L .c .begun + 1 = ap (λ x. x .begun) (c .counted .ensures) ∙ counted-begun (c .before .before .ok .given .0 .0) (L .c) in
     omega arith
 

@@ -5,31 +5,24 @@ use Rattle.marks.proofs.width.Statement.{statement}
 use Rattle.marks.proofs.width.Tie as tie
 
 returns : tie.Need-returns
-unfolding widthOf
 returns c = simp (c .enum-told .given .1)
 
 returns-2 : tie.Need-returns-2
-unfolding widthOf
 returns-2 c = simp (c .enum-told2 .given .1)
 
 returns-3 : tie.Need-returns-3
-unfolding widthOf
 returns-3 c = simp (c .enum-told3 .given .1)
 
 returns-4 : tie.Need-returns-4
-unfolding widthOf
 returns-4 c = simp (c .enum-told4 .given .1)
 
 returns-5 : tie.Need-returns-5
-unfolding widthOf
 returns-5 c = simp (c .enum-told5 .given .1)
 
 returns-6 : tie.Need-returns-6
-unfolding widthOf
 returns-6 c = simp (c .enum-told6 .given .1)
 
 returns-7 : tie.Need-returns-7
-unfolding widthOf
 returns-7 c = simp (c .enum-told7 .given .1)
 
 pub width-spec : {M : Type 1} → statement M

@@ -7,10 +7,16 @@ ghost use lib.Seq.{sets};
 ghost use Rattle.marks.specs.Marks.{longest, widthOf};
 ghost use Rattle.linalg.specs.Vector.{vecNumbers};
 ghost use Rattle.marks.specs.Layout.{poseNumbers, blockNumbers, blockPairNumbers, scaledPairNumbers};
-ghost use Rattle.marks.specs.Reply.{answer, refusal, toldReply, exOf, coOf, paOf, acOf, muOf, inOf, jiOf, replyOf, putOf, putBytes};
+ghost use Rattle.marks.specs.Reply.{answer, refusal, toldReply, exOf, coOf, paOf, acOf, muOf, inOf, jiOf, replyOf, putOf, putTold, putBytes};
+ghost use Rattle.marks.specs.declared.Mark.{Mark};
+use crate::BLOCK_ANSWER;
+use crate::BLOCK_PAIR_ANSWER;
 use crate::LONGEST;
 use crate::Mark;
+use crate::POSE_ANSWER;
 use crate::Put;
+use crate::SCALED_PAIR_ANSWER;
+use crate::VEC_ANSWER;
 use crate::places::block_at;
 use crate::places::double_at;
 use crate::places::mat_at;
@@ -42,7 +48,7 @@ fn answer_vec(out: &mut [u8], a: u8, b: u8, v: Vec3) -> Put
 {
     put_mark(out, a, b);
     put_vec(out, 2, v);
-    Put::Wrote(true, 26)
+    Put::Wrote(true, VEC_ANSWER)
 }
 
 fn answer_pose(out: &mut [u8], a: u8, b: u8, x: Sim3) -> Put
@@ -52,7 +58,7 @@ fn answer_pose(out: &mut [u8], a: u8, b: u8, x: Sim3) -> Put
 {
     put_mark(out, a, b);
     put_pose(out, 2, x);
-    Put::Wrote(true, 66)
+    Put::Wrote(true, POSE_ANSWER)
 }
 
 fn answer_block(out: &mut [u8], a: u8, b: u8, j: Sim3Jac) -> Put
@@ -62,7 +68,7 @@ fn answer_block(out: &mut [u8], a: u8, b: u8, j: Sim3Jac) -> Put
 {
     put_mark(out, a, b);
     put_block(out, 2, j);
-    Put::Wrote(true, 250)
+    Put::Wrote(true, BLOCK_ANSWER)
 }
 
 fn answer_block_pair(out: &mut [u8], a: u8, b: u8, p: BlockPair) -> Put
@@ -72,7 +78,7 @@ fn answer_block_pair(out: &mut [u8], a: u8, b: u8, p: BlockPair) -> Put
 {
     put_mark(out, a, b);
     put_block_pair(out, 2, p);
-    Put::Wrote(true, 994)
+    Put::Wrote(true, BLOCK_PAIR_ANSWER)
 }
 
 fn answer_scaled_pair(out: &mut [u8], a: u8, b: u8, p: ScaledPair) -> Put
@@ -82,7 +88,7 @@ fn answer_scaled_pair(out: &mut [u8], a: u8, b: u8, p: ScaledPair) -> Put
 {
     put_mark(out, a, b);
     put_scaled_pair(out, 2, p);
-    Put::Wrote(true, 162)
+    Put::Wrote(true, SCALED_PAIR_ANSWER)
 }
 
 fn refuse(out: &mut [u8], number: u8) -> Put
@@ -97,7 +103,7 @@ fn refuse(out: &mut [u8], number: u8) -> Put
 // ---- the job table
 // The exponential of a tangent.
 fn ex(b: &[u8], out: &mut [u8]) -> Put
-    requires { ⌜ length (now b) ≡ 136 ⌝ }
+    requires { ⌜ length (now b) ≡ widthOf Mark.Ex ⌝ }
     requires { ⌜ longest ≤ length (now out) ⌝ }
     ensures { λ r. ⌜ r ≡ toldReply (exOf (now (b .entry))) ⌝ }
     ensures { λ _. ⌜ now (out .exit) ≡ sets (now (out .entry)) 0 (exOf (now (b .entry)) .bytes) ⌝ }
@@ -108,7 +114,7 @@ fn ex(b: &[u8], out: &mut [u8]) -> Put
 
 // The scaled pair of coefficients; refusal 1 for z < 0.
 fn co(b: &[u8], out: &mut [u8]) -> Put
-    requires { ⌜ length (now b) ≡ 96 ⌝ }
+    requires { ⌜ length (now b) ≡ widthOf Mark.Co ⌝ }
     requires { ⌜ longest ≤ length (now out) ⌝ }
     ensures { λ r. ⌜ r ≡ toldReply (coOf (now (b .entry))) ⌝ }
     ensures { λ _. ⌜ now (out .exit) ≡ sets (now (out .entry)) 0 (coOf (now (b .entry)) .bytes) ⌝ }
@@ -123,7 +129,7 @@ fn co(b: &[u8], out: &mut [u8]) -> Put
 
 // The block pair of a tangent.
 fn pa(b: &[u8], out: &mut [u8]) -> Put
-    requires { ⌜ length (now b) ≡ 280 ⌝ }
+    requires { ⌜ length (now b) ≡ widthOf Mark.Pa ⌝ }
     requires { ⌜ longest ≤ length (now out) ⌝ }
     ensures { λ r. ⌜ r ≡ toldReply (paOf (now (b .entry))) ⌝ }
     ensures { λ _. ⌜ now (out .exit) ≡ sets (now (out .entry)) 0 (paOf (now (b .entry)) .bytes) ⌝ }
@@ -136,7 +142,7 @@ fn pa(b: &[u8], out: &mut [u8]) -> Put
 
 // A pose's action on a point.
 fn ac(b: &[u8], out: &mut [u8]) -> Put
-    requires { ⌜ length (now b) ≡ 96 ⌝ }
+    requires { ⌜ length (now b) ≡ widthOf Mark.Ac ⌝ }
     requires { ⌜ longest ≤ length (now out) ⌝ }
     ensures { λ r. ⌜ r ≡ toldReply (acOf (now (b .entry))) ⌝ }
     ensures { λ _. ⌜ now (out .exit) ≡ sets (now (out .entry)) 0 (acOf (now (b .entry)) .bytes) ⌝ }
@@ -147,7 +153,7 @@ fn ac(b: &[u8], out: &mut [u8]) -> Put
 
 // The product of two poses.
 fn mu(b: &[u8], out: &mut [u8]) -> Put
-    requires { ⌜ length (now b) ≡ 136 ⌝ }
+    requires { ⌜ length (now b) ≡ widthOf Mark.Mu ⌝ }
     requires { ⌜ longest ≤ length (now out) ⌝ }
     ensures { λ r. ⌜ r ≡ toldReply (muOf (now (b .entry))) ⌝ }
     ensures { λ _. ⌜ now (out .exit) ≡ sets (now (out .entry)) 0 (muOf (now (b .entry)) .bytes) ⌝ }
@@ -158,7 +164,7 @@ fn mu(b: &[u8], out: &mut [u8]) -> Put
 
 // The inverse of a pose.
 fn inv(b: &[u8], out: &mut [u8]) -> Put
-    requires { ⌜ length (now b) ≡ 72 ⌝ }
+    requires { ⌜ length (now b) ≡ widthOf Mark.In ⌝ }
     requires { ⌜ longest ≤ length (now out) ⌝ }
     ensures { λ r. ⌜ r ≡ toldReply (inOf (now (b .entry))) ⌝ }
     ensures { λ _. ⌜ now (out .exit) ≡ sets (now (out .entry)) 0 (inOf (now (b .entry)) .bytes) ⌝ }
@@ -169,7 +175,7 @@ fn inv(b: &[u8], out: &mut [u8]) -> Put
 
 // The inverse of a block; refusal 2 where e is a zero.
 fn ji(b: &[u8], out: &mut [u8]) -> Put
-    requires { ⌜ length (now b) ≡ 248 ⌝ }
+    requires { ⌜ length (now b) ≡ widthOf Mark.Ji ⌝ }
     requires { ⌜ longest ≤ length (now out) ⌝ }
     ensures { λ r. ⌜ r ≡ toldReply (jiOf (now (b .entry))) ⌝ }
     ensures { λ _. ⌜ now (out .exit) ≡ sets (now (out .entry)) 0 (jiOf (now (b .entry)) .bytes) ⌝ }
@@ -201,11 +207,11 @@ fn give(m: Mark, b: &[u8], out: &mut [u8]) -> Put
 // The answer to the record with the mark m, whose bytes behind the mark begin `rest`; nothing is
 // written where `rest` is shorter than the record or `out` than LONGEST.
 pub(crate) fn answered(m: Mark, rest: &[u8], out: &mut [u8]) -> Put
-    ensures { λ r. ⌜ r ≡ putOf m (now (rest .entry)) (length (now (out .entry))) ⌝ }
+    ensures { λ r. ⌜ putTold r ≡ putOf m (now (rest .entry)) (length (now (out .entry))) ⌝ }
     ensures { λ _. ⌜ now (out .exit) ≡ sets (now (out .entry)) 0 (putBytes m (now (rest .entry)) (length (now (out .entry)))) ⌝ }
 {
     if out.len() < LONGEST {
-        return Put::Short;
+        return Put::Room;
     }
     let w = width(m);
     if rest.len() < w {

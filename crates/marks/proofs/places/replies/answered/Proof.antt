@@ -1,4 +1,4 @@
--- `marks::places::replies::answered` meets its contract: too short an input or output is told, and else the record's own bytes are given. Assumes nothing.
+-- `marks::places::replies::answered` meets its contract: an output without room and an input that ends early are told, and else the record's own bytes are given. Assumes nothing.
 use borrow.Author.Needs.{needs}
 use native.Mathlib.Omega.{arith}
 use mathlib.Core.Path.{_≡_, sym, ap, _∙_}
@@ -7,7 +7,7 @@ use lib.ListN.{length, take}
 use mathlib.Core.List.{List}
 use lib.Seq.{sets, length-take-le}
 use Rattle.marks.specs.Marks.{widthOf}
-use Rattle.marks.specs.Reply.{replyOf, toldReply}
+use Rattle.marks.specs.Reply.{replyOf, toldReply, putTold}
 use Rattle.marks.proofs.Replies.{put-narrow, put-cut, put-whole}
 use Rattle.marks.proofs.places.replies.answered.Statement.{statement}
 use Rattle.marks.proofs.places.replies.answered.Tie as tie
@@ -40,7 +40,7 @@ returns-3 c =
     let n : c .before .before .before .before .before .before .width .result - 0 ≡ widthOf (a .m) = omega arith in
     let e : take (c .before .before .before .before .before .before .width .result - 0) (a .rest .now) ≡ take (widthOf (a .m)) (a .rest .now) = ap (λ (k : ℕ). take k (a .rest .now)) n in
     let g = c .before .before .give in
-    (g .ensures .0 ∙ ap (λ (b : List ℕ). toldReply (replyOf (a .m) b)) e ∙ sym (p .0), g .ensures .1 ∙ ap (λ (b : List ℕ). sets (a .out .now) 0 (replyOf (a .m) b .bytes)) e ∙ ap (sets (a .out .now) 0) (sym (p .1)))
+    (ap putTold (g .ensures .0 ∙ ap (λ (b : List ℕ). toldReply (replyOf (a .m) b)) e) ∙ sym (p .0), g .ensures .1 ∙ ap (λ (b : List ℕ). sets (a .out .now) 0 (replyOf (a .m) b .bytes)) e ∙ ap (sets (a .out .now) 0) (sym (p .1)))
 
 pub answered-spec : {M : Type 1} → statement M
 answered-spec = tie.close (tie.spec returns (λ c κs. search needs) returns-2 (λ c. search needs) (λ c. search needs) (λ c. search needs) give-requires (λ c. search needs) returns-3)

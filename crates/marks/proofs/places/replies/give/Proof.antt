@@ -6,31 +6,24 @@ use Rattle.marks.proofs.places.replies.give.Statement.{statement}
 use Rattle.marks.proofs.places.replies.give.Tie as tie
 
 ex-requires : tie.Need-ex-requires
-unfolding widthOf
 ex-requires c κs = (rw (c .before .enum-told .given .1) at (c .before .before .before .before .before .pre .0), search needs)
 
 co-requires : tie.Need-co-requires
-unfolding widthOf
 co-requires c κs = (rw (c .before .enum-told2 .given .1) at (c .before .before .before .before .before .pre .0), search needs)
 
 pa-requires : tie.Need-pa-requires
-unfolding widthOf
 pa-requires c κs = (rw (c .before .enum-told3 .given .1) at (c .before .before .before .before .before .pre .0), search needs)
 
 ac-requires : tie.Need-ac-requires
-unfolding widthOf
 ac-requires c κs = (rw (c .before .enum-told4 .given .1) at (c .before .before .before .before .before .pre .0), search needs)
 
 mu-requires : tie.Need-mu-requires
-unfolding widthOf
 mu-requires c κs = (rw (c .before .enum-told5 .given .1) at (c .before .before .before .before .before .pre .0), search needs)
 
 inv-requires : tie.Need-inv-requires
-unfolding widthOf
 inv-requires c κs = (rw (c .before .enum-told6 .given .1) at (c .before .before .before .before .before .pre .0), search needs)
 
 ji-requires : tie.Need-ji-requires
-unfolding widthOf
 ji-requires c κs = (rw (c .before .enum-told7 .given .1) at (c .before .before .before .before .before .pre .0), search needs)
 
 returns : tie.Need-returns
