@@ -185,3 +185,10 @@ pub fn v_apply(phi: Vec3, sigma: f64, c: Coeffs4, rho: Vec3) -> Vec3
     let far = phi.scale(c.v2 * phi.dot(rho));
     rho.scale(chi).add(phi.cross(rho).scale(c.v1)).add(far)
 }
+
+// `Sim3::renormalized` on a pose that is lent; nothing else is altered.
+pub fn renormalize(x: &mut Sim3)
+    ensures { λ _. ⌜ now (x .exit) ≡ poseRenormalized binary64 (now (x .entry)) ⌝ }
+{
+    *x = (*x).renormalized();
+}
