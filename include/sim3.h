@@ -7,7 +7,7 @@
  *     1  z is below zero                        (sim3_scaled_pair)
  *     2  e is +0 or -0                          (sim3_block_inverse)
  *     5  a list of points has a wrong length    (sim3_act_many, sim3_act_each: a multiple of 3, at most 65,535 numbers, `out` as long as `pts`)
- *     8  another list has a wrong length; the right one stands in brackets below
+ *   100  another list has a wrong length; the right one stands in brackets below. This number is the boundary's own: in Rattle no such list can be made
  * A wrong length of an input is refused before the numbers are looked at, and of `out` after.
  *
  * Orders.
@@ -42,7 +42,7 @@ enum {
     SIM3_BELOW_ZERO = 1,
     SIM3_E_IS_ZERO = 2,
     SIM3_POINTS_LENGTH = 5,
-    SIM3_LIST_LENGTH = 8
+    SIM3_LIST_LENGTH = 100
 };
 
 /* ---- poses */

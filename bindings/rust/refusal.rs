@@ -2,8 +2,8 @@
 
 use std::fmt;
 
-/// A refusal of the engine. The arrays' sizes are in the types, so number 8, another list of a wrong
-/// length, cannot arise here.
+/// A refusal of the engine. The arrays' sizes are in the types, so number 100, another list of a
+/// wrong length, cannot arise here.
 #[derive(Clone, Copy, Debug, PartialEq, Eq)]
 pub enum Refusal {
     /// 1: z is below zero.

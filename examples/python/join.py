@@ -88,7 +88,7 @@ def main():
     join = join_runs()
     move_line(join)
     adjust(join)
-    refused(8, sim3.exp, [0] * 6)
+    refused(100, sim3.exp, [0] * 6)
     refused(2, sim3.block_inverse, [0] * 31)
     refused(1, sim3.scaled_pair, 0, -1)
     refused(5, sim3.act_many, join, [0] * 7)

@@ -5,7 +5,7 @@ import struct
 from .common import MARKED, marked, same, size
 from sim3 import raw
 
-POINTS_LENGTH, LIST_LENGTH = 5, 8
+POINTS_LENGTH, LIST_LENGTH = 5, 100
 MOST = 65_535
 
 
@@ -88,10 +88,10 @@ def block(e):
 def order_of_refusals():
     """The inputs' lengths, then the function's own refusal, then the length of `out`."""
     pair, inverse, many = good("scaled_pair"), good("block_inverse"), good("act_many")
-    refused("scaled_pair", {**pair, "z": -1.0, "values": ones(9)}, 8, "z = -1 and nine values")
+    refused("scaled_pair", {**pair, "z": -1.0, "values": ones(9)}, LIST_LENGTH, "z = -1 and nine values")
     refused("scaled_pair", {**pair, "z": -1.0, "out": marked(19)}, 1, "z = -1 and a short out")
     refused("block_inverse", {**inverse, "j": block(0.0), "out": marked(30)}, 2, "e = 0 and a short out")
-    refused("act_many", {**many, "x": ones(7), "pts": ones(7)}, 8, "a short pose and seven numbers of points")
+    refused("act_many", {**many, "x": ones(7), "pts": ones(7)}, LIST_LENGTH, "a short pose and seven numbers of points")
 
 
 TESTS = [right_lengths, wrong_lengths, points_lengths, numbers_that_are_refused, order_of_refusals]

@@ -122,9 +122,9 @@ def wrong_lists():
         for argument, kind in made.takes:
             if kind == raw.NUMBER:
                 continue
-            good, number = arguments(name, random.Random(3)), 5 if kind == raw.POINTS else 8
+            good, number = arguments(name, random.Random(3)), 5 if kind == raw.POINTS else 100
             function, where = getattr(sim3, name), f"sim3.{name}: "
-            for wrong in ([*good[argument], 1.0], good[argument][1:], *([[]] if number == 8 else [[0] * 65_538])):
+            for wrong in ([*good[argument], 1.0], good[argument][1:], *([[]] if number == 100 else [[0] * 65_538])):
                 found = fails(sim3.Refusal, [where, f"refusal {number}", argument + " has"], function, **{**good, argument: wrong})
                 same(found.number, number, f"number of {found}")
             for wrong in ("1234567", b"12345678" * 8, 7, {1: 2}, (x for x in good[argument]), [*good[argument][1:], "1"], [good[argument]],

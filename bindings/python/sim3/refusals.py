@@ -2,10 +2,11 @@
 from .raw import KINDS
 
 MOST_NUMBERS = 65_535  # of a list of points
+LIST_LENGTH = 100  # the number of sim3.h for a list of a wrong length, the boundary's own
 
 
 class Refusal(ValueError):
-    """A refusal of the engine. `number` is its number in include/sim3.h: 1, 2, 5 or 8."""
+    """A refusal of the engine. `number` is its number in include/sim3.h: 1, 2, 5 or 100."""
 
     def __init__(self, number, text):
         super().__init__(number, text)
@@ -25,7 +26,7 @@ def numbers(count):
 
 def wrong_length(name, argument, kind, found):
     due, order = KINDS[kind]
-    return refusal(8, name, f"{argument} has {numbers(found)}; expected {due} ({kind}: {order})")
+    return refusal(LIST_LENGTH, name, f"{argument} has {numbers(found)}; expected {due} ({kind}: {order})")
 
 
 def points_text(found):

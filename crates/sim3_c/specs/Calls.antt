@@ -1,4 +1,4 @@
--- What each exported function answers: 0 and the numbers in `out`, or the number of a refusal and `out` as it was. A list is refused by 8 where its length is not the one that is due; lists of points by document 01's 5.
+-- What each exported function answers: 0 and the numbers in `out`, or the number of a refusal and `out` as it was. A list whose length is not the one that is due is refused by the boundary's own number; lists of points by the scope's 5.
 use Prim.Native.Nat.{ℕ}
 use mathlib.Core.Bool.{cond}
 use mathlib.Core.List.{List}

@@ -1,4 +1,4 @@
--- How things stand in the lists of a call, in the order of the job's records: what is read, and what is written. A list of another length is refused by 8.
+-- How things stand in the lists of a call, in the order of the job's records: what is read, and what is written. A list of another length is refused.
 use Prim.Native.Nat.{ℕ, _+_}
 use mathlib.Core.Bool.{cond}
 use mathlib.Core.List.{List, _++_}
@@ -36,7 +36,7 @@ use Rattle.sim3_c.specs.declared.read.BlockRead.the-variants as jacs
 
 -- the refusal of a list whose length is not the one that is due
 abbrev pub wrongLength : ℕ
-wrongLength = 8
+wrongLength = 100
 
 -- what is read of a list of n numbers
 unfoldable pub sized : {A : Type 0} → List Float → ℕ → A → Answer A

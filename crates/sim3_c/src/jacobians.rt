@@ -2,6 +2,7 @@
 // X Exp(tau), left Exp(tau) X.
 ghost use mathlib.Core.Path.{_≡_};
 ghost use Rattle.sim3_c.specs.Calls.{status, written, blockInverseCall, adjointCall, actJacobiansRightCall, actJacobiansLeftCall, composeJacobiansRightCall, composeJacobiansLeftCall, inverseJacobianRightCall, inverseJacobianLeftCall};
+use crate::LIST_LENGTH;
 use crate::read::BlockRead;
 use crate::read::PoseRead;
 use crate::read::VecRead;
@@ -27,7 +28,7 @@ pub extern "C" fn sim3_block_inverse(j: &[f64], out: &mut [f64]) -> u32
     ensures { λ _. ⌜ now (out .exit) ≡ written (blockInverseCall (now (j .entry)) (now (out .entry))) (now (out .entry)) ⌝ }
 {
     let BlockRead::Got(b) = block_from(j) else {
-        return 8;
+        return LIST_LENGTH;
     };
     match b.inverse() {
         JacAnswer::Block(i) => put_block(out, i),
@@ -42,7 +43,7 @@ pub extern "C" fn sim3_adjoint(x: &[f64], up: f64, out: &mut [f64]) -> u32
     ensures { λ _. ⌜ now (out .exit) ≡ written (adjointCall (now (x .entry)) up (now (out .entry))) (now (out .entry)) ⌝ }
 {
     let PoseRead::Got(a) = pose_from(x) else {
-        return 8;
+        return LIST_LENGTH;
     };
     put_block(out, adjoint(a, up))
 }
@@ -54,10 +55,10 @@ pub extern "C" fn sim3_act_jacobians_right(x: &[f64], up: f64, p: &[f64], out: &
     ensures { λ _. ⌜ now (out .exit) ≡ written (actJacobiansRightCall (now (x .entry)) up (now (p .entry)) (now (out .entry))) (now (out .entry)) ⌝ }
 {
     let PoseRead::Got(a) = pose_from(x) else {
-        return 8;
+        return LIST_LENGTH;
     };
     let VecRead::Got(b) = vec_from(p) else {
-        return 8;
+        return LIST_LENGTH;
     };
     put_act(out, act_jacobians_right(a, up, b))
 }
@@ -69,10 +70,10 @@ pub extern "C" fn sim3_act_jacobians_left(x: &[f64], up: f64, p: &[f64], out: &m
     ensures { λ _. ⌜ now (out .exit) ≡ written (actJacobiansLeftCall (now (x .entry)) up (now (p .entry)) (now (out .entry))) (now (out .entry)) ⌝ }
 {
     let PoseRead::Got(a) = pose_from(x) else {
-        return 8;
+        return LIST_LENGTH;
     };
     let VecRead::Got(b) = vec_from(p) else {
-        return 8;
+        return LIST_LENGTH;
     };
     put_act(out, act_jacobians_left(a, up, b))
 }
@@ -84,7 +85,7 @@ pub extern "C" fn sim3_compose_jacobians_right(y: &[f64], down: f64, out: &mut [
     ensures { λ _. ⌜ now (out .exit) ≡ written (composeJacobiansRightCall (now (y .entry)) down (now (out .entry))) (now (out .entry)) ⌝ }
 {
     let PoseRead::Got(a) = pose_from(y) else {
-        return 8;
+        return LIST_LENGTH;
     };
     put_two(out, compose_jacobians_right(a, down))
 }
@@ -96,7 +97,7 @@ pub extern "C" fn sim3_compose_jacobians_left(x: &[f64], up: f64, out: &mut [f64
     ensures { λ _. ⌜ now (out .exit) ≡ written (composeJacobiansLeftCall (now (x .entry)) up (now (out .entry))) (now (out .entry)) ⌝ }
 {
     let PoseRead::Got(a) = pose_from(x) else {
-        return 8;
+        return LIST_LENGTH;
     };
     put_two(out, compose_jacobians_left(a, up))
 }
@@ -108,7 +109,7 @@ pub extern "C" fn sim3_inverse_jacobian_right(x: &[f64], up: f64, out: &mut [f64
     ensures { λ _. ⌜ now (out .exit) ≡ written (inverseJacobianRightCall (now (x .entry)) up (now (out .entry))) (now (out .entry)) ⌝ }
 {
     let PoseRead::Got(a) = pose_from(x) else {
-        return 8;
+        return LIST_LENGTH;
     };
     put_block(out, inverse_jacobian_right(a, up))
 }
@@ -120,7 +121,7 @@ pub extern "C" fn sim3_inverse_jacobian_left(x: &[f64], down: f64, out: &mut [f6
     ensures { λ _. ⌜ now (out .exit) ≡ written (inverseJacobianLeftCall (now (x .entry)) down (now (out .entry))) (now (out .entry)) ⌝ }
 {
     let PoseRead::Got(a) = pose_from(x) else {
-        return 8;
+        return LIST_LENGTH;
     };
     put_block(out, inverse_jacobian_left(a, down))
 }

@@ -1,9 +1,12 @@
 // The engine for callers in C, Rust and Python: exported functions over numbers and lists of numbers,
-// each returning 0, or the number of a refusal, where `out` stays as it was. 1, 2 and 5 are document
-// 01's; 8 says that a list has not the length that is due. include/sim3.h has the order of every number.
+// each returning 0, or the number of a refusal, where `out` stays as it was. 1, 2 and 5 are the
+// engine's; LIST_LENGTH is this boundary's own. include/sim3.h has the order of every number.
 mod read; // the things in a list's numbers
 mod write; // the numbers of a thing, to a list
 pub mod pose; // exponential, composition, inverse
 pub mod points; // the action on lists of points
 pub mod pairs; // both signs, both sides
 pub mod jacobians; // inverse, adjoint, and the Jacobians of the group's operations
+
+// A list has not the length that is due. No refusal of the engine has this number or one near it.
+const LIST_LENGTH: u32 = 100;

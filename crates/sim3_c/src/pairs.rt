@@ -1,6 +1,7 @@
 // The paired evaluations: the coefficients for both signs of sigma, the Jacobian blocks of both sides.
 ghost use mathlib.Core.Path.{_≡_};
 ghost use Rattle.sim3_c.specs.Calls.{status, written, scaledPairCall, blockPairCall};
+use crate::LIST_LENGTH;
 use crate::read::MatRead;
 use crate::read::TangentRead;
 use crate::read::ValuesRead;
@@ -20,7 +21,7 @@ pub extern "C" fn sim3_scaled_pair(sigma: f64, z: f64, values: &[f64], out: &mut
     ensures { λ _. ⌜ now (out .exit) ≡ written (scaledPairCall sigma z (now (values .entry)) (now (out .entry))) (now (out .entry)) ⌝ }
 {
     let ValuesRead::Got(v) = values_from(values) else {
-        return 8;
+        return LIST_LENGTH;
     };
     match sim3_coeffs_scaled_pair(sigma, z, v) {
         PairAnswer::Coeffs(p) => put_scaled_pair(out, p),
@@ -41,16 +42,16 @@ pub extern "C" fn sim3_block_pair(
     ensures { λ _. ⌜ now (out .exit) ≡ written (blockPairCall (now (tau .entry)) (now (values .entry)) (now (jl .entry)) (now («jl_inv» .entry)) (now (out .entry))) (now (out .entry)) ⌝ }
 {
     let TangentRead::Got(t) = tangent_from(tau) else {
-        return 8;
+        return LIST_LENGTH;
     };
     let ValuesRead::Got(v) = values_from(values) else {
-        return 8;
+        return LIST_LENGTH;
     };
     let MatRead::Got(j) = mat_from(jl) else {
-        return 8;
+        return LIST_LENGTH;
     };
     let MatRead::Got(i) = mat_from(jl_inv) else {
-        return 8;
+        return LIST_LENGTH;
     };
     put_block_pair(out, block_pair(t, v, j, i))
 }

@@ -2,6 +2,7 @@
 // Rust's act_many; sim3_act_each moves each point as the mark AC does.
 ghost use mathlib.Core.Path.{_≡_};
 ghost use Rattle.sim3_c.specs.Calls.{status, written, actManyCall, actEachCall};
+use crate::LIST_LENGTH;
 use crate::read::PoseRead;
 use crate::read::pose_from;
 use sim3::points::Listed;
@@ -15,7 +16,7 @@ pub extern "C" fn sim3_act_many(x: &[f64], up: f64, pts: &[f64], out: &mut [f64]
     ensures { λ _. ⌜ now (out .exit) ≡ written (actManyCall (now (x .entry)) up (now (pts .entry)) (now (out .entry))) (now (out .entry)) ⌝ }
 {
     let PoseRead::Got(a) = pose_from(x) else {
-        return 8;
+        return LIST_LENGTH;
     };
     match act_many(a, up, pts, out) {
         Listed::Written => 0,
@@ -30,7 +31,7 @@ pub extern "C" fn sim3_act_each(x: &[f64], up: f64, pts: &[f64], out: &mut [f64]
     ensures { λ _. ⌜ now (out .exit) ≡ written (actEachCall (now (x .entry)) up (now (pts .entry)) (now (out .entry))) (now (out .entry)) ⌝ }
 {
     let PoseRead::Got(a) = pose_from(x) else {
-        return 8;
+        return LIST_LENGTH;
     };
     match act_each(a, up, pts, out) {
         Listed::Written => 0,

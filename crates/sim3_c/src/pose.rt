@@ -1,6 +1,7 @@
 // Poses: quaternion w x y z, t, sigma.
 ghost use mathlib.Core.Path.{_≡_};
 ghost use Rattle.sim3_c.specs.Calls.{status, written, expCall, mulCall, inverseCall, mulInvCall, invMulCall, renormalizeCall};
+use crate::LIST_LENGTH;
 use crate::read::PoseRead;
 use crate::read::TangentRead;
 use crate::read::ValuesRead;
@@ -17,10 +18,10 @@ pub extern "C" fn sim3_exp(tau: &[f64], values: &[f64], out: &mut [f64]) -> u32
     ensures { λ _. ⌜ now (out .exit) ≡ written (expCall (now (tau .entry)) (now (values .entry)) (now (out .entry))) (now (out .entry)) ⌝ }
 {
     let TangentRead::Got(t) = tangent_from(tau) else {
-        return 8;
+        return LIST_LENGTH;
     };
     let ValuesRead::Got(v) = values_from(values) else {
-        return 8;
+        return LIST_LENGTH;
     };
     put_pose(out, Sim3::exp(t, v))
 }
@@ -32,10 +33,10 @@ pub extern "C" fn sim3_mul(x: &[f64], y: &[f64], up: f64, out: &mut [f64]) -> u3
     ensures { λ _. ⌜ now (out .exit) ≡ written (mulCall (now (x .entry)) (now (y .entry)) up (now (out .entry))) (now (out .entry)) ⌝ }
 {
     let PoseRead::Got(a) = pose_from(x) else {
-        return 8;
+        return LIST_LENGTH;
     };
     let PoseRead::Got(b) = pose_from(y) else {
-        return 8;
+        return LIST_LENGTH;
     };
     put_pose(out, a.mul(b, up))
 }
@@ -47,7 +48,7 @@ pub extern "C" fn sim3_inverse(x: &[f64], down: f64, out: &mut [f64]) -> u32
     ensures { λ _. ⌜ now (out .exit) ≡ written (inverseCall (now (x .entry)) down (now (out .entry))) (now (out .entry)) ⌝ }
 {
     let PoseRead::Got(a) = pose_from(x) else {
-        return 8;
+        return LIST_LENGTH;
     };
     put_pose(out, a.inverse(down))
 }
@@ -59,10 +60,10 @@ pub extern "C" fn sim3_mul_inv(x: &[f64], y: &[f64], ds: f64, out: &mut [f64]) -
     ensures { λ _. ⌜ now (out .exit) ≡ written (mulInvCall (now (x .entry)) (now (y .entry)) ds (now (out .entry))) (now (out .entry)) ⌝ }
 {
     let PoseRead::Got(a) = pose_from(x) else {
-        return 8;
+        return LIST_LENGTH;
     };
     let PoseRead::Got(b) = pose_from(y) else {
-        return 8;
+        return LIST_LENGTH;
     };
     put_pose(out, a.mul_inv(b, ds))
 }
@@ -74,10 +75,10 @@ pub extern "C" fn sim3_inv_mul(x: &[f64], y: &[f64], down: f64, out: &mut [f64])
     ensures { λ _. ⌜ now (out .exit) ≡ written (invMulCall (now (x .entry)) (now (y .entry)) down (now (out .entry))) (now (out .entry)) ⌝ }
 {
     let PoseRead::Got(a) = pose_from(x) else {
-        return 8;
+        return LIST_LENGTH;
     };
     let PoseRead::Got(b) = pose_from(y) else {
-        return 8;
+        return LIST_LENGTH;
     };
     put_pose(out, a.inv_mul(b, down))
 }
@@ -89,7 +90,7 @@ pub extern "C" fn sim3_renormalize(x: &mut [f64]) -> u32
     ensures { λ _. ⌜ now (x .exit) ≡ written (renormalizeCall (now (x .entry))) (now (x .entry)) ⌝ }
 {
     let PoseRead::Got(a) = pose_from(x) else {
-        return 8;
+        return LIST_LENGTH;
     };
     put_pose(x, a.renormalized())
 }

@@ -1,4 +1,5 @@
-// The numbers of a thing, written to a list that has just their length: 0, or 8 and nothing written.
+// The numbers of a thing, written to a list that has just their length: 0, or LIST_LENGTH and nothing
+// written.
 ghost use mathlib.Core.Path.{_≡_};
 ghost use Prim.Native.Nat.{_+_, _≤_};
 ghost use lib.ListN.{length};
@@ -7,6 +8,7 @@ ghost use Rattle.linalg.specs.Vector.{vecNumbers};
 ghost use Rattle.marks.specs.Layout.{matNumbers, quatNumbers, poseNumbers, blockNumbers, blockPairNumbers, coeffsNumbers, scaledNumbers, scaledPairNumbers};
 ghost use Rattle.sim3_c.specs.Layout.{twoNumbers, actNumbers};
 ghost use Rattle.sim3_c.specs.Calls.{status, written, fitting};
+use crate::LIST_LENGTH;
 use coeffs::sim3::ScaledPair;
 use jacobian::jac::Sim3Jac;
 use jacobian::pair::BlockPair;
@@ -79,7 +81,7 @@ pub(crate) fn put_pose(out: &mut [f64], x: Sim3) -> u32
     ensures { λ _. ⌜ now (out .exit) ≡ written (fitting (now (out .entry)) (poseNumbers x)) (now (out .entry)) ⌝ }
 {
     if out.len() != 8 {
-        return 8;
+        return LIST_LENGTH;
     }
     set_quat(out, 0, x.q);
     set_three(out, 4, x.t);
@@ -93,7 +95,7 @@ pub(crate) fn put_scaled_pair(out: &mut [f64], p: ScaledPair) -> u32
     ensures { λ _. ⌜ now (out .exit) ≡ written (fitting (now (out .entry)) (scaledPairNumbers p)) (now (out .entry)) ⌝ }
 {
     if out.len() != 20 {
-        return 8;
+        return LIST_LENGTH;
     }
     set_scaled(out, 0, p.pos.c, p.pos.scaled);
     set_scaled(out, 10, p.neg.c, p.neg.scaled);
@@ -105,7 +107,7 @@ pub(crate) fn put_block(out: &mut [f64], j: Sim3Jac) -> u32
     ensures { λ _. ⌜ now (out .exit) ≡ written (fitting (now (out .entry)) (blockNumbers j)) (now (out .entry)) ⌝ }
 {
     if out.len() != 31 {
-        return 8;
+        return LIST_LENGTH;
     }
     set_block(out, 0, j);
     0
@@ -117,7 +119,7 @@ pub(crate) fn put_block_pair(out: &mut [f64], p: BlockPair) -> u32
     ensures { λ _. ⌜ now (out .exit) ≡ written (fitting (now (out .entry)) (blockPairNumbers p)) (now (out .entry)) ⌝ }
 {
     if out.len() != 124 {
-        return 8;
+        return LIST_LENGTH;
     }
     set_block(out, 0, p.left);
     set_block(out, 31, p.left_inv);
@@ -132,7 +134,7 @@ pub(crate) fn put_two(out: &mut [f64], t: TwoJacobians) -> u32
     ensures { λ _. ⌜ now (out .exit) ≡ written (fitting (now (out .entry)) (twoNumbers t)) (now (out .entry)) ⌝ }
 {
     if out.len() != 62 {
-        return 8;
+        return LIST_LENGTH;
     }
     set_block(out, 0, t.first);
     set_block(out, 31, t.second);
@@ -145,7 +147,7 @@ pub(crate) fn put_act(out: &mut [f64], j: ActJacobians) -> u32
     ensures { λ _. ⌜ now (out .exit) ≡ written (fitting (now (out .entry)) (actNumbers j)) (now (out .entry)) ⌝ }
 {
     if out.len() != 30 {
-        return 8;
+        return LIST_LENGTH;
     }
     set_mat(out, 0, j.rot);
     set_mat(out, 9, j.trans);
