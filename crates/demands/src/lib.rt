@@ -1,0 +1,57 @@
+// The third demand: the paired evaluation gives for both signs what the one-sign functions give. The
+// function here makes the eight calls of which the demand speaks, and its contract is the demand: it
+// rests on the contracts of these functions and on nothing else of them.
+ghost use lib.Ieee.{binary64};
+ghost use Rattle.demands.specs.Demand3.{Demand3};
+ghost use Rattle.demands.specs.Told.{signsTold};
+use coeffs::sim3::PairAnswer;
+use coeffs::sim3::ScaledAnswer;
+use coeffs::values::Values;
+use jacobian::blocks::JacAndInverse;
+use jacobian::pair::BlockPair;
+use linalg::matrix::Mat3;
+use sim3::sim3::Sim3;
+use sim3::tangent::Sim3Tangent;
+
+// What the eight calls return: the pair of coefficients, and those of each sign apart; the pair of
+// blocks, and those of each sign apart; the exponential of the tangent and of its negative.
+pub struct BothSigns {
+    pub pair: PairAnswer,
+    pub plus: ScaledAnswer,
+    pub minus: ScaledAnswer,
+    pub block: BlockPair,
+    pub left: JacAndInverse,
+    pub right: JacAndInverse,
+    pub exp: Sim3,
+    pub exp_neg: Sim3,
+}
+
+// The paired functions on tau and z, and the one-sign functions on each sign: on the negative with
+// the mirrored values and the transposed matrices.
+pub fn both_signs(tau: Sim3Tangent, z: f64, v: Values, jl: Mat3, jl_inv: Mat3) -> BothSigns
+    ensures { λ r. ⌜ Demand3 binary64 tau z v jl «jl_inv» (signsTold r) ⌝ }
+{
+    let sigma = tau.sigma;
+    let back = tau.neg();
+    let m = v.mirrored(sigma);
+    let jt = jl.transpose();
+    let it = jl_inv.transpose();
+    let pair = coeffs::sim3::sim3_coeffs_scaled_pair(sigma, z, v);
+    let plus = coeffs::sim3::sim3_coeffs_scaled(sigma, z, v);
+    let minus = coeffs::sim3::sim3_coeffs_scaled(-sigma, z, m);
+    let block = jacobian::pair::block_pair(tau, v, jl, jl_inv);
+    let left = jacobian::side::jl_and_inverse(tau, v, jl, jl_inv);
+    let right = jacobian::side::jl_and_inverse(back, m, jt, it);
+    let exp = Sim3::exp(tau, v);
+    let exp_neg = Sim3::exp(back, m);
+    BothSigns {
+        pair,
+        plus,
+        minus,
+        block,
+        left,
+        right,
+        exp,
+        exp_neg,
+    }
+}
