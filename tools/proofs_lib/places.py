@@ -1,6 +1,9 @@
 """What stands on the way to each need of a function, as the prover generates it."""
 import re
 
+# Fields of a place that are no call and no test.
+NO_FACTS = ("args", "blocks", "good", "fits", "pre", "κs")
+
 
 class Places:
     """A function's generated module Lts.antt: its needs in their order, each with the place that it stands at, and for each place what is known there."""
@@ -48,25 +51,44 @@ class Places:
         return found
 
     def known(self, record):
-        """What the calls on the way to a place ensure and its tests say, the nearest first, as paths."""
-        found = []
+        """What the calls on the way to a place ensure and its tests say, the nearest first: how many steps away, the path from there, and whether it is
+        used from right to left. So is what a call ensures whose answer is then taken apart: its contract tells what the answer says."""
+        found, apart = [], False
         for steps, at, names in self.back(record):
             for name in names:
-                if name not in ("args", "good", "fits", "pre", "κs"):
-                    found += self.said(at, name, "c" + " .before" * steps + f" .{name}")
+                fact = None if name in NO_FACTS else self.said(at)
+                if fact:
+                    found.append((steps, f".{name} {fact}", fact == ".ensures" and apart))
+                    apart = fact.startswith(".given") or (apart and fact != ".ensures")
         return found
 
-    def said(self, record, name, path):
+    def said(self, record):
+        """The fact that a place holds of its own, if it is one to rewrite by."""
         fields = self.records.get(f"{record}·own", [])
         names = [field for field, _ in fields]
         if not names:
-            return [f"{path} .ensures"]
-        for test in ("taken", "left"):
-            if test in names:
-                return [f"{path} .{test}"]
+            return ".ensures"
+        for name in names:
+            if name in ("taken", "left") or re.fullmatch(r"keys\d+", name):
+                return f".{name}"
         if names == ["given"] and re.search("k-enum-(known|told)", self.rules.get(fields[0][1], "")):
-            return [f"{path} .given .1"]
-        return []
+            return ".given .1"
+        return None
+
+
+# Steps between two places that get a name of their own, so that no way is long.
+STRIDE = 5
+
+
+def way(steps):
+    """The way to the place so many steps back, from the nearest named one."""
+    far = steps // STRIDE
+    return ("c" if far == 0 else f"c{far}") + " .before" * (steps % STRIDE)
+
+
+def named(most):
+    """The lines that name the places at every STRIDE steps, as far as `most` steps back."""
+    return [f"let c{k} = {'c' if k == 1 else f'c{k - 1}'}{' .before' * STRIDE} in" for k in range(1, most // STRIDE + 1)]
 
 
 def searched(need):

@@ -1,16 +1,9 @@
 """Proofs from templates, in which @NAME stands for the way to a place; and from another proof, with names replaced."""
 import re
 
-from .places import searched
+from .places import named, searched, way
 
 NAMED = r"@([a-zA-Zκ][a-zA-Z0-9-]*)"
-# Steps between two places that get a name of their own, so that no way is long.
-STRIDE = 5
-
-
-def way(steps):
-    far = steps // STRIDE
-    return ("c" if far == 0 else f"c{far}") + " .before" * (steps % STRIDE)
 
 
 def filled(block, ways):
@@ -21,12 +14,11 @@ def filled(block, ways):
             raise ValueError(f"nothing is called '{name}' on the way to this place: {', '.join(sorted(ways))}")
     text = re.sub("@" + NAMED, lambda m: f"({way(ways[m.group(1)])})", block)
     text = re.sub(NAMED, lambda m: f"{way(ways[m.group(1)])} .{m.group(1)}", text)
-    far = max((ways[name] for name in used), default=0) // STRIDE
-    if not far:
+    lets = named(max((ways[name] for name in used), default=0))
+    if not lets:
         return text
-    names = "".join(f"    let c{k} = {'c' if k == 1 else f'c{k - 1}'}{' .before' * STRIDE} in\n" for k in range(1, far + 1))
     first, _, rest = text.partition("=")
-    return f"{first}=\n{names}    {rest.lstrip()}"
+    return f"{first}=\n" + "".join(f"    {line}\n" for line in lets) + f"    {rest.lstrip()}"
 
 
 def written(template, function, places):

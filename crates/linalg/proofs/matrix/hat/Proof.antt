@@ -1,4 +1,4 @@
--- `linalg::matrix::hat` meets its contract: operation by operation, as the definition has it. Assumes nothing.
+-- Written by tools/proofs, plain, opening matHat ofBits. Digest 8df890783597cc5e.
 use mathlib.Core.Path.{refl}
 use Rattle.linalg.specs.Matrix.{matHat}
 use lib.Ieee.{ofBits}

@@ -1,4 +1,4 @@
--- `linalg::matrix::hat_col` meets its contract: operation by operation, as the definition has it. Assumes nothing.
+-- Written by tools/proofs, plain, opening vecHatMul. Digest 4a4eec3110702d09.
 use mathlib.Core.Path.{refl}
 use Rattle.linalg.specs.Matrix.{vecHatMul}
 use Rattle.linalg.proofs.matrix.hat_col.Statement.{statement}

@@ -1,4 +1,4 @@
--- `linalg::matrix::hat_mul` meets its contract: by what its calls ensure and its tests say. Assumes nothing.
+-- Written by tools/proofs, plain, opening matHatMul. Digest bd79f4574538f7f4.
 use borrow.Author.Needs.{needs}
 use Rattle.linalg.specs.Matrix.{matHatMul}
 use Rattle.linalg.proofs.matrix.hat_mul.Statement.{statement}

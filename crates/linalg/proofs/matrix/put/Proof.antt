@@ -1,4 +1,4 @@
--- `linalg::matrix::put` meets its contract: by what its calls ensure and its tests say. Assumes nothing.
+-- Written by tools/proofs, plain, opening vecPut. Digest 5713aa36817a0479.
 use borrow.Author.Needs.{needs}
 use Rattle.linalg.specs.Matrix.{vecPut}
 use Rattle.linalg.proofs.matrix.put.Statement.{statement}

@@ -1,4 +1,4 @@
--- `linalg::matrix::Mat3::add` meets its contract: by what its calls ensure and its tests say. Assumes nothing.
+-- Written by tools/proofs, plain, opening matAdd. Digest dc6ad679fd8c098f.
 use borrow.Author.Needs.{needs}
 use Rattle.linalg.specs.Matrix.{matAdd}
 use Rattle.linalg.proofs.matrix.Mat3.add.Statement.{statement}

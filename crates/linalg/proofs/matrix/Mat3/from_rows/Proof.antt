@@ -1,4 +1,4 @@
--- `linalg::matrix::Mat3::from_rows` meets its contract: operation by operation, as the definition has it. Assumes nothing.
+-- Written by tools/proofs, plain, opening matOfRows. Digest 352eb3a4f8456bc6.
 use mathlib.Core.Path.{refl}
 use Rattle.linalg.specs.Matrix.{matOfRows}
 use Rattle.linalg.proofs.matrix.Mat3.from_rows.Statement.{statement}

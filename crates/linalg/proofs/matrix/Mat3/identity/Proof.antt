@@ -1,4 +1,4 @@
--- `linalg::matrix::Mat3::identity` meets its contract: operation by operation, as the definition has it. Assumes nothing.
+-- Written by tools/proofs, plain, opening matIdentity ofBits. Digest b487871351b745eb.
 use mathlib.Core.Path.{refl}
 use Rattle.linalg.specs.Matrix.{matIdentity}
 use lib.Ieee.{ofBits}

@@ -1,4 +1,4 @@
--- `linalg::matrix::Mat3::mul` meets its contract: by what its calls ensure and its tests say. Assumes nothing.
+-- Written by tools/proofs, plain, opening matMul. Digest f3e7d7fd59315db4.
 use borrow.Author.Needs.{needs}
 use Rattle.linalg.specs.Matrix.{matMul}
 use Rattle.linalg.proofs.matrix.Mat3.mul.Statement.{statement}

@@ -1,4 +1,4 @@
--- `linalg::matrix::Mat3::mul_vec` meets its contract: operation by operation, as the definition has it. Assumes nothing.
+-- Written by tools/proofs, plain, opening matMulVec. Digest 9f5d54b0e651162c.
 use mathlib.Core.Path.{refl}
 use Rattle.linalg.specs.Matrix.{matMulVec}
 use Rattle.linalg.proofs.matrix.Mat3.mul_vec.Statement.{statement}

@@ -1,4 +1,4 @@
--- `linalg::matrix::Mat3::neg` meets its contract: by what its calls ensure and its tests say. Assumes nothing.
+-- Written by tools/proofs, plain, opening matNeg. Digest d82ea617ceb3a368.
 use borrow.Author.Needs.{needs}
 use Rattle.linalg.specs.Matrix.{matNeg}
 use Rattle.linalg.proofs.matrix.Mat3.neg.Statement.{statement}

@@ -1,4 +1,4 @@
--- `linalg::matrix::Mat3::scale` meets its contract: by what its calls ensure and its tests say. Assumes nothing.
+-- Written by tools/proofs, plain, opening matScale. Digest 7a5c725e5ace96c8.
 use borrow.Author.Needs.{needs}
 use Rattle.linalg.specs.Matrix.{matScale}
 use Rattle.linalg.proofs.matrix.Mat3.scale.Statement.{statement}

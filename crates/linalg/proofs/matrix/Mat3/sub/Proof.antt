@@ -1,4 +1,4 @@
--- `linalg::matrix::Mat3::sub` meets its contract: by what its calls ensure and its tests say. Assumes nothing.
+-- Written by tools/proofs, plain, opening matSub. Digest 6c809d4f7ff528d0.
 use borrow.Author.Needs.{needs}
 use Rattle.linalg.specs.Matrix.{matSub}
 use Rattle.linalg.proofs.matrix.Mat3.sub.Statement.{statement}

@@ -1,4 +1,4 @@
--- `linalg::matrix::Mat3::transpose` meets its contract: by what its calls ensure and its tests say. Assumes nothing.
+-- Written by tools/proofs, plain, opening matTranspose. Digest 9bff195f6cd9579a.
 use borrow.Author.Needs.{needs}
 use Rattle.linalg.specs.Matrix.{matTranspose}
 use Rattle.linalg.proofs.matrix.Mat3.transpose.Statement.{statement}

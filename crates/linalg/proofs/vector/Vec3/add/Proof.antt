@@ -1,4 +1,4 @@
--- `linalg::vector::Vec3::add` meets its contract: operation by operation, as the definition has it. Assumes nothing.
+-- Written by tools/proofs, plain, opening vecAdd. Digest cb9e43069aec42b4.
 use mathlib.Core.Path.{refl}
 use Rattle.linalg.specs.Vector.{vecAdd}
 use Rattle.linalg.proofs.vector.Vec3.add.Statement.{statement}

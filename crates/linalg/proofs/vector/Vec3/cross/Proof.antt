@@ -1,4 +1,4 @@
--- `linalg::vector::Vec3::cross` meets its contract: operation by operation, as the definition has it. Assumes nothing.
+-- Written by tools/proofs, plain, opening vecCross. Digest 567c245af6b3684e.
 use mathlib.Core.Path.{refl}
 use Rattle.linalg.specs.Vector.{vecCross}
 use Rattle.linalg.proofs.vector.Vec3.cross.Statement.{statement}

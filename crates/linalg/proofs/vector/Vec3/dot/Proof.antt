@@ -1,4 +1,4 @@
--- `linalg::vector::Vec3::dot` meets its contract: operation by operation, as the definition has it. Assumes nothing.
+-- Written by tools/proofs, plain, opening vecDot. Digest e725ade34b258d59.
 use mathlib.Core.Path.{refl}
 use Rattle.linalg.specs.Vector.{vecDot}
 use Rattle.linalg.proofs.vector.Vec3.dot.Statement.{statement}

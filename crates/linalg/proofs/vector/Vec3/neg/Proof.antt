@@ -1,4 +1,4 @@
--- `linalg::vector::Vec3::neg` meets its contract: operation by operation, as the definition has it. Assumes nothing.
+-- Written by tools/proofs, plain, opening vecNeg. Digest dc083fd264d1a092.
 use mathlib.Core.Path.{refl}
 use Rattle.linalg.specs.Vector.{vecNeg}
 use Rattle.linalg.proofs.vector.Vec3.neg.Statement.{statement}

@@ -1,4 +1,4 @@
--- `linalg::vector::Vec3::norm_sq` meets its contract: by what its calls ensure and its tests say. Assumes nothing.
+-- Written by tools/proofs, plain, opening vecNormSq. Digest 6dbb083b9d447914.
 use borrow.Author.Needs.{needs}
 use Rattle.linalg.specs.Vector.{vecNormSq}
 use Rattle.linalg.proofs.vector.Vec3.norm_sq.Statement.{statement}

@@ -1,4 +1,4 @@
--- `linalg::vector::Vec3::over` meets its contract: operation by operation, as the definition has it. Assumes nothing.
+-- Written by tools/proofs, plain, opening vecOver. Digest 1a1f45d1826ee807.
 use mathlib.Core.Path.{refl}
 use Rattle.linalg.specs.Vector.{vecOver}
 use Rattle.linalg.proofs.vector.Vec3.over.Statement.{statement}

@@ -1,4 +1,4 @@
--- `linalg::vector::Vec3::scale` meets its contract: operation by operation, as the definition has it. Assumes nothing.
+-- Written by tools/proofs, plain, opening vecScale. Digest 76774fb6d200a9d8.
 use mathlib.Core.Path.{refl}
 use Rattle.linalg.specs.Vector.{vecScale}
 use Rattle.linalg.proofs.vector.Vec3.scale.Statement.{statement}

@@ -1,4 +1,4 @@
--- `linalg::vector::Vec3::sub` meets its contract: operation by operation, as the definition has it. Assumes nothing.
+-- Written by tools/proofs, plain, opening vecSub. Digest 841c6a4ddf532576.
 use mathlib.Core.Path.{refl}
 use Rattle.linalg.specs.Vector.{vecSub}
 use Rattle.linalg.proofs.vector.Vec3.sub.Statement.{statement}
