@@ -16,7 +16,7 @@ fn v0_of(sigma: f64, g: f64, m1: f64, small: bool) -> f64
     ensures { λ r. ⌜ r ≡ closedV0 binary64 sigma g m1 small ⌝ }
 {
     if small {
-        return g * series::sim3::g1(sigma);
+        return g * series::small::g1(sigma);
     }
     let zero = at_zero(sigma);
     let ss = ieee::pick(zero, 1.0, sigma);
@@ -28,7 +28,7 @@ fn w0_of(sigma: f64, g: f64, m1: f64, small: bool) -> f64
     ensures { λ r. ⌜ r ≡ closedW0 binary64 sigma g m1 small ⌝ }
 {
     if small {
-        return g * series::sim3::g2(sigma);
+        return g * series::small::g2(sigma);
     }
     let ss = ieee::pick(at_zero(sigma), 1.0, sigma);
     (m1 - sigma * g) / (ss * ss)
@@ -197,8 +197,8 @@ fn ends_of(sigma: f64, x: Exps, y: Exps, small: bool) -> Ends
     ensures { λ r. ⌜ r ≡ closedEnds binary64 sigma x y small ⌝ }
 {
     if small {
-        let v = series::pair::g1_pair(sigma);
-        let w = series::pair::g2_pair(sigma);
+        let v = series::small::g1_pair(sigma);
+        let w = series::small::g2_pair(sigma);
         return Ends {
             v0: x.g * v.pos,
             w0: x.g * w.pos,

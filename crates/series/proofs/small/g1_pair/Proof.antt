@@ -1,9 +1,9 @@
--- `series::pair::g1_pair` meets its contract: Horner's sum is its first term and sigma times the rest. Assumes nothing.
+-- `series::small::g1_pair` meets its contract: Horner's sum is its first term and sigma times the rest. Assumes nothing.
 use borrow.Author.Needs.{needs}
 use Rattle.series.specs.Turns.{gTerm}
 use Rattle.series.specs.Series.{gSeries, gSeriesPair}
-use Rattle.series.proofs.pair.g1_pair.Statement.{statement}
-use Rattle.series.proofs.pair.g1_pair.Tie as tie
+use Rattle.series.proofs.small.g1_pair.Statement.{statement}
+use Rattle.series.proofs.small.g1_pair.Tie as tie
 
 returns : tie.Need-returns
 unfolding gTerm gSeries gSeriesPair

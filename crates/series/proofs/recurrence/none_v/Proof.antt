@@ -1,9 +1,9 @@
--- `series::sim3::none_v` meets its contract: operation by operation, as the definition has it. Assumes nothing.
+-- `series::recurrence::none_v` meets its contract: operation by operation, as the definition has it. Assumes nothing.
 use mathlib.Core.Path.{refl}
 use Rattle.series.specs.Turns.{vNone}
 use lib.Ieee.{ofBits}
-use Rattle.series.proofs.sim3.none_v.Statement.{statement}
-use Rattle.series.proofs.sim3.none_v.Tie as tie
+use Rattle.series.proofs.recurrence.none_v.Statement.{statement}
+use Rattle.series.proofs.recurrence.none_v.Tie as tie
 
 returns : tie.Need-returns
 unfolding vNone ofBits

@@ -1,8 +1,8 @@
--- `series::sim3::g1` meets its contract: Horner's sum is its first term and sigma times the rest. Assumes nothing.
+-- `series::small::g1` meets its contract: Horner's sum is its first term and sigma times the rest. Assumes nothing.
 use borrow.Author.Needs.{needs}
 use Rattle.series.specs.Series.{gSeries}
-use Rattle.series.proofs.sim3.g1.Statement.{statement}
-use Rattle.series.proofs.sim3.g1.Tie as tie
+use Rattle.series.proofs.small.g1.Statement.{statement}
+use Rattle.series.proofs.small.g1.Tie as tie
 
 returns : tie.Need-returns
 unfolding gSeries

@@ -1,10 +1,10 @@
--- `series::pair::g2_pair` meets its contract: the last term and seven times two are the fifteen of Horner's sum. Assumes nothing.
+-- `series::small::g2_pair` meets its contract: the last term and seven times two are the fifteen of Horner's sum. Assumes nothing.
 use borrow.Author.Needs.{needs}
 use Rattle.series.specs.Turns.{gTwo, gTerm}
 use Rattle.series.specs.Series.{gSeries, gSeriesPair}
 use lib.Ieee.{ofBits}
-use Rattle.series.proofs.pair.g2_pair.Statement.{statement}
-use Rattle.series.proofs.pair.g2_pair.Tie as tie
+use Rattle.series.proofs.small.g2_pair.Statement.{statement}
+use Rattle.series.proofs.small.g2_pair.Tie as tie
 
 returns : tie.Need-returns
 unfolding gTwo gTerm gSeries gSeriesPair ofBits

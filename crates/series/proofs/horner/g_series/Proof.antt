@@ -1,12 +1,12 @@
--- `series::sim3::g_series` meets its contract: after i turns the loop holds Horner's sum of the last i terms. Assumes nothing.
+-- `series::horner::g_series` meets its contract: after i turns the loop holds Horner's sum of the last i terms. Assumes nothing.
 use mathlib.Core.Path.{_≡_, refl}
 use Prim.Native.Nat.{suc, _+_, _-_, _≤_}
 use native.Mathlib.Omega.{arith}
 use lib.Ieee.{binary64, ofBits}
 use Rattle.series.specs.Series.{gSeries}
 use Rattle.series.proofs.Solo.{g-more}
-use Rattle.series.proofs.sim3.g_series.Statement.{statement}
-use Rattle.series.proofs.sim3.g_series.Tie as tie
+use Rattle.series.proofs.horner.g_series.Statement.{statement}
+use Rattle.series.proofs.horner.g_series.Tie as tie
 
 abbrev Inv-loop : tie.InvT-loop
 Inv-loop sigma l terms acc₀ i₀ acc i = (i ≤ terms) × (acc ≡ gSeries binary64 sigma (terms - i + l) i)
