@@ -6,19 +6,18 @@ use borrow.Author.Tests.{le-ltb}
 use lib.Dec.{ltb}
 use lib.Ieee.{Float, Format, neg, mul, lt, le}
 use Rattle.ieee.specs.Numbers.{f0}
-use Rattle.linalg.specs.Answer.{Answer, answers, refuses, andThen}
+use Rattle.linalg.specs.Answer.{answers, refuses, andThen}
 use Rattle.linalg.specs.Vector.{vecNormSq}
 use Rattle.linalg.specs.declared.vector.Vec3.{Vec3}
-use Rattle.linalg.proofs.Answers.{refused-as, answered-as, answered-at, not-refused, both-as}
+use Rattle.linalg.proofs.Answers.{refused-as, answered-as, answered-at, not-refused}
 use Rattle.circle.specs.Kernel.{notBelowZero, circleSincABD, circleSincA}
 use Rattle.circle.specs.declared.kernel.SincABD.{SincABD}
 use Rattle.circle.specs.declared.kernel.SincA.{SincA}
 use Rattle.circle.proofs.Angle.{norm-not-below}
 use Rattle.series.specs.Series.{seriesFull, seriesV, coeffs4, seriesGuard, seriesAnswer, seriesPairAnswer}
-use Rattle.series.specs.declared.sim3.CoeffsPair.{CoeffsPair}
 use Rattle.coeffs.specs.Limits.{coeffsDelta, formBBelow, w0Below}
 use Rattle.coeffs.specs.Arm.{coeffsArm, armTerms}
-use Rattle.coeffs.specs.Closed.{closedFrom, closedV, closedVFrom, closedNine}
+use Rattle.coeffs.specs.Closed.{closedFrom, closedV, closedVFrom, closedNine, closedJoined}
 use Rattle.coeffs.specs.Shared.{closedOnly}
 use Rattle.coeffs.specs.Group.{closedScaled, coeffsScaled, coeffsVScaled, coeffsUnscale, coeffsUnscaleV, coeffsPlain, coeffsV}
 use Rattle.coeffs.specs.declared.values.Values.{Values}
@@ -86,7 +85,7 @@ v-scaled f sigma z v t =
 pub v-closed :
     (f : Format) (sigma z : Float) (v : Values) → ltb (coeffsArm f (coeffsDelta f sigma z)) 5 ≡ false →
     coeffsVScaled f sigma z v ≡ v-scaled f sigma z v (circleSincA f z (v .root) (v .«sin_half») (v .«cos_half»))
-unfolding coeffsVScaled coeffs4 closedFrom closedNine closedVFrom closedV closedOnly circleSincA circleSincABD
+unfolding coeffsVScaled coeffs4 closedFrom closedNine closedJoined closedVFrom closedV closedOnly circleSincA circleSincABD
 v-closed f sigma z v t = rw (scaled-closed f sigma z v t) refl
 
 -- ---- the closed arm, from what the circle functions answer

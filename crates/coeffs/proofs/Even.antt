@@ -1,9 +1,9 @@
 -- The coefficients at -σ and the mirrored values, in what is even in σ: Δ, the arm, the term count, the masks and the circle functions. Assumes nothing.
 use mathlib.Core.Path.{_≡_, refl, sym, ap, _∙_}
 use Prim.Native.Nat.{ℕ, _≤_}
-use mathlib.Core.Bool.{true, false, cond}
+use mathlib.Core.Bool.{true, false}
 use lib.Dec.{ltb}
-use lib.Ieee.{Float, Format, neg, add, mul, lt, le}
+use lib.Ieee.{Float, Format, neg, lt}
 use Rattle.ieee.specs.Numbers.{f0}
 use Rattle.linalg.specs.Answer.{answers, refuses}
 use Rattle.linalg.specs.Vector.{vecNormSq}
@@ -14,10 +14,9 @@ use Rattle.circle.specs.declared.kernel.SincABD.{SincABD}
 use Rattle.series.specs.Series.{seriesFull, seriesPairAnswer}
 use Rattle.series.specs.declared.sim3.CoeffsPair.{CoeffsPair}
 use Rattle.ieee.proofs.Sign.{mul-neg-neg}
-use Rattle.coeffs.specs.Values.{mirrored, atZero}
+use Rattle.coeffs.specs.Values.{mirrored}
 use Rattle.coeffs.specs.Limits.{coeffsDelta}
 use Rattle.coeffs.specs.Arm.{coeffsArm, armTerms}
-use Rattle.coeffs.specs.Closed.{closedFrom}
 use Rattle.coeffs.specs.Group.{coeffsScaled, coeffsPair}
 use Rattle.coeffs.specs.Entries.{scaledAnswer, beside, pairAnswer}
 use Rattle.coeffs.specs.Shared.{closedPair}

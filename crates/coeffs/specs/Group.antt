@@ -1,4 +1,4 @@
--- The coefficients for one sign: which arm, and whether scaled; unscaled; and v alone.
+-- The coefficients: which arm, and whether scaled; unscaled; v alone; and at both signs.
 use mathlib.Core.Bool.{Bool, false, cond}
 use lib.Dec.{ltb}
 use lib.Ieee.{Float, Format, neg, mul, lt, le}

@@ -1,9 +1,6 @@
 -- Where the arms of the coefficients change. The binary64 limits are the scope's, the binary32 ones the Rust's.
-use lib.Ieee.{Float, Format, binary32, binary64, ofBits, add, mul}
-
--- Δ = σ·σ + z
-unfoldable pub coeffsDelta : Format → Float → Float → Float
-coeffsDelta f sigma z = add f (mul f sigma sigma) z
+use lib.Ieee.{Float, Format, binary32, binary64, ofBits}
+unfoldable pub use Rattle.series.specs.Series.{coeffsDelta}
 
 -- ---- in Δ
 -- the series with the fewest terms below it

@@ -2,8 +2,8 @@
 // where 0 < sigma.
 ghost use mathlib.Core.Path.{_≡_};
 ghost use lib.Ieee.{binary64, neg};
-ghost use Rattle.coeffs.specs.Closed.{closedV0, closedW0, closedV, closedVFrom, closedFrom};
-ghost use Rattle.coeffs.specs.Shared.{closedOnly, closedWs, closedDvs, closedJoined, closedExps, closedEnds};
+ghost use Rattle.coeffs.specs.Closed.{closedV0, closedW0, closedV, closedWs, closedDvs, closedJoined, closedVFrom, closedFrom};
+ghost use Rattle.coeffs.specs.Shared.{closedOnly, closedExps, closedEnds};
 use crate::values::at_zero;
 use circle::kernel::SincA;
 use circle::kernel::SincABD;
@@ -109,8 +109,8 @@ fn nine(v: Coeffs4, w0: f64, w: Ws, d: Dvs) -> Sim3Coeffs
     }
 }
 
-// e^t and e^t - 1.
-pub struct Pair {
+// e^t and e^t - 1 at t = -|sigma|.
+pub struct EtMt {
     pub et: f64,
     pub mt: f64,
 }
@@ -215,14 +215,14 @@ fn ends_of(sigma: f64, x: Exps, y: Exps, small: bool) -> Ends
     }
 }
 
-// All nine at sigma, from et and mt, and at -sigma, from et_neg and mt_neg: the circle functions, the
-// squares and the Horner passes are shared.
+// All nine at sigma, from x, and at -sigma, from y: the circle functions, the squares and the Horner
+// passes are shared.
 pub fn closed_both(
     sigma: f64,
     z: f64,
     t: SincABD,
-    x: Pair,
-    y: Pair,
+    x: EtMt,
+    y: EtMt,
     form_b: bool,
     small: bool,
 ) -> CoeffsPair

@@ -14,7 +14,7 @@ use lib.Ieee.Fits.{down-pos}
 use lib.Ieee.Positive.{den, den-pos}
 use lib.Ieee.Scale.{round-same, finite}
 use Rattle.ieee.specs.Signs.{plain, Same}
-use Rattle.ieee.proofs.Sign.{neg-neg, neg-cond, round-neg}
+use Rattle.ieee.proofs.Sign.{neg-cond, round-neg}
 use Rattle.ieee.proofs.Zero.{neg-same, round-zero}
 
 -- ---- the two parts of ±a: one of them is 0
@@ -77,9 +77,6 @@ signed-same f p n c p' n' c' C C' e = elim (order p n) [ inl h ↦ below h | inr
         ∙ sym (signed-ge f p' n' c' h')
 
 -- ---- `sum`
-below-nothing : (a b : ℕ) → a + b ≡ 0 → b ≡ 0
-below-nothing a b e = omega arith
-
 no-difference : (a b : ℕ) → a ≤ b → b ≤ a → a - b ≡ b - a
 no-difference a b h k = omega arith
 
@@ -294,8 +291,3 @@ add-comm f (inf s) (fin t n d) = refl
 add-comm f (fin s m e) nan = refl
 add-comm f (fin s m e) (inf t) = refl
 add-comm f (fin s m e) (fin t n d) = sum-comm f s (m * up e * down d) t (n * up d * down e) (down e * down d) ∙ rw (times-comm (down e) (down d))
-
--- x - y is -(y - x)
-pub sub-swap : (f : Format) (x y : Float) → Same (sub f x y) (neg (sub f y x))
-unfolding sub
-sub-swap f x y = ap plain (add-comm f x (neg y) ∙ ap (λ (z : Float). add f (neg y) z) (sym (neg-neg x))) ∙ neg-add f y (neg x)

@@ -12,8 +12,7 @@ use Rattle.linalg.specs.Vector.{vecScale, vecDot, vecNormSq, vecCross, vecAdd}
 use Rattle.circle.specs.Tables.{rowRule, rowTable}
 use Rattle.circle.specs.Kernel.{hornerSum, rowSeries, rowShort, rowMember, circleExp}
 use Rattle.series.specs.Recip.{recipRule, recipFact}
-use Rattle.series.specs.Series.{seriesFirst, seriesNext, seriesLevel, levelTerms, seriesSum, seriesSums, gSeries, seriesChi, seriesCoeffs, seriesFull, coeffs4}
-use Rattle.coeffs.specs.Limits.{coeffsDelta}
+use Rattle.series.specs.Series.{seriesFirst, seriesNext, seriesLevel, levelTerms, seriesSum, seriesSums, gSeries, coeffsDelta, seriesChi, seriesCoeffs, seriesFull, coeffs4}
 use Rattle.coeffs.specs.Arm.{coeffsArm}
 use Rattle.coeffs.specs.Group.{coeffsScaled, coeffsUnscale, coeffsPlain, coeffsV}
 use Rattle.so3.specs.Quat.{quatNormSq, quatRenormalized}

@@ -19,7 +19,6 @@ use Rattle.so3.specs.Quat.{quat, quatRenormalized}
 use Rattle.so3.specs.declared.quat.Quat.{Quat}
 use Rattle.sim3.specs.Tangent.{tangent}
 use Rattle.sim3.specs.Exp.{poseExp}
-use Rattle.sim3.specs.declared.sim3.Sim3.{Sim3}
 
 -- ---- a row: what the definitions give, and what is due
 pub record Example : Type 0 where

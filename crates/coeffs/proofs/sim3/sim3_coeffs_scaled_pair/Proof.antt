@@ -1,6 +1,6 @@
 -- `coeffs::sim3::sim3_coeffs_scaled_pair` meets its contract: the pair's arm is the arm of either sign, and what is even in sigma is formed once. Assumes nothing.
 use borrow.Author.Needs.{needs}
-use mathlib.Core.Path.{_≡_, sym, ap, _∙_}
+use mathlib.Core.Path.{sym, ap, _∙_}
 use borrow.Author.Tests.{lt-ltb, le-ltb}
 use lib.Dec.{ltb}
 use lib.Ieee.{binary64}

@@ -1,6 +1,6 @@
 -- `coeffs::sim3::sim3_v` meets its contract: the scaled answer, unscaled, or its refusal. Assumes nothing.
 use borrow.Author.Needs.{needs}
-use mathlib.Core.Path.{_≡_, sym, ap, _∙_}
+use mathlib.Core.Path.{sym, ap, _∙_}
 use lib.Ieee.{binary64}
 use Rattle.coeffs.specs.Entries.{vScaledTold, vTold, vScaledAnswer, vAnswer}
 use Rattle.coeffs.proofs.Arms.{arm-refuses, v-answers}

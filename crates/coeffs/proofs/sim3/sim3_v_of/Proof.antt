@@ -1,6 +1,6 @@
 -- `coeffs::sim3::sim3_v_of` meets its contract: |phi|² is not below zero, so the entry answers. Assumes nothing.
 use borrow.Author.Needs.{needs}
-use mathlib.Core.Path.{_≡_, sym, ap, _∙_}
+use mathlib.Core.Path.{sym, ap, _∙_}
 use lib.Ieee.{binary64}
 use Rattle.coeffs.specs.Entries.{vTold, vAnswer}
 use Rattle.coeffs.proofs.Arms.{angle-answers, angle-refuses}

@@ -1,8 +1,9 @@
 -- `coeffs::sim3::sim3_v_scaled` meets its contract: in either arm what the arm answers is answered, and its refusal is handed upward. Assumes nothing.
 use borrow.Author.Needs.{needs}
-use mathlib.Core.Path.{_≡_, sym, ap, _∙_}
+use mathlib.Core.Path.{sym, ap, _∙_}
 use borrow.Author.Tests.{lt-ltb, le-ltb}
 use lib.Dec.{ltb}
+use mathlib.Core.Bool.{false}
 use lib.Ieee.{binary64, ofBits}
 use Rattle.series.specs.Series.{seriesVTold, seriesVAnswer}
 use Rattle.circle.specs.Kernel.{sincATold, circleSincAAnswer}
@@ -20,7 +21,7 @@ returns c =
     let d = c .before .before .before .before .terms .ensures in
     let e = c .before .before .before .before .before .before .arm .ensures in
     let t = ap (λ n. ltb n 5) (sym e) ∙ lt-ltb _ _ (c .before .before .before .before .before .if1 .taken) in
-    sym (series-answers (a .z) _ _ _ _ (λ x. record { c = x; scaled = _ }) (d .1) (v-series binary64 (a .sigma) (a .z) (a .v) _ t (d .0 ∙ ap (armTerms binary64) e)) (sym (c .before .before .before .series-v .ensures) ∙ ap seriesVTold (c .before .c .given .1)))
+    sym (series-answers (a .z) _ _ _ _ (λ x. record { c = x; scaled = false }) (d .1) (v-series binary64 (a .sigma) (a .z) (a .v) _ t (d .0 ∙ ap (armTerms binary64) e)) (sym (c .before .before .before .series-v .ensures) ∙ ap seriesVTold (c .before .c .given .1)))
 
 returns-2 : tie.Need-returns-2
 unfolding vScaledTold vScaledAnswer seriesVTold seriesVAnswer

@@ -1,6 +1,6 @@
 -- `series::horner::g_two` meets its contract: two turns by sigma are two terms at both signs. Assumes nothing.
 use borrow.Author.Needs.{needs}
-use Rattle.series.proofs.Mirror.{two-turns}
+use Rattle.series.proofs.Terms.{two-turns}
 use Rattle.series.proofs.horner.g_two.Statement.{statement}
 use Rattle.series.proofs.horner.g_two.Tie as tie
 

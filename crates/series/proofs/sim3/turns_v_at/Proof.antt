@@ -1,5 +1,5 @@
 -- `series::sim3::turns_v_at` meets its contract: the shortest arm's turns are written out; after j turns the loop holds `vTurns` at j, and it stops at k + 1. Assumes nothing.
-use mathlib.Core.Path.{_≡_, refl}
+use mathlib.Core.Path.{_≡_}
 use Prim.Native.Nat.{_+_, _-_, _≤_}
 use native.Mathlib.Omega.{arith}
 use lib.Ieee.{binary64}

@@ -1,8 +1,7 @@
 -- `linalg::matrix::Mat3::col` meets its contract: its three entries are the column, and where one is refused so is the column. Assumes nothing.
-use mathlib.Core.Path.{_≡_, refl, sym, ap, _∙_}
+use mathlib.Core.Path.{refl, sym, ap, _∙_}
 use borrow.Author.Needs.{needs}
-use Rattle.linalg.specs.Answer.{answers, refuses}
-use Rattle.linalg.specs.Matrix.{entryTold, vecTold, vecComponent, matGet, matCol}
+use Rattle.linalg.specs.Matrix.{entryTold, vecTold, vecComponent}
 use Rattle.linalg.proofs.Thirds.{col-refused, col-answers}
 use Rattle.linalg.proofs.matrix.Mat3.col.Statement.{statement}
 use Rattle.linalg.proofs.matrix.Mat3.col.Tie as tie

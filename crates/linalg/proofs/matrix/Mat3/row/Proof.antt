@@ -1,7 +1,6 @@
 -- `linalg::matrix::Mat3::row` meets its contract: its three entries are the row, and where one is refused so is the row. Assumes nothing.
-use mathlib.Core.Path.{_≡_, refl, sym, ap, _∙_}
+use mathlib.Core.Path.{sym, ap, _∙_}
 use borrow.Author.Needs.{needs}
-use Rattle.linalg.specs.Answer.{answers, refuses}
 use Rattle.linalg.specs.Matrix.{entryTold, vecTold, vecComponent, matGet, matCol}
 use Rattle.linalg.proofs.Thirds.{row-refused, row-answers}
 use Rattle.linalg.proofs.matrix.Mat3.row.Statement.{statement}
