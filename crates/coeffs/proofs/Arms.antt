@@ -62,7 +62,10 @@ unfolding coeffsScaled
 scaled-closed f sigma z v t = rw t refl
 
 -- ---- both signs behind the series' tests
-guards : {A B C : Type 0} (s t : Bool) (a : A) (b : B) (g : A → B → C) → andThen (cond s (refuses 1) (cond t (refuses 4) (answers a))) (λ x. andThen (cond s (refuses 1) (cond t (refuses 4) (answers b))) (λ y. answers (g x y))) ≡ cond s (refuses 1) (cond t (refuses 4) (answers (g a b)))
+guards :
+    {A B C : Type 0} (s t : Bool) (a : A) (b : B) (g : A → B → C) →
+    andThen (cond s (refuses 1) (cond t (refuses 4) (answers a))) (λ x. andThen (cond s (refuses 1) (cond t (refuses 4) (answers b))) (λ y. answers (g x y)))
+    ≡ cond s (refuses 1) (cond t (refuses 4) (answers (g a b)))
 guards true t a b g = refl
 guards false true a b g = refl
 guards false false a b g = refl
@@ -100,10 +103,14 @@ pub v-closed-answers :
 v-closed-answers f sigma z v t h r = arm-answers z _ t _ (v-scaled f sigma z v) (v-closed f sigma z v h) r
 
 -- ---- unscaled, from the scaled answer
-pub plain-answers : (f : Format) (sigma z : Float) (v : Values) (s : Scaled) → notBelowZero z (coeffsScaled f sigma z v) ≡ answers s → notBelowZero z (coeffsPlain f sigma z v) ≡ answers (coeffsUnscale f (s .c) (v .up) (s .scaled))
+pub plain-answers :
+    (f : Format) (sigma z : Float) (v : Values) (s : Scaled) → notBelowZero z (coeffsScaled f sigma z v) ≡ answers s →
+    notBelowZero z (coeffsPlain f sigma z v) ≡ answers (coeffsUnscale f (s .c) (v .up) (s .scaled))
 unfolding coeffsPlain
 plain-answers f sigma z v s r = arm-answers z _ s _ (λ (x : Scaled). coeffsUnscale f (x .c) (v .up) (x .scaled)) refl r
 
-pub v-answers : (f : Format) (sigma z : Float) (v : Values) (s : VScaled) → notBelowZero z (coeffsVScaled f sigma z v) ≡ answers s → notBelowZero z (coeffsV f sigma z v) ≡ answers (coeffsUnscaleV f (s .c) (v .up) (s .scaled))
+pub v-answers :
+    (f : Format) (sigma z : Float) (v : Values) (s : VScaled) → notBelowZero z (coeffsVScaled f sigma z v) ≡ answers s →
+    notBelowZero z (coeffsV f sigma z v) ≡ answers (coeffsUnscaleV f (s .c) (v .up) (s .scaled))
 unfolding coeffsV coeffsPlain coeffsVScaled coeffs4 coeffsUnscale coeffsUnscaleV
 v-answers f sigma z v s r = arm-answers z _ s _ (λ (x : VScaled). coeffsUnscaleV f (x .c) (v .up) (x .scaled)) refl r

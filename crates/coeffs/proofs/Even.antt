@@ -57,16 +57,19 @@ unfolding pairAnswer beside scaledAnswer coeffsPair
 pair-answer-is f sigma z v = both-as (lt z f0) 1 (coeffsScaled f sigma z v) (coeffsScaled f (neg sigma) z (mirrored sigma v)) (λ p n. record { pos = p; neg = n })
 
 pub pair-closed-answers :
-    (f : Format) (sigma z : Float) (v : Values) (t : SincABD) → ltb (coeffsArm f (coeffsDelta f sigma z)) 5 ≡ false → notBelowZero z (circleSincABD f z (v .root) (v .«sin_half») (v .«cos_half») (v .sin)) ≡ answers t →
+    (f : Format) (sigma z : Float) (v : Values) (t : SincABD) → ltb (coeffsArm f (coeffsDelta f sigma z)) 5 ≡ false →
+    notBelowZero z (circleSincABD f z (v .root) (v .«sin_half») (v .«cos_half») (v .sin)) ≡ answers t →
     pairAnswer f sigma z v ≡ answers (closedPair f sigma z (coeffsDelta f sigma z) t v)
 pair-closed-answers f sigma z v t h r = pair-answer-is f sigma z v ∙ arm-answers z _ t _ (λ x. closedPair f sigma z (coeffsDelta f sigma z) x v) (pair-closed f sigma z v h) r
 
 pub pair-series-answers :
-    (f : Format) (sigma z : Float) (v : Values) (k : ℕ) (p : CoeffsPair) → ltb (coeffsArm f (coeffsDelta f sigma z)) 5 ≡ true → k ≡ armTerms f (coeffsArm f (coeffsDelta f sigma z)) → k ≤ 64 → seriesPairAnswer f sigma z k ≡ answers p →
+    (f : Format) (sigma z : Float) (v : Values) (k : ℕ) (p : CoeffsPair) → ltb (coeffsArm f (coeffsDelta f sigma z)) 5 ≡ true → k ≡ armTerms f (coeffsArm f (coeffsDelta f sigma z)) →
+    k ≤ 64 → seriesPairAnswer f sigma z k ≡ answers p →
     pairAnswer f sigma z v ≡ answers (record { pos = record { c = p .pos; scaled = false }; neg = record { c = p .neg; scaled = false } })
 pair-series-answers f sigma z v k p h e b r =
     pair-answer-is f sigma z v
-    ∙ series-answers z k _ p _ (λ (q : CoeffsPair). record { pos = record { c = q .pos; scaled = false }; neg = record { c = q .neg; scaled = false } }) b (pair-series f sigma z v k h e) (sym (series-pair-is f sigma z k) ∙ r)
+    ∙ series-answers z k _ p _ (λ (q : CoeffsPair). record { pos = record { c = q .pos; scaled = false }; neg = record { c = q .neg; scaled = false } }) b
+    (pair-series f sigma z v k h e) (sym (series-pair-is f sigma z k) ∙ r)
 
 pub pair-series-refuses : (f : Format) (sigma z : Float) (v : Values) (k n : ℕ) → k ≤ 64 → seriesPairAnswer f sigma z k ≡ refuses n → pairAnswer f sigma z v ≡ refuses n
 pair-series-refuses f sigma z v k n b r = pair-answer-is f sigma z v ∙ series-refuses z k n _ _ b (sym (series-pair-is f sigma z k) ∙ r)

@@ -75,7 +75,9 @@ pub round-clear-false : (f : Format) (a c : ℕ) → T (notMinusZero (round f fa
 round-clear-false f a c = rw (round-is f false a c) (units-clear f _ _)
 
 -- ---- `sum`
-sum-clear : (f : Format) (s : Bool) (a : ℕ) (t : Bool) (b c : ℕ) → 0 < c → (T s → c ≤ a * 2 ^ low f) → (a < b → c ≤ (b - a) * 2 ^ low f) → (b < a → c ≤ (a - b) * 2 ^ low f) → T (notMinusZero (sum f s a t b c))
+sum-clear :
+    (f : Format) (s : Bool) (a : ℕ) (t : Bool) (b c : ℕ) → 0 < c → (T s → c ≤ a * 2 ^ low f) → (a < b → c ≤ (b - a) * 2 ^ low f) → (b < a → c ≤ (a - b) * 2 ^ low f) →
+    T (notMinusZero (sum f s a t b c))
 unfolding sum
 sum-clear f false a false b c C h k l = round-clear-false f (a + b) c
 sum-clear f true a true b c C h k l = round-clear-true f (a + b) c C (le-trans (h tt) (mul-le-mul-right (2 ^ low f) (omega arith)))
@@ -132,7 +134,8 @@ lead f false m e d t c g = absurd g
 lead f true zero e d t c g = absurd c
 lead f true (suc m) e d t c g =
     le-trans (mul-le-mul-right (down d) (fits-down f true (suc m) e t))
-    (le-trans (le-of-eq (times-comm (2 ^ low f) (down d))) (mul-le-mul-right (2 ^ low f) (le-trans (le-of-eq (sym (one-mul (down d)))) (mul-le-mul-right (down d) (mul-pos (zero-lt-suc m) (up-pos e))))))
+    (le-trans (le-of-eq (times-comm (2 ^ low f) (down d)))
+    (mul-le-mul-right (2 ^ low f) (le-trans (le-of-eq (sym (one-mul (down d)))) (mul-le-mul-right (down d) (mul-pos (zero-lt-suc m) (up-pos e))))))
 
 pub add-clear : (f : Format) (x y : Float) → T (fits f x) → T (fits f y) → T (notMinusZero x) → T (notMinusZero (add f x y))
 unfolding add
@@ -166,5 +169,7 @@ pub same-is : (f : Format) (x y : Float) → T (fits f x) → T (fits f y) → T
 same-is f x y p q c d h = sym (plain-id f x p c) ∙ h ∙ plain-id f y q d
 
 -- so a sum of values that are the same is the same value, where it starts from one that is not -0
-pub add-is-same : (f : Format) (x x' y y' : Float) → T (fits f x) → T (fits f x') → T (fits f y) → T (fits f y') → T (notMinusZero x) → T (notMinusZero x') → Same x x' → Same y y' → add f x y ≡ add f x' y'
+pub add-is-same :
+    (f : Format) (x x' y y' : Float) → T (fits f x) → T (fits f x') → T (fits f y) → T (fits f y') → T (notMinusZero x) → T (notMinusZero x') → Same x x' → Same y y' →
+    add f x y ≡ add f x' y'
 add-is-same f x x' y y' p p' q q' c c' X Y = same-is f (add f x y) (add f x' y') (add-fits f x y) (add-fits f x' y') (add-clear f x y p q c) (add-clear f x' y' p' q' c') (add-same f x x' y y' X Y)

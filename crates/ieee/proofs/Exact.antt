@@ -3,7 +3,8 @@
 use mathlib.Core.Path.{_≡_, refl, sym, ap, _∙_, subst}
 use mathlib.Core.Logic.{inl, inr}
 use Prim.Native.Nat.{ℕ, zero, suc, _+_, _-_, _*_, _%_, _^_, _≤_, _<_}
-use native.Mathlib.Nat.{le-antisymm, not-le-of-lt, zero-lt-suc, zero-mul, mul-one, mul-assoc, mul-left-comm, mul-pos, mul-lt-mul-of-pos-right, lt-of-mul-lt-mul-right, eq-of-mul-eq-mul-right, pow-suc, pow-succ'}
+use native.Mathlib.Nat.{le-antisymm, not-le-of-lt, zero-lt-suc, zero-mul, mul-one, mul-assoc, mul-left-comm, mul-pos}
+use native.Mathlib.Nat.{mul-lt-mul-of-pos-right, lt-of-mul-lt-mul-right, eq-of-mul-eq-mul-right, pow-suc, pow-succ'}
 use native.Mathlib.Omega.{arith}
 use mathlib.Core.Bool.{Bool, true, false}
 use lib.IntN.{ℤ, pos, negsuc}
@@ -62,7 +63,9 @@ unfolding fits
 fits-top f s m e t = search (and-l, and-r, ltb→lt)
 
 -- the same sign and the same size
-one-way : (f : Format) (s : Bool) (m : ℕ) (e : ℤ) (n : ℕ) (d : ℤ) → T (fits f (fin s (suc m) e)) → T (fits f (fin s (suc n) d)) → suc m * up e * down d ≡ suc n * up d * down e → fin s (suc m) e ≡ fin s (suc n) d
+one-way :
+    (f : Format) (s : Bool) (m : ℕ) (e : ℤ) (n : ℕ) (d : ℤ) → T (fits f (fin s (suc m) e)) → T (fits f (fin s (suc n) d)) → suc m * up e * down d ≡ suc n * up d * down e →
+    fin s (suc m) e ≡ fin s (suc n) d
 one-way f s m e n d p q h =
     let r = odd-pow (suc m) (suc n) (head e + tail d) (head d + tail e) (fits-odd f s m e p) (fits-odd f s n d q)
     (rw (pow-add 2 (head e) (tail d), pow-add 2 (head d) (tail e), ← up-is e, ← up-is d, ← down-is e, ← down-is d, ← mul-assoc (suc m), ← mul-assoc (suc n)) h) in

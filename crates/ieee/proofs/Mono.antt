@@ -63,7 +63,8 @@ sums-le hx lx dx hx' lx' dx' hy ly dy hy' ly' dy' X Y =
     let A = times-le (hx * dx') (lx' * dx) (hx' * dx) (lx * dx') (dy * dy') X in
     let B = times-le (hy * dy') (ly' * dy) (hy' * dy) (ly * dy') (dx * dx') Y in
     rw (spread hx dy hy dx dx' dy', spread lx' dy' ly' dx' dx dy, spread hx' dy' hy' dx' dx dy, spread lx dy ly dx dx' dy', times-comm dy' dy, times-comm dx' dx)
-    (both-le (hx * dx' * (dy * dy')) (lx' * dx * (dy * dy')) (hx' * dx * (dy * dy')) (lx * dx' * (dy * dy')) (hy * dy' * (dx * dx')) (ly' * dy * (dx * dx')) (hy' * dy * (dx * dx')) (ly * dy' * (dx * dx')) A B)
+    (both-le (hx * dx' * (dy * dy')) (lx' * dx * (dy * dy')) (hx' * dx * (dy * dy')) (lx * dx' * (dy * dy'))
+    (hy * dy' * (dx * dx')) (ly' * dy * (dx * dx')) (hy' * dy * (dx * dx')) (ly * dy' * (dx * dx')) A B)
 
 -- x and y under another name, up to the sign of a zero
 pub le-through : (x x' y y' : Float) → Same x x' → Same y y' → T (le x' y') → T (le x y)

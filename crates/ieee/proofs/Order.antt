@@ -71,7 +71,9 @@ lt-is nan y p q = absurd p
 lt-is (inf s) y p q = absurd p
 lt-is (fin s m e) nan p q = absurd q
 lt-is (fin s m e) (inf t) p q = absurd q
-lt-is (fin s m e) (fin t n d) p q = below-is s (m * up e * down d) t (n * up d * down e) ∙ rw (over-mul s (m * up e) (down d), over-mul t (n * up d) (down e), under-mul s (m * up e) (down d), under-mul t (n * up d) (down e))
+lt-is (fin s m e) (fin t n d) p q =
+    below-is s (m * up e * down d) t (n * up d * down e)
+    ∙ rw (over-mul s (m * up e) (down d), over-mul t (n * up d) (down e), under-mul s (m * up e) (down d), under-mul t (n * up d) (down e))
 
 pub eq-is : (x y : Float) → T (finite x) → T (finite y) → eq x y ≡ eqb (side x y) (side y x)
 unfolding eq
@@ -79,7 +81,9 @@ eq-is nan y p q = absurd p
 eq-is (inf s) y p q = absurd p
 eq-is (fin s m e) nan p q = absurd q
 eq-is (fin s m e) (inf t) p q = absurd q
-eq-is (fin s m e) (fin t n d) p q = level-is s (m * up e * down d) t (n * up d * down e) ∙ rw (over-mul s (m * up e) (down d), over-mul t (n * up d) (down e), under-mul s (m * up e) (down d), under-mul t (n * up d) (down e))
+eq-is (fin s m e) (fin t n d) p q =
+    level-is s (m * up e * down d) t (n * up d * down e)
+    ∙ rw (over-mul s (m * up e) (down d), over-mul t (n * up d) (down e), under-mul s (m * up e) (down d), under-mul t (n * up d) (down e))
 
 pub le-is : (x y : Float) → T (finite x) → T (finite y) → le x y ≡ leb (side x y) (side y x)
 unfolding le
@@ -179,7 +183,9 @@ lt-neg (fin s m e) (inf false) = unfold lt neg in refl
 lt-neg (fin s m e) (fin t n d) = finites (fin s m e) (fin t n d) tt tt
   where
     finites : (x y : Float) → T (finite x) → T (finite y) → lt (neg x) (neg y) ≡ lt y x
-    finites x y p q = lt-is (neg x) (neg y) (rw finite-neg p) (rw finite-neg q) ∙ rw (hi-neg x, hi-neg y, lo-neg x, lo-neg y, den-neg x, den-neg y) (rw (plus-comm (lo x * den y), plus-comm (lo y * den x)) (sym (lt-is y x q p)))
+    finites x y p q =
+        lt-is (neg x) (neg y) (rw finite-neg p) (rw finite-neg q)
+        ∙ rw (hi-neg x, hi-neg y, lo-neg x, lo-neg y, den-neg x, den-neg y) (rw (plus-comm (lo x * den y), plus-comm (lo y * den x)) (sym (lt-is y x q p)))
 
 pub eq-neg : (x y : Float) → eq (neg x) (neg y) ≡ eq y x
 eq-neg nan nan = unfold eq neg in refl
@@ -196,7 +202,9 @@ eq-neg (fin s m e) (inf t) = unfold eq neg in refl
 eq-neg (fin s m e) (fin t n d) = finites (fin s m e) (fin t n d) tt tt
   where
     finites : (x y : Float) → T (finite x) → T (finite y) → eq (neg x) (neg y) ≡ eq y x
-    finites x y p q = eq-is (neg x) (neg y) (rw finite-neg p) (rw finite-neg q) ∙ rw (hi-neg x, hi-neg y, lo-neg x, lo-neg y, den-neg x, den-neg y) (rw (plus-comm (lo x * den y), plus-comm (lo y * den x)) (sym (eq-is y x q p)))
+    finites x y p q =
+        eq-is (neg x) (neg y) (rw finite-neg p) (rw finite-neg q)
+        ∙ rw (hi-neg x, hi-neg y, lo-neg x, lo-neg y, den-neg x, den-neg y) (rw (plus-comm (lo x * den y), plus-comm (lo y * den x)) (sym (eq-is y x q p)))
 
 pub le-neg : (x y : Float) → le (neg x) (neg y) ≡ le y x
 unfolding le

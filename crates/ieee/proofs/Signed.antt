@@ -3,7 +3,8 @@
 use mathlib.Core.Path.{_≡_, refl, sym, ap, _∙_, subst₂}
 use mathlib.Core.Logic.{_⊎_, inl, inr}
 use Prim.Native.Nat.{ℕ, zero, suc, _+_, _-_, _*_, _≤_, _<_, zero-le}
-use native.Mathlib.Nat.{not-le-of-lt, le-of-lt, lt-of-mul-lt-mul-right, le-of-eq, zero-mul, zero-add, add-zero, add-comm as plus-comm, sub-zero, mul-comm as times-comm, mul-pos, eq-zero-or-pos, add-mul, mul-lt-mul-of-pos-right}
+use native.Mathlib.Nat.{not-le-of-lt, le-of-lt, lt-of-mul-lt-mul-right, le-of-eq, zero-mul, zero-add, add-zero, add-comm as plus-comm, sub-zero}
+use native.Mathlib.Nat.{mul-comm as times-comm, mul-pos, eq-zero-or-pos, add-mul, mul-lt-mul-of-pos-right}
 use native.Mathlib.Omega.{arith}
 use mathlib.Core.Bool.{Bool, true, false, not, Bool·beq, cond}
 use lib.IntN.{ℤ, pos}
@@ -153,7 +154,8 @@ sums hx lx dx hx' lx' dx' hy ly dy hy' ly' dy' X Y =
     let A = times (hx * dx') (lx' * dx) (hx' * dx) (lx * dx') (dy * dy') X in
     let B = times (hy * dy') (ly' * dy) (hy' * dy) (ly * dy') (dx * dx') Y in
     rw (spread hx dy hy dx dx' dy', spread lx' dy' ly' dx' dx dy, spread hx' dy' hy' dx' dx dy, spread lx dy ly dx dx' dy', times-comm dy' dy, times-comm dx' dx)
-    (both (hx * dx' * (dy * dy')) (lx' * dx * (dy * dy')) (hx' * dx * (dy * dy')) (lx * dx' * (dy * dy')) (hy * dy' * (dx * dx')) (ly' * dy * (dx * dx')) (hy' * dy * (dx * dx')) (ly * dy' * (dx * dx')) A B)
+    (both (hx * dx' * (dy * dy')) (lx' * dx * (dy * dy')) (hx' * dx * (dy * dy')) (lx * dx' * (dy * dy'))
+    (hy * dy' * (dx * dx')) (ly' * dy * (dx * dx')) (hy' * dy * (dx * dx')) (ly * dy' * (dx * dx')) A B)
 
 pub add-level : (f : Format) (x x' y y' : Float) → T (finite x) → T (finite x') → T (finite y) → T (finite y') → Level x x' → Level y y' → Same (add f x y) (add f x' y')
 add-level f x x' y y' p p' q q' X Y =

@@ -21,7 +21,9 @@ answered-as true n a c g h = never c n (sym h)
 answered-as false n a c g h = ap (λ x. answers (g x)) (answers-is a c h)
 
 -- two answers behind one test are one answer behind it
-pub both-as : {A B C : Type 0} (t : Bool) (n : ℕ) (a : A) (b : B) (g : A → B → C) → andThen (cond t (refuses n) (answers a)) (λ x. andThen (cond t (refuses n) (answers b)) (λ y. answers (g x y))) ≡ cond t (refuses n) (answers (g a b))
+pub both-as :
+    {A B C : Type 0} (t : Bool) (n : ℕ) (a : A) (b : B) (g : A → B → C) →
+    andThen (cond t (refuses n) (answers a)) (λ x. andThen (cond t (refuses n) (answers b)) (λ y. answers (g x y))) ≡ cond t (refuses n) (answers (g a b))
 both-as true n a b g = refl
 both-as false n a b g = refl
 

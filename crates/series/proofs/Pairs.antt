@@ -24,7 +24,9 @@ use Rattle.series.proofs.Solo.{last-is}
 pub even-more :
     (f : Format) (sigma z : Float) (j : ℕ) → j % 2 ≡ 0 → pairTurns f sigma z (j + 1) ≡ pairTurn f sigma z (recipFact f (j + 1)) (recipFact f (j + 2)) false (pairTurns f sigma z j)
 unfolding pairTurns
-even-more f sigma z j h = ap (pairTurns f sigma z) (add-one j) ∙ ap (λ b. pairTurn f sigma z (recipFact f (j + 1)) (recipFact f (j + 2)) b (pairTurns f sigma z j)) (ne-eqb (j % 2) 1 (λ e. omega arith))
+even-more f sigma z j h =
+    ap (pairTurns f sigma z) (add-one j)
+    ∙ ap (λ b. pairTurn f sigma z (recipFact f (j + 1)) (recipFact f (j + 2)) b (pairTurns f sigma z j)) (ne-eqb (j % 2) 1 (λ e. omega arith))
 
 pub two-more :
     (f : Format) (sigma z : Float) (j : ℕ) → j % 2 ≡ 0 →

@@ -25,7 +25,8 @@ g-more f sigma m n i e = rw (e, add-one i) refl
 two-terms :
     (f : Format) (sigma r s g : Float) → T (fits f r) → T (notMinusZero r) → add f r (mul f sigma (add f (neg s) (mul f sigma g))) ≡ add f r (mul f (neg sigma) (add f s (mul f (neg sigma) g)))
 two-terms f sigma r s g p c =
-    let inner : Turned true (add f (neg s) (mul f sigma g)) (add f s (mul f (neg sigma) g)) = add-turned f true (neg s) s (mul f sigma g) (mul f (neg sigma) g) (ap plain (sym (neg-neg s))) (ap plain (mul-neg-l f sigma g)) in
+    let inner : Turned true (add f (neg s) (mul f sigma g)) (add f s (mul f (neg sigma) g)) =
+    add-turned f true (neg s) s (mul f sigma g) (mul f (neg sigma) g) (ap plain (sym (neg-neg s))) (ap plain (mul-neg-l f sigma g)) in
     add-is-same f r r _ _ p p (mul-fits f _ _) (mul-fits f _ _) c c refl (sym (by-sigma f true sigma _ _ inner))
 
 pub two-turns : (f : Format) (sigma : Float) (n : ℕ) (g : GPair) → gTurn f sigma (recipFact f n) (recipFact f n) (gTurn f sigma (recipFact f (n + 1)) (neg (recipFact f (n + 1))) g) ≡ gTwo f sigma n g

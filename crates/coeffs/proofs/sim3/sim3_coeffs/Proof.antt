@@ -11,7 +11,8 @@ returns : tie.Need-returns
 unfolding coeffsTold scaledTold scaledAnswer coeffsAnswer
 returns c =
     let a = c .before .before .before .before .before .before .args in
-    simp (c .unscale .ensures) (sym (plain-answers binary64 (a .sigma) (a .z) (a .v) _ (sym (c .before .before .before .before .before .sim3-coeffs-scaled .ensures) ∙ ap scaledTold (c .before .before .before .s .given .1))))
+    let r = sym (c .before .before .before .before .before .sim3-coeffs-scaled .ensures) ∙ ap scaledTold (c .before .before .before .s .given .1) in
+    simp (c .unscale .ensures) (sym (plain-answers binary64 (a .sigma) (a .z) (a .v) _ r))
 
 returns-2 : tie.Need-returns-2
 unfolding coeffsTold scaledTold scaledAnswer coeffsAnswer

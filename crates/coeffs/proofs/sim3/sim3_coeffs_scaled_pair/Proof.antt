@@ -20,20 +20,23 @@ returns c =
     let d = c .before .before .before .before .before .before .terms .ensures in
     let e = c .before .before .before .before .before .before .before .before .arm .ensures in
     let t = ap (λ n. ltb n 5) (sym e) ∙ lt-ltb _ _ (c .before .before .before .before .before .before .before .if1 .taken) in
-    sym (pair-series-answers binary64 (a .sigma) (a .z) (a .v) _ _ t (d .0 ∙ ap (armTerms binary64) e) (d .1) (sym (c .before .before .before .before .before .series-pair .ensures) ∙ ap seriesPairTold (c .before .before .before .p .given .1)))
+    let r = sym (c .before .before .before .before .before .series-pair .ensures) ∙ ap seriesPairTold (c .before .before .before .p .given .1) in
+    sym (pair-series-answers binary64 (a .sigma) (a .z) (a .v) _ _ t (d .0 ∙ ap (armTerms binary64) e) (d .1) r)
 
 returns-2 : tie.Need-returns-2
 unfolding pairTold seriesPairTold
 returns-2 c =
     let a = c .before .before .before .before .before .before .before .args in
-    sym (pair-series-refuses binary64 (a .sigma) (a .z) (a .v) _ _ (c .before .before .before .before .terms .ensures .1) (sym (c .before .before .before .series-pair .ensures) ∙ ap seriesPairTold (c .before .n .given .1)))
+    let r = sym (c .before .before .before .series-pair .ensures) ∙ ap seriesPairTold (c .before .n .given .1) in
+    sym (pair-series-refuses binary64 (a .sigma) (a .z) (a .v) _ _ (c .before .before .before .before .terms .ensures .1) r)
 
 returns-3 : tie.Need-returns-3
 unfolding pairTold sincABDTold circleSincABDAnswer coeffsDelta
 returns-3 c =
     let a = c .before .before .before .before .before .before .before .args in
     let t = ap (λ n. ltb n 5) (sym (c .before .before .before .before .before .before .arm .ensures)) ∙ le-ltb _ _ (c .before .before .before .before .before .if1 .left) in
-    simp (c .closed-pair .ensures) (sym (pair-closed-answers binary64 (a .sigma) (a .z) (a .v) _ t (sym (c .before .before .before .before .sinc-a-b-d .ensures) ∙ ap sincABDTold (c .before .before .t .given .1))))
+    let r = sym (c .before .before .before .before .sinc-a-b-d .ensures) ∙ ap sincABDTold (c .before .before .t .given .1) in
+    simp (c .closed-pair .ensures) (sym (pair-closed-answers binary64 (a .sigma) (a .z) (a .v) _ t r))
 
 returns-4 : tie.Need-returns-4
 unfolding pairTold sincABDTold circleSincABDAnswer
@@ -42,4 +45,19 @@ returns-4 c =
     sym (pair-closed-refuses binary64 (a .sigma) (a .z) (a .v) _ _ (sym (c .before .before .before .sinc-a-b-d .ensures) ∙ ap sincABDTold (c .before .n2 .given .1)))
 
 pub sim3-coeffs-scaled-pair-spec : {M : Type 1} → statement M
-sim3-coeffs-scaled-pair-spec = tie.close (tie.spec (λ c κs. search needs) (λ c κs. search needs) (λ c κs. search needs) (λ c. search needs) returns (λ c. search needs) returns-2 (λ c κs. search needs) (λ c. search needs) (λ c κs. search needs) (λ c. search needs) returns-3 returns-4)
+sim3-coeffs-scaled-pair-spec =
+    tie.close
+    (tie.spec
+    (λ c κs. search needs)
+    (λ c κs. search needs)
+    (λ c κs. search needs)
+    (λ c. search needs)
+    returns
+    (λ c. search needs)
+    returns-2
+    (λ c κs. search needs)
+    (λ c. search needs)
+    (λ c κs. search needs)
+    (λ c. search needs)
+    returns-3
+    returns-4)

@@ -11,7 +11,8 @@ returns : tie.Need-returns
 unfolding vTold vScaledTold vScaledAnswer vAnswer
 returns c =
     let a = c .before .before .before .before .before .before .args in
-    simp (c .unscale-v .ensures) (sym (v-answers binary64 (a .sigma) (a .z) (a .v) _ (sym (c .before .before .before .before .before .sim3-v-scaled .ensures) ∙ ap vScaledTold (c .before .before .before .s .given .1))))
+    let r = sym (c .before .before .before .before .before .sim3-v-scaled .ensures) ∙ ap vScaledTold (c .before .before .before .s .given .1) in
+    simp (c .unscale-v .ensures) (sym (v-answers binary64 (a .sigma) (a .z) (a .v) _ r))
 
 returns-2 : tie.Need-returns-2
 unfolding vTold vScaledTold vScaledAnswer vAnswer

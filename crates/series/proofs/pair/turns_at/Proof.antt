@@ -23,7 +23,8 @@ loop-again c =
     let l = c .before .before .before .before .before in
     let a = l .before .before .before .before .args in
     let r = c .before .before .before .recip-fact .ensures in
-    (omega arith, omega arith, simp (c .two-turns .ensures, c .before .recip-fact3 .ensures, c .before .before .recip-fact2 .ensures, r, l .loop .inv .2, two-more binary64 (a .sigma) (a .z) (l .loop .j) (omega arith)))
+    let m = two-more binary64 (a .sigma) (a .z) (l .loop .j) (omega arith) in
+    (omega arith, omega arith, simp (c .two-turns .ensures, c .before .recip-fact3 .ensures, c .before .before .recip-fact2 .ensures, r, l .loop .inv .2, m))
 
 returns : tie.Need-returns Inv-loop μ-loop
 returns c =
