@@ -9,4 +9,5 @@ pub mod Mono
 pub mod Exact
 pub mod Square
 pub mod Table
+pub mod Nan
 mod Limits

@@ -4,19 +4,19 @@ use mathlib.Core.Path.{_≡_, refl, sym, ap, _∙_}
 use Prim.Native.Nat.{ℕ, zero, suc, _+_, _%_}
 use native.Mathlib.Omega.{arith}
 use native.Mathlib.Numerals.{add-one}
-use mathlib.Core.Bool.{Bool, true, false, not}
+use mathlib.Core.Bool.{Bool, true, false, not, Bool·not-not}
 use lib.Dec.{T}
 use borrow.Author.Tests.{eq-eqb, ne-eqb}
 use lib.Ieee.{Float, Format, neg, add, sub, fits}
 use lib.Ieee.Fits.{neg-fits, mul-fits}
-use Rattle.ieee.specs.Signs.{clear}
-use Rattle.ieee.proofs.Sign.{not-not, mul-neg-neg}
+use Rattle.ieee.specs.Signs.{notMinusZero}
+use Rattle.ieee.proofs.Sign.{mul-neg-neg}
 use Rattle.ieee.proofs.Clear.{add-is-same}
 use Rattle.series.specs.Recip.{recipFact}
-use Rattle.series.specs.Series.{seriesLevel, levelTerms, seriesTerms, seriesSum, seriesSums, seriesChi, seriesCoeffs, seriesFull}
+use Rattle.series.specs.Series.{seriesLevel, levelTerms, seriesTerms, seriesSum, seriesSums, coeffsDelta, seriesChi, seriesCoeffs, seriesFull}
 use Rattle.series.specs.Turns.{odd, gainFlip, sumsNone, sumsGain, sumsGainMirrored, tailTerms, sumsLastMirrored, pairTurn, pairTurns, pairSums, pairFull}
 use Rattle.series.specs.declared.recurrence.Sums.{Sums}
-use Rattle.series.proofs.Mirror.{Turned, Mirror, mul-turned-l, odd-suc, level-mirror}
+use Rattle.series.proofs.Mirror.{Turned, mul-turned-l, odd-suc, level-mirror}
 use Rattle.series.proofs.Sum.{sum-fits, sum-clear, sumsBelow, tail-is}
 use Rattle.series.proofs.Solo.{last-is}
 
@@ -24,7 +24,9 @@ use Rattle.series.proofs.Solo.{last-is}
 pub even-more :
     (f : Format) (sigma z : Float) (j : ℕ) → j % 2 ≡ 0 → pairTurns f sigma z (j + 1) ≡ pairTurn f sigma z (recipFact f (j + 1)) (recipFact f (j + 2)) false (pairTurns f sigma z j)
 unfolding pairTurns
-even-more f sigma z j h = ap (pairTurns f sigma z) (add-one j) ∙ ap (λ b. pairTurn f sigma z (recipFact f (j + 1)) (recipFact f (j + 2)) b (pairTurns f sigma z j)) (ne-eqb (j % 2) 1 (λ e. omega arith))
+even-more f sigma z j h =
+    ap (pairTurns f sigma z) (add-one j)
+    ∙ ap (λ b. pairTurn f sigma z (recipFact f (j + 1)) (recipFact f (j + 2)) b (pairTurns f sigma z j)) (ne-eqb (j % 2) 1 (λ e. omega arith))
 
 pub two-more :
     (f : Format) (sigma z : Float) (j : ℕ) → j % 2 ≡ 0 →
@@ -37,7 +39,7 @@ two-more f sigma z j h =
     ap (pairTurns f sigma z) a ∙ rw (b, c, eq-eqb ((j + 1) % 2) 1 (omega arith)) (ap (pairTurn f sigma z (recipFact f (j + 2)) (recipFact f (j + 3)) true) (even-more f sigma z j h))
 
 -- ---- one sum at -sigma: adding or subtracting sigma's term x is adding -sigma's term y
-gain-is : (f : Format) (b : Bool) (a x y : Float) → T (fits f a) → T (clear a) → T (fits f x) → T (fits f y) → Turned b x y → gainFlip f b a x ≡ add f a y
+gain-is : (f : Format) (b : Bool) (a x y : Float) → T (fits f a) → T (notMinusZero a) → T (fits f x) → T (fits f y) → Turned b x y → gainFlip f b a x ≡ add f a y
 unfolding sub
 gain-is f true a x y p c q r h = add-is-same f a a (neg x) y p p (neg-fits f x q) r c c refl (sym h)
 gain-is f false a x y p c q r h = add-is-same f a a x y p p q r c c refl (sym h)
@@ -110,7 +112,7 @@ last-mirrored-is f sigma z k =
     let e2 : k + 3 ≡ suc (k + 2) = omega arith in
     let e3 : k + 4 ≡ suc (k + 3) = omega arith in
     let p2 : not b ≡ odd (k + 2) = rw e1 (sym (odd-suc (k + 1))) in
-    let p3 : b ≡ not (odd (k + 2)) = sym (not-not b) ∙ ap not p2 in
+    let p3 : b ≡ not (odd (k + 2)) = sym (Bool·not-not b) ∙ ap not p2 in
     let p4 : b ≡ odd (k + 3) = rw e2 (p3 ∙ sym (odd-suc (k + 2))) in
     rw (tail-is f sigma z k)
     (λ i. record {
@@ -128,7 +130,7 @@ last-mirrored-is f sigma z k =
 -- ---- the theorem, for every format and with no premise
 -- chi times delta is even in sigma but for v0 and v2
 coeffs-even : (f : Format) (sigma z v0 w0 : Float) (s : Sums) → seriesCoeffs f (neg sigma) z v0 w0 s ≡ seriesCoeffs f sigma z v0 w0 s
-unfolding seriesCoeffs seriesChi
+unfolding seriesCoeffs seriesChi coeffsDelta
 coeffs-even f sigma z v0 w0 s = rw (mul-neg-neg f sigma sigma) refl
 
 pub pair-is : (f : Format) (sigma z : Float) (k : ℕ) → pairFull f sigma z k ≡ record { pos = seriesFull f sigma z k; neg = seriesFull f (neg sigma) z k }

@@ -5,8 +5,8 @@ ghost use mathlib.Core.Path.{_≡_};
 ghost use mathlib.Core.Bool.{true, false};
 ghost use Prim.Native.Nat.{_+_, _≤_};
 ghost use lib.Ieee.{binary64, neg};
-ghost use Rattle.series.specs.Series.{gSeriesPair, w0Terms, seriesFull, seriesPairTold, seriesPairAnswer};
-ghost use Rattle.series.specs.Turns.{sumsGainMirrored, sumsLastMirrored, pairTurn, pairTurns, pairSums, gTerm, gTwo, gTurn};
+ghost use Rattle.series.specs.Series.{gSeriesPair, seriesFull, seriesPairTold, seriesPairAnswer};
+ghost use Rattle.series.specs.Turns.{sumsGainMirrored, sumsLastMirrored, pairTurn, pairTurns, pairSums};
 use crate::generated_sim3::recip_fact;
 use crate::recurrence;
 use crate::recurrence::Sums;
@@ -174,9 +174,9 @@ fn last_mirrored(odd: bool, s: Sums, t: Tail) -> Sums
 }
 
 // v0 and w0 of a series, at sigma and at -sigma.
-struct Horner {
-    v0: GPair,
-    w0: GPair,
+pub struct Horner {
+    pub v0: GPair,
+    pub w0: GPair,
 }
 
 // The sums over i < k of sigma^i/(i + 1)! and of sigma^i/(i + 2)!, by Horner from the last term, at
@@ -201,61 +201,5 @@ fn horner_at(sigma: f64, k: usize) -> Horner
     Horner {
         v0: GPair { pos: v, neg: v_neg },
         w0: GPair { pos: w, neg: w_neg },
-    }
-}
-
-// v0 of the closed arm at small sigma, 16 terms: the first, and sigma times the 15 of `g2_pair`.
-pub fn g1_pair(sigma: f64) -> GPair
-    ensures { λ r. ⌜ r ≡ gSeriesPair binary64 sigma 1 (w0Terms binary64 + 1) ⌝ }
-{
-    let g = g2_pair(sigma);
-    g_term(sigma, -sigma, recip_fact(1), g)
-}
-
-// w0 of the closed arm at small sigma: 15 terms, of the reciprocals 16 to 2.
-pub fn g2_pair(sigma: f64) -> GPair
-    ensures { λ r. ⌜ r ≡ gSeriesPair binary64 sigma 2 (w0Terms binary64) ⌝ }
-{
-    let none = GPair { pos: 0.0, neg: 0.0 };
-    let last = g_term(sigma, -sigma, recip_fact(16), none);
-    let a = g_two(sigma, 14, last);
-    let b = g_two(sigma, 12, a);
-    let c = g_two(sigma, 10, b);
-    let d = g_two(sigma, 8, c);
-    let e = g_two(sigma, 6, d);
-    let h = g_two(sigma, 4, e);
-    g_two(sigma, 2, h)
-}
-
-// Two more terms in front, those of the reciprocals n and n + 1, at both signs. At -sigma the inner
-// sum is formed with its sign turned, so that both signs take the same products by sigma, which the
-// compiler works as one vector.
-fn g_two(sigma: f64, n: usize, g: GPair) -> GPair
-    requires { ⌜ n ≤ 14 ⌝ }
-    ensures { λ r. ⌜ r ≡ gTwo binary64 sigma n g ⌝ }
-{
-    let r = recip_fact(n);
-    let s = recip_fact(n + 1);
-    let a = g_turn(sigma, s, -s, g);
-    g_turn(sigma, r, r, a)
-}
-
-// A term in front by a product with sigma: r at sigma, s at -sigma.
-fn g_turn(sigma: f64, r: f64, s: f64, g: GPair) -> GPair
-    ensures { λ x. ⌜ x ≡ gTurn binary64 sigma r s g ⌝ }
-{
-    GPair {
-        pos: r + sigma * g.pos,
-        neg: s + sigma * g.neg,
-    }
-}
-
-// One more term in front, with the reciprocal r.
-fn g_term(sigma: f64, minus: f64, r: f64, g: GPair) -> GPair
-    ensures { λ x. ⌜ x ≡ gTerm binary64 sigma minus r g ⌝ }
-{
-    GPair {
-        pos: r + sigma * g.pos,
-        neg: r + minus * g.neg,
     }
 }

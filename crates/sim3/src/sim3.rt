@@ -178,7 +178,7 @@ pub fn v_apply(phi: Vec3, sigma: f64, c: Coeffs4, rho: Vec3) -> Vec3
     ensures { λ r. ⌜ r ≡ vApply binary64 phi sigma c rho ⌝ }
 {
     let z = phi.norm_sq();
-    if z < 7.773650302387758 {
+    if !circle::kernel::b_takes_exact_arm(z) {
         return poly_apply(phi, c.v0, c.v1, c.v2, rho);
     }
     let chi = c.chi_delta / (sigma * sigma + z);

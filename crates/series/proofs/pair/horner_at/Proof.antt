@@ -4,7 +4,7 @@ use Prim.Native.Nat.{suc, _+_, _-_, _≤_}
 use native.Mathlib.Omega.{arith}
 use lib.Ieee.{binary64, ofBits, neg}
 use Rattle.series.specs.Series.{gSeries, gSeriesPair}
-use Rattle.series.proofs.Solo.{g-more}
+use Rattle.series.proofs.Terms.{g-more}
 use Rattle.series.proofs.pair.horner_at.Statement.{statement}
 use Rattle.series.proofs.pair.horner_at.Tie as tie
 

@@ -16,22 +16,27 @@ abbrev μ-loop : tie.MeasureT-loop
 
 loop-holds : tie.Need-loop-holds Inv-loop μ-loop
 unfolding pairTurns
-loop-holds c = (omega arith, omega arith, λ i. record { level = c .before .before .first .ensures i; pos = c .before .none .ensures i; neg = c .none2 .ensures i })
+loop-holds c = (omega arith, omega arith, simp (c .none2 .ensures, c .before .none .ensures, c .before .before .first .ensures))
 
 loop-again : tie.Need-loop-again Inv-loop μ-loop
-loop-again c = (omega arith, omega arith, cc (two-more binary64 _ _ (c .before .before .before .before .before .loop .j) (omega arith)))
+loop-again c =
+    let l = c .before .before .before .before .before in
+    let a = l .before .before .before .before .args in
+    let r = c .before .before .before .recip-fact .ensures in
+    let m = two-more binary64 (a .sigma) (a .z) (l .loop .j) (omega arith) in
+    (omega arith, omega arith, simp (c .two-turns .ensures, c .before .recip-fact3 .ensures, c .before .before .recip-fact2 .ensures, r, l .loop .inv .2, m))
 
 returns : tie.Need-returns Inv-loop μ-loop
 returns c =
     let l = c .before .before .before .before .before in
     let a = l .before .before .before .before .args in
     let d : l .loop .j ≡ a .k = omega arith in
-    cc (even-more binary64 (a .sigma) (a .z) (l .loop .j) (omega arith))
+    simp (c .even-turn .ensures, c .before .recip-fact5 .ensures, c .before .before .recip-fact4 .ensures, l .loop .inv .2, d, even-more binary64 (a .sigma) (a .z) (a .k) (omega arith))
 
 returns-2 : tie.Need-returns-2 Inv-loop μ-loop
 returns-2 c =
     let d : c .before .before .loop .j ≡ c .before .before .before .before .before .before .args .k + 1 = omega arith in
-    cc
+    simp (c .before .before .loop .inv .2, d)
 
 pub turns-at-spec : {M : Type 1} → statement M
 turns-at-spec =
