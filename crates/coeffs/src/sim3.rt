@@ -220,7 +220,7 @@ pub fn sim3_coeffs_scaled_pair(sigma: f64, z: f64, v: Values) -> PairAnswer
     let delta = sigma * sigma + z;
     let at = arm(delta);
     if at < CLOSED {
-        match series::pair::series_pair(sigma, z, terms(at)) {
+        match series_pair::pair::series_pair(sigma, z, terms(at)) {
             SeriesPairAnswer::Coeffs(p) => {
                 let a = p.pos;
                 let b = p.neg;

@@ -1,12 +1,12 @@
--- `series::pair::turns_at` meets its contract: the loop holds `pairTurns` at an even j, which ends at k or at k + 1, and the turn after it is the one that is left. Assumes nothing.
+-- `series_pair::pair::turns_at` meets its contract: the loop holds `pairTurns` at an even j, which ends at k or at k + 1, and the turn after it is the one that is left. Assumes nothing.
 use mathlib.Core.Path.{_≡_}
 use Prim.Native.Nat.{_+_, _-_, _%_, _≤_}
 use native.Mathlib.Omega.{arith}
 use lib.Ieee.{binary64}
 use Rattle.series.specs.Turns.{pairTurns}
-use Rattle.series.proofs.Pairs.{even-more, two-more}
-use Rattle.series.proofs.pair.turns_at.Statement.{statement}
-use Rattle.series.proofs.pair.turns_at.Tie as tie
+use Rattle.series_pair.proofs.Pairs.{even-more, two-more}
+use Rattle.series_pair.proofs.pair.turns_at.Statement.{statement}
+use Rattle.series_pair.proofs.pair.turns_at.Tie as tie
 
 abbrev Inv-loop : tie.InvT-loop
 Inv-loop sigma z k s₀ j₀ s j = (j ≤ k + 1) × (j % 2 ≡ 0) × (s ≡ pairTurns binary64 sigma z j)

@@ -1,7 +1,7 @@
--- `series::pair::last_mirrored` meets its contract: by what its calls ensure and its tests say. Assumes nothing.
+-- `series_pair::pair::last_mirrored` meets its contract: by what its calls ensure and its tests say. Assumes nothing.
 use Rattle.series.specs.Turns.{sumsLastMirrored}
-use Rattle.series.proofs.pair.last_mirrored.Statement.{statement}
-use Rattle.series.proofs.pair.last_mirrored.Tie as tie
+use Rattle.series_pair.proofs.pair.last_mirrored.Statement.{statement}
+use Rattle.series_pair.proofs.pair.last_mirrored.Tie as tie
 
 returns : tie.Need-returns
 unfolding sumsLastMirrored

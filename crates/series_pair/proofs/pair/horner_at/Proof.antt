@@ -1,12 +1,12 @@
--- `series::pair::horner_at` meets its contract: after i turns each of the four sums is the one that its sign alone has then, Horner's sum of the last i terms. Assumes nothing.
+-- `series_pair::pair::horner_at` meets its contract: after i turns each of the four sums is the one that its sign alone has then, Horner's sum of the last i terms. Assumes nothing.
 use mathlib.Core.Path.{_≡_, refl}
 use Prim.Native.Nat.{suc, _+_, _-_, _≤_}
 use native.Mathlib.Omega.{arith}
 use lib.Ieee.{binary64, ofBits, neg}
 use Rattle.series.specs.Series.{gSeries, gSeriesPair}
 use Rattle.series.proofs.Terms.{g-more}
-use Rattle.series.proofs.pair.horner_at.Statement.{statement}
-use Rattle.series.proofs.pair.horner_at.Tie as tie
+use Rattle.series_pair.proofs.pair.horner_at.Statement.{statement}
+use Rattle.series_pair.proofs.pair.horner_at.Tie as tie
 
 abbrev Inv-loop : tie.InvT-loop
 Inv-loop sigma k minus v₀ v-neg₀ w₀ w-neg₀ i₀ v v-neg w w-neg i =

@@ -1,8 +1,8 @@
--- `series::pair::sums_pair_at` meets its contract: by what its calls ensure and its tests say. Assumes nothing.
+-- `series_pair::pair::sums_pair_at` meets its contract: by what its calls ensure and its tests say. Assumes nothing.
 use borrow.Author.Needs.{needs}
 use Rattle.series.specs.Turns.{pairSums}
-use Rattle.series.proofs.pair.sums_pair_at.Statement.{statement}
-use Rattle.series.proofs.pair.sums_pair_at.Tie as tie
+use Rattle.series_pair.proofs.pair.sums_pair_at.Statement.{statement}
+use Rattle.series_pair.proofs.pair.sums_pair_at.Tie as tie
 
 returns : tie.Need-returns
 unfolding pairSums

@@ -1,11 +1,11 @@
--- `series::pair::series_pair_at` meets its contract: what it computes is `pairFull`, and by the pair theorem that is the series at each sign. Assumes nothing.
+-- `series_pair::pair::series_pair_at` meets its contract: what it computes is `pairFull`, and by the pair theorem that is the series at each sign. Assumes nothing.
 use borrow.Author.Needs.{needs}
 use lib.Ieee.{binary64}
 use Rattle.series.specs.Series.{gSeriesPair}
 use Rattle.series.specs.Turns.{pairFull}
-use Rattle.series.proofs.Pairs.{pair-is}
-use Rattle.series.proofs.pair.series_pair_at.Statement.{statement}
-use Rattle.series.proofs.pair.series_pair_at.Tie as tie
+use Rattle.series_pair.proofs.Pairs.{pair-is}
+use Rattle.series_pair.proofs.pair.series_pair_at.Statement.{statement}
+use Rattle.series_pair.proofs.pair.series_pair_at.Tie as tie
 
 returns : tie.Need-returns
 unfolding pairFull gSeriesPair

@@ -1,8 +1,8 @@
--- `series::pair::even_turn` meets its contract: by what its calls ensure and its tests say. Assumes nothing.
+-- `series_pair::pair::even_turn` meets its contract: by what its calls ensure and its tests say. Assumes nothing.
 use borrow.Author.Needs.{needs}
 use Rattle.series.specs.Turns.{pairTurn}
-use Rattle.series.proofs.pair.even_turn.Statement.{statement}
-use Rattle.series.proofs.pair.even_turn.Tie as tie
+use Rattle.series_pair.proofs.pair.even_turn.Statement.{statement}
+use Rattle.series_pair.proofs.pair.even_turn.Tie as tie
 
 returns : tie.Need-returns
 unfolding pairTurn

@@ -1,10 +1,10 @@
--- `series::pair::series_pair` meets its contract: the tests are the definition's, 1 before 4. Assumes nothing.
+-- `series_pair::pair::series_pair` meets its contract: the tests are the definition's, 1 before 4. Assumes nothing.
 use borrow.Author.Needs.{needs}
 use borrow.Author.Tests.{lt-ltb, le-ltb}
 use lib.Ieee.{ofBits}
 use Rattle.series.specs.Series.{seriesPairTold, seriesPairAnswer, seriesAnswer}
-use Rattle.series.proofs.pair.series_pair.Statement.{statement}
-use Rattle.series.proofs.pair.series_pair.Tie as tie
+use Rattle.series_pair.proofs.pair.series_pair.Statement.{statement}
+use Rattle.series_pair.proofs.pair.series_pair.Tie as tie
 
 returns : tie.Need-returns
 unfolding seriesPairTold seriesPairAnswer seriesAnswer ofBits

@@ -5,17 +5,17 @@ ghost use mathlib.Core.Path.{_≡_};
 ghost use mathlib.Core.Bool.{true, false};
 ghost use Prim.Native.Nat.{_+_, _≤_};
 ghost use lib.Ieee.{binary64, neg};
 ghost use Rattle.series.specs.Series.{gSeriesPair, seriesFull, seriesPairTold, seriesPairAnswer};
 ghost use Rattle.series.specs.Turns.{sumsGainMirrored, sumsLastMirrored, pairTurn, pairTurns, pairSums};
-use crate::generated_sim3::recip_fact;
-use crate::recurrence;
-use crate::recurrence::Sums;
-use crate::recurrence::SumsPair;
-use crate::recurrence::Tail;
-use crate::recurrence::TurnsPair;
-use crate::sim3::CoeffsPair;
-use crate::sim3::GPair;
-use crate::sim3::SeriesPairAnswer;
+use series::generated_sim3::recip_fact;
+use series::recurrence;
+use series::recurrence::Sums;
+use series::recurrence::SumsPair;
+use series::recurrence::Tail;
+use series::recurrence::TurnsPair;
+use series::sim3::CoeffsPair;
+use series::sim3::GPair;
+use series::sim3::SeriesPairAnswer;
 
 // The series at k terms, at sigma and at -sigma; refusal 1 for z below zero, then 4 for k above 64.
 pub fn series_pair(sigma: f64, z: f64, k: usize) -> SeriesPairAnswer
