@@ -55,7 +55,8 @@ put-last out k v h =
     let e : putPoint out k v ≡ take k out ++ vecNumbers v = ap (λ (o : List Float). putPoint o k v) (sym (take-append-drop k out)) ∙ s ∙ n in
     ap (drop k) e ∙ drop-at (take k out) (vecNumbers v) k t
 
-pub moved-last : (g : Vec3 → Vec3) (l out : List Float) (i : ℕ) → i * 3 + 3 ≡ length out → pointsMoved g l i ++ drop (i * 3) (putPoint out (i * 3) (g (pointAt l i))) ≡ pointsMoved g l (i + 1)
+pub moved-last :
+    (g : Vec3 → Vec3) (l out : List Float) (i : ℕ) → i * 3 + 3 ≡ length out → pointsMoved g l i ++ drop (i * 3) (putPoint out (i * 3) (g (pointAt l i))) ≡ pointsMoved g l (i + 1)
 unfolding pointsMoved
 moved-last g l out i h = rw (add-one i) (ap (λ (r : List Float). pointsMoved g l i ++ r) (put-last out (i * 3) (g (pointAt l i)) h))
 

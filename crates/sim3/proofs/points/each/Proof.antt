@@ -13,7 +13,9 @@ use Rattle.sim3.proofs.points.each.Statement.{statement}
 use Rattle.sim3.proofs.points.each.Tie as tie
 
 abbrev Inv-loop : tie.InvT-loop
-Inv-loop x up pts out₀ n rest₀ i₀ out rest i = (i ≤ n) × (out ≡ pointsMoved (poseAct binary64 x up) pts i ++ drop (i * 3) out₀) × (length out ≡ length out₀) × (rest ≡ drop (i * 3) pts) × (length rest + i * 3 ≡ length pts)
+Inv-loop x up pts out₀ n rest₀ i₀ out rest i =
+    (i ≤ n) × (out ≡ pointsMoved (poseAct binary64 x up) pts i ++ drop (i * 3) out₀)
+    × (length out ≡ length out₀) × (rest ≡ drop (i * 3) pts) × (length rest + i * 3 ≡ length pts)
 
 abbrev μ-loop : tie.MeasureT-loop
 μ-loop x up pts out₀ n rest₀ i₀ out rest i = n - i
@@ -24,11 +26,14 @@ loop-holds c = (omega arith, refl, refl, refl, omega arith)
 
 loop-again : tie.Need-loop-again Inv-loop μ-loop
 loop-again c =
-    let L = c .before .before .before .before .before .before .before .before in
-    let a = L .before .before .before .args in (
+    let P = c .before .before in
+    let M = P .before .before .before in
+    let L = M .before .before .before in
+    let a = L .before .before .before .args in
+    let more = moved-more (poseAct binary64 (a .x) (a .up)) (a .pts .now) (a .out .now) (L .loop .i) (omega arith) in (
       omega arith,
-      simp (c .before .before .put-point .ensures, c .before .before .before .before .before .act .ensures, c .before .before .before .before .before .before .point-at .ensures, L .loop .inv .3, left-first (a .pts .now) (L .loop .i), L .loop .inv .1) (moved-more (poseAct binary64 (a .x) (a .up)) (a .pts .now) (a .out .now) (L .loop .i) (omega arith)),
-      c .before .before .put-point .kept .0 ∙ L .loop .inv .2,
+      simp (P .put-point .ensures, M .act .ensures, M .before .point-at .ensures, L .loop .inv .3, left-first (a .pts .now) (L .loop .i), L .loop .inv .1) more,
+      P .put-point .kept .0 ∙ L .loop .inv .2,
       left-next (a .pts .now) (L .loop .rest .now) (L .loop .i) (L .loop .inv .3),
       left-length (a .pts .now) (L .loop .rest .now) (L .loop .i) (L .loop .inv .3) (omega arith),
     )

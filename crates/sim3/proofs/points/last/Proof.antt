@@ -1,10 +1,8 @@
 -- `sim3::points::last` meets its contract: where e is n nothing is left, and else the one triple that is left is put in its place. Assumes nothing.
 use borrow.Author.Needs.{needs}
-use Prim.Native.Nat.{ℕ, _+_, _*_}
-use mathlib.Core.Path.{_≡_, ap, subst, _∙_}
-use mathlib.Core.List.{_++_}
+use Prim.Native.Nat.{_+_}
+use mathlib.Core.Path.{_≡_, ap, _∙_}
 use native.Mathlib.Omega.{arith}
-use lib.ListN.{drop}
 use lib.Ieee.{binary64}
 use Rattle.sim3.specs.Points.{pointsMoved, matAct}
 use Rattle.sim3.proofs.Lists.{moved-last, moved-all}
@@ -26,7 +24,9 @@ returns-2 c =
     let a = c .before .before .before .before .before .before .before .before .before .args in
     let g = matAct binary64 (a .m) (a .t) in
     let q : a .e + 1 ≡ a .n = omega arith in
-    simp (c .before .before .put-point .ensures, c .before .before .before .mat-act .ensures, c .before .before .before .before .point-at .ensures) (moved-last g (a .pts .now) (a .out .now) (a .e) (omega arith) ∙ ap (pointsMoved g (a .pts .now)) q)
+    let moved = moved-last g (a .pts .now) (a .out .now) (a .e) (omega arith) ∙ ap (pointsMoved g (a .pts .now)) q in
+    let P = c .before .before in
+    simp (P .put-point .ensures, P .before .mat-act .ensures, P .before .before .point-at .ensures) moved
 
 pub last-spec : {M : Type 1} → statement M
 last-spec = tie.close (tie.spec returns (λ c. omega arith) (λ c κs. omega arith) (λ c κs. search needs) (λ c κs. omega arith) same-length returns-2)
