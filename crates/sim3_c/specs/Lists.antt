@@ -1,26 +1,18 @@
--- How things stand in the lists of a call, in the order of the job's records: what is read, and what is written. A list of another length is refused.
-use Prim.Native.Nat.{ℕ, _+_}
+-- What is read of the lists of a call. A list of another length is refused.
+use Prim.Native.Nat.{ℕ}
 use mathlib.Core.Bool.{cond}
-use mathlib.Core.List.{List, _++_}
+use mathlib.Core.List.{List}
 use lib.Dec.{eqb}
 use lib.ListN.{getD, length}
 use lib.Ieee.{Float, nan}
 use Rattle.linalg.specs.Answer.{Answer, answers, refuses}
-use Rattle.linalg.specs.Vector.{vec, vecNumbers}
-use Rattle.linalg.specs.Matrix.{mat}
 use Rattle.linalg.specs.declared.vector.Vec3.{Vec3}
 use Rattle.linalg.specs.declared.matrix.Mat3.{Mat3}
 use Rattle.coeffs.specs.declared.values.Values.{Values}
-use Rattle.so3.specs.Quat.{quat}
-use Rattle.sim3.specs.Pose.{pose}
-use Rattle.sim3.specs.Tangent.{tangent}
 use Rattle.sim3.specs.declared.sim3.Sim3.{Sim3}
 use Rattle.sim3.specs.declared.tangent.Sim3Tangent.{Sim3Tangent}
-use Rattle.jacobian.specs.Jac.{blocks}
 use Rattle.jacobian.specs.declared.jac.Sim3Jac.{Sim3Jac}
-use Rattle.jacobian.specs.declared.side.ActJacobians.{ActJacobians}
-use Rattle.jacobian.specs.declared.side.TwoJacobians.{TwoJacobians}
-use Rattle.marks.specs.Layout.{matNumbers, blockNumbers}
+use Rattle.layout.specs.Layout.{vecCount, matCount, poseCount, tangentCount, valuesCount, blockCount, vecIn, matIn, poseIn, tangentIn, valuesIn, blockIn}
 use Rattle.sim3_c.specs.declared.read.VecRead.{VecRead}
 use Rattle.sim3_c.specs.declared.read.VecRead.the-variants as vecs
 use Rattle.sim3_c.specs.declared.read.MatRead.{MatRead}
@@ -42,51 +34,28 @@ wrongLength = 100
 unfoldable pub sized : {A : Type 0} → List Float → ℕ → A → Answer A
 sized l n a = cond (eqb (length l) n) (answers a) (refuses wrongLength)
 
--- ---- from a place on
-abbrev pub number : List Float → ℕ → Float
-number l at = getD l at nan
+-- the i-th number of a list
+abbrev pub numberIn : List Float → ℕ → Float
+numberIn l i = getD l i nan
 
-unfoldable pub vecIn : List Float → ℕ → Vec3
-vecIn l at = vec (number l at) (number l (at + 1)) (number l (at + 2))
-
-unfoldable pub matIn : List Float → ℕ → Mat3
-matIn l at = mat (vecIn l at) (vecIn l (at + 3)) (vecIn l (at + 6))
-
--- ---- whole lists
+-- ---- whole lists, in the order of the job's records
 unfoldable pub vecFrom : List Float → Answer Vec3
-vecFrom l = sized l 3 (vecIn l 0)
+vecFrom l = sized l vecCount (vecIn (numberIn l) 0)
 
 unfoldable pub matFrom : List Float → Answer Mat3
-matFrom l = sized l 9 (matIn l 0)
+matFrom l = sized l matCount (matIn (numberIn l) 0)
 
--- quaternion w x y z, t, σ
 unfoldable pub poseFrom : List Float → Answer Sim3
-poseFrom l = sized l 8 (pose (quat (number l 0) (number l 1) (number l 2) (number l 3)) (vecIn l 4) (number l 7))
+poseFrom l = sized l poseCount (poseIn (numberIn l) 0)
 
--- φ, ρ, σ
 unfoldable pub tangentFrom : List Float → Answer Sim3Tangent
-tangentFrom l = sized l 7 (tangent (vecIn l 0) (vecIn l 3) (number l 6))
+tangentFrom l = sized l tangentCount (tangentIn (numberIn l) 0)
 
--- the ten function values
 unfoldable pub valuesFrom : List Float → Answer Values
-valuesFrom l =
-    sized l 10
-    (record {
-      root = number l 0;
-      «sin_half» = number l 1;
-      «cos_half» = number l 2;
-      sin = number l 3;
-      e = number l 4;
-      m = number l 5;
-      e0 = number l 6;
-      m0 = number l 7;
-      up = number l 8;
-      down = number l 9;
-    })
+valuesFrom l = sized l valuesCount (valuesIn (numberIn l) 0)
 
--- a, b, c, f, e
 unfoldable pub blockFrom : List Float → Answer Sim3Jac
-blockFrom l = sized l 31 (blocks (matIn l 0) (matIn l 9) (matIn l 18) (vecIn l 27) (number l 30))
+blockFrom l = sized l blockCount (blockIn (numberIn l) 0)
 
 -- ---- what each case of a reading says
 unfoldable pub vecTold : VecRead → Answer Vec3
@@ -112,12 +81,3 @@ valuesTold tens.Wrong = refuses wrongLength
 unfoldable pub blockTold : BlockRead → Answer Sim3Jac
 blockTold (jacs.Got j) = answers j
 blockTold jacs.Wrong = refuses wrongLength
-
--- ---- written, besides what the job writes
--- by the first operand, by the second: 62 numbers
-unfoldable pub twoNumbers : TwoJacobians → List Float
-twoNumbers t = blockNumbers (t .first) ++ blockNumbers (t .second)
-
--- by φ, ρ and σ of the pose, by the point: 30 numbers
-unfoldable pub actNumbers : ActJacobians → List Float
-actNumbers j = matNumbers (j .rot) ++ (matNumbers (j .trans) ++ (vecNumbers (j .scale) ++ matNumbers (j .point)))
