@@ -1,4 +1,4 @@
--- `circle::kernel::a_from` meets its contract: operation by operation, as the definition has it. Assumes nothing.
+-- Written by tools/proofs, plain, opening exactA ofBits. Digest 0918fd8fa063a112.
 use mathlib.Core.Path.{refl}
 use Rattle.circle.specs.Kernel.{exactA}
 use lib.Ieee.{ofBits}

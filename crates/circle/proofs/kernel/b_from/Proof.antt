@@ -1,4 +1,4 @@
--- `circle::kernel::b_from` meets its contract: operation by operation, as the definition has it. Assumes nothing.
+-- Written by tools/proofs, plain, opening exactB ofBits. Digest 033e61feb95a8835.
 use mathlib.Core.Path.{refl}
 use Rattle.circle.specs.Kernel.{exactB}
 use lib.Ieee.{ofBits}

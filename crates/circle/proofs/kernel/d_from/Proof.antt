@@ -1,4 +1,4 @@
--- `circle::kernel::d_from` meets its contract: operation by operation, as the definition has it. Assumes nothing.
+-- Written by tools/proofs, plain, opening exactD ofBits. Digest bf55d7a393d94005.
 use mathlib.Core.Path.{refl}
 use Rattle.circle.specs.Kernel.{exactD}
 use lib.Ieee.{ofBits}

@@ -1,4 +1,4 @@
--- `circle::kernel::negative` meets its contract: operation by operation, as the definition has it. Assumes nothing.
+-- Written by tools/proofs, plain, opening ofBits. Digest 4376155d3c38f285.
 use mathlib.Core.Path.{refl}
 use lib.Ieee.{ofBits}
 use Rattle.circle.proofs.kernel.negative.Statement.{statement}

@@ -1,4 +1,4 @@
--- `circle::kernel::sinc_from` meets its contract: operation by operation, as the definition has it. Assumes nothing.
+-- Written by tools/proofs, plain, opening sincFrom ofBits. Digest 8af72caf587eb7d1.
 use mathlib.Core.Path.{refl}
 use Rattle.circle.specs.Kernel.{sincFrom}
 use lib.Ieee.{ofBits}

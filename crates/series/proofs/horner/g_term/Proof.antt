@@ -1,4 +1,4 @@
--- `series::horner::g_term` meets its contract: operation by operation, as the definition has it. Assumes nothing.
+-- Written by tools/proofs, plain, opening gTerm. Digest 4e5866626c7113f7.
 use mathlib.Core.Path.{refl}
 use Rattle.series.specs.Turns.{gTerm}
 use Rattle.series.proofs.horner.g_term.Statement.{statement}

@@ -1,4 +1,4 @@
--- `series::horner::g_turn` meets its contract: operation by operation, as the definition has it. Assumes nothing.
+-- Written by tools/proofs, plain, opening gTurn. Digest 21e373e2944c17c2.
 use mathlib.Core.Path.{refl}
 use Rattle.series.specs.Turns.{gTurn}
 use Rattle.series.proofs.horner.g_turn.Statement.{statement}

@@ -1,6 +1,6 @@
--- `series::recurrence::chi_delta` meets its contract: operation by operation, as the definition has it. Assumes nothing.
+-- Written by tools/proofs, plain, opening seriesChi coeffsDelta. Digest 4e5e9953f2dc02d5.
 use mathlib.Core.Path.{refl}
-use Rattle.series.specs.Series.{coeffsDelta, seriesChi}
+use Rattle.series.specs.Series.{seriesChi, coeffsDelta}
 use Rattle.series.proofs.recurrence.chi_delta.Statement.{statement}
 use Rattle.series.proofs.recurrence.chi_delta.Tie as tie
 

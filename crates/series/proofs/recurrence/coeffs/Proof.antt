@@ -1,4 +1,4 @@
--- `series::recurrence::coeffs` meets its contract: by what its calls ensure and its tests say. Assumes nothing.
+-- Written by tools/proofs, plain, opening seriesCoeffs. Digest b2a88969fe800d1d.
 use borrow.Author.Needs.{needs}
 use Rattle.series.specs.Series.{seriesCoeffs}
 use Rattle.series.proofs.recurrence.coeffs.Statement.{statement}

@@ -1,4 +1,4 @@
--- `series::recurrence::first` meets its contract: operation by operation, as the definition has it. Assumes nothing.
+-- Written by tools/proofs, plain, opening seriesFirst ofBits. Digest 8bd326e83a20aa25.
 use mathlib.Core.Path.{refl}
 use Rattle.series.specs.Series.{seriesFirst}
 use lib.Ieee.{ofBits}

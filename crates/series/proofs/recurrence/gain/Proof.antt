@@ -1,4 +1,4 @@
--- `series::recurrence::gain` meets its contract: operation by operation, as the definition has it. Assumes nothing.
+-- Written by tools/proofs, plain, opening sumsGain. Digest 9753c41e58ac806b.
 use mathlib.Core.Path.{refl}
 use Rattle.series.specs.Turns.{sumsGain}
 use Rattle.series.proofs.recurrence.gain.Statement.{statement}

@@ -1,4 +1,4 @@
--- `series::recurrence::last` meets its contract: operation by operation, as the definition has it. Assumes nothing.
+-- Written by tools/proofs, plain, opening sumsLast. Digest 0a0b8e97954e001e.
 use mathlib.Core.Path.{refl}
 use Rattle.series.specs.Turns.{sumsLast}
 use Rattle.series.proofs.recurrence.last.Statement.{statement}

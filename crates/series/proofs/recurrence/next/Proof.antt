@@ -1,4 +1,4 @@
--- `series::recurrence::next` meets its contract: operation by operation, as the definition has it. Assumes nothing.
+-- Written by tools/proofs, plain, opening seriesNext. Digest 2acc82fdc68866cb.
 use mathlib.Core.Path.{refl}
 use Rattle.series.specs.Series.{seriesNext}
 use Rattle.series.proofs.recurrence.next.Statement.{statement}

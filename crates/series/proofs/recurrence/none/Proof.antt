@@ -1,4 +1,4 @@
--- `series::recurrence::none` meets its contract: operation by operation, as the definition has it. Assumes nothing.
+-- Written by tools/proofs, plain, opening sumsNone ofBits. Digest c19aad78b1dd6984.
 use mathlib.Core.Path.{refl}
 use Rattle.series.specs.Turns.{sumsNone}
 use lib.Ieee.{ofBits}

@@ -1,4 +1,4 @@
--- `series::recurrence::none_v` meets its contract: operation by operation, as the definition has it. Assumes nothing.
+-- Written by tools/proofs, plain, opening vNone ofBits. Digest 95ae692f61b3c541.
 use mathlib.Core.Path.{refl}
 use Rattle.series.specs.Turns.{vNone}
 use lib.Ieee.{ofBits}

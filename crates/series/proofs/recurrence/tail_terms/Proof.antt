@@ -1,4 +1,4 @@
--- `series::recurrence::tail_terms` meets its contract: by what its calls ensure and its tests say. Assumes nothing.
+-- Written by tools/proofs, plain, opening tailTerms. Digest 022e87dad67ccd67.
 use borrow.Author.Needs.{needs}
 use Rattle.series.specs.Turns.{tailTerms}
 use Rattle.series.proofs.recurrence.tail_terms.Statement.{statement}
@@ -6,7 +6,9 @@ use Rattle.series.proofs.recurrence.tail_terms.Tie as tie
 
 returns : tie.Need-returns
 unfolding tailTerms
-returns c = simp (c .before .before .before .before .before .before .before .next2 .ensures, c .before .before .before .before .before .before .before .before .next .ensures)
+returns c =
+    let c1 = c .before .before .before .before .before in
+    simp (c1 .before .before .next2 .ensures, c1 .before .before .before .next .ensures)
 
 pub tail-terms-spec : {M : Type 1} → statement M
 tail-terms-spec = tie.close (tie.spec (λ c κs. search needs) (λ c κs. search needs) returns)

@@ -1,4 +1,4 @@
--- `series::recurrence::terms` meets its contract: operation by operation, as the definition has it. Assumes nothing.
+-- Written by tools/proofs, plain, opening levelTerms. Digest cbd7fc08174664d7.
 use mathlib.Core.Path.{refl}
 use Rattle.series.specs.Series.{levelTerms}
 use Rattle.series.proofs.recurrence.terms.Statement.{statement}

@@ -1,4 +1,4 @@
--- `series::recurrence::turn_v` meets its contract: operation by operation, as the definition has it. Assumes nothing.
+-- Written by tools/proofs, plain, opening vTurn. Digest b1f6777fc7fc5299.
 use mathlib.Core.Path.{refl}
 use Rattle.series.specs.Turns.{vTurn}
 use Rattle.series.proofs.recurrence.turn_v.Statement.{statement}

@@ -1,4 +1,4 @@
--- `series::sim3::series_at` meets its contract: by what its calls ensure and its tests say. Assumes nothing.
+-- Written by tools/proofs, plain, opening seriesFull. Digest ca9dc8fde125ea9a.
 use borrow.Author.Needs.{needs}
 use Rattle.series.specs.Series.{seriesFull}
 use Rattle.series.proofs.sim3.series_at.Statement.{statement}

@@ -1,4 +1,4 @@
--- `series::sim3::turn` meets its contract: by what its calls ensure and its tests say. Assumes nothing.
+-- Written by tools/proofs, plain, opening soloTurn. Digest 25e226bf94ee88e2.
 use borrow.Author.Needs.{needs}
 use Rattle.series.specs.Turns.{soloTurn}
 use Rattle.series.proofs.sim3.turn.Statement.{statement}

@@ -1,4 +1,4 @@
--- `series_pair::pair::even_turn` meets its contract: by what its calls ensure and its tests say. Assumes nothing.
+-- Written by tools/proofs, plain, opening pairTurn. Digest fb90b8582763b80b.
 use borrow.Author.Needs.{needs}
 use Rattle.series.specs.Turns.{pairTurn}
 use Rattle.series_pair.proofs.pair.even_turn.Statement.{statement}

@@ -1,4 +1,4 @@
--- `series_pair::pair::gain_even` meets its contract: operation by operation, as the definition has it. Assumes nothing.
+-- Written by tools/proofs, plain, opening sumsGainMirrored. Digest c161302994d002c0.
 use mathlib.Core.Path.{refl}
 use Rattle.series.specs.Turns.{sumsGainMirrored}
 use Rattle.series_pair.proofs.pair.gain_even.Statement.{statement}

@@ -1,4 +1,4 @@
--- `series_pair::pair::gain_odd` meets its contract: operation by operation, as the definition has it. Assumes nothing.
+-- Written by tools/proofs, plain, opening sumsGainMirrored. Digest dc6789f476487812.
 use mathlib.Core.Path.{refl}
 use Rattle.series.specs.Turns.{sumsGainMirrored}
 use Rattle.series_pair.proofs.pair.gain_odd.Statement.{statement}

@@ -1,6 +1,6 @@
--- `so3::so3::norm_sq` meets its contract: operation by operation, as the definition has it. Assumes nothing.
+-- Written by tools/proofs, plain, opening vecNormSq vecDot. Digest 5ddea65647b136f8.
 use mathlib.Core.Path.{refl}
-use Rattle.linalg.specs.Vector.{vecDot, vecNormSq}
+use Rattle.linalg.specs.Vector.{vecNormSq, vecDot}
 use Rattle.so3.proofs.so3.norm_sq.Statement.{statement}
 use Rattle.so3.proofs.so3.norm_sq.Tie as tie
 

@@ -1,4 +1,4 @@
--- `so3::quat::Quat::conjugate` meets its contract: operation by operation, as the definition has it. Assumes nothing.
+-- Written by tools/proofs, plain, opening quatConjugate. Digest a887d04284a61f6d.
 use mathlib.Core.Path.{refl}
 use Rattle.so3.specs.Quat.{quatConjugate}
 use Rattle.so3.proofs.quat.Quat.conjugate.Statement.{statement}

@@ -1,4 +1,4 @@
--- `so3::quat::Quat::from_wxyz_normalized` meets its contract: operation by operation, as the definition has it. Assumes nothing.
+-- Written by tools/proofs, plain, opening quatNormalized. Digest 41d4cc13c4b4d6f5.
 use mathlib.Core.Path.{refl}
 use Rattle.so3.specs.Quat.{quatNormalized}
 use Rattle.so3.proofs.quat.Quat.from_wxyz_normalized.Statement.{statement}

@@ -1,4 +1,4 @@
--- `so3::quat::Quat::mul` meets its contract: operation by operation, as the definition has it. Assumes nothing.
+-- Written by tools/proofs, plain, opening quatMul. Digest be849ebbe6d55fa0.
 use mathlib.Core.Path.{refl}
 use Rattle.so3.specs.Quat.{quatMul}
 use Rattle.so3.proofs.quat.Quat.mul.Statement.{statement}

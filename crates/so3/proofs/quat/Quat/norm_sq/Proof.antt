@@ -1,4 +1,4 @@
--- `so3::quat::Quat::norm_sq` meets its contract: operation by operation, as the definition has it. Assumes nothing.
+-- Written by tools/proofs, plain, opening quatNormSq. Digest 012282f861a8afd7.
 use mathlib.Core.Path.{refl}
 use Rattle.so3.specs.Quat.{quatNormSq}
 use Rattle.so3.proofs.quat.Quat.norm_sq.Statement.{statement}

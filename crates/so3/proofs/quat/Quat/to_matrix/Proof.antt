@@ -1,4 +1,4 @@
--- `so3::quat::Quat::to_matrix` meets its contract: operation by operation, as the definition has it. Assumes nothing.
+-- Written by tools/proofs, plain, opening quatToMatrix ofBits. Digest bafa8e55136455f3.
 use mathlib.Core.Path.{refl}
 use Rattle.so3.specs.Quat.{quatToMatrix}
 use lib.Ieee.{ofBits}
