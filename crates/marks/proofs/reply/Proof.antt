@@ -1,4 +1,4 @@
--- Written by tools/proofs from Proof.template: edit that one. Digest b9a736b06872a3d8.
+-- Written by tools/proofs from Proof.template: edit that one. Digest cbc23a6aae0529c8.
 -- `marks::reply` meets its contract: by the length of the input, by its mark, and by the reply of its entry. Assumes nothing.
 use borrow.Author.Needs.{needs}
 use native.Mathlib.Omega.{arith}
@@ -21,13 +21,15 @@ returns-3 : tie.Need-returns-3
 unfolding becameOf writtenOf
 returns-3 c =
     let c1 = c .before .before .before .before .before in
-    rw (found-unknown (c1 .before .before .before .before .args .s .now) (omega arith) (sym (c .before .before .look-up .ensures) ∙ ap lookTold (c .enum-told .given .1))) (refl, refl)
+    let none = sym (c .before .before .look-up .ensures) ∙ ap lookTold (c .enum-told .given .1) in
+    rw (found-unknown (c1 .before .before .before .before .args .s .now) (omega arith) none) (refl, refl)
 
 returns-4 : tie.Need-returns-4
 returns-4 c =
     let c1 = c .before .before .before .before .before in
     let c2 = c1 .before .before .before .before .before in
-    rw (found-entry (c2 .before .before .before .before .args .s .now) (c1 .e .given .0 .0) (omega arith) (sym (c1 .before .before .look-up .ensures) ∙ ap lookTold (c1 .e .given .1))) (c .before .before .reply .ensures)
+    let known = sym (c1 .before .before .look-up .ensures) ∙ ap lookTold (c1 .e .given .1) in
+    rw (found-entry (c2 .before .before .before .before .args .s .now) (c1 .e .given .0 .0) (omega arith) known) (c .before .before .reply .ensures)
 
 pub reply-spec : {M : Type 1} → statement M
 reply-spec =

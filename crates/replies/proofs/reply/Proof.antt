@@ -1,5 +1,5 @@
--- Written by tools/proofs from Proof.template: edit that one. Digest cc70a1e1280e9304.
--- `replies::reply` meets its contract: a record that is cut and an output without room are told; else the entry is asked behind the mark, and the mark or NO is stored before what it wrote. Assumes nothing.
+-- Written by tools/proofs from Proof.template: edit that one. Digest a854de0ef0ccb73e.
+-- `replies::reply` meets its contract: a cut record and an output without room are told; else the mark or NO is stored before what the entry wrote. Assumes nothing.
 use borrow.Author.Needs.{needs}
 use native.Mathlib.Omega.{arith}
 use Prim.Native.Nat.{_+_, _-_, _≤_, _<_}

@@ -1,3 +1,4 @@
+-- Written by tools/proofs from Proof.template: edit that one. Digest 14b6bf8b23d5a6c0.
 -- `wire::to_le_bytes` meets its contract: the quotients by the powers of 256 are those that the definition takes one by one. Assumes nothing.
 use borrow.Author.Needs.{needs}
 use Rattle.wire.specs.Wire.{numberBytes}
@@ -10,4 +11,16 @@ unfolding numberBytes
 returns c = rw (← (c .to-bits .ensures)) (bytes-eight (c .to-bits .result))
 
 pub to-le-bytes-spec : {M : Type 1} → statement M
-to-le-bytes-spec = tie.close (tie.spec (λ c κs. search needs) (λ c. search needs) (λ c. search needs) (λ c. search needs) (λ c. search needs) (λ c. search needs) (λ c. search needs) (λ c. search needs) (λ c. search needs) returns)
+to-le-bytes-spec =
+    tie.close
+    (tie.spec
+    (λ c κs. search needs)
+    (λ c. search needs)
+    (λ c. search needs)
+    (λ c. search needs)
+    (λ c. search needs)
+    (λ c. search needs)
+    (λ c. search needs)
+    (λ c. search needs)
+    (λ c. search needs)
+    returns)
