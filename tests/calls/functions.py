@@ -19,7 +19,7 @@ Function = namedtuple("Function", "id name takes gives call answer")
 CIRCLE = "circle::kernel::"
 SERIES = "series::sim3::"
 COEFFS = "coeffs::sim3::"
-SIDE = "jacobian::side::"
+SIDE = "sides::side::"
 HALVES = "v.root, v.sin_half, v.cos_half"
 TANGENT_JL = "tau:tangent v:values jl:mat"
 TANGENT_BOTH = TANGENT_JL + " inv:mat"
@@ -123,7 +123,7 @@ ROWS = [
     (201, "Sim3 mul", "p:pose o:pose up:num", "pose", "p.mul(o, up)"),
     (202, "Sim3 inverse", "p:pose down:num", "pose", "p.inverse(down)"),
     (203, "Sim3 act", "p:pose up:num v:vec", "vec", "p.act(up, v)"),
-    (204, "block_pair", TANGENT_BOTH, "block:r.left block:r.left_inv block:r.right block:r.right_inv", "jacobian::pair::block_pair(tau, v, jl, inv)"),
+    (204, "block_pair", TANGENT_BOTH, "block:r.left block:r.left_inv block:r.right block:r.right_inv", "sides::pair::block_pair(tau, v, jl, inv)"),
     (205, "Sim3Jac inverse", "j:block", "block", "j.inverse()", "jacobian::jac::JacAnswer::Block"),
 ]
 

@@ -16,8 +16,8 @@ use Rattle.sim3.specs.Tangent.{tangentNeg}
 use Rattle.sim3.specs.Exp.{poseExp}
 use Rattle.sim3.specs.declared.sim3.Sim3.{Sim3}
 use Rattle.sim3.specs.declared.tangent.Sim3Tangent.{Sim3Tangent}
-use Rattle.jacobian.specs.Blocks.{jlAndInverse}
-use Rattle.jacobian.specs.Pair.{blockPair}
+use Rattle.sides.specs.Blocks.{jlAndInverse}
+use Rattle.sides.specs.Pair.{blockPair}
 use Rattle.demands.specs.Demand3.{Signs, Demand3}
 
 -- the exponential's quaternion reads none of the values that are mirrored

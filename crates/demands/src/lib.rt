@@ -7,8 +7,8 @@ ghost use Rattle.demands.specs.Told.{signsTold};
 use coeffs::sim3::PairAnswer;
 use coeffs::sim3::ScaledAnswer;
 use coeffs::values::Values;
-use jacobian::blocks::JacAndInverse;
-use jacobian::pair::BlockPair;
+use sides::blocks::JacAndInverse;
+use sides::pair::BlockPair;
 use linalg::matrix::Mat3;
 use sim3::sim3::Sim3;
 use sim3::tangent::Sim3Tangent;
@@ -39,9 +39,9 @@ pub fn both_signs(tau: Sim3Tangent, z: f64, v: Values, jl: Mat3, jl_inv: Mat3) -
     let pair = coeffs::sim3::sim3_coeffs_scaled_pair(sigma, z, v);
     let plus = coeffs::sim3::sim3_coeffs_scaled(sigma, z, v);
     let minus = coeffs::sim3::sim3_coeffs_scaled(-sigma, z, m);
-    let block = jacobian::pair::block_pair(tau, v, jl, jl_inv);
-    let left = jacobian::side::jl_and_inverse(tau, v, jl, jl_inv);
-    let right = jacobian::side::jl_and_inverse(back, m, jt, it);
+    let block = sides::pair::block_pair(tau, v, jl, jl_inv);
+    let left = sides::side::jl_and_inverse(tau, v, jl, jl_inv);
+    let right = sides::side::jl_and_inverse(back, m, jt, it);
     let exp = Sim3::exp(tau, v);
     let exp_neg = Sim3::exp(back, m);
     BothSigns {

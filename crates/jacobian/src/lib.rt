@@ -1,7 +1,3 @@
-// Block Jacobians of Sim(3): their algebra, the Jacobians of the exponential, both sides of the
-// action, composition and inverse, and the pair that serves both sides at once.
+// Block Jacobians of Sim(3): their structure and algebra.
 pub mod jac; // Sim3Jac: the block structure and its algebra
 pub mod dense; // 7x7 matrices, and the sandwich
-pub mod blocks; // J_l and its inverse, by blocks
-pub mod side; // both sides' Jacobians
-pub mod pair; // the block pair

@@ -21,9 +21,9 @@ use Rattle.sim3.specs.declared.sim3.Sim3.{Sim3}
 use Rattle.sim3.specs.declared.tangent.Sim3Tangent.{Sim3Tangent}
 use Rattle.jacobian.specs.Jac.{blocks}
 use Rattle.jacobian.specs.declared.jac.Sim3Jac.{Sim3Jac}
-use Rattle.jacobian.specs.declared.pair.BlockPair.{BlockPair}
-use Rattle.jacobian.specs.declared.side.ActJacobians.{ActJacobians}
-use Rattle.jacobian.specs.declared.side.TwoJacobians.{TwoJacobians}
+use Rattle.sides.specs.declared.pair.BlockPair.{BlockPair}
+use Rattle.sides.specs.declared.side.ActJacobians.{ActJacobians}
+use Rattle.sides.specs.declared.side.TwoJacobians.{TwoJacobians}
 
 -- ---- how many numbers each has
 abbrev pub vecCount : ℕ

@@ -15,7 +15,7 @@ use Rattle.coeffs.specs.declared.sim3.Scaled.{Scaled}
 use Rattle.coeffs.specs.declared.sim3.ScaledPair.{ScaledPair}
 use Rattle.sim3.specs.declared.sim3.Sim3.{Sim3}
 use Rattle.jacobian.specs.declared.jac.Sim3Jac.{Sim3Jac}
-use Rattle.jacobian.specs.declared.pair.BlockPair.{BlockPair}
+use Rattle.sides.specs.declared.pair.BlockPair.{BlockPair}
 use Rattle.layout.specs.Layout.{matNumbers, quatNumbers, poseNumbers, blockNumbers, blockPairNumbers, coeffsNumbers, scaledNumbers, scaledPairNumbers}
 use Rattle.layout.proofs.Numbers.{vec-count, mat-count, block-count, scaled-count}
 use Rattle.layout.proofs.Runs.{sets-split}

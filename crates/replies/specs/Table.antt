@@ -9,7 +9,7 @@ use Rattle.coeffs.specs.Entries.{pairAnswer}
 use Rattle.sim3.specs.Pose.{poseAct, poseMul, poseInverse}
 use Rattle.sim3.specs.Exp.{poseExp}
 use Rattle.jacobian.specs.Jac.{jacInverseAnswer}
-use Rattle.jacobian.specs.Pair.{blockPair}
+use Rattle.sides.specs.Pair.{blockPair}
 use Rattle.layout.specs.Layout.{vecCount, matCount, poseCount, tangentCount, valuesCount, blockCount, vecIn, matIn, poseIn, tangentIn, valuesIn, blockIn}
 use Rattle.layout.specs.Layout.{poseNumbers, blockNumbers, blockPairNumbers, scaledPairNumbers}
 use Rattle.wire.specs.Wire.{Item, width, numberAt, numbers}

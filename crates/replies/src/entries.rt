@@ -23,7 +23,7 @@ use crate::places::values_at;
 use crate::places::vec_at;
 use coeffs::sim3::PairAnswer;
 use jacobian::jac::JacAnswer;
-use jacobian::pair::block_pair;
+use sides::pair::block_pair;
 use layout::BLOCK;
 use layout::BLOCK_PAIR;
 use layout::POSE;

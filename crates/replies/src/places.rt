@@ -14,7 +14,7 @@ use crate::bytes::put_number;
 use coeffs::sim3::ScaledPair;
 use coeffs::values::Values;
 use jacobian::jac::Sim3Jac;
-use jacobian::pair::BlockPair;
+use sides::pair::BlockPair;
 use linalg::matrix::Mat3;
 use linalg::vector::Vec3;
 use series::sim3::Sim3Coeffs;

@@ -12,8 +12,8 @@ use Rattle.sim3.specs.Pose.{poseMul, poseInverse, poseMulInv, poseInvMul, poseR
 use Rattle.sim3.specs.Exp.{poseExp}
 use Rattle.sim3.specs.Points.{pointsAnswer, pointsOut, poseActMany, poseActEach}
 use Rattle.jacobian.specs.Jac.{jacInverseAnswer}
-use Rattle.jacobian.specs.Pair.{blockPair}
-use Rattle.jacobian.specs.Side.{poseAdjoint, actJacobiansRight, actJacobiansLeft, composeJacobiansRight, composeJacobiansLeft, inverseJacobianRight, inverseJacobianLeft}
+use Rattle.sides.specs.Pair.{blockPair}
+use Rattle.sides.specs.Side.{poseAdjoint, actJacobiansRight, actJacobiansLeft, composeJacobiansRight, composeJacobiansLeft, inverseJacobianRight, inverseJacobianLeft}
 use Rattle.layout.specs.Layout.{poseNumbers, blockNumbers, blockPairNumbers, scaledPairNumbers, twoNumbers, actNumbers}
 use Rattle.sim3_c.specs.Lists.{wrongLength, vecFrom, matFrom, poseFrom, tangentFrom, valuesFrom, blockFrom}
 

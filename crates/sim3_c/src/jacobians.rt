@@ -13,13 +13,13 @@ use crate::write::put_act;
 use crate::write::put_block;
 use crate::write::put_two;
 use jacobian::jac::JacAnswer;
-use jacobian::side::act_jacobians_left;
-use jacobian::side::act_jacobians_right;
-use jacobian::side::adjoint;
-use jacobian::side::compose_jacobians_left;
-use jacobian::side::compose_jacobians_right;
-use jacobian::side::inverse_jacobian_left;
-use jacobian::side::inverse_jacobian_right;
+use sides::side::act_jacobians_left;
+use sides::side::act_jacobians_right;
+use sides::side::adjoint;
+use sides::side::compose_jacobians_left;
+use sides::side::compose_jacobians_right;
+use sides::side::inverse_jacobian_left;
+use sides::side::inverse_jacobian_right;
 
 // The inverse of a block; refusal 2 where e is a zero.
 #[no_mangle]

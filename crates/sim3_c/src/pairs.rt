@@ -12,7 +12,7 @@ use crate::write::put_block_pair;
 use crate::write::put_scaled_pair;
 use coeffs::sim3::PairAnswer;
 use coeffs::sim3::sim3_coeffs_scaled_pair;
-use jacobian::pair::block_pair;
+use sides::pair::block_pair;
 
 // The scaled-form coefficients at sigma and at -sigma; z is the squared angle.
 #[no_mangle]

@@ -8,7 +8,7 @@ use Rattle.coeffs.specs.Values.{mirrored}
 use Rattle.coeffs.specs.Entries.{scaledAnswer}
 use Rattle.sim3.specs.Tangent.{tangentNeg}
 use Rattle.sim3.specs.Exp.{poseExp}
-use Rattle.jacobian.specs.Blocks.{jlAndInverse}
+use Rattle.sides.specs.Blocks.{jlAndInverse}
 use Rattle.demands.proofs.Holds.{demand-3}
 use Rattle.demands.proofs.both_signs.Statement.{statement}
 use Rattle.demands.proofs.both_signs.Tie as tie

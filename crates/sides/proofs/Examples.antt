@@ -1,0 +1,44 @@
+-- The table of the ten worked examples holds, by computing it from the definitions; and a table that holds has in every row what is due. Assumes nothing.
+use mathlib.Core.Path.{_≡_, refl}
+use mathlib.Core.List.{List, [], _∷_}
+use Prim.Native.Nat.{ℕ, zero, suc, _<_}
+use native.Mathlib.Nat.{le-of-suc-le-suc, not-suc-le-zero}
+use lib.Dec.{T, eqb, eqb→eq}
+use lib.ListN.{length, getD}
+use lib.Ieee.{round, ofBits, toBits, isNan, neg, add, sub, mul, div, lt, le}
+use lib.Ieee.Fits.{and-l, and-r}
+use Rattle.ieee.specs.Table.{factorial, rounded, entries}
+use Rattle.linalg.specs.Vector.{vecScale, vecDot, vecNormSq, vecCross, vecAdd}
+use Rattle.circle.specs.Tables.{rowRule, rowTable}
+use Rattle.circle.specs.Kernel.{hornerSum, rowSeries, rowShort, rowMember, circleExp}
+use Rattle.series.specs.Recip.{recipRule, recipFact}
+use Rattle.series.specs.Series.{seriesFirst, seriesNext, seriesLevel, levelTerms, seriesSum, seriesSums, gSeries, coeffsDelta, seriesChi, seriesCoeffs, seriesFull, coeffs4}
+use Rattle.coeffs.specs.Arm.{coeffsArm}
+use Rattle.coeffs.specs.Group.{coeffsScaled, coeffsUnscale, coeffsPlain, coeffsV}
+use Rattle.so3.specs.Quat.{quatNormSq, quatRenormalized}
+use Rattle.so3.specs.So3.{so3Exp}
+use Rattle.sim3.specs.Exp.{polyApply, vApply, poseExp}
+use Rattle.sides.specs.Examples.{Example, same, allSame, table, ExamplesHold}
+
+same-is : (xs ys : List ℕ) → T (same xs ys) → xs ≡ ys
+unfolding same
+same-is [] [] t = refl
+same-is [] (y ∷ ys) t = absurd t
+same-is (x ∷ xs) [] t = absurd t
+same-is (x ∷ xs) (y ∷ ys) t =
+    let p = eqb→eq x y (and-l (eqb x y) (same xs ys) t) in
+    let q = same-is xs ys (and-r (eqb x y) (same xs ys) t) in
+    λ i. p i ∷ q i
+
+pub every-row : (es : List Example) (z : Example) → T (allSame es) → (i : ℕ) → i < length es → getD es i z .found ≡ getD es i z .due
+unfolding allSame
+every-row [] z t i h = absurd (not-suc-le-zero h)
+every-row (e ∷ es) z t zero h = same-is (e .found) (e .due) (and-l (same (e .found) (e .due)) (allSame es) t)
+every-row (e ∷ es) z t (suc i) h = every-row es z (and-r (same (e .found) (e .due)) (allSame es) t) i (le-of-suc-le-suc h)
+
+pub examples : ExamplesHold
+unfolding table same allSame toBits ofBits isNan add sub mul div lt le neg round rounded entries factorial recipRule recipFact
+    seriesFirst seriesNext seriesLevel levelTerms seriesSum seriesSums gSeries seriesChi seriesCoeffs seriesFull coeffs4
+    coeffsDelta coeffsArm coeffsScaled coeffsUnscale coeffsPlain coeffsV rowRule rowTable hornerSum rowSeries rowShort rowMember circleExp
+    quatNormSq quatRenormalized so3Exp polyApply vApply poseExp vecScale vecDot vecNormSq vecCross vecAdd
+examples v z = refl

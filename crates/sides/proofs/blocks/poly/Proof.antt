@@ -1,0 +1,12 @@
+-- `sides::blocks::poly` meets its contract: by what its calls ensure and its tests say. Assumes nothing.
+use borrow.Author.Needs.{needs}
+use Rattle.sides.specs.Blocks.{polyMatrix}
+use Rattle.sides.proofs.blocks.poly.Statement.{statement}
+use Rattle.sides.proofs.blocks.poly.Tie as tie
+
+returns : tie.Need-returns
+unfolding polyMatrix
+returns c = simp (c .add2 .ensures, c .before .add .ensures, c .before .before .scale3 .ensures, c .before .before .before .mul-hat .ensures, c .before .before .before .before .scale2 .ensures, c .before .before .before .before .before .scale .ensures, c .before .before .before .before .before .before .identity .ensures, c .before .before .before .before .before .before .before .hat .ensures)
+
+pub poly-spec : {M : Type 1} → statement M
+poly-spec = tie.close (tie.spec (λ c κs. search needs) (λ c κs. search needs) (λ c κs. search needs) (λ c κs. search needs) (λ c κs. search needs) (λ c κs. search needs) (λ c κs. search needs) (λ c κs. search needs) returns)
