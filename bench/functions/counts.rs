@@ -54,7 +54,7 @@ unsafe extern "C" fn nothing(_: *const f64, _: *mut f64) -> u32 {
 /// Every row's two sides, and the loop alone.
 pub fn run(tables: &[(&str, Vec<Row>)]) {
     let x: Rc<Inputs> = Rc::new(inputs::poses());
-    count("loop | - | -", &[Step { call: nothing as Call, inputs: x, width: 8, list: false }]);
+    count("loop | - | -", &[Step { call: nothing as Call, inputs: x, width: 8, list: None }]);
     for row in tables.iter().flat_map(|(_, rows)| rows) {
         count(&format!("{} | {} | over", row.what, row.arm), &row.over);
         count(&format!("{} | {} | under", row.what, row.arm), &row.under);

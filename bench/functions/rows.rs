@@ -1,6 +1,6 @@
 //! The table's rows: what is timed over what.
 
-use crate::inputs::{self, Inputs, ARMS, LIST};
+use crate::inputs::{self, list_at, Inputs, ARMS};
 use crate::port::{self, *};
 use crate::rust;
 use std::rc::Rc;
@@ -10,8 +10,8 @@ pub struct Step {
     pub call: Call,
     pub inputs: Rc<Inputs>,
     pub width: usize,
-    /// The call works on a list: the output holds the points before it.
-    pub list: bool,
+    /// The call works on a list, which begins at this number of the output and stands there before it.
+    pub list: Option<usize>,
 }
 
 /// The two sides of a ratio, each one or two steps whose answers stand one after the other.
@@ -38,7 +38,7 @@ fn row(what: &str, arm: &'static str, over: Vec<Step>, under: Vec<Step>) -> Row 
 }
 
 fn step(call: Call, inputs: &Rc<Inputs>, width: usize) -> Vec<Step> {
-    vec![Step { call, inputs: inputs.clone(), width, list: false }]
+    vec![Step { call, inputs: inputs.clone(), width, list: None }]
 }
 
 fn two(call: Call, first: &Rc<Inputs>, second: &Rc<Inputs>, width: usize) -> Vec<Step> {
@@ -119,14 +119,18 @@ pub fn blocks() -> Vec<Row> {
     all
 }
 
-/// A list call as a call: the inputs are pose, up and points, the output is the list.
+/// A list call as a call: the inputs are pose, up and points, the output is the list, both `OFF`.
 macro_rules! list_call {
     ($name:ident, |$x:ident, $list:ident, $out:ident| $body:expr) => {
-        unsafe extern "C" fn $name<const N: usize>(x: *const f64, out: *mut f64) -> u32 {
-            // SAFETY: the rows give LIST + N numbers and an output of N.
+        unsafe extern "C" fn $name<const N: usize, const OFF: usize>(
+            x: *const f64,
+            out: *mut f64,
+        ) -> u32 {
+            // SAFETY: the rows give list_at(OFF) + N numbers and an output of OFF + N.
             let ($x, $list, $out) = unsafe {
-                let list = core::slice::from_raw_parts(x.add(LIST), N);
-                (&*x.cast::<[f64; 9]>(), list, core::slice::from_raw_parts_mut(out, N))
+                let list = core::slice::from_raw_parts(x.add(list_at(OFF)), N);
+                let out = core::slice::from_raw_parts_mut(out.add(OFF), N);
+                (&*x.cast::<[f64; 9]>(), list, out)
             };
             $body
         }
@@ -147,18 +151,25 @@ list_call!(rust_each, |x, _list, out| {
 const LONG: usize = 3 * 20_000;
 const SHORT: usize = 3 * 200;
 
-/// The action on lists. The Rust works in place, the port from one list into another.
-pub fn lists() -> Vec<Row> {
+/// The action on lists of one placement. The Rust works in place, the port from one list into another.
+fn lists_at<const OFF: usize>(short: &'static str, long: &'static str) -> Vec<Row> {
     let of = |what, arm, n: usize, port, rust, passes| {
-        let x = Rc::new(inputs::list(n / 3));
-        let steps = |call| vec![Step { call, inputs: x.clone(), width: n, list: true }];
+        let x = Rc::new(inputs::list(n / 3, OFF));
+        let steps =
+            |call| vec![Step { call, inputs: x.clone(), width: OFF + n, list: Some(OFF) }];
         Row { passes, ..row(what, arm, steps(port), steps(rust)) }
     };
-    let (short, long) = ("200 points", "20,000 points");
     vec![
-        of("act_many", short, SHORT, port_many::<SHORT>, rust_many::<SHORT>, 50),
-        of("act_many", long, LONG, port_many::<LONG>, rust_many::<LONG>, 1),
-        of("act_each", short, SHORT, port_each::<SHORT>, rust_each::<SHORT>, 50),
-        of("act_each", long, LONG, port_each::<LONG>, rust_each::<LONG>, 1),
+        of("act_many", short, SHORT, port_many::<SHORT, OFF>, rust_many::<SHORT, OFF>, 50),
+        of("act_many", long, LONG, port_many::<LONG, OFF>, rust_many::<LONG, OFF>, 1),
+        of("act_each", short, SHORT, port_each::<SHORT, OFF>, rust_each::<SHORT, OFF>, 50),
+        of("act_each", long, LONG, port_each::<LONG, OFF>, rust_each::<LONG, OFF>, 1),
     ]
+}
+
+/// Lists on 16 bytes, and off them.
+pub fn lists() -> Vec<Row> {
+    let mut all = lists_at::<0>("200 points", "20,000 points");
+    all.extend(lists_at::<1>("200 points, off 16 bytes", "20,000 points, off 16 bytes"));
+    all
 }
