@@ -7,9 +7,9 @@ ghost use Rattle.demands.specs.Told.{signsTold};
 use coeffs::sim3::PairAnswer;
 use coeffs::sim3::ScaledAnswer;
 use coeffs::values::Values;
+use linalg::matrix::Mat3;
 use sides::blocks::JacAndInverse;
 use sides::pair::BlockPair;
-use linalg::matrix::Mat3;
 use sim3::sim3::Sim3;
 use sim3::tangent::Sim3Tangent;
 

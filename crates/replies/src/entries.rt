@@ -23,13 +23,13 @@ use crate::places::values_at;
 use crate::places::vec_at;
 use coeffs::sim3::PairAnswer;
 use jacobian::jac::JacAnswer;
-use sides::pair::block_pair;
 use layout::BLOCK;
 use layout::BLOCK_PAIR;
 use layout::POSE;
 use layout::SCALED_PAIR;
 use layout::VEC;
 use outcome::Gave;
+use sides::pair::block_pair;
 use sim3::sim3::Sim3;
 
 // The exponential of a tangent.

@@ -3,10 +3,10 @@ ghost use mathlib.Core.Path.{_≡_};
 ghost use lib.Ieee.{binary64};
 ghost use Rattle.sides.specs.Pair.{blockPair};
 use crate::blocks::jl_and_inverse_at;
-use jacobian::jac::Sim3Jac;
 use coeffs::sim3::PairAnswer;
 use coeffs::sim3::sim3_coeffs_scaled_pair;
 use coeffs::values::Values;
+use jacobian::jac::Sim3Jac;
 use linalg::matrix::Mat3;
 use sim3::tangent::Sim3Tangent;
 

@@ -1,4 +1,4 @@
--- Written by tools/proofs from Proof.template: edit that one. Digest 522e96e1d4825813.
+-- Written by tools/proofs from Proof.template: edit that one. Digest 2d1da032ff2f2550.
 -- `demands::both_signs` meets its contract, demand 3: by what the eight calls ensure, and what negation, mirroring and transposing ensure of their arguments.
 use borrow.Author.Needs.{needs}
 use mathlib.Core.Path.{_≡_, ap, _∙_}

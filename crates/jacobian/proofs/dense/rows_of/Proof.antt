@@ -1,4 +1,4 @@
--- `jacobian::dense::rows_of` meets its contract: by what its calls ensure and its tests say. Assumes nothing.
+-- Written by tools/proofs, plain, opening sevenRows. Digest 633d632ee91b6595.
 use borrow.Author.Needs.{needs}
 use Rattle.jacobian.specs.DenseRows.{sevenRows}
 use Rattle.jacobian.proofs.dense.rows_of.Statement.{statement}

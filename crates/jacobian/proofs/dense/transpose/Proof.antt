@@ -1,4 +1,4 @@
--- `jacobian::dense::transpose` meets its contract: by what its calls ensure and its tests say. Assumes nothing.
+-- Written by tools/proofs, plain, opening sevenTranspose sevenRows. Digest 065fd2b38457df88.
 use borrow.Author.Needs.{needs}
 use Rattle.jacobian.specs.Dense.{sevenTranspose}
 use Rattle.jacobian.specs.DenseRows.{sevenRows}
@@ -7,7 +7,9 @@ use Rattle.jacobian.proofs.dense.transpose.Tie as tie
 
 returns : tie.Need-returns
 unfolding sevenTranspose sevenRows
-returns c = simp (c .seven-numbers .ensures, c .before .before .before .before .before .before .before .rows-of2 .ensures, c .before .before .before .before .before .before .before .before .rows-of .ensures)
+returns c =
+    let c1 = c .before .before .before .before .before in
+    simp (c .seven-numbers .ensures, c1 .before .before .rows-of2 .ensures, c1 .before .before .before .rows-of .ensures)
 
 pub transpose-spec : {M : Type 1} → statement M
 transpose-spec = tie.close (tie.spec (λ c κs. search needs) (λ c κs. search needs) (λ c κs. search needs) returns)

@@ -1,4 +1,4 @@
--- `jacobian::jac::none` meets its contract: operation by operation, as the definition has it. Assumes nothing.
+-- Written by tools/proofs, plain, opening ofBits. Digest 7a2676e338c0fb08.
 use mathlib.Core.Path.{refl}
 use lib.Ieee.{ofBits}
 use Rattle.jacobian.proofs.jac.none.Statement.{statement}

@@ -1,4 +1,4 @@
--- `sides::blocks::inv_coeffs` meets its contract: operation by operation, as the definition has it. Assumes nothing.
+-- Written by tools/proofs, plain, opening invCoeffs ofBits. Digest 846be5a4fcd96a31.
 use mathlib.Core.Path.{refl}
 use Rattle.sides.specs.Blocks.{invCoeffs}
 use lib.Ieee.{ofBits}

@@ -1,4 +1,4 @@
--- `sides::blocks::jl_blocks_with` meets its contract: by what its calls ensure and its tests say. Assumes nothing.
+-- Written by tools/proofs, plain, opening jlBlocks ofBits. Digest 25e3807b0291d9d3.
 use borrow.Author.Needs.{needs}
 use Rattle.sides.specs.Blocks.{jlBlocks}
 use lib.Ieee.{ofBits}
@@ -7,7 +7,25 @@ use Rattle.sides.proofs.blocks.jl_blocks_with.Tie as tie
 
 returns : tie.Need-returns
 unfolding jlBlocks ofBits
-returns c = simp (c .neg .ensures, c .before .poly .ensures, c .before .before .q-block .ensures, c .before .before .before .combine .ensures, c .before .before .before .before .cross2 .ensures, c .before .before .before .before .before .cross .ensures)
+returns c =
+    let c1 = c .before .before .before .before .before in
+    simp (
+      c .neg .ensures,
+      c .before .poly .ensures,
+      c .before .before .q-block .ensures,
+      c .before .before .before .combine .ensures,
+      c .before .before .before .before .cross2 .ensures,
+      c1 .cross .ensures,
+    )
 
 pub jl-blocks-with-spec : {M : Type 1} → statement M
-jl-blocks-with-spec = tie.close (tie.spec (λ c κs. search needs) (λ c κs. search needs) (λ c κs. search needs) (λ c κs. search needs) (λ c κs. search needs) (λ c κs. search needs) returns)
+jl-blocks-with-spec =
+    tie.close
+    (tie.spec
+    (λ c κs. search needs)
+    (λ c κs. search needs)
+    (λ c κs. search needs)
+    (λ c κs. search needs)
+    (λ c κs. search needs)
+    (λ c κs. search needs)
+    returns)

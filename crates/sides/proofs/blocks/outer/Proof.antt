@@ -1,4 +1,4 @@
--- `sides::blocks::outer` meets its contract: by what its calls ensure and its tests say. Assumes nothing.
+-- Written by tools/proofs, plain, opening matOuter. Digest a3ce1dfdc64158ce.
 use borrow.Author.Needs.{needs}
 use Rattle.sides.specs.Blocks.{matOuter}
 use Rattle.sides.proofs.blocks.outer.Statement.{statement}

@@ -1,4 +1,4 @@
--- `sides::side::ad` meets its contract: by what its calls ensure and its tests say. Assumes nothing.
+-- Written by tools/proofs, plain, opening tangentAd ofBits. Digest cf0c565ef6ad9257.
 use borrow.Author.Needs.{needs}
 use Rattle.sides.specs.Side.{tangentAd}
 use lib.Ieee.{ofBits}
@@ -7,7 +7,25 @@ use Rattle.sides.proofs.side.ad.Tie as tie
 
 returns : tie.Need-returns
 unfolding tangentAd ofBits
-returns c = simp (c .neg .ensures, c .before .add .ensures, c .before .before .scale .ensures, c .before .before .before .identity .ensures, c .before .before .before .before .hat2 .ensures, c .before .before .before .before .before .hat .ensures)
+returns c =
+    let c1 = c .before .before .before .before .before in
+    simp (
+      c .neg .ensures,
+      c .before .add .ensures,
+      c .before .before .scale .ensures,
+      c .before .before .before .identity .ensures,
+      c .before .before .before .before .hat2 .ensures,
+      c1 .hat .ensures,
+    )
 
 pub ad-spec : {M : Type 1} → statement M
-ad-spec = tie.close (tie.spec (λ c κs. search needs) (λ c κs. search needs) (λ c κs. search needs) (λ c κs. search needs) (λ c κs. search needs) (λ c κs. search needs) returns)
+ad-spec =
+    tie.close
+    (tie.spec
+    (λ c κs. search needs)
+    (λ c κs. search needs)
+    (λ c κs. search needs)
+    (λ c κs. search needs)
+    (λ c κs. search needs)
+    (λ c κs. search needs)
+    returns)

@@ -1,4 +1,4 @@
--- `sides::side::adjoint` meets its contract: by what its calls ensure and its tests say. Assumes nothing.
+-- Written by tools/proofs, plain, opening poseAdjoint ofBits. Digest 90ad04bf965799af.
 use borrow.Author.Needs.{needs}
 use Rattle.sides.specs.Side.{poseAdjoint}
 use lib.Ieee.{ofBits}

@@ -1,4 +1,4 @@
--- `sides::side::compose_jacobians_left` meets its contract: by what its calls ensure and its tests say. Assumes nothing.
+-- Written by tools/proofs, plain, opening composeJacobiansLeft. Digest d6b2901538c74915.
 use borrow.Author.Needs.{needs}
 use Rattle.sides.specs.Side.{composeJacobiansLeft}
 use Rattle.sides.proofs.side.compose_jacobians_left.Statement.{statement}

@@ -1,4 +1,4 @@
--- `sides::side::compose_jacobians_right` meets its contract: by what its calls ensure and its tests say. Assumes nothing.
+-- Written by tools/proofs, plain, opening composeJacobiansRight. Digest 8ccafdccb0a30f4c.
 use borrow.Author.Needs.{needs}
 use Rattle.sides.specs.Side.{composeJacobiansRight}
 use Rattle.sides.proofs.side.compose_jacobians_right.Statement.{statement}

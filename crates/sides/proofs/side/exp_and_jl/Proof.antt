@@ -1,4 +1,4 @@
--- `sides::side::exp_and_jl` meets its contract: by what its calls ensure and its tests say. Assumes nothing.
+-- Written by tools/proofs, plain, opening expAndJl jacJl poseExp coeffsV coeffs4. Digest a6f20d1ead1e2a6f.
 use borrow.Author.Needs.{needs}
 use Rattle.sides.specs.Side.{expAndJl}
 use Rattle.sides.specs.Blocks.{jacJl}

@@ -1,4 +1,4 @@
--- `sides::side::inverse_adjoint` meets its contract: by what its calls ensure and its tests say. Assumes nothing.
+-- Written by tools/proofs, plain, opening poseInverseAdjoint. Digest 320c31a10c2a25d2.
 use borrow.Author.Needs.{needs}
 use Rattle.sides.specs.Side.{poseInverseAdjoint}
 use Rattle.sides.proofs.side.inverse_adjoint.Statement.{statement}

@@ -1,4 +1,4 @@
--- `sides::side::inverse_jacobian_left` meets its contract: by what its calls ensure and its tests say. Assumes nothing.
+-- Written by tools/proofs, plain, opening inverseJacobianLeft. Digest 1f31e70595586eaa.
 use borrow.Author.Needs.{needs}
 use Rattle.sides.specs.Side.{inverseJacobianLeft}
 use Rattle.sides.proofs.side.inverse_jacobian_left.Statement.{statement}

@@ -1,4 +1,4 @@
--- `sides::side::inverse_jacobian_right` meets its contract: by what its calls ensure and its tests say. Assumes nothing.
+-- Written by tools/proofs, plain, opening inverseJacobianRight. Digest 187c756e26c9df17.
 use borrow.Author.Needs.{needs}
 use Rattle.sides.specs.Side.{inverseJacobianRight}
 use Rattle.sides.proofs.side.inverse_jacobian_right.Statement.{statement}

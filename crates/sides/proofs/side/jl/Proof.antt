@@ -1,4 +1,4 @@
--- `sides::side::jl` meets its contract: by what its calls ensure and its tests say. Assumes nothing.
+-- Written by tools/proofs, plain, opening jacJl. Digest f98477edf25fe537.
 use borrow.Author.Needs.{needs}
 use Rattle.sides.specs.Blocks.{jacJl}
 use Rattle.sides.proofs.side.jl.Statement.{statement}

@@ -1,4 +1,4 @@
--- `sides::side::jl_and_inverse` meets its contract: by what its calls ensure and its tests say. Assumes nothing.
+-- Written by tools/proofs, plain, opening jlAndInverse. Digest e013199164589395.
 use borrow.Author.Needs.{needs}
 use Rattle.sides.specs.Blocks.{jlAndInverse}
 use Rattle.sides.proofs.side.jl_and_inverse.Statement.{statement}

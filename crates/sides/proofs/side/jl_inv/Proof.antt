@@ -1,4 +1,4 @@
--- `sides::side::jl_inv` meets its contract: by what its calls ensure and its tests say. Assumes nothing.
+-- Written by tools/proofs, plain, opening jacJlInv. Digest 9a106f33cee7e558.
 use borrow.Author.Needs.{needs}
 use Rattle.sides.specs.Side.{jacJlInv}
 use Rattle.sides.proofs.side.jl_inv.Statement.{statement}

@@ -1,4 +1,4 @@
--- `sides::side::jr` meets its contract: by what its calls ensure and its tests say. Assumes nothing.
+-- Written by tools/proofs, plain, opening jacJr. Digest ebe8fb4ea72d000e.
 use borrow.Author.Needs.{needs}
 use Rattle.sides.specs.Side.{jacJr}
 use Rattle.sides.proofs.side.jr.Statement.{statement}

@@ -1,4 +1,4 @@
--- `sides::side::jr_inv` meets its contract: by what its calls ensure and its tests say. Assumes nothing.
+-- Written by tools/proofs, plain, opening jacJrInv. Digest 2acdde5219e7024c.
 use borrow.Author.Needs.{needs}
 use Rattle.sides.specs.Side.{jacJrInv}
 use Rattle.sides.proofs.side.jr_inv.Statement.{statement}

@@ -1,4 +1,4 @@
--- `sides::side::lplus_jacobians` meets its contract: by what its calls ensure and its tests say. Assumes nothing.
+-- Written by tools/proofs, plain, opening lplusJacobians expAndJl. Digest d7f426f0ab94d0d4.
 use borrow.Author.Needs.{needs}
 use Rattle.sides.specs.Side.{lplusJacobians, expAndJl}
 use Rattle.sides.proofs.side.lplus_jacobians.Statement.{statement}

@@ -1,4 +1,4 @@
--- `sides::side::rplus_jacobians` meets its contract: by what its calls ensure and its tests say. Assumes nothing.
+-- Written by tools/proofs, plain, opening rplusJacobians. Digest 997547f1048a3a4a.
 use borrow.Author.Needs.{needs}
 use Rattle.sides.specs.Side.{rplusJacobians}
 use Rattle.sides.proofs.side.rplus_jacobians.Statement.{statement}

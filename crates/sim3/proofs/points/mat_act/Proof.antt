@@ -1,4 +1,4 @@
--- `sim3::points::mat_act` meets its contract: by what its calls ensure and its tests say. Assumes nothing.
+-- Written by tools/proofs, plain, opening matAct. Digest 1693a500f40345c7.
 use borrow.Author.Needs.{needs}
 use Rattle.sim3.specs.Points.{matAct}
 use Rattle.sim3.proofs.points.mat_act.Statement.{statement}

@@ -1,4 +1,4 @@
--- `jacobian::jac::Sim3Jac::identity` meets its contract: by what its calls ensure and its tests say. Assumes nothing.
+-- Written by tools/proofs, plain, opening jacIdentity ofBits. Digest 8367ad3cd1763fca.
 use borrow.Author.Needs.{needs}
 use Rattle.jacobian.specs.Jac.{jacIdentity}
 use lib.Ieee.{ofBits}
@@ -7,7 +7,27 @@ use Rattle.jacobian.proofs.jac.Sim3Jac.identity.Tie as tie
 
 returns : tie.Need-returns
 unfolding jacIdentity ofBits
-returns c = simp (c .none4 .ensures, c .before .identity2 .ensures, c .before .before .from-cols .ensures, c .before .before .before .none3 .ensures, c .before .before .before .before .none2 .ensures, c .before .before .before .before .before .none .ensures, c .before .before .before .before .before .before .identity .ensures)
+returns c =
+    let c1 = c .before .before .before .before .before in
+    simp (
+      c .none4 .ensures,
+      c .before .identity2 .ensures,
+      c .before .before .from-cols .ensures,
+      c .before .before .before .none3 .ensures,
+      c .before .before .before .before .none2 .ensures,
+      c1 .none .ensures,
+      c1 .before .identity .ensures,
+    )
 
 pub identity-spec : {M : Type 1} → statement M
-identity-spec = tie.close (tie.spec (λ c κs. search needs) (λ c κs. search needs) (λ c κs. search needs) (λ c κs. search needs) (λ c κs. search needs) (λ c κs. search needs) (λ c κs. search needs) returns)
+identity-spec =
+    tie.close
+    (tie.spec
+    (λ c κs. search needs)
+    (λ c κs. search needs)
+    (λ c κs. search needs)
+    (λ c κs. search needs)
+    (λ c κs. search needs)
+    (λ c κs. search needs)
+    (λ c κs. search needs)
+    returns)

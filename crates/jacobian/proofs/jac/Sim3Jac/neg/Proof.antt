@@ -1,4 +1,4 @@
--- `jacobian::jac::Sim3Jac::neg` meets its contract: by what its calls ensure and its tests say. Assumes nothing.
+-- Written by tools/proofs, plain, opening jacNeg. Digest 001a51d22a5381a6.
 use borrow.Author.Needs.{needs}
 use Rattle.jacobian.specs.Jac.{jacNeg}
 use Rattle.jacobian.proofs.jac.Sim3Jac.neg.Statement.{statement}

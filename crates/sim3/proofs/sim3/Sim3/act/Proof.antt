@@ -1,4 +1,4 @@
--- `sim3::sim3::Sim3::act` meets its contract: by what its calls ensure and its tests say. Assumes nothing.
+-- Written by tools/proofs, plain, opening poseAct. Digest 834ddff29f8f5ed9.
 use borrow.Author.Needs.{needs}
 use Rattle.sim3.specs.Pose.{poseAct}
 use Rattle.sim3.proofs.sim3.Sim3.act.Statement.{statement}

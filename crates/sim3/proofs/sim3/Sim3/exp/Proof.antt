@@ -1,4 +1,4 @@
--- `sim3::sim3::Sim3::exp` meets its contract: by what its calls ensure and its tests say. Assumes nothing.
+-- Written by tools/proofs, plain, opening poseExp. Digest 696628225f25783f.
 use borrow.Author.Needs.{needs}
 use Rattle.sim3.specs.Exp.{poseExp}
 use Rattle.sim3.proofs.sim3.Sim3.exp.Statement.{statement}

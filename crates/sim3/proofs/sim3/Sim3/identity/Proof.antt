@@ -1,4 +1,4 @@
--- `sim3::sim3::Sim3::identity` meets its contract: by what its calls ensure and its tests say. Assumes nothing.
+-- Written by tools/proofs, plain, opening poseIdentity ofBits. Digest de43a4cd534699f6.
 use borrow.Author.Needs.{needs}
 use Rattle.sim3.specs.Pose.{poseIdentity}
 use lib.Ieee.{ofBits}

@@ -1,4 +1,4 @@
--- `sim3::sim3::Sim3::lplus` meets its contract: by what its calls ensure and its tests say. Assumes nothing.
+-- Written by tools/proofs, plain, opening poseLplus. Digest 5e029657e06271cf.
 use borrow.Author.Needs.{needs}
 use Rattle.sim3.specs.Exp.{poseLplus}
 use Rattle.sim3.proofs.sim3.Sim3.lplus.Statement.{statement}

@@ -1,4 +1,4 @@
--- `sim3::sim3::Sim3::mul` meets its contract: by what its calls ensure and its tests say. Assumes nothing.
+-- Written by tools/proofs, plain, opening poseMul. Digest bd6e644bdd76f5fe.
 use borrow.Author.Needs.{needs}
 use Rattle.sim3.specs.Pose.{poseMul}
 use Rattle.sim3.proofs.sim3.Sim3.mul.Statement.{statement}

@@ -1,4 +1,4 @@
--- `sim3::sim3::Sim3::renormalized` meets its contract: by what its calls ensure and its tests say. Assumes nothing.
+-- Written by tools/proofs, plain, opening poseRenormalized. Digest d995953fbd68495e.
 use borrow.Author.Needs.{needs}
 use Rattle.sim3.specs.Pose.{poseRenormalized}
 use Rattle.sim3.proofs.sim3.Sim3.renormalized.Statement.{statement}

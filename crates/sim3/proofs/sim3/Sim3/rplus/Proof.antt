@@ -1,4 +1,4 @@
--- `sim3::sim3::Sim3::rplus` meets its contract: by what its calls ensure and its tests say. Assumes nothing.
+-- Written by tools/proofs, plain, opening poseRplus. Digest db8d321ef07826ac.
 use borrow.Author.Needs.{needs}
 use Rattle.sim3.specs.Exp.{poseRplus}
 use Rattle.sim3.proofs.sim3.Sim3.rplus.Statement.{statement}

@@ -1,4 +1,4 @@
--- `sim3::tangent::Sim3Tangent::add` meets its contract: by what its calls ensure and its tests say. Assumes nothing.
+-- Written by tools/proofs, plain, opening tangentAdd. Digest ffb32425b5002b6f.
 use borrow.Author.Needs.{needs}
 use Rattle.sim3.specs.Tangent.{tangentAdd}
 use Rattle.sim3.proofs.tangent.Sim3Tangent.add.Statement.{statement}

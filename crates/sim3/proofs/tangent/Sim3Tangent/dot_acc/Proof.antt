@@ -1,4 +1,4 @@
--- `sim3::tangent::Sim3Tangent::dot_acc` meets its contract: operation by operation, as the definition has it. Assumes nothing.
+-- Written by tools/proofs, plain, opening tangentDotAcc. Digest b8bc422f15518200.
 use mathlib.Core.Path.{refl}
 use Rattle.sim3.specs.Tangent.{tangentDotAcc}
 use Rattle.sim3.proofs.tangent.Sim3Tangent.dot_acc.Statement.{statement}

@@ -1,4 +1,4 @@
--- `sim3::tangent::Sim3Tangent::from_dense` meets its contract: operation by operation, as the definition has it. Assumes nothing.
+-- Written by tools/proofs, plain, opening tangentFromDense. Digest 3792f472f376e14f.
 use borrow.Author.Needs.{needs}
 use mathlib.Core.Path.{refl}
 use Rattle.sim3.specs.Tangent.{tangentFromDense}
@@ -10,4 +10,14 @@ unfolding tangentFromDense
 returns c = refl
 
 pub from-dense-spec : {M : Type 1} → statement M
-from-dense-spec = tie.close (tie.spec (λ c. search needs) (λ c. search needs) (λ c. search needs) (λ c. search needs) (λ c. search needs) (λ c. search needs) (λ c. search needs) returns)
+from-dense-spec =
+    tie.close
+    (tie.spec
+    (λ c. search needs)
+    (λ c. search needs)
+    (λ c. search needs)
+    (λ c. search needs)
+    (λ c. search needs)
+    (λ c. search needs)
+    (λ c. search needs)
+    returns)

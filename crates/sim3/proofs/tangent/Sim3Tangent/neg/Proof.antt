@@ -1,4 +1,4 @@
--- `sim3::tangent::Sim3Tangent::neg` meets its contract: by what its calls ensure and its tests say. Assumes nothing.
+-- Written by tools/proofs, plain, opening tangentNeg. Digest f72409b59647a97e.
 use borrow.Author.Needs.{needs}
 use Rattle.sim3.specs.Tangent.{tangentNeg}
 use Rattle.sim3.proofs.tangent.Sim3Tangent.neg.Statement.{statement}

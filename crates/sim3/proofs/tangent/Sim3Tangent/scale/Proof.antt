@@ -1,4 +1,4 @@
--- `sim3::tangent::Sim3Tangent::scale` meets its contract: operation by operation, as the definition has it. Assumes nothing.
+-- Written by tools/proofs, plain, opening tangentScale. Digest 4dc1537fbe207ffd.
 use mathlib.Core.Path.{refl}
 use Rattle.sim3.specs.Tangent.{tangentScale}
 use Rattle.sim3.proofs.tangent.Sim3Tangent.scale.Statement.{statement}

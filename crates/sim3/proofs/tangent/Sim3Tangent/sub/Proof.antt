@@ -1,4 +1,4 @@
--- `sim3::tangent::Sim3Tangent::sub` meets its contract: by what its calls ensure and its tests say. Assumes nothing.
+-- Written by tools/proofs, plain, opening tangentSub. Digest 6a5e8d90e5d267f9.
 use borrow.Author.Needs.{needs}
 use Rattle.sim3.specs.Tangent.{tangentSub}
 use Rattle.sim3.proofs.tangent.Sim3Tangent.sub.Statement.{statement}

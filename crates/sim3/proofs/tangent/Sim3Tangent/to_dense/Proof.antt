@@ -1,4 +1,4 @@
--- `sim3::tangent::Sim3Tangent::to_dense` meets its contract: operation by operation, as the definition has it. Assumes nothing.
+-- Written by tools/proofs, plain, opening tangentToDense. Digest ebae57a9472bf435.
 use mathlib.Core.Path.{refl}
 use Rattle.sim3.specs.Tangent.{tangentToDense}
 use Rattle.sim3.proofs.tangent.Sim3Tangent.to_dense.Statement.{statement}

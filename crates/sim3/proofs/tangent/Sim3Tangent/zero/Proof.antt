@@ -1,4 +1,4 @@
--- `sim3::tangent::Sim3Tangent::zero` meets its contract: operation by operation, as the definition has it. Assumes nothing.
+-- Written by tools/proofs, plain, opening tangentZero ofBits. Digest 90a23b4d855a6d41.
 use mathlib.Core.Path.{refl}
 use Rattle.sim3.specs.Tangent.{tangentZero}
 use lib.Ieee.{ofBits}
