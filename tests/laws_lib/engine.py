@@ -43,7 +43,7 @@ def call(number, given, count):
 
 
 def mirrored(sigma, v):
-    """The values of the negative tangent, as document 01 mirrors them."""
+    """The values of the negative tangent, as the scope mirrors them."""
     root, sin_half, cos_half, sine, e, m, e0, m0, up, down = v
     if sigma == 0:
         e, m, e0, m0 = e0, m0, e, m

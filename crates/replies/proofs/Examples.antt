@@ -1,4 +1,4 @@
--- Worked records: document 01's AC record, and its examples of the refusals 1 and 2, by computing their replies. Assumes nothing.
+-- Worked records: the scope's AC record, and its examples of the refusals 1 and 2, by computing their replies. Assumes nothing.
 use Prim.Native.Nat.{ℕ}
 use mathlib.Core.Path.{_≡_, refl}
 use mathlib.Core.Bool.{true, false}

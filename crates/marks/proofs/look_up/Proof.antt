@@ -1,4 +1,4 @@
--- `marks::look_up` meets its contract: by what its calls ensure and its tests say. Assumes nothing.
+-- `marks::look_up` meets its contract: by what its calls ensure. Assumes nothing.
 use borrow.Author.Needs.{needs}
 use Rattle.marks.specs.Marks.{markOf}
 use Rattle.marks.proofs.look_up.Statement.{statement}

@@ -1,4 +1,4 @@
--- `circle::kernel::exp_coeffs_of` meets its contract: by what its calls ensure and its tests say. Assumes nothing.
+-- `circle::kernel::exp_coeffs_of` meets its contract: by what its calls ensure. Assumes nothing.
 use borrow.Author.Needs.{needs}
 use Rattle.circle.proofs.kernel.exp_coeffs_of.Statement.{statement}
 use Rattle.circle.proofs.kernel.exp_coeffs_of.Tie as tie

@@ -1,4 +1,4 @@
--- `circle::kernel::series` meets its contract: by what its calls ensure and its tests say. Assumes nothing.
+-- `circle::kernel::series` meets its contract: by what its calls ensure. Assumes nothing.
 use borrow.Author.Needs.{needs}
 use native.Mathlib.Omega.{arith}
 use lib.ListN.{length-take}

@@ -1,4 +1,4 @@
--- `coeffs::closed::closed_v` meets its contract: by what its calls ensure and its tests say. Assumes nothing.
+-- `coeffs::closed::closed_v` meets its contract: by what its calls ensure. Assumes nothing.
 use borrow.Author.Needs.{needs}
 use Rattle.coeffs.specs.Closed.{closedVFrom}
 use Rattle.coeffs.specs.Shared.{closedExps}

@@ -1,4 +1,4 @@
--- `coeffs::closed::exps_of` meets its contract: by what its calls ensure and its tests say. Assumes nothing.
+-- `coeffs::closed::exps_of` meets its contract: by what its calls ensure. Assumes nothing.
 use borrow.Author.Needs.{needs}
 use Rattle.coeffs.specs.Shared.{closedExps}
 use lib.Ieee.{ofBits}

@@ -1,4 +1,4 @@
--- `coeffs::closed::v_from` meets its contract: by what its calls ensure and its tests say. Assumes nothing.
+-- `coeffs::closed::v_from` meets its contract: by what its calls ensure. Assumes nothing.
 use borrow.Author.Needs.{needs}
 use Rattle.coeffs.specs.Closed.{closedV}
 use Rattle.coeffs.specs.Limits.{coeffsDelta}

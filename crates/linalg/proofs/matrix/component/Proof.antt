@@ -1,4 +1,4 @@
--- `linalg::matrix::component` meets its contract: by what its calls ensure and its tests say. Assumes nothing.
+-- `linalg::matrix::component` meets its contract: by what its tests say. Assumes nothing.
 use borrow.Author.Tests.{ne-eqb}
 use Rattle.linalg.specs.Matrix.{entryTold, vecComponent}
 use Rattle.linalg.proofs.matrix.component.Statement.{statement}

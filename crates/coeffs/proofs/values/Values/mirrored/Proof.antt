@@ -1,4 +1,4 @@
--- `coeffs::values::Values::mirrored` meets its contract: by what its calls ensure and its tests say. Assumes nothing.
+-- `coeffs::values::Values::mirrored` meets its contract: by what its calls ensure. Assumes nothing.
 use borrow.Author.Needs.{needs}
 use Rattle.coeffs.specs.Values.{mirrored}
 use Rattle.coeffs.proofs.values.Values.mirrored.Statement.{statement}
