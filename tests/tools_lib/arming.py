@@ -119,7 +119,8 @@ def wrong_bytes():
                        ((5, 1, 5, 0), "told closed; v0, w0 by series, at -sigma closed;"), ((9, 1, 9, 1), "told arm 9;")]:
         bad = good[:at] + bytes(told) + good[at + 4:]
         text = jobs("arms", file("job", job_of(POINTS)), file("told", bad), status=1)[0].decode()
-        holds(text, f"record 6  AR  {said}", "the limits give closed; v0, w0 by series\n")
+        holds(text, f"record 6  AR  {said}", "the limits give closed; v0, w0 by series\n",
+              "     answered                             8\n")
     many = b"".join(b"AR" + bytes((3, 0, 3, 0)) + bytes(160) for _ in range(50)) + end(50)
     text = jobs("arms", file("job", job_of([(2.0, 0.0)] * 50)), file("told", many), status=1)[0].decode()
     same((text.count("the limits give closed\n"), text.count("30 more records")), (20, 1), "messages")

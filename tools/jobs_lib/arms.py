@@ -38,7 +38,7 @@ class Found:
 
     def __init__(self):
         self.rules = dict.fromkeys(RULES, 0)
-        self.refused, self.others = 0, 0
+        self.answered, self.refused, self.others = 0, 0, 0
         self.wrong = []  # messages about records whose bytes are not those of the limits
         self.numbers, self.kinds = array("I"), array("B")  # of the answered records, to be drawn
         self.squares, self.angles = array("d"), array("d")
@@ -46,6 +46,7 @@ class Found:
     def add(self, number, sigma, z, told):
         """An answered record: its number in the file, and the four bytes that it was told."""
         rule = limits_give(sigma, z)
+        self.answered += 1
         if told != (*rule, *rule):
             signs = dict.fromkeys((rule_text(*told[:2]), rule_text(*told[2:])))
             self.wrong.append(f"record {number}  AR  told {', at -sigma '.join(signs)}; "
@@ -84,7 +85,7 @@ def table(found):
     """The counts as lines."""
     rows = [(str(arm), name, found.arm(arm)) for arm, name in ARMS.items()]
     rows.append(("", "  of these " + BY_SERIES[1], found.rules[CLOSED, 1]))
-    rows += [("", "answered", sum(found.rules.values())), ("", "refused", found.refused)]
+    rows += [("", "answered", found.answered), ("", "refused", found.refused)]
     width = max(len("records"), *(len(f"{n:,}") for _, _, n in rows))
     yield f"arm  {'rule':29}  {'records':>{width}}"
     for arm, name, n in rows:

@@ -167,7 +167,7 @@ def legend(found, arm_from, series_below, rules, rule_text, drawn):
         yield words(WIDTH - 24, y, f"{found.rules[rule]:,}", "end")
         y += 22
     yield line(x, y - 12, WIDTH - 24, y - 12, "edge")
-    for name, n in (("answered", sum(found.rules.values())), ("refused, not drawn", found.refused)):
+    for name, n in (("answered", found.answered), ("refused, not drawn", found.refused)):
         yield words(x + 20, y + 6, name)
         yield words(WIDTH - 24, y + 6, f"{n:,}", "end")
         y += 22
