@@ -174,7 +174,7 @@ def legend(found, arm_from, series_below, rules, rule_text, drawn):
     y += 24
     for kind, text in (("limit", "σ² + z at a limit of the arms:"),
                        *((None, f"{limit!r}") for limit in arm_from),
-                       ("dashed", "σ² at the limit of those series:"),
+                       ("dashed", "σ² at the limit of v0, w0 by series:"),
                        (None, f"{series_below!r}")):
         if kind:
             yield line(x, y - 4, x + 14, y - 4, kind)
