@@ -1,4 +1,4 @@
--- The coefficients at -σ and the mirrored values, in what is even in σ: Δ, the arm, the term count, the masks and the circle functions. Assumes nothing.
+-- The coefficients at -σ and the mirrored values, in what is even in σ: Δ, the arm, its ends, the term count, the masks and the circle functions. Assumes nothing.
 use mathlib.Core.Path.{_≡_, refl, sym, ap, _∙_}
 use Prim.Native.Nat.{ℕ, _≤_}
 use mathlib.Core.Bool.{true, false}
@@ -16,40 +16,42 @@ use Rattle.series.specs.declared.sim3.CoeffsPair.{CoeffsPair}
 use Rattle.ieee.proofs.Sign.{mul-neg-neg}
 use Rattle.coeffs.specs.Values.{mirrored}
 use Rattle.coeffs.specs.Limits.{coeffsDelta}
-use Rattle.coeffs.specs.Arm.{coeffsArm, armTerms}
-use Rattle.coeffs.specs.Group.{coeffsScaled, coeffsPair}
-use Rattle.coeffs.specs.Entries.{scaledAnswer, beside, pairAnswer}
-use Rattle.coeffs.specs.Shared.{closedPair}
+use Rattle.coeffs.specs.Arm.{armTerms, armEnds}
+use Rattle.coeffs.specs.Group.{coeffsScaled, coeffsPair, coeffsArmed, coeffsArmedPair}
+use Rattle.coeffs.specs.Entries.{scaledAnswer, beside, pairAnswer, armedAnswer, besideArmed, armedPairAnswer}
+use Rattle.coeffs.specs.Shared.{coeffsWay, closedPair}
+use Rattle.coeffs.specs.declared.limits.Way.{Way}
 use Rattle.coeffs.specs.declared.values.Values.{Values}
 use Rattle.coeffs.specs.declared.sim3.ScaledPair.{ScaledPair}
+use Rattle.coeffs.specs.declared.sim3.ArmedPair.{ArmedPair}
 use Rattle.coeffs.proofs.Arms.{series-answers, series-refuses, arm-answers, arm-refuses, scaled-series, scaled-closed, series-pair-is, angle-answers, angle-refuses}
 
 pub delta-even : (f : Format) (sigma z : Float) → coeffsDelta f (neg sigma) z ≡ coeffsDelta f sigma z
 unfolding coeffsDelta
 delta-even f sigma z = rw (mul-neg-neg f sigma sigma) refl
 
-arm-even : (f : Format) (sigma z : Float) → coeffsArm f (coeffsDelta f (neg sigma) z) ≡ coeffsArm f (coeffsDelta f sigma z)
-arm-even f sigma z = ap (coeffsArm f) (delta-even f sigma z)
+pub way-even : (f : Format) (sigma z : Float) → coeffsWay f (neg sigma) z ≡ coeffsWay f sigma z
+unfolding coeffsWay coeffsDelta armEnds
+way-even f sigma z = rw (mul-neg-neg f sigma sigma) refl
 
--- ---- the pair in its two arms
+-- ---- the pair by its way w, in its two arms
 pub pair-series :
-    (f : Format) (sigma z : Float) (v : Values) (k : ℕ) → ltb (coeffsArm f (coeffsDelta f sigma z)) 5 ≡ true → k ≡ armTerms f (coeffsArm f (coeffsDelta f sigma z)) →
+    (f : Format) (sigma z : Float) (v : Values) (w : Way) (k : ℕ) → w ≡ coeffsWay f sigma z → ltb (w .arm) 5 ≡ true → k ≡ armTerms f (w .arm) →
     coeffsPair f sigma z v ≡ record { pos = record { c = seriesFull f sigma z k; scaled = false }; neg = record { c = seriesFull f (neg sigma) z k; scaled = false } }
 unfolding coeffsPair
-pair-series f sigma z v k t e =
-    let p = scaled-series f sigma z v k t e in
-    let n = scaled-series f (neg sigma) z (mirrored sigma v) k (ap (λ a. ltb a 5) (arm-even f sigma z) ∙ t) (e ∙ ap (armTerms f) (sym (arm-even f sigma z))) in
+pair-series f sigma z v w k e t q =
+    let p = scaled-series f sigma z v w k e t q in
+    let n = scaled-series f (neg sigma) z (mirrored sigma v) w k (e ∙ sym (way-even f sigma z)) t q in
     λ i. record { pos = p i; neg = n i }
 
 pub pair-closed :
-    (f : Format) (sigma z : Float) (v : Values) → ltb (coeffsArm f (coeffsDelta f sigma z)) 5 ≡ false →
-    coeffsPair f sigma z v ≡ closedPair f sigma z (coeffsDelta f sigma z) (circleSincABD f z (v .root) (v .«sin_half») (v .«cos_half») (v .sin)) v
+    (f : Format) (sigma z : Float) (v : Values) (w : Way) → w ≡ coeffsWay f sigma z → ltb (w .arm) 5 ≡ false →
+    coeffsPair f sigma z v ≡ closedPair f sigma z w (circleSincABD f z (v .root) (v .«sin_half») (v .«cos_half») (v .sin)) v
 unfolding coeffsPair closedPair mirrored
-pair-closed f sigma z v t =
-    let p = scaled-closed f sigma z v t in
-    let n = scaled-closed f (neg sigma) z (mirrored sigma v) (ap (λ a. ltb a 5) (arm-even f sigma z) ∙ t) in
-    let e = simp (delta-even, mul-neg-neg) at n in
-    λ i. record { pos = p i; neg = e i }
+pair-closed f sigma z v w e t =
+    let p = scaled-closed f sigma z v w e t in
+    let n = scaled-closed f (neg sigma) z (mirrored sigma v) w (e ∙ sym (way-even f sigma z)) t in
+    λ i. record { pos = p i; neg = n i }
 
 -- ---- both answers behind one test
 pub pair-answer-is : (f : Format) (sigma z : Float) (v : Values) → pairAnswer f sigma z v ≡ notBelowZero z (coeffsPair f sigma z v)
@@ -57,25 +59,50 @@ unfolding pairAnswer beside scaledAnswer coeffsPair
 pair-answer-is f sigma z v = both-as (lt z f0) 1 (coeffsScaled f sigma z v) (coeffsScaled f (neg sigma) z (mirrored sigma v)) (λ p n. record { pos = p; neg = n })
 
 pub pair-closed-answers :
-    (f : Format) (sigma z : Float) (v : Values) (t : SincABD) → ltb (coeffsArm f (coeffsDelta f sigma z)) 5 ≡ false →
+    (f : Format) (sigma z : Float) (v : Values) (w : Way) (t : SincABD) → w ≡ coeffsWay f sigma z → ltb (w .arm) 5 ≡ false →
     notBelowZero z (circleSincABD f z (v .root) (v .«sin_half») (v .«cos_half») (v .sin)) ≡ answers t →
-    pairAnswer f sigma z v ≡ answers (closedPair f sigma z (coeffsDelta f sigma z) t v)
-pair-closed-answers f sigma z v t h r = pair-answer-is f sigma z v ∙ arm-answers z _ t _ (λ x. closedPair f sigma z (coeffsDelta f sigma z) x v) (pair-closed f sigma z v h) r
+    pairAnswer f sigma z v ≡ answers (closedPair f sigma z w t v)
+pair-closed-answers f sigma z v w t e h r = pair-answer-is f sigma z v ∙ arm-answers z _ t _ (λ x. closedPair f sigma z w x v) (pair-closed f sigma z v w e h) r
 
 pub pair-series-answers :
-    (f : Format) (sigma z : Float) (v : Values) (k : ℕ) (p : CoeffsPair) → ltb (coeffsArm f (coeffsDelta f sigma z)) 5 ≡ true → k ≡ armTerms f (coeffsArm f (coeffsDelta f sigma z)) →
+    (f : Format) (sigma z : Float) (v : Values) (w : Way) (k : ℕ) (p : CoeffsPair) → w ≡ coeffsWay f sigma z → ltb (w .arm) 5 ≡ true → k ≡ armTerms f (w .arm) →
     k ≤ 64 → seriesPairAnswer f sigma z k ≡ answers p →
     pairAnswer f sigma z v ≡ answers (record { pos = record { c = p .pos; scaled = false }; neg = record { c = p .neg; scaled = false } })
-pair-series-answers f sigma z v k p h e b r =
+pair-series-answers f sigma z v w k p e h q b r =
     pair-answer-is f sigma z v
-    ∙ series-answers z k _ p _ (λ (q : CoeffsPair). record { pos = record { c = q .pos; scaled = false }; neg = record { c = q .neg; scaled = false } }) b
-    (pair-series f sigma z v k h e) (sym (series-pair-is f sigma z k) ∙ r)
+    ∙ series-answers z k _ p _ (λ (x : CoeffsPair). record { pos = record { c = x .pos; scaled = false }; neg = record { c = x .neg; scaled = false } }) b
+    (pair-series f sigma z v w k e h q) (sym (series-pair-is f sigma z k) ∙ r)
 
 pub pair-series-refuses : (f : Format) (sigma z : Float) (v : Values) (k n : ℕ) → k ≤ 64 → seriesPairAnswer f sigma z k ≡ refuses n → pairAnswer f sigma z v ≡ refuses n
 pair-series-refuses f sigma z v k n b r = pair-answer-is f sigma z v ∙ series-refuses z k n _ _ b (sym (series-pair-is f sigma z k) ∙ r)
 
 pub pair-closed-refuses : (f : Format) (sigma z : Float) (v : Values) (n : ℕ) (x : SincABD) → notBelowZero z x ≡ refuses n → pairAnswer f sigma z v ≡ refuses n
 pair-closed-refuses f sigma z v n x r = pair-answer-is f sigma z v ∙ arm-refuses z n x _ r
+
+-- ---- with the arms told: both signs have the way w
+abbrev armed-at : Way → ScaledPair → ArmedPair
+armed-at w p = record { pos = record { s = p .pos; arm = w .arm; ends = w .ends }; neg = record { s = p .neg; arm = w .arm; ends = w .ends } }
+
+pub armed-pair-is : (f : Format) (sigma z : Float) (v : Values) (w : Way) → w ≡ coeffsWay f sigma z → coeffsArmedPair f sigma z v ≡ armed-at w (coeffsPair f sigma z v)
+unfolding coeffsArmedPair coeffsArmed coeffsPair coeffsWay
+armed-pair-is f sigma z v w e =
+    let n = e ∙ sym (way-even f sigma z) in
+    λ i. record {
+      pos = record { s = coeffsScaled f sigma z v; arm = sym e i .arm; ends = sym e i .ends };
+      neg = record { s = coeffsScaled f (neg sigma) z (mirrored sigma v); arm = sym n i .arm; ends = sym n i .ends };
+    }
+
+armed-pair-answer-is : (f : Format) (sigma z : Float) (v : Values) → armedPairAnswer f sigma z v ≡ notBelowZero z (coeffsArmedPair f sigma z v)
+unfolding armedPairAnswer besideArmed armedAnswer coeffsArmedPair
+armed-pair-answer-is f sigma z v = both-as (lt z f0) 1 (coeffsArmed f sigma z v) (coeffsArmed f (neg sigma) z (mirrored sigma v)) (λ p n. record { pos = p; neg = n })
+
+pub armed-pair-answers :
+    (f : Format) (sigma z : Float) (v : Values) (w : Way) (p : ScaledPair) → w ≡ coeffsWay f sigma z → pairAnswer f sigma z v ≡ answers p → armedPairAnswer f sigma z v ≡ answers (armed-at w p)
+armed-pair-answers f sigma z v w p e r =
+    armed-pair-answer-is f sigma z v ∙ arm-answers z _ p _ (armed-at w) (armed-pair-is f sigma z v w e) (sym (pair-answer-is f sigma z v) ∙ r)
+
+pub armed-pair-refuses : (f : Format) (sigma z : Float) (v : Values) (n : ℕ) → pairAnswer f sigma z v ≡ refuses n → armedPairAnswer f sigma z v ≡ refuses n
+armed-pair-refuses f sigma z v n r = armed-pair-answer-is f sigma z v ∙ arm-refuses z n _ _ (sym (pair-answer-is f sigma z v) ∙ r)
 
 -- ---- at |φ|²
 pub angle-pair-answers : (f : Format) (phi : Vec3) (sigma : Float) (v : Values) (p : ScaledPair) → pairAnswer f sigma (vecNormSq f phi) v ≡ answers p → p ≡ coeffsPair f sigma (vecNormSq f phi) v

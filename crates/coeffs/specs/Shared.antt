@@ -1,16 +1,25 @@
--- What the private functions of the closed arm compute; no public contract cites it.
+-- What the private functions of the arms compute; no public contract cites it.
 use mathlib.Core.Bool.{Bool, cond}
-use lib.Ieee.{Float, Format, neg, mul, lt, le}
+use lib.Ieee.{Float, Format, neg, lt, le}
 use Rattle.ieee.specs.Numbers.{f0}
 use Rattle.circle.specs.declared.kernel.SincABD.{SincABD}
 use Rattle.circle.specs.declared.kernel.SincA.{SincA}
 use Rattle.coeffs.specs.Values.{atZero}
-use Rattle.coeffs.specs.Limits.{formBBelow, w0Below}
+use Rattle.coeffs.specs.Limits.{coeffsDelta, formBBelow}
+use Rattle.coeffs.specs.Arm.{coeffsArm, armEnds}
 use Rattle.coeffs.specs.Closed.{closedE, closedM, closedG, closedV0, closedW0, closedFrom}
+use Rattle.coeffs.specs.declared.limits.Way.{Way}
 use Rattle.coeffs.specs.declared.closed.Exps.{Exps}
 use Rattle.coeffs.specs.declared.closed.Ends.{Ends}
 use Rattle.coeffs.specs.declared.values.Values.{Values}
 use Rattle.coeffs.specs.declared.sim3.ScaledPair.{ScaledPair}
+
+-- Δ, the arm, and whether v₀ and w₀ come from series of their own
+unfoldable pub coeffsWay : Format → Float → Float → Way
+coeffsWay f sigma z =
+    let delta = coeffsDelta f sigma z in
+    let arm = coeffsArm f delta in
+    record { delta = delta; arm = arm; ends = armEnds f sigma arm }
 
 -- the circle functions with those alone that v reads
 unfoldable pub closedOnly : SincA → SincABD
@@ -30,15 +39,14 @@ closedEnds f sigma x y small =
       «w0_neg» = closedW0 f (neg sigma) (y .g) (y .m1) small;
     }
 
-unfoldable pub closedPair : Format → Float → Float → Float → SincABD → Values → ScaledPair
-closedPair f sigma z delta t v =
-    let formB = le (formBBelow f) delta in
-    let small = lt (mul f sigma sigma) (w0Below f) in
+unfoldable pub closedPair : Format → Float → Float → Way → SincABD → Values → ScaledPair
+closedPair f sigma z w t v =
+    let formB = le (formBBelow f) (w .delta) in
     record {
-      pos = record { c = closedFrom f sigma z t (v .e) (v .m) formB small; scaled = lt f0 sigma };
+      pos = record { c = closedFrom f sigma z t (v .e) (v .m) formB (w .ends); scaled = lt f0 sigma };
       neg =
           record {
-            c = closedFrom f (neg sigma) z t (cond (atZero sigma) (v .e0) (v .e)) (cond (atZero sigma) (v .m0) (v .m)) formB small;
+            c = closedFrom f (neg sigma) z t (cond (atZero sigma) (v .e0) (v .e)) (cond (atZero sigma) (v .m0) (v .m)) formB (w .ends);
             scaled = lt f0 (neg sigma);
           };
     }

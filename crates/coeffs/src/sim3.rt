@@ -1,19 +1,21 @@
-// The entries of the coefficient group: scaled, unscaled, v alone, and the pair for both signs.
+// The entries of the coefficient group: scaled, with the arm told, unscaled, v alone, and the pair for
+// both signs.
 ghost use mathlib.Core.Path.{_≡_};
 ghost use lib.Ieee.{binary64};
 ghost use Rattle.linalg.specs.Vector.{vecNormSq};
 ghost use Rattle.coeffs.specs.Group.{coeffsScaled, coeffsUnscale, coeffsUnscaleV, coeffsPlain, coeffsV, coeffsPair};
-ghost use Rattle.coeffs.specs.Shared.{closedPair};
+ghost use Rattle.coeffs.specs.Shared.{coeffsWay, closedPair};
 ghost use Rattle.coeffs.specs.Entries.{scaledTold, coeffsTold, vTold, vScaledTold, pairTold, scaledAnswer, coeffsAnswer, vAnswer, vScaledAnswer, pairAnswer};
+ghost use Rattle.coeffs.specs.Entries.{armedTold, armedPairTold, armedAnswer, armedPairAnswer};
 use crate::closed::EtMt;
 use crate::closed::closed_both;
 use crate::closed::closed_from;
 use crate::closed::closed_v;
 use crate::limits::CLOSED;
-use crate::limits::arm;
+use crate::limits::Way;
 use crate::limits::on_form_b;
 use crate::limits::terms;
-use crate::limits::w0_small;
+use crate::limits::way_at;
 use crate::values::Values;
 use crate::values::at_zero;
 use circle::kernel::SincAAnswer;
@@ -44,6 +46,20 @@ pub struct ScaledPair {
     pub neg: Scaled,
 }
 
+// The coefficients with the arm that formed them, 1 to 4 for the series with more and more terms and 5
+// for the closed one; `ends` says whether v0 and w0 of the closed arm come from series of their own.
+pub struct Armed {
+    pub s: Scaled,
+    pub arm: u8,
+    pub ends: bool,
+}
+
+// The same at sigma and at -sigma.
+pub struct ArmedPair {
+    pub pos: Armed,
+    pub neg: Armed,
+}
+
 // The answers of the entries: the coefficients, or refusal 1.
 pub enum ScaledAnswer {
     Coeffs(Scaled),
@@ -70,14 +86,23 @@ pub enum PairAnswer {
     Refused(u8),
 }
 
-// The coefficients at (sigma, z = theta^2) and whether they are scaled; refusal 1 for z < 0.
-pub fn sim3_coeffs_scaled(sigma: f64, z: f64, v: Values) -> ScaledAnswer
+pub enum ArmedAnswer {
+    Coeffs(Armed),
+    Refused(u8),
+}
+
+pub enum ArmedPairAnswer {
+    Coeffs(ArmedPair),
+    Refused(u8),
+}
+
+// The coefficients by their way w.
+fn scaled_by(sigma: f64, z: f64, v: Values, w: Way) -> ScaledAnswer
+    requires { ⌜ w ≡ coeffsWay binary64 sigma z ⌝ }
     ensures { λ r. ⌜ scaledTold r ≡ scaledAnswer binary64 sigma z v ⌝ }
 {
-    let delta = sigma * sigma + z;
-    let at = arm(delta);
-    if at < CLOSED {
-        match series::sim3::series(sigma, z, terms(at)) {
+    if w.arm < CLOSED {
+        match series::sim3::series(sigma, z, terms(w.arm)) {
             SeriesAnswer::Coeffs(c) => {
                 return ScaledAnswer::Coeffs(Scaled { c, scaled: false });
             }
@@ -88,15 +113,35 @@ pub fn sim3_coeffs_scaled(sigma: f64, z: f64, v: Values) -> ScaledAnswer
     }
     match circle::kernel::sinc_a_b_d(z, v.root, v.sin_half, v.cos_half, v.sin) {
         SincABDAnswer::Coeffs(t) => {
-            let form_b = on_form_b(delta);
-            let small = w0_small(sigma);
-            let c = closed_from(sigma, z, t, v.e, v.m, form_b, small);
+            let c = closed_from(sigma, z, t, v.e, v.m, on_form_b(w.delta), w.ends);
             ScaledAnswer::Coeffs(Scaled {
                 c,
                 scaled: 0.0 < sigma,
             })
         }
         SincABDAnswer::Refused(n) => ScaledAnswer::Refused(n),
+    }
+}
+
+// The coefficients at (sigma, z = theta^2) and whether they are scaled; refusal 1 for z < 0.
+pub fn sim3_coeffs_scaled(sigma: f64, z: f64, v: Values) -> ScaledAnswer
+    ensures { λ r. ⌜ scaledTold r ≡ scaledAnswer binary64 sigma z v ⌝ }
+{
+    scaled_by(sigma, z, v, way_at(sigma, z))
+}
+
+// sim3_coeffs_scaled with the arm told.
+pub fn sim3_coeffs_armed(sigma: f64, z: f64, v: Values) -> ArmedAnswer
+    ensures { λ r. ⌜ armedTold r ≡ armedAnswer binary64 sigma z v ⌝ }
+{
+    let w = way_at(sigma, z);
+    match scaled_by(sigma, z, v, w) {
+        ScaledAnswer::Coeffs(s) => ArmedAnswer::Coeffs(Armed {
+            s,
+            arm: w.arm,
+            ends: w.ends,
+        }),
+        ScaledAnswer::Refused(n) => ArmedAnswer::Refused(n),
     }
 }
 
@@ -135,10 +180,9 @@ pub fn sim3_coeffs(sigma: f64, z: f64, v: Values) -> CoeffsAnswer
 pub fn sim3_v_scaled(sigma: f64, z: f64, v: Values) -> VScaledAnswer
     ensures { λ r. ⌜ vScaledTold r ≡ vScaledAnswer binary64 sigma z v ⌝ }
 {
-    let delta = sigma * sigma + z;
-    let at = arm(delta);
-    if at < CLOSED {
-        match series::sim3::series_v(sigma, z, terms(at)) {
+    let w = way_at(sigma, z);
+    if w.arm < CLOSED {
+        match series::sim3::series_v(sigma, z, terms(w.arm)) {
             SeriesVAnswer::Coeffs(c) => {
                 return VScaledAnswer::Coeffs(VScaled { c, scaled: false });
             }
@@ -149,9 +193,7 @@ pub fn sim3_v_scaled(sigma: f64, z: f64, v: Values) -> VScaledAnswer
     }
     match circle::kernel::sinc_a(z, v.root, v.sin_half, v.cos_half) {
         SincAAnswer::Coeffs(t) => {
-            let form_b = on_form_b(delta);
-            let small = w0_small(sigma);
-            let c = closed_v(sigma, z, t, v.e, v.m, form_b, small);
+            let c = closed_v(sigma, z, t, v.e, v.m, on_form_b(w.delta), w.ends);
             VScaledAnswer::Coeffs(VScaled {
                 c,
                 scaled: 0.0 < sigma,
@@ -187,17 +229,17 @@ pub fn sim3_v(sigma: f64, z: f64, v: Values) -> VAnswer
     }
 }
 
-// The closed arm at sigma and at -sigma, from the same circle functions t: delta, form b and the
-// limit on sigma^2 are even in sigma.
-fn closed_pair(sigma: f64, z: f64, delta: f64, t: SincABD, v: Values) -> ScaledPair
-    ensures { λ r. ⌜ r ≡ closedPair binary64 sigma z delta t v ⌝ }
+// The closed arm at sigma and at -sigma, from the same circle functions t: their way w is even in
+// sigma.
+fn closed_pair(sigma: f64, z: f64, w: Way, t: SincABD, v: Values) -> ScaledPair
+    ensures { λ r. ⌜ r ≡ closedPair binary64 sigma z w t v ⌝ }
 {
     let zero = at_zero(sigma);
     let e = ieee::pick(zero, v.e0, v.e);
     let m = ieee::pick(zero, v.m0, v.m);
     let x = EtMt { et: v.e, mt: v.m };
     let y = EtMt { et: e, mt: m };
-    let c = closed_both(sigma, z, t, x, y, on_form_b(delta), w0_small(sigma));
+    let c = closed_both(sigma, z, t, x, y, on_form_b(w.delta), w.ends);
     let a = c.pos;
     let b = c.neg;
     ScaledPair {
@@ -212,15 +254,13 @@ fn closed_pair(sigma: f64, z: f64, delta: f64, t: SincABD, v: Values) -> ScaledP
     }
 }
 
-// sim3_coeffs_scaled at sigma and at -sigma, the latter on the mirrored values, each to the bit:
-// the arm, the circle functions, the exponential's values and the recurrence are shared.
-pub fn sim3_coeffs_scaled_pair(sigma: f64, z: f64, v: Values) -> PairAnswer
+// The pair by the way w, which both signs share.
+fn pair_by(sigma: f64, z: f64, v: Values, w: Way) -> PairAnswer
+    requires { ⌜ w ≡ coeffsWay binary64 sigma z ⌝ }
     ensures { λ r. ⌜ pairTold r ≡ pairAnswer binary64 sigma z v ⌝ }
 {
-    let delta = sigma * sigma + z;
-    let at = arm(delta);
-    if at < CLOSED {
-        match series_pair::pair::series_pair(sigma, z, terms(at)) {
+    if w.arm < CLOSED {
+        match series_pair::pair::series_pair(sigma, z, terms(w.arm)) {
             SeriesPairAnswer::Coeffs(p) => {
                 let a = p.pos;
                 let b = p.neg;
@@ -240,8 +280,41 @@ pub fn sim3_coeffs_scaled_pair(sigma: f64, z: f64, v: Values) -> PairAnswer
         }
     }
     match circle::kernel::sinc_a_b_d(z, v.root, v.sin_half, v.cos_half, v.sin) {
-        SincABDAnswer::Coeffs(t) => PairAnswer::Coeffs(closed_pair(sigma, z, delta, t, v)),
+        SincABDAnswer::Coeffs(t) => PairAnswer::Coeffs(closed_pair(sigma, z, w, t, v)),
         SincABDAnswer::Refused(n) => PairAnswer::Refused(n),
+    }
+}
+
+// sim3_coeffs_scaled at sigma and at -sigma, the latter on the mirrored values, each to the bit:
+// the arm, the circle functions, the exponential's values and the recurrence are shared.
+pub fn sim3_coeffs_scaled_pair(sigma: f64, z: f64, v: Values) -> PairAnswer
+    ensures { λ r. ⌜ pairTold r ≡ pairAnswer binary64 sigma z v ⌝ }
+{
+    pair_by(sigma, z, v, way_at(sigma, z))
+}
+
+// sim3_coeffs_armed at sigma and at -sigma, likewise: the arm and its ends are even in sigma.
+pub fn sim3_coeffs_armed_pair(sigma: f64, z: f64, v: Values) -> ArmedPairAnswer
+    ensures { λ r. ⌜ armedPairTold r ≡ armedPairAnswer binary64 sigma z v ⌝ }
+{
+    let w = way_at(sigma, z);
+    match pair_by(sigma, z, v, w) {
+        PairAnswer::Coeffs(p) => {
+            let a = p.pos;
+            let b = p.neg;
+            let pos = Armed {
+                s: a,
+                arm: w.arm,
+                ends: w.ends,
+            };
+            let neg = Armed {
+                s: b,
+                arm: w.arm,
+                ends: w.ends,
+            };
+            ArmedPairAnswer::Coeffs(ArmedPair { pos, neg })
+        }
+        PairAnswer::Refused(n) => ArmedPairAnswer::Refused(n),
     }
 }
 

@@ -1,0 +1,62 @@
+-- Written by tools/proofs from Proof.template: edit that one. Digest e3507069d508bc2a.
+-- `coeffs::sim3::scaled_by` meets its contract: in either arm what the arm answers is answered, and its refusal is handed upward. Assumes nothing.
+use borrow.Author.Needs.{needs}
+use mathlib.Core.Path.{sym, ap, _∙_}
+use borrow.Author.Tests.{lt-ltb, le-ltb}
+use mathlib.Core.Bool.{false}
+use lib.Ieee.{binary64, ofBits}
+use Rattle.series.specs.Series.{seriesTold, seriesAnswer}
+use Rattle.circle.specs.Kernel.{sincABDTold, circleSincABDAnswer}
+use Rattle.coeffs.specs.Entries.{scaledTold, scaledAnswer}
+use Rattle.coeffs.proofs.Arms.{series-answers, series-refuses, arm-refuses, scaled-series, scaled-closed-answers}
+use Rattle.coeffs.proofs.sim3.scaled_by.Statement.{statement}
+use Rattle.coeffs.proofs.sim3.scaled_by.Tie as tie
+
+returns : tie.Need-returns
+unfolding scaledTold scaledAnswer seriesTold seriesAnswer
+returns c =
+    let c1 = c .before .before .before .before .before in
+    let a = c1 .before .before .args in
+    let d = c .before .before .before .before .terms .ensures in
+    let t = lt-ltb _ _ (c1 .if1 .taken) in
+    let r = sym (c .before .before .before .series .ensures) ∙ ap seriesTold (c .before .c .given .1) in
+    sym (series-answers (a .z) _ _ _ _ (λ x. record { c = x; scaled = false }) (d .1) (scaled-series binary64 (a .sigma) (a .z) (a .v) (a .w) _ (c1 .before .before .pre) t (d .0)) r)
+
+returns-2 : tie.Need-returns-2
+unfolding scaledTold scaledAnswer seriesTold seriesAnswer
+returns-2 c =
+    let c1 = c .before .before .before .before .before in
+    sym (series-refuses (c1 .before .before .args .z) _ _ _ _ (c .before .before .before .before .terms .ensures .1) (sym (c .before .before .before .series .ensures) ∙ ap seriesTold (c .before .n .given .1)))
+
+returns-3 : tie.Need-returns-3
+unfolding scaledTold scaledAnswer sincABDTold circleSincABDAnswer ofBits
+returns-3 c =
+    let c1 = c .before .before .before .before .before in
+    let a = c1 .before .before .before .args in
+    let t = le-ltb _ _ (c1 .before .if1 .left) in
+    let r = sym (c1 .sinc-a-b-d .ensures) ∙ ap sincABDTold (c .before .before .before .t .given .1) in
+    simp (c .closed-from .ensures, c .before .on-form-b .ensures) (sym (scaled-closed-answers binary64 (a .sigma) (a .z) (a .v) (a .w) _ (c1 .before .before .before .pre) t r))
+
+returns-4 : tie.Need-returns-4
+unfolding scaledTold scaledAnswer sincABDTold circleSincABDAnswer
+returns-4 c =
+    let c1 = c .before .before .before .before .before in
+    sym (arm-refuses (c1 .before .args .z) _ _ _ (sym (c .before .before .before .sinc-a-b-d .ensures) ∙ ap sincABDTold (c .before .n2 .given .1)))
+
+pub scaled-by-spec : {M : Type 1} → statement M
+scaled-by-spec =
+    tie.close
+    (tie.spec
+    (λ c κs. search needs)
+    (λ c κs. search needs)
+    (λ c. search needs)
+    returns
+    (λ c. search needs)
+    returns-2
+    (λ c κs. search needs)
+    (λ c. search needs)
+    (λ c κs. search needs)
+    (λ c κs. search needs)
+    (λ c. search needs)
+    returns-3
+    returns-4)
