@@ -1,11 +1,11 @@
 -- The coefficients at -σ and the mirrored values, in what is even in σ: Δ, the arm, its ends, the term count, the masks and the circle functions. Assumes nothing.
 use mathlib.Core.Path.{_≡_, refl, sym, ap, _∙_}
 use Prim.Native.Nat.{ℕ, _≤_}
-use mathlib.Core.Bool.{true, false}
+use mathlib.Core.Bool.{Bool, true, false, cond}
 use lib.Dec.{ltb}
 use lib.Ieee.{Float, Format, neg, lt}
 use Rattle.ieee.specs.Numbers.{f0}
-use Rattle.linalg.specs.Answer.{answers, refuses}
+use Rattle.linalg.specs.Answer.{answers, refuses, andThen}
 use Rattle.linalg.specs.Vector.{vecNormSq}
 use Rattle.linalg.specs.declared.vector.Vec3.{Vec3}
 use Rattle.linalg.proofs.Answers.{both-as}
@@ -79,30 +79,35 @@ pair-series-refuses f sigma z v k n b r = pair-answer-is f sigma z v ∙ series-
 pub pair-closed-refuses : (f : Format) (sigma z : Float) (v : Values) (n : ℕ) (x : SincABD) → notBelowZero z x ≡ refuses n → pairAnswer f sigma z v ≡ refuses n
 pair-closed-refuses f sigma z v n x r = pair-answer-is f sigma z v ∙ arm-refuses z n x _ r
 
--- ---- with the arms told: both signs have the way w
-abbrev armed-at : Way → ScaledPair → ArmedPair
+-- ---- with the arms told: what the armed pair answers is the pair's answer, with the way at σ told at either sign
+abbrev pub armed-at : Way → ScaledPair → ArmedPair
 armed-at w p = record { pos = record { s = p .pos; arm = w .arm; ends = w .ends }; neg = record { s = p .neg; arm = w .arm; ends = w .ends } }
 
-pub armed-pair-is : (f : Format) (sigma z : Float) (v : Values) (w : Way) → w ≡ coeffsWay f sigma z → coeffsArmedPair f sigma z v ≡ armed-at w (coeffsPair f sigma z v)
+armed-pair-is : (f : Format) (sigma z : Float) (v : Values) → coeffsArmedPair f sigma z v ≡ armed-at (coeffsWay f sigma z) (coeffsPair f sigma z v)
 unfolding coeffsArmedPair coeffsArmed coeffsPair coeffsWay
-armed-pair-is f sigma z v w e =
-    let n = e ∙ sym (way-even f sigma z) in
-    λ i. record {
-      pos = record { s = coeffsScaled f sigma z v; arm = sym e i .arm; ends = sym e i .ends };
-      neg = record { s = coeffsScaled f (neg sigma) z (mirrored sigma v); arm = sym n i .arm; ends = sym n i .ends };
-    }
+armed-pair-is f sigma z v =
+    let n = way-even f sigma z in
+    λ i. record { pos = coeffsArmed f sigma z v; neg = record { s = coeffsScaled f (neg sigma) z (mirrored sigma v); arm = n i .arm; ends = n i .ends } }
 
-armed-pair-answer-is : (f : Format) (sigma z : Float) (v : Values) → armedPairAnswer f sigma z v ≡ notBelowZero z (coeffsArmedPair f sigma z v)
+then-as : {A B : Type 0} (t : Bool) (a : A) (g : A → B) → cond t (refuses 1) (answers (g a)) ≡ andThen (cond t (refuses 1) (answers a)) (λ x. answers (g x))
+then-as true a g = refl
+then-as false a g = refl
+
+pub armed-pair-told : (f : Format) (sigma z : Float) (v : Values) → armedPairAnswer f sigma z v ≡ andThen (pairAnswer f sigma z v) (λ p. answers (armed-at (coeffsWay f sigma z) p))
 unfolding armedPairAnswer besideArmed armedAnswer coeffsArmedPair
-armed-pair-answer-is f sigma z v = both-as (lt z f0) 1 (coeffsArmed f sigma z v) (coeffsArmed f (neg sigma) z (mirrored sigma v)) (λ p n. record { pos = p; neg = n })
+armed-pair-told f sigma z v =
+    both-as (lt z f0) 1 (coeffsArmed f sigma z v) (coeffsArmed f (neg sigma) z (mirrored sigma v)) (λ p n. record { pos = p; neg = n })
+    ∙ ap (notBelowZero z) (armed-pair-is f sigma z v)
+    ∙ then-as (lt z f0) (coeffsPair f sigma z v) (armed-at (coeffsWay f sigma z))
+    ∙ ap (λ a. andThen a (λ p. answers (armed-at (coeffsWay f sigma z) p))) (sym (pair-answer-is f sigma z v))
 
 pub armed-pair-answers :
     (f : Format) (sigma z : Float) (v : Values) (w : Way) (p : ScaledPair) → w ≡ coeffsWay f sigma z → pairAnswer f sigma z v ≡ answers p → armedPairAnswer f sigma z v ≡ answers (armed-at w p)
 armed-pair-answers f sigma z v w p e r =
-    armed-pair-answer-is f sigma z v ∙ arm-answers z _ p _ (armed-at w) (armed-pair-is f sigma z v w e) (sym (pair-answer-is f sigma z v) ∙ r)
+    armed-pair-told f sigma z v ∙ ap (λ a. andThen a (λ q. answers (armed-at (coeffsWay f sigma z) q))) r ∙ ap (λ x. answers (armed-at x p)) (sym e)
 
 pub armed-pair-refuses : (f : Format) (sigma z : Float) (v : Values) (n : ℕ) → pairAnswer f sigma z v ≡ refuses n → armedPairAnswer f sigma z v ≡ refuses n
-armed-pair-refuses f sigma z v n r = armed-pair-answer-is f sigma z v ∙ arm-refuses z n _ _ (sym (pair-answer-is f sigma z v) ∙ r)
+armed-pair-refuses f sigma z v n r = armed-pair-told f sigma z v ∙ ap (λ a. andThen a (λ q. answers (armed-at (coeffsWay f sigma z) q))) r
 
 -- ---- at |φ|²
 pub angle-pair-answers : (f : Format) (phi : Vec3) (sigma : Float) (v : Values) (p : ScaledPair) → pairAnswer f sigma (vecNormSq f phi) v ≡ answers p → p ≡ coeffsPair f sigma (vecNormSq f phi) v
