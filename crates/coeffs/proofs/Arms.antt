@@ -4,7 +4,7 @@ use Prim.Native.Nat.{ℕ, _≤_}
 use mathlib.Core.Bool.{Bool, true, false, cond}
 use borrow.Author.Tests.{le-ltb}
 use lib.Dec.{ltb}
-use lib.Ieee.{Float, Format, neg, lt, le}
+use lib.Ieee.{Float, Format, neg, mul, lt, le}
 use Rattle.ieee.specs.Numbers.{f0}
 use Rattle.linalg.specs.Answer.{answers, refuses, andThen}
 use Rattle.linalg.specs.Vector.{vecNormSq}
@@ -15,12 +15,12 @@ use Rattle.circle.specs.declared.kernel.SincABD.{SincABD}
 use Rattle.circle.specs.declared.kernel.SincA.{SincA}
 use Rattle.circle.proofs.Angle.{norm-not-below}
 use Rattle.series.specs.Series.{seriesFull, seriesV, coeffs4, seriesGuard, seriesAnswer, seriesPairAnswer}
-use Rattle.coeffs.specs.Limits.{coeffsDelta, formBBelow}
+use Rattle.coeffs.specs.Limits.{coeffsDelta, formBBelow, w0Below}
 use Rattle.coeffs.specs.Arm.{coeffsArm, armTerms, armEnds}
 use Rattle.coeffs.specs.Closed.{closedFrom, closedV, closedVFrom, closedNine, closedJoined}
-use Rattle.coeffs.specs.Shared.{coeffsWay, closedOnly}
-use Rattle.coeffs.specs.Group.{coeffsScaled, coeffsArmed, coeffsVScaled, coeffsUnscale, coeffsUnscaleV, coeffsPlain, coeffsV}
-use Rattle.coeffs.specs.declared.limits.Way.{Way}
+use Rattle.coeffs.specs.Shared.{closedOnly, seriesArm, closedArm}
+use Rattle.coeffs.specs.Group.{closedScaled, coeffsScaled, coeffsArmed, coeffsVScaled, coeffsUnscale, coeffsUnscaleV, coeffsPlain, coeffsV}
+use Rattle.coeffs.specs.Entries.{scaledAnswer, armedAnswer}
 use Rattle.coeffs.specs.declared.values.Values.{Values}
 use Rattle.coeffs.specs.declared.sim3.Scaled.{Scaled}
 use Rattle.coeffs.specs.declared.sim3.VScaled.{VScaled}
@@ -50,42 +50,60 @@ angle-answers f phi x c r = sym (answered-at (lt (vecNormSq f phi) f0) 1 x c (no
 pub angle-refuses : {A B : Type 0} (f : Format) (phi : Vec3) (n : ℕ) (x : A) → notBelowZero (vecNormSq f phi) x ≡ refuses n → B
 angle-refuses f phi n x r = not-refused (lt (vecNormSq f phi) f0) 1 n x (norm-not-below f phi) r
 
--- ---- one sign by its way w: which arm
-series-by : (f : Format) (sigma z : Float) (w : Way) → w ≡ coeffsWay f sigma z → ltb (w .arm) 5 ≡ true → ltb (coeffsArm f (coeffsDelta f sigma z)) 5 ≡ true
-unfolding coeffsWay
-series-by f sigma z w e t = ap (λ (x : Way). ltb (x .arm) 5) (sym e) ∙ t
-
-closed-by : (f : Format) (sigma z : Float) (w : Way) → w ≡ coeffsWay f sigma z → ltb (w .arm) 5 ≡ false → ltb (coeffsArm f (coeffsDelta f sigma z)) 5 ≡ false
-unfolding coeffsWay
-closed-by f sigma z w e t = ap (λ (x : Way). ltb (x .arm) 5) (sym e) ∙ t
-
-terms-by : (f : Format) (sigma z : Float) (w : Way) (k : ℕ) → w ≡ coeffsWay f sigma z → k ≡ armTerms f (w .arm) → k ≡ armTerms f (coeffsArm f (coeffsDelta f sigma z))
-unfolding coeffsWay
-terms-by f sigma z w k e q = q ∙ ap (λ (x : Way). armTerms f (x .arm)) e
-
+-- ---- one sign: which arm
 pub scaled-series :
-    (f : Format) (sigma z : Float) (v : Values) (w : Way) (k : ℕ) → w ≡ coeffsWay f sigma z → ltb (w .arm) 5 ≡ true → k ≡ armTerms f (w .arm) →
+    (f : Format) (sigma z : Float) (v : Values) (k : ℕ) → ltb (coeffsArm f (coeffsDelta f sigma z)) 5 ≡ true → k ≡ armTerms f (coeffsArm f (coeffsDelta f sigma z)) →
     coeffsScaled f sigma z v ≡ record { c = seriesFull f sigma z k; scaled = false }
 unfolding coeffsScaled
-scaled-series f sigma z v w k e t q = rw (series-by f sigma z w e t, terms-by f sigma z w k e q) refl
+scaled-series f sigma z v k t e = rw (t, e) refl
 
--- the closed forms by w, from the circle functions t
-abbrev pub scaled-at : Format → Float → Float → Values → Way → SincABD → Scaled
-scaled-at f sigma z v w t = record { c = closedFrom f sigma z t (v .e) (v .m) (le (formBBelow f) (w .delta)) (w .ends); scaled = lt f0 sigma }
+-- whether v₀ and w₀ come from series of their own, on either arm
+pub ends-series : (f : Format) (sigma : Float) (arm : ℕ) → ltb arm 5 ≡ true → armEnds f sigma arm ≡ false
+unfolding armEnds
+ends-series f sigma arm t = rw t refl
+
+pub ends-closed : (f : Format) (sigma : Float) (arm : ℕ) → ltb arm 5 ≡ false → armEnds f sigma arm ≡ lt (mul f sigma sigma) (w0Below f)
+unfolding armEnds
+ends-closed f sigma arm t = rw t refl
+
+abbrev small : Format → Float → Bool
+small f sigma = lt (mul f sigma sigma) (w0Below f)
 
 pub scaled-closed :
-    (f : Format) (sigma z : Float) (v : Values) (w : Way) → w ≡ coeffsWay f sigma z → ltb (w .arm) 5 ≡ false →
-    coeffsScaled f sigma z v ≡ scaled-at f sigma z v w (circleSincABD f z (v .root) (v .«sin_half») (v .«cos_half») (v .sin))
-unfolding coeffsScaled coeffsWay
-scaled-closed f sigma z v w e t = rw (closed-by f sigma z w e t) (ap (λ x. scaled-at f sigma z v x (circleSincABD f z (v .root) (v .«sin_half») (v .«cos_half») (v .sin))) (sym e))
+    (f : Format) (sigma z : Float) (v : Values) → ltb (coeffsArm f (coeffsDelta f sigma z)) 5 ≡ false →
+    coeffsScaled f sigma z v ≡ closedScaled f sigma z (circleSincABD f z (v .root) (v .«sin_half») (v .«cos_half») (v .sin)) (v .e) (v .m) (small f sigma)
+unfolding coeffsScaled
+scaled-closed f sigma z v t = rw (t, ends-closed f sigma (coeffsArm f (coeffsDelta f sigma z)) t) refl
+
+-- ---- the answer of one sign is its arm's
+pub by-series :
+    (f : Format) (sigma z : Float) (v : Values) → ltb (coeffsArm f (coeffsDelta f sigma z)) 5 ≡ true →
+    scaledAnswer f sigma z v ≡ seriesArm f sigma z (coeffsArm f (coeffsDelta f sigma z))
+unfolding scaledAnswer seriesArm
+by-series f sigma z v t = ap (notBelowZero z) (scaled-series f sigma z v _ t refl)
+
+pub by-closed :
+    (f : Format) (sigma z : Float) (v : Values) → ltb (coeffsArm f (coeffsDelta f sigma z)) 5 ≡ false →
+    scaledAnswer f sigma z v ≡ closedArm f sigma z (coeffsDelta f sigma z) (small f sigma) v
+unfolding scaledAnswer closedArm
+by-closed f sigma z v t = ap (notBelowZero z) (scaled-closed f sigma z v t)
 
 -- ---- with the arm told
-pub armed-answers :
-    (f : Format) (sigma z : Float) (v : Values) (w : Way) (s : Scaled) → w ≡ coeffsWay f sigma z → notBelowZero z (coeffsScaled f sigma z v) ≡ answers s →
-    notBelowZero z (coeffsArmed f sigma z v) ≡ answers (record { s = s; arm = w .arm; ends = w .ends })
-unfolding coeffsArmed coeffsWay
-armed-answers f sigma z v w s e r =
-    arm-answers z _ s _ (λ x. record { s = x; arm = w .arm; ends = w .ends }) (ap (λ (x : Way). record { s = coeffsScaled f sigma z v; arm = x .arm; ends = x .ends }) (sym e)) r
+pub then-as : {A B : Type 0} (t : Bool) (a : A) (g : A → B) → cond t (refuses 1) (answers (g a)) ≡ andThen (cond t (refuses 1) (answers a)) (λ x. answers (g x))
+then-as true a g = refl
+then-as false a g = refl
+
+abbrev pub told-at : ℕ → Bool → Scaled → Armed
+told-at arm ends s = record { s = s; arm = arm; ends = ends }
+
+pub armed-told :
+    (f : Format) (sigma z : Float) (v : Values) →
+    let arm = coeffsArm f (coeffsDelta f sigma z) in
+    armedAnswer f sigma z v ≡ andThen (scaledAnswer f sigma z v) (λ s. answers (told-at arm (armEnds f sigma arm) s))
+unfolding armedAnswer scaledAnswer coeffsArmed
+armed-told f sigma z v =
+    let arm = coeffsArm f (coeffsDelta f sigma z) in
+    then-as (lt z f0) (coeffsScaled f sigma z v) (told-at arm (armEnds f sigma arm))
 
 -- ---- both signs behind the series' tests
 guards :
@@ -102,30 +120,26 @@ series-pair-is f sigma z k = guards (lt z f0) (ltb 64 k) (seriesFull f sigma z k
 
 -- ---- v and χΔ alone: which arm
 pub v-series :
-    (f : Format) (sigma z : Float) (v : Values) (w : Way) (k : ℕ) → w ≡ coeffsWay f sigma z → ltb (w .arm) 5 ≡ true → k ≡ armTerms f (w .arm) →
+    (f : Format) (sigma z : Float) (v : Values) (k : ℕ) → ltb (coeffsArm f (coeffsDelta f sigma z)) 5 ≡ true → k ≡ armTerms f (coeffsArm f (coeffsDelta f sigma z)) →
     coeffsVScaled f sigma z v ≡ record { c = seriesV f sigma z k; scaled = false }
 unfolding coeffsVScaled seriesV
-v-series f sigma z v w k e t q = rw (scaled-series f sigma z v w k e t q) refl
+v-series f sigma z v k t e = rw (scaled-series f sigma z v k t e) refl
 
-abbrev v-scaled : Format → Float → Float → Values → Way → SincA → VScaled
-v-scaled f sigma z v w t = record { c = closedVFrom f sigma z (closedOnly t) (v .e) (v .m) (le (formBBelow f) (w .delta)) (w .ends); scaled = lt f0 sigma }
+abbrev v-scaled : Format → Float → Float → Values → SincA → VScaled
+v-scaled f sigma z v t =
+    record { c = closedVFrom f sigma z (closedOnly t) (v .e) (v .m) (le (formBBelow f) (coeffsDelta f sigma z)) (lt (mul f sigma sigma) (w0Below f)); scaled = lt f0 sigma }
 
-v-closed :
-    (f : Format) (sigma z : Float) (v : Values) (w : Way) → w ≡ coeffsWay f sigma z → ltb (w .arm) 5 ≡ false →
-    coeffsVScaled f sigma z v ≡ v-scaled f sigma z v w (circleSincA f z (v .root) (v .«sin_half») (v .«cos_half»))
+pub v-closed :
+    (f : Format) (sigma z : Float) (v : Values) → ltb (coeffsArm f (coeffsDelta f sigma z)) 5 ≡ false →
+    coeffsVScaled f sigma z v ≡ v-scaled f sigma z v (circleSincA f z (v .root) (v .«sin_half») (v .«cos_half»))
 unfolding coeffsVScaled coeffs4 closedFrom closedNine closedJoined closedVFrom closedV closedOnly circleSincA circleSincABD
-v-closed f sigma z v w e t = rw (scaled-closed f sigma z v w e t) refl
+v-closed f sigma z v t = rw (scaled-closed f sigma z v t) refl
 
 -- ---- the closed arm, from what the circle functions answer
-pub scaled-closed-answers :
-    (f : Format) (sigma z : Float) (v : Values) (w : Way) (t : SincABD) → w ≡ coeffsWay f sigma z → ltb (w .arm) 5 ≡ false →
-    notBelowZero z (circleSincABD f z (v .root) (v .«sin_half») (v .«cos_half») (v .sin)) ≡ answers t → notBelowZero z (coeffsScaled f sigma z v) ≡ answers (scaled-at f sigma z v w t)
-scaled-closed-answers f sigma z v w t e h r = arm-answers z _ t _ (scaled-at f sigma z v w) (scaled-closed f sigma z v w e h) r
-
 pub v-closed-answers :
-    (f : Format) (sigma z : Float) (v : Values) (w : Way) (t : SincA) → w ≡ coeffsWay f sigma z → ltb (w .arm) 5 ≡ false →
-    notBelowZero z (circleSincA f z (v .root) (v .«sin_half») (v .«cos_half»)) ≡ answers t → notBelowZero z (coeffsVScaled f sigma z v) ≡ answers (v-scaled f sigma z v w t)
-v-closed-answers f sigma z v w t e h r = arm-answers z _ t _ (v-scaled f sigma z v w) (v-closed f sigma z v w e h) r
+    (f : Format) (sigma z : Float) (v : Values) (t : SincA) → ltb (coeffsArm f (coeffsDelta f sigma z)) 5 ≡ false →
+    notBelowZero z (circleSincA f z (v .root) (v .«sin_half») (v .«cos_half»)) ≡ answers t → notBelowZero z (coeffsVScaled f sigma z v) ≡ answers (v-scaled f sigma z v t)
+v-closed-answers f sigma z v t h r = arm-answers z _ t _ (v-scaled f sigma z v) (v-closed f sigma z v h) r
 
 -- ---- unscaled, from the scaled answer
 pub plain-answers :

@@ -1,25 +1,22 @@
 -- What the private functions of the arms compute; no public contract cites it.
-use mathlib.Core.Bool.{Bool, cond}
+use Prim.Native.Nat.{ℕ}
+use mathlib.Core.Bool.{Bool, false, cond}
 use lib.Ieee.{Float, Format, neg, lt, le}
 use Rattle.ieee.specs.Numbers.{f0}
+use Rattle.linalg.specs.Answer.{Answer}
+use Rattle.series.specs.Series.{seriesFull}
+use Rattle.circle.specs.Kernel.{notBelowZero, circleSincABD}
 use Rattle.circle.specs.declared.kernel.SincABD.{SincABD}
 use Rattle.circle.specs.declared.kernel.SincA.{SincA}
 use Rattle.coeffs.specs.Values.{atZero}
-use Rattle.coeffs.specs.Limits.{coeffsDelta, formBBelow}
-use Rattle.coeffs.specs.Arm.{coeffsArm, armEnds}
+use Rattle.coeffs.specs.Limits.{formBBelow}
+use Rattle.coeffs.specs.Arm.{armTerms}
 use Rattle.coeffs.specs.Closed.{closedE, closedM, closedG, closedV0, closedW0, closedFrom}
-use Rattle.coeffs.specs.declared.limits.Way.{Way}
 use Rattle.coeffs.specs.declared.closed.Exps.{Exps}
 use Rattle.coeffs.specs.declared.closed.Ends.{Ends}
 use Rattle.coeffs.specs.declared.values.Values.{Values}
+use Rattle.coeffs.specs.declared.sim3.Scaled.{Scaled}
 use Rattle.coeffs.specs.declared.sim3.ScaledPair.{ScaledPair}
-
--- Δ, the arm, and whether v₀ and w₀ come from series of their own
-unfoldable pub coeffsWay : Format → Float → Float → Way
-coeffsWay f sigma z =
-    let delta = coeffsDelta f sigma z in
-    let arm = coeffsArm f delta in
-    record { delta = delta; arm = arm; ends = armEnds f sigma arm }
 
 -- the circle functions with those alone that v reads
 unfoldable pub closedOnly : SincA → SincABD
@@ -39,14 +36,32 @@ closedEnds f sigma x y small =
       «w0_neg» = closedW0 f (neg sigma) (y .g) (y .m1) small;
     }
 
-unfoldable pub closedPair : Format → Float → Float → Way → SincABD → Values → ScaledPair
-closedPair f sigma z w t v =
-    let formB = le (formBBelow f) (w .delta) in
+-- both signs of the closed arm at Δ, v₀ and w₀ by their series where `small`
+unfoldable pub closedPair : Format → Float → Float → Float → Bool → SincABD → Values → ScaledPair
+closedPair f sigma z delta small t v =
+    let formB = le (formBBelow f) delta in
     record {
-      pos = record { c = closedFrom f sigma z t (v .e) (v .m) formB (w .ends); scaled = lt f0 sigma };
+      pos = record { c = closedFrom f sigma z t (v .e) (v .m) formB small; scaled = lt f0 sigma };
       neg =
           record {
-            c = closedFrom f (neg sigma) z t (cond (atZero sigma) (v .e0) (v .e)) (cond (atZero sigma) (v .m0) (v .m)) formB (w .ends);
+            c = closedFrom f (neg sigma) z t (cond (atZero sigma) (v .e0) (v .e)) (cond (atZero sigma) (v .m0) (v .m)) formB small;
             scaled = lt f0 (neg sigma);
           };
     }
+
+-- ---- what each arm answers, for one sign and for both: the series' at its number, the closed one's at Δ
+unfoldable pub seriesArm : Format → Float → Float → ℕ → Answer Scaled
+seriesArm f sigma z arm = notBelowZero z (record { c = seriesFull f sigma z (armTerms f arm); scaled = false })
+
+unfoldable pub closedArm : Format → Float → Float → Float → Bool → Values → Answer Scaled
+closedArm f sigma z delta small v =
+    let t = circleSincABD f z (v .root) (v .«sin_half») (v .«cos_half») (v .sin) in
+    notBelowZero z (record { c = closedFrom f sigma z t (v .e) (v .m) (le (formBBelow f) delta) small; scaled = lt f0 sigma })
+
+unfoldable pub seriesArms : Format → Float → Float → ℕ → Answer ScaledPair
+seriesArms f sigma z arm =
+    let k = armTerms f arm in
+    notBelowZero z (record { pos = record { c = seriesFull f sigma z k; scaled = false }; neg = record { c = seriesFull f (neg sigma) z k; scaled = false } })
+
+unfoldable pub closedArms : Format → Float → Float → Float → Bool → Values → Answer ScaledPair
+closedArms f sigma z delta small v = notBelowZero z (closedPair f sigma z delta small (circleSincABD f z (v .root) (v .«sin_half») (v .«cos_half») (v .sin)) v)

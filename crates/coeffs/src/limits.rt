@@ -2,10 +2,9 @@
 // the numbers decides.
 ghost use mathlib.Core.Path.{_≡_};
 ghost use Prim.Native.Nat.{_≤_};
-ghost use lib.Ieee.{binary64, le};
-ghost use Rattle.coeffs.specs.Limits.{formBBelow};
-ghost use Rattle.coeffs.specs.Arm.{coeffsArm, armTerms, armEnds};
-ghost use Rattle.coeffs.specs.Shared.{coeffsWay};
+ghost use lib.Ieee.{binary64, mul, lt, le};
+ghost use Rattle.coeffs.specs.Limits.{formBBelow, w0Below};
+ghost use Rattle.coeffs.specs.Arm.{coeffsArm, armTerms};
 
 // The limits in delta, rising: a series arm is taken below its limit, the closed one at the last.
 const SHORT_BELOW: f64 = 5.424690937011326e-5; // 3f0c70e59cfc9f1f
@@ -64,33 +63,9 @@ pub fn on_form_b(delta: f64) -> bool
     FORM_B_BELOW <= delta
 }
 
-// Whether v0 and w0 come from series of their own: on the closed arm, below its limit in sigma^2.
-fn ends_by_series(sigma: f64, arm: u8) -> bool
-    ensures { λ r. ⌜ r ≡ armEnds binary64 sigma arm ⌝ }
+// Whether the closed arm sums v0 and w0 by their series.
+pub fn w0_small(sigma: f64) -> bool
+    ensures { λ r. ⌜ r ≡ lt (mul binary64 sigma sigma) (w0Below binary64) ⌝ }
 {
-    if arm < CLOSED {
-        return false;
-    }
     sigma * sigma < W0_BELOW
-}
-
-// Which way the coefficients at a sigma and a z are formed: delta, the arm, and whether v0 and w0 come
-// from series of their own.
-pub struct Way {
-    pub delta: f64,
-    pub arm: u8,
-    pub ends: bool,
-}
-
-// The way at (sigma, z): all that the entries ask of the limits but form b.
-pub fn way_at(sigma: f64, z: f64) -> Way
-    ensures { λ r. ⌜ r ≡ coeffsWay binary64 sigma z ⌝ }
-{
-    let delta = sigma * sigma + z;
-    let arm = arm(delta);
-    Way {
-        delta,
-        arm,
-        ends: ends_by_series(sigma, arm),
-    }
 }

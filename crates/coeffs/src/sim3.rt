@@ -1,10 +1,11 @@
 // The entries of the coefficient group: scaled, with the arm told, unscaled, v alone, and the pair for
-// both signs.
+// both signs. Each finds the arm once.
 ghost use mathlib.Core.Path.{_≡_};
 ghost use lib.Ieee.{binary64};
+ghost use Rattle.linalg.specs.Answer.{answers, andThen};
 ghost use Rattle.linalg.specs.Vector.{vecNormSq};
 ghost use Rattle.coeffs.specs.Group.{coeffsScaled, coeffsUnscale, coeffsUnscaleV, coeffsPlain, coeffsV, coeffsPair};
-ghost use Rattle.coeffs.specs.Shared.{coeffsWay, closedPair};
+ghost use Rattle.coeffs.specs.Shared.{closedPair, seriesArm, closedArm, seriesArms, closedArms};
 ghost use Rattle.coeffs.specs.Entries.{scaledTold, coeffsTold, vTold, vScaledTold, pairTold, scaledAnswer, coeffsAnswer, vAnswer, vScaledAnswer, pairAnswer};
 ghost use Rattle.coeffs.specs.Entries.{armedTold, armedPairTold, armedAnswer, armedPairAnswer};
 use crate::closed::EtMt;
@@ -12,10 +13,10 @@ use crate::closed::closed_both;
 use crate::closed::closed_from;
 use crate::closed::closed_v;
 use crate::limits::CLOSED;
-use crate::limits::Way;
+use crate::limits::arm;
 use crate::limits::on_form_b;
 use crate::limits::terms;
-use crate::limits::way_at;
+use crate::limits::w0_small;
 use crate::values::Values;
 use crate::values::at_zero;
 use circle::kernel::SincAAnswer;
@@ -96,24 +97,24 @@ pub enum ArmedPairAnswer {
     Refused(u8),
 }
 
-// The coefficients by their way w.
-fn scaled_by(sigma: f64, z: f64, v: Values, w: Way) -> ScaledAnswer
-    requires { ⌜ w ≡ coeffsWay binary64 sigma z ⌝ }
-    ensures { λ r. ⌜ scaledTold r ≡ scaledAnswer binary64 sigma z v ⌝ }
+// The coefficients by a series arm.
+fn by_series(sigma: f64, z: f64, arm: u8) -> ScaledAnswer
+    ensures { λ r. ⌜ scaledTold r ≡ seriesArm binary64 sigma z arm ⌝ }
 {
-    if w.arm < CLOSED {
-        match series::sim3::series(sigma, z, terms(w.arm)) {
-            SeriesAnswer::Coeffs(c) => {
-                return ScaledAnswer::Coeffs(Scaled { c, scaled: false });
-            }
-            SeriesAnswer::Refused(n) => {
-                return ScaledAnswer::Refused(n);
-            }
-        }
+    match series::sim3::series(sigma, z, terms(arm)) {
+        SeriesAnswer::Coeffs(c) => ScaledAnswer::Coeffs(Scaled { c, scaled: false }),
+        SeriesAnswer::Refused(n) => ScaledAnswer::Refused(n),
     }
+}
+
+// The coefficients by the closed arm, v0 and w0 by their series where `small`.
+fn by_closed(sigma: f64, z: f64, delta: f64, small: bool, v: Values) -> ScaledAnswer
+    ensures { λ r. ⌜ scaledTold r ≡ closedArm binary64 sigma z delta small v ⌝ }
+{
     match circle::kernel::sinc_a_b_d(z, v.root, v.sin_half, v.cos_half, v.sin) {
         SincABDAnswer::Coeffs(t) => {
-            let c = closed_from(sigma, z, t, v.e, v.m, on_form_b(w.delta), w.ends);
+            let form_b = on_form_b(delta);
+            let c = closed_from(sigma, z, t, v.e, v.m, form_b, small);
             ScaledAnswer::Coeffs(Scaled {
                 c,
                 scaled: 0.0 < sigma,
@@ -127,22 +128,35 @@ fn scaled_by(sigma: f64, z: f64, v: Values, w: Way) -> ScaledAnswer
 pub fn sim3_coeffs_scaled(sigma: f64, z: f64, v: Values) -> ScaledAnswer
     ensures { λ r. ⌜ scaledTold r ≡ scaledAnswer binary64 sigma z v ⌝ }
 {
-    scaled_by(sigma, z, v, way_at(sigma, z))
+    let delta = sigma * sigma + z;
+    let at = arm(delta);
+    if at < CLOSED {
+        return by_series(sigma, z, at);
+    }
+    by_closed(sigma, z, delta, w0_small(sigma), v)
+}
+
+// What an arm answered, with the arm told.
+fn tell(r: ScaledAnswer, arm: u8, ends: bool) -> ArmedAnswer
+    ensures { λ q. ⌜ armedTold q ≡ andThen (scaledTold r) (λ s. answers (record { s = s; arm = arm; ends = ends })) ⌝ }
+{
+    match r {
+        ScaledAnswer::Coeffs(s) => ArmedAnswer::Coeffs(Armed { s, arm, ends }),
+        ScaledAnswer::Refused(n) => ArmedAnswer::Refused(n),
+    }
 }
 
 // sim3_coeffs_scaled with the arm told.
 pub fn sim3_coeffs_armed(sigma: f64, z: f64, v: Values) -> ArmedAnswer
     ensures { λ r. ⌜ armedTold r ≡ armedAnswer binary64 sigma z v ⌝ }
 {
-    let w = way_at(sigma, z);
-    match scaled_by(sigma, z, v, w) {
-        ScaledAnswer::Coeffs(s) => ArmedAnswer::Coeffs(Armed {
-            s,
-            arm: w.arm,
-            ends: w.ends,
-        }),
-        ScaledAnswer::Refused(n) => ArmedAnswer::Refused(n),
+    let delta = sigma * sigma + z;
+    let at = arm(delta);
+    if at < CLOSED {
+        return tell(by_series(sigma, z, at), at, false);
     }
+    let ends = w0_small(sigma);
+    tell(by_closed(sigma, z, delta, ends, v), at, ends)
 }
 
 // c times up where scaled, c times 1 elsewhere: the last step of the scaled form.
@@ -180,9 +194,10 @@ pub fn sim3_coeffs(sigma: f64, z: f64, v: Values) -> CoeffsAnswer
 pub fn sim3_v_scaled(sigma: f64, z: f64, v: Values) -> VScaledAnswer
     ensures { λ r. ⌜ vScaledTold r ≡ vScaledAnswer binary64 sigma z v ⌝ }
 {
-    let w = way_at(sigma, z);
-    if w.arm < CLOSED {
-        match series::sim3::series_v(sigma, z, terms(w.arm)) {
+    let delta = sigma * sigma + z;
+    let at = arm(delta);
+    if at < CLOSED {
+        match series::sim3::series_v(sigma, z, terms(at)) {
             SeriesVAnswer::Coeffs(c) => {
                 return VScaledAnswer::Coeffs(VScaled { c, scaled: false });
             }
@@ -193,7 +208,9 @@ pub fn sim3_v_scaled(sigma: f64, z: f64, v: Values) -> VScaledAnswer
     }
     match circle::kernel::sinc_a(z, v.root, v.sin_half, v.cos_half) {
         SincAAnswer::Coeffs(t) => {
-            let c = closed_v(sigma, z, t, v.e, v.m, on_form_b(w.delta), w.ends);
+            let form_b = on_form_b(delta);
+            let small = w0_small(sigma);
+            let c = closed_v(sigma, z, t, v.e, v.m, form_b, small);
             VScaledAnswer::Coeffs(VScaled {
                 c,
                 scaled: 0.0 < sigma,
@@ -229,17 +246,17 @@ pub fn sim3_v(sigma: f64, z: f64, v: Values) -> VAnswer
     }
 }
 
-// The closed arm at sigma and at -sigma, from the same circle functions t: their way w is even in
-// sigma.
-fn closed_pair(sigma: f64, z: f64, w: Way, t: SincABD, v: Values) -> ScaledPair
-    ensures { λ r. ⌜ r ≡ closedPair binary64 sigma z w t v ⌝ }
+// The closed arm at sigma and at -sigma, from the same circle functions t: delta, form b and the
+// limit on sigma^2 are even in sigma.
+fn closed_pair(sigma: f64, z: f64, delta: f64, small: bool, t: SincABD, v: Values) -> ScaledPair
+    ensures { λ r. ⌜ r ≡ closedPair binary64 sigma z delta small t v ⌝ }
 {
     let zero = at_zero(sigma);
     let e = ieee::pick(zero, v.e0, v.e);
     let m = ieee::pick(zero, v.m0, v.m);
     let x = EtMt { et: v.e, mt: v.m };
     let y = EtMt { et: e, mt: m };
-    let c = closed_both(sigma, z, t, x, y, on_form_b(w.delta), w.ends);
+    let c = closed_both(sigma, z, t, x, y, on_form_b(delta), small);
     let a = c.pos;
     let b = c.neg;
     ScaledPair {
@@ -254,33 +271,34 @@ fn closed_pair(sigma: f64, z: f64, w: Way, t: SincABD, v: Values) -> ScaledPair
     }
 }
 
-// The pair by the way w, which both signs share.
-fn pair_by(sigma: f64, z: f64, v: Values, w: Way) -> PairAnswer
-    requires { ⌜ w ≡ coeffsWay binary64 sigma z ⌝ }
-    ensures { λ r. ⌜ pairTold r ≡ pairAnswer binary64 sigma z v ⌝ }
+// Both signs by a series arm.
+fn pair_by_series(sigma: f64, z: f64, arm: u8) -> PairAnswer
+    ensures { λ r. ⌜ pairTold r ≡ seriesArms binary64 sigma z arm ⌝ }
 {
-    if w.arm < CLOSED {
-        match series_pair::pair::series_pair(sigma, z, terms(w.arm)) {
-            SeriesPairAnswer::Coeffs(p) => {
-                let a = p.pos;
-                let b = p.neg;
-                let pos = Scaled {
-                    c: a,
-                    scaled: false,
-                };
-                let neg = Scaled {
-                    c: b,
-                    scaled: false,
-                };
-                return PairAnswer::Coeffs(ScaledPair { pos, neg });
-            }
-            SeriesPairAnswer::Refused(n) => {
-                return PairAnswer::Refused(n);
-            }
+    match series_pair::pair::series_pair(sigma, z, terms(arm)) {
+        SeriesPairAnswer::Coeffs(p) => {
+            let a = p.pos;
+            let b = p.neg;
+            let pos = Scaled {
+                c: a,
+                scaled: false,
+            };
+            let neg = Scaled {
+                c: b,
+                scaled: false,
+            };
+            PairAnswer::Coeffs(ScaledPair { pos, neg })
         }
+        SeriesPairAnswer::Refused(n) => PairAnswer::Refused(n),
     }
+}
+
+// Both signs by the closed arm.
+fn pair_by_closed(sigma: f64, z: f64, delta: f64, small: bool, v: Values) -> PairAnswer
+    ensures { λ r. ⌜ pairTold r ≡ closedArms binary64 sigma z delta small v ⌝ }
+{
     match circle::kernel::sinc_a_b_d(z, v.root, v.sin_half, v.cos_half, v.sin) {
-        SincABDAnswer::Coeffs(t) => PairAnswer::Coeffs(closed_pair(sigma, z, w, t, v)),
+        SincABDAnswer::Coeffs(t) => PairAnswer::Coeffs(closed_pair(sigma, z, delta, small, t, v)),
         SincABDAnswer::Refused(n) => PairAnswer::Refused(n),
     }
 }
@@ -290,32 +308,41 @@ fn pair_by(sigma: f64, z: f64, v: Values, w: Way) -> PairAnswer
 pub fn sim3_coeffs_scaled_pair(sigma: f64, z: f64, v: Values) -> PairAnswer
     ensures { λ r. ⌜ pairTold r ≡ pairAnswer binary64 sigma z v ⌝ }
 {
-    pair_by(sigma, z, v, way_at(sigma, z))
+    let delta = sigma * sigma + z;
+    let at = arm(delta);
+    if at < CLOSED {
+        return pair_by_series(sigma, z, at);
+    }
+    pair_by_closed(sigma, z, delta, w0_small(sigma), v)
 }
 
-// sim3_coeffs_armed at sigma and at -sigma, likewise: the arm and its ends are even in sigma.
-pub fn sim3_coeffs_armed_pair(sigma: f64, z: f64, v: Values) -> ArmedPairAnswer
-    ensures { λ r. ⌜ armedPairTold r ≡ armedPairAnswer binary64 sigma z v ⌝ }
+// What an arm answered at both signs, with the arm told: it is even in sigma.
+fn tell_pair(r: PairAnswer, arm: u8, ends: bool) -> ArmedPairAnswer
+    ensures { λ q. ⌜ armedPairTold q ≡ andThen (pairTold r) (λ p. answers (record { pos = record { s = p .pos; arm = arm; ends = ends }; neg = record { s = p .neg; arm = arm; ends = ends } })) ⌝ }
 {
-    let w = way_at(sigma, z);
-    match pair_by(sigma, z, v, w) {
+    match r {
         PairAnswer::Coeffs(p) => {
             let a = p.pos;
             let b = p.neg;
-            let pos = Armed {
-                s: a,
-                arm: w.arm,
-                ends: w.ends,
-            };
-            let neg = Armed {
-                s: b,
-                arm: w.arm,
-                ends: w.ends,
-            };
+            let pos = Armed { s: a, arm, ends };
+            let neg = Armed { s: b, arm, ends };
             ArmedPairAnswer::Coeffs(ArmedPair { pos, neg })
         }
         PairAnswer::Refused(n) => ArmedPairAnswer::Refused(n),
     }
+}
+
+// sim3_coeffs_armed at sigma and at -sigma, likewise.
+pub fn sim3_coeffs_armed_pair(sigma: f64, z: f64, v: Values) -> ArmedPairAnswer
+    ensures { λ r. ⌜ armedPairTold r ≡ armedPairAnswer binary64 sigma z v ⌝ }
+{
+    let delta = sigma * sigma + z;
+    let at = arm(delta);
+    if at < CLOSED {
+        return tell_pair(pair_by_series(sigma, z, at), at, false);
+    }
+    let ends = w0_small(sigma);
+    tell_pair(pair_by_closed(sigma, z, delta, ends, v), at, ends)
 }
 
 // ---- the same at z = |phi|^2, which is never below zero: nothing is refused, and the refusing arm

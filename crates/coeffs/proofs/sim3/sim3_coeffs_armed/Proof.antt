@@ -1,36 +1,51 @@
--- Written by tools/proofs from Proof.template: edit that one. Digest a01db4670816b3b5.
--- `coeffs::sim3::sim3_coeffs_armed` meets its contract: what the way answers, with the way told, or its refusal. Assumes nothing.
+-- Written by tools/proofs from Proof.template: edit that one. Digest 39ec4be150aabd91.
+-- `coeffs::sim3::sim3_coeffs_armed` meets its contract: what the arm at Δ answers, with that arm told. Assumes nothing.
 use borrow.Author.Needs.{needs}
-use mathlib.Core.Path.{sym, ap, _∙_}
+use mathlib.Core.Path.{_≡_, sym, ap, _∙_}
+use borrow.Author.Tests.{lt-ltb, le-ltb}
+use lib.Dec.{ltb}
 use lib.Ieee.{binary64}
-use Rattle.coeffs.specs.Entries.{scaledTold, armedTold, scaledAnswer, armedAnswer}
-use Rattle.coeffs.proofs.Arms.{arm-refuses, armed-answers}
+use Rattle.linalg.specs.Answer.{answers, andThen}
+use Rattle.coeffs.specs.Limits.{coeffsDelta}
+use Rattle.coeffs.specs.Arm.{coeffsArm}
+use Rattle.coeffs.specs.Shared.{seriesArm}
+use Rattle.coeffs.proofs.Arms.{ends-series, ends-closed, by-series, by-closed, armed-told, told-at}
 use Rattle.coeffs.proofs.sim3.sim3_coeffs_armed.Statement.{statement}
 use Rattle.coeffs.proofs.sim3.sim3_coeffs_armed.Tie as tie
 
-scaled-by-requires : tie.Need-scaled-by-requires
-scaled-by-requires c κs = c .way-at .ensures
-
 returns : tie.Need-returns
-unfolding scaledTold armedTold scaledAnswer armedAnswer
+unfolding coeffsDelta
 returns c =
-    let c1 = c .before .before .before .before .before in
-    let a = c1 .args in
-    sym (armed-answers binary64 (a .sigma) (a .z) (a .v) _ _ (c .before .before .before .before .way-at .ensures) (sym (c .before .before .before .scaled-by .ensures) ∙ ap scaledTold (c .before .s .given .1)))
+    let a = c .before .before .before .before .args in
+    let e = c .before .before .before .arm .ensures in
+    let t = ap (λ n. ltb n 5) (sym e) ∙ lt-ltb _ _ (c .before .before .if1 .taken) in
+    let r = c .before .by-series .ensures ∙ ap (seriesArm binary64 (a .sigma) (a .z)) e ∙ sym (by-series binary64 (a .sigma) (a .z) (a .v) t) in
+    c .tell .ensures
+    ∙ (λ i. andThen (r i) (λ s. answers (told-at (e i) (sym (ends-series binary64 (a .sigma) (coeffsArm binary64 (coeffsDelta binary64 (a .sigma) (a .z))) t) i) s)))
+    ∙ sym (armed-told binary64 (a .sigma) (a .z) (a .v))
 
 returns-2 : tie.Need-returns-2
-unfolding scaledTold armedTold scaledAnswer armedAnswer
+unfolding coeffsDelta
 returns-2 c =
     let c1 = c .before .before .before .before .before in
-    sym (arm-refuses (c1 .args .z) _ _ _ (sym (c .before .before .before .scaled-by .ensures) ∙ ap scaledTold (c .before .n .given .1)))
+    let a = c1 .args in
+    let e = c .before .before .before .before .arm .ensures in
+    let t = ap (λ n. ltb n 5) (sym e) ∙ le-ltb _ _ (c .before .before .before .if1 .left) in
+    let w = c .before .before .w0-small .ensures in
+    let r = rw w at (c .before .by-closed .ensures) ∙ sym (by-closed binary64 (a .sigma) (a .z) (a .v) t) in
+    c .tell2 .ensures
+    ∙ (λ i. andThen (r i) (λ s. answers (told-at (e i) ((w ∙ sym (ends-closed binary64 (a .sigma) (coeffsArm binary64 (coeffsDelta binary64 (a .sigma) (a .z))) t)) i) s)))
+    ∙ sym (armed-told binary64 (a .sigma) (a .z) (a .v))
 
 pub sim3-coeffs-armed-spec : {M : Type 1} → statement M
 sim3-coeffs-armed-spec =
     tie.close
     (tie.spec
     (λ c κs. search needs)
-    scaled-by-requires
-    (λ c. search needs)
-    (λ c. search needs)
+    (λ c κs. search needs)
+    (λ c κs. search needs)
     returns
+    (λ c κs. search needs)
+    (λ c κs. search needs)
+    (λ c κs. search needs)
     returns-2)

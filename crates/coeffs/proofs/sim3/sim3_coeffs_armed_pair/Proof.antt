@@ -1,37 +1,52 @@
--- Written by tools/proofs from Proof.template: edit that one. Digest 4816c0913622d007.
--- `coeffs::sim3::sim3_coeffs_armed_pair` meets its contract: what the way answers, with the way told at either sign, or its refusal. Assumes nothing.
+-- Written by tools/proofs from Proof.template: edit that one. Digest 37e5079b8952d051.
+-- `coeffs::sim3::sim3_coeffs_armed_pair` meets its contract: what the arm at Δ answers, with that arm told. Assumes nothing.
 use borrow.Author.Needs.{needs}
-use mathlib.Core.Path.{sym, ap, _∙_}
+use mathlib.Core.Path.{_≡_, sym, ap, _∙_}
+use borrow.Author.Tests.{lt-ltb, le-ltb}
+use lib.Dec.{ltb}
 use lib.Ieee.{binary64}
-use Rattle.coeffs.specs.Entries.{pairTold, armedPairTold}
-use Rattle.coeffs.proofs.Even.{armed-pair-answers, armed-pair-refuses}
+use Rattle.linalg.specs.Answer.{answers, andThen}
+use Rattle.coeffs.specs.Limits.{coeffsDelta}
+use Rattle.coeffs.specs.Arm.{coeffsArm}
+use Rattle.coeffs.specs.Shared.{seriesArms}
+use Rattle.coeffs.proofs.Arms.{ends-series, ends-closed}
+use Rattle.coeffs.proofs.Even.{pair-by-series, pair-by-closed, armed-pair-told, told-both}
 use Rattle.coeffs.proofs.sim3.sim3_coeffs_armed_pair.Statement.{statement}
 use Rattle.coeffs.proofs.sim3.sim3_coeffs_armed_pair.Tie as tie
 
-pair-by-requires : tie.Need-pair-by-requires
-pair-by-requires c κs = c .way-at .ensures
-
 returns : tie.Need-returns
-unfolding pairTold armedPairTold
+unfolding coeffsDelta
 returns c =
-    let c1 = c .before .before .before .before .before in
-    let a = c1 .before .before .args in
-    sym (armed-pair-answers binary64 (a .sigma) (a .z) (a .v) _ _ (c1 .before .way-at .ensures) (sym (c1 .pair-by .ensures) ∙ ap pairTold (c .before .before .before .p .given .1)))
+    let a = c .before .before .before .before .args in
+    let e = c .before .before .before .arm .ensures in
+    let t = ap (λ n. ltb n 5) (sym e) ∙ lt-ltb _ _ (c .before .before .if1 .taken) in
+    let r = c .before .pair-by-series .ensures ∙ ap (seriesArms binary64 (a .sigma) (a .z)) e ∙ sym (pair-by-series binary64 (a .sigma) (a .z) (a .v) t) in
+    c .tell-pair .ensures
+    ∙ (λ i. andThen (r i) (λ s. answers (told-both (e i) (sym (ends-series binary64 (a .sigma) (coeffsArm binary64 (coeffsDelta binary64 (a .sigma) (a .z))) t) i) s)))
+    ∙ sym (armed-pair-told binary64 (a .sigma) (a .z) (a .v))
 
 returns-2 : tie.Need-returns-2
-unfolding pairTold armedPairTold
+unfolding coeffsDelta
 returns-2 c =
     let c1 = c .before .before .before .before .before in
     let a = c1 .args in
-    sym (armed-pair-refuses binary64 (a .sigma) (a .z) (a .v) _ (sym (c .before .before .before .pair-by .ensures) ∙ ap pairTold (c .before .n .given .1)))
+    let e = c .before .before .before .before .arm .ensures in
+    let t = ap (λ n. ltb n 5) (sym e) ∙ le-ltb _ _ (c .before .before .before .if1 .left) in
+    let w = c .before .before .w0-small .ensures in
+    let r = rw w at (c .before .pair-by-closed .ensures) ∙ sym (pair-by-closed binary64 (a .sigma) (a .z) (a .v) t) in
+    c .tell-pair2 .ensures
+    ∙ (λ i. andThen (r i) (λ s. answers (told-both (e i) ((w ∙ sym (ends-closed binary64 (a .sigma) (coeffsArm binary64 (coeffsDelta binary64 (a .sigma) (a .z))) t)) i) s)))
+    ∙ sym (armed-pair-told binary64 (a .sigma) (a .z) (a .v))
 
 pub sim3-coeffs-armed-pair-spec : {M : Type 1} → statement M
 sim3-coeffs-armed-pair-spec =
     tie.close
     (tie.spec
     (λ c κs. search needs)
-    pair-by-requires
-    (λ c. search needs)
-    (λ c. search needs)
+    (λ c κs. search needs)
+    (λ c κs. search needs)
     returns
+    (λ c κs. search needs)
+    (λ c κs. search needs)
+    (λ c κs. search needs)
     returns-2)

@@ -1,19 +1,38 @@
--- Written by tools/proofs from Proof.template: edit that one. Digest bd425d61a8d428c5.
--- `coeffs::sim3::sim3_coeffs_scaled_pair` meets its contract: the pair by its way. Assumes nothing.
+-- Written by tools/proofs from Proof.template: edit that one. Digest fcb275aab72caabc.
+-- `coeffs::sim3::sim3_coeffs_scaled_pair` meets its contract: the answer is that of the arm at Δ. Assumes nothing.
 use borrow.Author.Needs.{needs}
+use mathlib.Core.Path.{sym, ap, _∙_}
+use borrow.Author.Tests.{lt-ltb, le-ltb}
+use lib.Dec.{ltb}
+use lib.Ieee.{binary64}
+use Rattle.coeffs.specs.Limits.{coeffsDelta}
+use Rattle.coeffs.specs.Shared.{seriesArms}
+use Rattle.coeffs.proofs.Even.{pair-by-series, pair-by-closed}
 use Rattle.coeffs.proofs.sim3.sim3_coeffs_scaled_pair.Statement.{statement}
 use Rattle.coeffs.proofs.sim3.sim3_coeffs_scaled_pair.Tie as tie
 
-pair-by-requires : tie.Need-pair-by-requires
-pair-by-requires c κs = c .way-at .ensures
-
 returns : tie.Need-returns
-returns c = c .pair-by .ensures
+unfolding coeffsDelta
+returns c =
+    let a = c .before .before .before .args in
+    let e = c .before .before .arm .ensures in
+    let t = ap (λ n. ltb n 5) (sym e) ∙ lt-ltb _ _ (c .before .if1 .taken) in
+    c .pair-by-series .ensures ∙ ap (seriesArms binary64 (a .sigma) (a .z)) e ∙ sym (pair-by-series binary64 (a .sigma) (a .z) (a .v) t)
+
+returns-2 : tie.Need-returns-2
+unfolding coeffsDelta
+returns-2 c =
+    let a = c .before .before .before .before .args in
+    let t = ap (λ n. ltb n 5) (sym (c .before .before .before .arm .ensures)) ∙ le-ltb _ _ (c .before .before .if1 .left) in
+    rw (c .before .w0-small .ensures) at (c .pair-by-closed .ensures) ∙ sym (pair-by-closed binary64 (a .sigma) (a .z) (a .v) t)
 
 pub sim3-coeffs-scaled-pair-spec : {M : Type 1} → statement M
 sim3-coeffs-scaled-pair-spec =
     tie.close
     (tie.spec
     (λ c κs. search needs)
-    pair-by-requires
-    returns)
+    (λ c κs. search needs)
+    returns
+    (λ c κs. search needs)
+    (λ c κs. search needs)
+    returns-2)
