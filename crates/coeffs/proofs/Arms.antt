@@ -18,7 +18,7 @@ use Rattle.series.specs.Series.{seriesFull, seriesV, coeffs4, seriesGuard, seri
 use Rattle.coeffs.specs.Limits.{coeffsDelta, formBBelow, w0Below}
 use Rattle.coeffs.specs.Arm.{coeffsArm, armTerms, armEnds}
 use Rattle.coeffs.specs.Closed.{closedFrom, closedV, closedVFrom, closedNine, closedJoined}
-use Rattle.coeffs.specs.Shared.{closedOnly, seriesArm, closedArm}
+use Rattle.coeffs.specs.Shared.{closedOnly, closedOne, seriesArm}
 use Rattle.coeffs.specs.Group.{closedScaled, coeffsScaled, coeffsArmed, coeffsVScaled, coeffsUnscale, coeffsUnscaleV, coeffsPlain, coeffsV}
 use Rattle.coeffs.specs.Entries.{scaledAnswer, armedAnswer}
 use Rattle.coeffs.specs.declared.values.Values.{Values}
@@ -83,10 +83,15 @@ unfolding scaledAnswer seriesArm
 by-series f sigma z v t = ap (notBelowZero z) (scaled-series f sigma z v _ t refl)
 
 pub by-closed :
-    (f : Format) (sigma z : Float) (v : Values) → ltb (coeffsArm f (coeffsDelta f sigma z)) 5 ≡ false →
-    scaledAnswer f sigma z v ≡ closedArm f sigma z (coeffsDelta f sigma z) (small f sigma) v
-unfolding scaledAnswer closedArm
-by-closed f sigma z v t = ap (notBelowZero z) (scaled-closed f sigma z v t)
+    (f : Format) (sigma z : Float) (v : Values) (t : SincABD) → ltb (coeffsArm f (coeffsDelta f sigma z)) 5 ≡ false →
+    notBelowZero z (circleSincABD f z (v .root) (v .«sin_half») (v .«cos_half») (v .sin)) ≡ answers t →
+    scaledAnswer f sigma z v ≡ answers (closedOne f sigma z (coeffsDelta f sigma z) (small f sigma) t v)
+unfolding scaledAnswer closedOne
+by-closed f sigma z v t h r = arm-answers z _ t _ (λ x. closedOne f sigma z (coeffsDelta f sigma z) (small f sigma) x v) (scaled-closed f sigma z v h) r
+
+pub closed-refuses : (f : Format) (sigma z : Float) (v : Values) (n : ℕ) (x : SincABD) → notBelowZero z x ≡ refuses n → scaledAnswer f sigma z v ≡ refuses n
+unfolding scaledAnswer
+closed-refuses f sigma z v n x r = arm-refuses z n x _ r
 
 -- ---- with the arm told
 pub then-as : {A B : Type 0} (t : Bool) (a : A) (g : A → B) → cond t (refuses 1) (answers (g a)) ≡ andThen (cond t (refuses 1) (answers a)) (λ x. answers (g x))
@@ -104,6 +109,11 @@ unfolding armedAnswer scaledAnswer coeffsArmed
 armed-told f sigma z v =
     let arm = coeffsArm f (coeffsDelta f sigma z) in
     then-as (lt z f0) (coeffsScaled f sigma z v) (told-at arm (armEnds f sigma arm))
+
+pub armed-refuses : (f : Format) (sigma z : Float) (v : Values) (n : ℕ) → scaledAnswer f sigma z v ≡ refuses n → armedAnswer f sigma z v ≡ refuses n
+armed-refuses f sigma z v n r =
+    let arm = coeffsArm f (coeffsDelta f sigma z) in
+    armed-told f sigma z v ∙ ap (λ a. andThen a (λ s. answers (told-at arm (armEnds f sigma arm) s))) r
 
 -- ---- both signs behind the series' tests
 guards :

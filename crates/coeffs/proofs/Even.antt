@@ -10,6 +10,7 @@ use Rattle.linalg.specs.Vector.{vecNormSq}
 use Rattle.linalg.specs.declared.vector.Vec3.{Vec3}
 use Rattle.linalg.proofs.Answers.{both-as}
 use Rattle.circle.specs.Kernel.{notBelowZero, circleSincABD}
+use Rattle.circle.specs.declared.kernel.SincABD.{SincABD}
 use Rattle.series.specs.Series.{seriesFull}
 use Rattle.ieee.proofs.Sign.{mul-neg-neg}
 use Rattle.coeffs.specs.Values.{mirrored}
@@ -17,11 +18,11 @@ use Rattle.coeffs.specs.Limits.{coeffsDelta, w0Below}
 use Rattle.coeffs.specs.Arm.{coeffsArm, armTerms, armEnds}
 use Rattle.coeffs.specs.Group.{coeffsScaled, coeffsPair, coeffsArmed, coeffsArmedPair}
 use Rattle.coeffs.specs.Entries.{scaledAnswer, beside, pairAnswer, armedAnswer, besideArmed, armedPairAnswer}
-use Rattle.coeffs.specs.Shared.{closedPair, seriesArms, closedArms}
+use Rattle.coeffs.specs.Shared.{closedPair, seriesArms}
 use Rattle.coeffs.specs.declared.values.Values.{Values}
 use Rattle.coeffs.specs.declared.sim3.ScaledPair.{ScaledPair}
 use Rattle.coeffs.specs.declared.sim3.ArmedPair.{ArmedPair}
-use Rattle.coeffs.proofs.Arms.{scaled-series, scaled-closed, then-as, told-at, angle-answers, angle-refuses}
+use Rattle.coeffs.proofs.Arms.{arm-answers, arm-refuses, scaled-series, scaled-closed, then-as, told-at, angle-answers, angle-refuses}
 
 pub delta-even : (f : Format) (sigma z : Float) → coeffsDelta f (neg sigma) z ≡ coeffsDelta f sigma z
 unfolding coeffsDelta
@@ -67,10 +68,14 @@ unfolding seriesArms
 pair-by-series f sigma z v t = pair-answer-is f sigma z v ∙ ap (notBelowZero z) (pair-series f sigma z v _ t refl)
 
 pub pair-by-closed :
-    (f : Format) (sigma z : Float) (v : Values) → ltb (coeffsArm f (coeffsDelta f sigma z)) 5 ≡ false →
-    pairAnswer f sigma z v ≡ closedArms f sigma z (coeffsDelta f sigma z) (lt (mul f sigma sigma) (w0Below f)) v
-unfolding closedArms
-pair-by-closed f sigma z v t = pair-answer-is f sigma z v ∙ ap (notBelowZero z) (pair-closed f sigma z v t)
+    (f : Format) (sigma z : Float) (v : Values) (t : SincABD) → ltb (coeffsArm f (coeffsDelta f sigma z)) 5 ≡ false →
+    notBelowZero z (circleSincABD f z (v .root) (v .«sin_half») (v .«cos_half») (v .sin)) ≡ answers t →
+    pairAnswer f sigma z v ≡ answers (closedPair f sigma z (coeffsDelta f sigma z) (lt (mul f sigma sigma) (w0Below f)) t v)
+pair-by-closed f sigma z v t h r =
+    pair-answer-is f sigma z v ∙ arm-answers z _ t _ (λ x. closedPair f sigma z (coeffsDelta f sigma z) (lt (mul f sigma sigma) (w0Below f)) x v) (pair-closed f sigma z v h) r
+
+pub pair-closed-refuses : (f : Format) (sigma z : Float) (v : Values) (n : ℕ) (x : SincABD) → notBelowZero z x ≡ refuses n → pairAnswer f sigma z v ≡ refuses n
+pair-closed-refuses f sigma z v n x r = pair-answer-is f sigma z v ∙ arm-refuses z n x _ r
 
 -- ---- with the arms told: the armed pair's answer is the pair's, with the arm at σ and its ends told at either sign
 abbrev pub told-both : ℕ → Bool → ScaledPair → ArmedPair
@@ -98,6 +103,11 @@ armed-pair-told f sigma z v =
     ∙ ap (notBelowZero z) (armed-pair-is f sigma z v)
     ∙ then-as (lt z f0) (coeffsPair f sigma z v) told
     ∙ ap (λ a. andThen a (λ p. answers (told p))) (sym (pair-answer-is f sigma z v))
+
+pub armed-pair-refuses : (f : Format) (sigma z : Float) (v : Values) (n : ℕ) → pairAnswer f sigma z v ≡ refuses n → armedPairAnswer f sigma z v ≡ refuses n
+armed-pair-refuses f sigma z v n r =
+    let arm = coeffsArm f (coeffsDelta f sigma z) in
+    armed-pair-told f sigma z v ∙ ap (λ a. andThen a (λ p. answers (told-both arm (armEnds f sigma arm) p))) r
 
 -- ---- at |φ|²
 pub angle-pair-answers : (f : Format) (phi : Vec3) (sigma : Float) (v : Values) (p : ScaledPair) → pairAnswer f sigma (vecNormSq f phi) v ≡ answers p → p ≡ coeffsPair f sigma (vecNormSq f phi) v

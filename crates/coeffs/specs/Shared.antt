@@ -5,7 +5,7 @@ use lib.Ieee.{Float, Format, neg, lt, le}
 use Rattle.ieee.specs.Numbers.{f0}
 use Rattle.linalg.specs.Answer.{Answer}
 use Rattle.series.specs.Series.{seriesFull}
-use Rattle.circle.specs.Kernel.{notBelowZero, circleSincABD}
+use Rattle.circle.specs.Kernel.{notBelowZero}
 use Rattle.circle.specs.declared.kernel.SincABD.{SincABD}
 use Rattle.circle.specs.declared.kernel.SincA.{SincA}
 use Rattle.coeffs.specs.Values.{atZero}
@@ -36,7 +36,10 @@ closedEnds f sigma x y small =
       «w0_neg» = closedW0 f (neg sigma) (y .g) (y .m1) small;
     }
 
--- both signs of the closed arm at Δ, v₀ and w₀ by their series where `small`
+-- one sign of the closed arm at Δ, v₀ and w₀ by their series where `small`; and both
+unfoldable pub closedOne : Format → Float → Float → Float → Bool → SincABD → Values → Scaled
+closedOne f sigma z delta small t v = record { c = closedFrom f sigma z t (v .e) (v .m) (le (formBBelow f) delta) small; scaled = lt f0 sigma }
+
 unfoldable pub closedPair : Format → Float → Float → Float → Bool → SincABD → Values → ScaledPair
 closedPair f sigma z delta small t v =
     let formB = le (formBBelow f) delta in
@@ -49,19 +52,11 @@ closedPair f sigma z delta small t v =
           };
     }
 
--- ---- what each arm answers, for one sign and for both: the series' at its number, the closed one's at Δ
+-- ---- what a series arm answers by its number, for one sign and for both
 unfoldable pub seriesArm : Format → Float → Float → ℕ → Answer Scaled
 seriesArm f sigma z arm = notBelowZero z (record { c = seriesFull f sigma z (armTerms f arm); scaled = false })
-
-unfoldable pub closedArm : Format → Float → Float → Float → Bool → Values → Answer Scaled
-closedArm f sigma z delta small v =
-    let t = circleSincABD f z (v .root) (v .«sin_half») (v .«cos_half») (v .sin) in
-    notBelowZero z (record { c = closedFrom f sigma z t (v .e) (v .m) (le (formBBelow f) delta) small; scaled = lt f0 sigma })
 
 unfoldable pub seriesArms : Format → Float → Float → ℕ → Answer ScaledPair
 seriesArms f sigma z arm =
     let k = armTerms f arm in
     notBelowZero z (record { pos = record { c = seriesFull f sigma z k; scaled = false }; neg = record { c = seriesFull f (neg sigma) z k; scaled = false } })
-
-unfoldable pub closedArms : Format → Float → Float → Float → Bool → Values → Answer ScaledPair
-closedArms f sigma z delta small v = notBelowZero z (closedPair f sigma z delta small (circleSincABD f z (v .root) (v .«sin_half») (v .«cos_half») (v .sin)) v)

@@ -5,7 +5,7 @@ ghost use lib.Ieee.{binary64};
 ghost use Rattle.linalg.specs.Answer.{answers, andThen};
 ghost use Rattle.linalg.specs.Vector.{vecNormSq};
 ghost use Rattle.coeffs.specs.Group.{coeffsScaled, coeffsUnscale, coeffsUnscaleV, coeffsPlain, coeffsV, coeffsPair};
-ghost use Rattle.coeffs.specs.Shared.{closedPair, seriesArm, closedArm, seriesArms, closedArms};
+ghost use Rattle.coeffs.specs.Shared.{closedOne, closedPair, seriesArm, seriesArms};
 ghost use Rattle.coeffs.specs.Entries.{scaledTold, coeffsTold, vTold, vScaledTold, pairTold, scaledAnswer, coeffsAnswer, vAnswer, vScaledAnswer, pairAnswer};
 ghost use Rattle.coeffs.specs.Entries.{armedTold, armedPairTold, armedAnswer, armedPairAnswer};
 use crate::closed::EtMt;
@@ -107,20 +107,15 @@ fn by_series(sigma: f64, z: f64, arm: u8) -> ScaledAnswer
     }
 }
 
-// The coefficients by the closed arm, v0 and w0 by their series where `small`.
-fn by_closed(sigma: f64, z: f64, delta: f64, small: bool, v: Values) -> ScaledAnswer
-    ensures { λ r. ⌜ scaledTold r ≡ closedArm binary64 sigma z delta small v ⌝ }
+// The coefficients by the closed arm from the circle functions t, v0 and w0 by their series where
+// `small`.
+fn closed_one(sigma: f64, z: f64, delta: f64, small: bool, t: SincABD, v: Values) -> Scaled
+    ensures { λ r. ⌜ r ≡ closedOne binary64 sigma z delta small t v ⌝ }
 {
-    match circle::kernel::sinc_a_b_d(z, v.root, v.sin_half, v.cos_half, v.sin) {
-        SincABDAnswer::Coeffs(t) => {
-            let form_b = on_form_b(delta);
-            let c = closed_from(sigma, z, t, v.e, v.m, form_b, small);
-            ScaledAnswer::Coeffs(Scaled {
-                c,
-                scaled: 0.0 < sigma,
-            })
-        }
-        SincABDAnswer::Refused(n) => ScaledAnswer::Refused(n),
+    let c = closed_from(sigma, z, t, v.e, v.m, on_form_b(delta), small);
+    Scaled {
+        c,
+        scaled: 0.0 < sigma,
     }
 }
 
@@ -133,7 +128,13 @@ pub fn sim3_coeffs_scaled(sigma: f64, z: f64, v: Values) -> ScaledAnswer
     if at < CLOSED {
         return by_series(sigma, z, at);
     }
-    by_closed(sigma, z, delta, w0_small(sigma), v)
+    match circle::kernel::sinc_a_b_d(z, v.root, v.sin_half, v.cos_half, v.sin) {
+        SincABDAnswer::Coeffs(t) => {
+            let small = w0_small(sigma);
+            ScaledAnswer::Coeffs(closed_one(sigma, z, delta, small, t, v))
+        }
+        SincABDAnswer::Refused(n) => ScaledAnswer::Refused(n),
+    }
 }
 
 // What an arm answered, with the arm told.
@@ -155,8 +156,14 @@ pub fn sim3_coeffs_armed(sigma: f64, z: f64, v: Values) -> ArmedAnswer
     if at < CLOSED {
         return tell(by_series(sigma, z, at), at, false);
     }
-    let ends = w0_small(sigma);
-    tell(by_closed(sigma, z, delta, ends, v), at, ends)
+    match circle::kernel::sinc_a_b_d(z, v.root, v.sin_half, v.cos_half, v.sin) {
+        SincABDAnswer::Coeffs(t) => {
+            let ends = w0_small(sigma);
+            let s = closed_one(sigma, z, delta, ends, t, v);
+            tell(ScaledAnswer::Coeffs(s), at, ends)
+        }
+        SincABDAnswer::Refused(n) => ArmedAnswer::Refused(n),
+    }
 }
 
 // c times up where scaled, c times 1 elsewhere: the last step of the scaled form.
@@ -293,16 +300,6 @@ fn pair_by_series(sigma: f64, z: f64, arm: u8) -> PairAnswer
     }
 }
 
-// Both signs by the closed arm.
-fn pair_by_closed(sigma: f64, z: f64, delta: f64, small: bool, v: Values) -> PairAnswer
-    ensures { λ r. ⌜ pairTold r ≡ closedArms binary64 sigma z delta small v ⌝ }
-{
-    match circle::kernel::sinc_a_b_d(z, v.root, v.sin_half, v.cos_half, v.sin) {
-        SincABDAnswer::Coeffs(t) => PairAnswer::Coeffs(closed_pair(sigma, z, delta, small, t, v)),
-        SincABDAnswer::Refused(n) => PairAnswer::Refused(n),
-    }
-}
-
 // sim3_coeffs_scaled at sigma and at -sigma, the latter on the mirrored values, each to the bit:
 // the arm, the circle functions, the exponential's values and the recurrence are shared.
 pub fn sim3_coeffs_scaled_pair(sigma: f64, z: f64, v: Values) -> PairAnswer
@@ -313,7 +310,13 @@ pub fn sim3_coeffs_scaled_pair(sigma: f64, z: f64, v: Values) -> PairAnswer
     if at < CLOSED {
         return pair_by_series(sigma, z, at);
     }
-    pair_by_closed(sigma, z, delta, w0_small(sigma), v)
+    match circle::kernel::sinc_a_b_d(z, v.root, v.sin_half, v.cos_half, v.sin) {
+        SincABDAnswer::Coeffs(t) => {
+            let small = w0_small(sigma);
+            PairAnswer::Coeffs(closed_pair(sigma, z, delta, small, t, v))
+        }
+        SincABDAnswer::Refused(n) => PairAnswer::Refused(n),
+    }
 }
 
 // What an arm answered at both signs, with the arm told: it is even in sigma.
@@ -341,8 +344,14 @@ pub fn sim3_coeffs_armed_pair(sigma: f64, z: f64, v: Values) -> ArmedPairAnswer
     if at < CLOSED {
         return tell_pair(pair_by_series(sigma, z, at), at, false);
     }
-    let ends = w0_small(sigma);
-    tell_pair(pair_by_closed(sigma, z, delta, ends, v), at, ends)
+    match circle::kernel::sinc_a_b_d(z, v.root, v.sin_half, v.cos_half, v.sin) {
+        SincABDAnswer::Coeffs(t) => {
+            let ends = w0_small(sigma);
+            let p = closed_pair(sigma, z, delta, ends, t, v);
+            tell_pair(PairAnswer::Coeffs(p), at, ends)
+        }
+        SincABDAnswer::Refused(n) => ArmedPairAnswer::Refused(n),
+    }
 }
 
 // ---- the same at z = |phi|^2, which is never below zero: nothing is refused, and the refusing arm
