@@ -4,7 +4,7 @@
  * call. That is all that is asked of a caller: every count and every number is taken, NaN and infinities included.
  *
  * Answers. A call returns 0 and has written all of `out`, or the number of a refusal and has written nothing:
- *     1  z is below zero                        (sim3_scaled_pair)
+ *     1  z is below zero                        (sim3_scaled_pair, sim3_coeffs_armed, sim3_armed_pair)
  *     2  e is +0 or -0                          (sim3_block_inverse)
  *     5  a list of points has a wrong length    (sim3_act_many, sim3_act_each: a multiple of 3, at most 65,535 numbers, `out` as long as `pts`)
  *   100  another list has a wrong length; the right one stands in brackets below. This number is the boundary's own: in Rattle no such list can be made
@@ -78,6 +78,13 @@ uint32_t sim3_act_each(const double *x, size_t x_n, double up, const double *pts
 /* The coefficients v0 v1 v2 w0 w1 w2 dv1 dv2 chi_delta and their flag (1: still to be multiplied by e^sigma, else 0) at sigma, then at -sigma.
  * values [10]; out [20]. Refusal 1 where z is below zero. */
 uint32_t sim3_scaled_pair(double sigma, double z, const double *values, size_t values_n, double *out, size_t out_n);
+
+/* The same numbers at sigma alone, and before them the arm that formed them: 1, 2, 3 or 4 for a series of 6, 11, 14 or 19 terms, 5 for the closed forms; and 1
+ * where v0 and w0 of the closed forms come from series of their own, else 0. values [10]; out [12]: arm, ends, ten numbers. Refusal 1 where z is below zero. */
+uint32_t sim3_coeffs_armed(double sigma, double z, const double *values, size_t values_n, double *out, size_t out_n);
+
+/* The numbers of sim3_scaled_pair, and before them arm and ends at sigma, then at -sigma. values [10]; out [24]. Refusal 1 where z is below zero. */
+uint32_t sim3_armed_pair(double sigma, double z, const double *values, size_t values_n, double *out, size_t out_n);
 
 /* J_l(tau), its inverse, J_r(tau), its inverse. tau [7], values [10], jl [9] = J_l(phi) of the rotation, jl_inv [9] its inverse; out [124]: four blocks. */
 uint32_t sim3_block_pair(const double *tau, size_t tau_n, const double *values, size_t values_n, const double *jl, size_t jl_n, const double *jl_inv,

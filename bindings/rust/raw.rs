@@ -68,6 +68,22 @@ extern "C" {
         out: *mut f64,
         out_n: usize,
     ) -> u32;
+    fn sim3_coeffs_armed(
+        sigma: f64,
+        z: f64,
+        values: *const f64,
+        values_n: usize,
+        out: *mut f64,
+        out_n: usize,
+    ) -> u32;
+    fn sim3_armed_pair(
+        sigma: f64,
+        z: f64,
+        values: *const f64,
+        values_n: usize,
+        out: *mut f64,
+        out_n: usize,
+    ) -> u32;
     fn sim3_block_pair(
         tau: *const f64,
         tau_n: usize,
@@ -197,6 +213,20 @@ pub fn scaled_pair(sigma: f64, z: f64, values: &[f64], out: &mut [f64]) -> u32 {
     // SAFETY: LISTS.
     unsafe {
         sim3_scaled_pair(sigma, z, values.as_ptr(), values.len(), out.as_mut_ptr(), out.len())
+    }
+}
+
+pub fn coeffs_armed(sigma: f64, z: f64, values: &[f64], out: &mut [f64]) -> u32 {
+    // SAFETY: LISTS.
+    unsafe {
+        sim3_coeffs_armed(sigma, z, values.as_ptr(), values.len(), out.as_mut_ptr(), out.len())
+    }
+}
+
+pub fn armed_pair(sigma: f64, z: f64, values: &[f64], out: &mut [f64]) -> u32 {
+    // SAFETY: LISTS.
+    unsafe {
+        sim3_armed_pair(sigma, z, values.as_ptr(), values.len(), out.as_mut_ptr(), out.len())
     }
 }
 

@@ -154,6 +154,36 @@ pub fn scaled_pair(
     Ok((part(&out, 0), part(&out, 10)))
 }
 
+/// The arm that formed coefficients: 1, 2, 3 or 4 for a series of 6, 11, 14 or 19 terms, 5 for the
+/// closed forms; `ends` where v0 and w0 of the closed forms come from series of their own.
+#[derive(Clone, Copy, Debug, PartialEq, Eq)]
+pub struct Arm {
+    pub number: u8,
+    pub ends: bool,
+}
+
+fn arm([number, ends]: [f64; 2]) -> Arm {
+    Arm { number: number as u8, ends: ends != 0.0 }
+}
+
+/// The arm and the coefficients at sigma; refused where z is below zero.
+pub fn coeffs_armed(sigma: f64, z: f64, values: &Values) -> Result<(Arm, Coefficients), Refusal> {
+    let out: [f64; 12] =
+        or_refusal(Refusal::BelowZero, |out| raw::coeffs_armed(sigma, z, values, out))?;
+    Ok((arm(part(&out, 0)), part(&out, 2)))
+}
+
+/// The same at sigma and at -sigma; refused where z is below zero.
+pub fn armed_pair(
+    sigma: f64,
+    z: f64,
+    values: &Values,
+) -> Result<[(Arm, Coefficients); 2], Refusal> {
+    let out: [f64; 24] =
+        or_refusal(Refusal::BelowZero, |out| raw::armed_pair(sigma, z, values, out))?;
+    Ok([(arm(part(&out, 0)), part(&out, 4)), (arm(part(&out, 2)), part(&out, 14))])
+}
+
 /// J_l(tau), its inverse, J_r(tau), its inverse; `jl` is J_l(phi) of the rotation, `jl_inv` its
 /// inverse.
 pub fn block_pair(tau: &Tangent, values: &Values, jl: &Matrix, jl_inv: &Matrix) -> BlockPair {

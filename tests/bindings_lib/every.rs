@@ -59,9 +59,20 @@ fn poses(a: &Arguments, out: &mut Vec<f64>) -> Result<(), Refusal> {
     Ok(())
 }
 
+/// An arm as the bare call writes it.
+fn told(at: Arm) -> [f64; 2] {
+    [at.number.into(), u8::from(at.ends).into()]
+}
+
 fn blocks(a: &Arguments, out: &mut Vec<f64>) -> Result<(), Refusal> {
     let [up, down, _, sigma, z] = a.numbers;
     let (pos, neg) = scaled_pair(sigma, z, &a.values)?;
+    out.extend([pos, neg].as_flattened());
+    let (at, c) = coeffs_armed(sigma, z, &a.values)?;
+    out.extend(told(at));
+    out.extend(c);
+    let [(at, pos), (at_neg, neg)] = armed_pair(sigma, z, &a.values)?;
+    out.extend([told(at), told(at_neg)].as_flattened());
     out.extend([pos, neg].as_flattened());
     let pair = block_pair(&a.tau, &a.values, &a.jl, &a.jl_inv);
     out.extend([pair.left, pair.left_inv, pair.right, pair.right_inv].as_flattened());

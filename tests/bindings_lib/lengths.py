@@ -69,10 +69,11 @@ def points_lengths():
 
 
 def numbers_that_are_refused():
-    for z in (-1.0, -5e-324, float("-inf")):
-        refused("scaled_pair", {**good("scaled_pair"), "z": z}, 1, f"z = {z}")
-    for z in (0.0, -0.0, float("nan"), float("inf")):
-        same(raw.call("scaled_pair", *{**good("scaled_pair"), "z": z}.values()), 0, f"sim3_scaled_pair, z = {z}")
+    for name in ("scaled_pair", "coeffs_armed", "armed_pair"):
+        for z in (-1.0, -5e-324, float("-inf")):
+            refused(name, {**good(name), "z": z}, 1, f"z = {z}")
+        for z in (0.0, -0.0, float("nan"), float("inf")):
+            same(raw.call(name, *{**good(name), "z": z}.values()), 0, f"sim3_{name}, z = {z}")
     for e in (0.0, -0.0):
         refused("block_inverse", {**good("block_inverse"), "j": block(e)}, 2, f"e = {e}")
     for e in (5e-324, float("nan"), float("inf")):

@@ -3,6 +3,7 @@ import io
 import os
 import pathlib
 import random
+import struct
 import subprocess
 import sys
 import tempfile
@@ -77,12 +78,13 @@ def holds(text, *parts):
 
 
 def records(table, seed, count):
-    """Records of the seven marks in turn, with ordinary and odd numbers."""
+    """Records of every mark in turn, with ordinary and odd numbers."""
     source, out = random.Random(seed), b""
     for number in range(count):
         layout = table[list(JOB)[number % len(JOB)]]
-        numbers = [source.choice(ODD) if source.random() < 0.3 else source.gauss(0, 10)
-                   for _ in layout.fields]
+        numbers = [source.choice(list(names)) if names else
+                   source.choice(ODD) if source.random() < 0.3 else source.gauss(0, 10)
+                   for names in layout.names]
         out += layout.mark.encode() + layout.numbers.pack(*numbers)
     return out
 
@@ -102,8 +104,10 @@ def answers_with(mark, field, bits):
     data, at = bytearray(answers()), 0
     for layout in ANSWER.values():
         if layout.mark == mark:
-            at += 2 + 8 * layout.fields.index(field)
-            data[at:at + 8] = bits.to_bytes(8, "little")
+            place = layout.fields.index(field)
+            at += 2 + struct.calcsize("<" + layout.codes[:place])
+            size = struct.calcsize("<" + layout.codes[place])
+            data[at:at + size] = bits.to_bytes(size, "little")
             return bytes(data)
         at += layout.size
     raise KeyError(mark)

@@ -8,7 +8,7 @@ from jobs_lib.layout import ANSWER, END, JOB
 def layout_of_the_scope():
     """Lengths of the records, and where some numbers stand, apart from the tool's own table."""
     sizes = {"EX": (136, 64), "CO": (96, 160), "PA": (280, 992), "AC": (96, 24), "MU": (136, 64),
-             "IN": (72, 64), "JI": (248, 248)}
+             "IN": (72, 64), "JI": (248, 248), "AR": (96, 164)}
     for layout in JOB.values():
         out = ANSWER[layout.mark.encode()]
         same((layout.size - 2, out.size - 2), sizes[layout.mark], f"bytes of {layout.mark}")
@@ -18,15 +18,18 @@ def layout_of_the_scope():
             (JOB, b"PA", "J[1][0]", 18), (JOB, b"PA", "Jinv[0][2]", 32), (JOB, b"AC", "up", 8),
             (JOB, b"MU", "right.t.x", 12), (JOB, b"JI", "block.e", 30),
             (ANSWER, b"CO", "coeffs(+).scaled", 9), (ANSWER, b"CO", "coeffs(-).dv2", 17),
-            (ANSWER, b"PA", "left.b[1][2]", 16), (ANSWER, b"PA", "right_inv.f[0]", 120)]:
+            (ANSWER, b"PA", "left.b[1][2]", 16), (ANSWER, b"PA", "right_inv.f[0]", 120),
+            (JOB, b"AR", "z", 1), (JOB, b"AR", "values.down", 11), (ANSWER, b"AR", "arm(+)", 0),
+            (ANSWER, b"AR", "series(+)", 1), (ANSWER, b"AR", "arm(-)", 2),
+            (ANSWER, b"AR", "coeffs(+).v0", 4), (ANSWER, b"AR", "coeffs(-).scaled", 23)]:
         same(table[mark].fields[number], field, f"number {number} of {mark.decode()}")
 
 
 def back_by_make():
     """`make` turns the lines of `show` into the same bytes, for every mark and odd numbers."""
-    data = records(JOB, 2, 140)
+    data = records(JOB, 2, 160)
     text, messages = jobs("show", data=data)
-    same((text.count(b"\n"), messages), (140, ""), "lines and messages")
+    same((text.count(b"\n"), messages), (160, ""), "lines and messages")
     same(jobs("make", data=text)[0], data, "the bytes made again")
 
 
@@ -44,24 +47,44 @@ def stored_runs():
 
 def answers_as_text():
     text = jobs("show", data=answers())[0].decode()
-    same(len(text.splitlines()), 9, "lines")
+    same(len(text.splitlines()), 10, "lines")
     holds(text, "EX pose.q ", "; right_inv.e ", "NO refusal 1  # squared angle z below zero\n",
-          "ZZ begun 8; answered 7; refused 1\n")
+          "ZZ begun 9; answered 8; refused 1\n")
     odd = b"AC" + struct.pack("<3d", -0.0, float("nan"), float("-inf")) + end(1)
     same(jobs("show", data=odd)[0], b"AC point -0.0 nan -inf\nZZ begun 1; answered 1; refused 0\n",
          "odd numbers")
 
 
+def arms_as_text():
+    """An AR answer's line ends with what its bytes stand for; both signs are told where they differ."""
+    for told, said in [((1, 0, 1, 0), "6 terms"), ((2, 0, 2, 0), "11 terms"), ((3, 0, 3, 0), "14 terms"),
+                       ((4, 0, 4, 0), "19 terms"), ((5, 0, 5, 0), "closed"),
+                       ((5, 1, 5, 1), "closed; v0, w0 by series"),
+                       ((4, 0, 5, 1), "at sigma: 19 terms; at -sigma: closed; v0, w0 by series"),
+                       ((6, 0, 6, 0), "a number that no arm has")]:
+        data = b"AR" + bytes(told) + struct.pack("<20d", *range(20)) + end(1)
+        line = jobs("show", data=data)[0].decode().splitlines()[0]
+        begin = "AR arm(+) {}; series(+) {}; arm(-) {}; series(-) {}; coeffs(+) 0.0 1.0 ".format(*told)
+        same((line[:len(begin)], line.partition("  # ")[2]), (begin, said), f"the line of {told}")
+    data = b"AR" + bytes((5, 1, 4, 0)) + bytes(160) + end(1)
+    holds(jobs("show", "--hex", "--record", "1", data=data)[0].decode(),
+          "       2  05                       arm(+) = 5 (closed)\n"
+          "       3  01                       series(+) = 1 (v0, w0 by series)\n"
+          "       4  04                       arm(-) = 4 (19 terms)\n"
+          "       5  00                       series(-) = 0\n"
+          "       6  00 00 00 00 00 00 00 00  coeffs(+).v0 = 0.0\n")
+
+
 def single_records():
     """--record and --hex: the records asked for, no ZZ, and their bytes."""
-    text = jobs("show", "--hex", "--record", "8", data=answers())[0].decode()
+    text = jobs("show", "--hex", "--record", "9", data=answers())[0].decode()
     at = len(answers()) - END.size - 3
     same(text, f"{at:8}  4e 4f                    NO\n"
                f"{at + 2:8}  01                       refusal = 1 (squared angle z below zero)\n",
-         "record 8")
+         "record 9")
     text = jobs("show", "--record", "4-5", data=answers())[0].decode()
     same([line[:2] for line in text.splitlines()], ["AC", "MU"], "records 4 and 5")
-    holds(jobs("show", "--record", "9", data=answers(), status=2)[1], "no record 9", "it has 8")
+    holds(jobs("show", "--record", "10", data=answers(), status=2)[1], "no record 10", "it has 9")
     for word in ("0", "3-2", "x"):
         holds(jobs("show", "--record", word, status=2)[1], "expected 7 or 7-9, from 1")
 
@@ -105,9 +128,9 @@ def damaged_answers():
             (whole[:66] + b"QQ" + whole[66:], "byte 66: unknown mark 51 51 ('QQ')"),
             (whole + b"AC", f"byte {len(whole)}: 2 bytes after ZZ"),
             (whole + whole, f"byte {len(whole)}: {len(whole):,} bytes after ZZ"),
-            (whole[:last] + end(9, 1), "ZZ does not fit the records, which are 8 begun, 7 answer")]:
+            (whole[:last] + end(8, 1), "ZZ does not fit the records, which are 9 begun, 8 answer")]:
         holds(jobs("show", "--out", data=data, status=1)[1], message)
 
 
-TESTS = [layout_of_the_scope, back_by_make, stored_runs, answers_as_text, single_records, guesses,
-         damaged_jobs, damaged_answers]
+TESTS = [layout_of_the_scope, back_by_make, stored_runs, answers_as_text, arms_as_text, single_records,
+         guesses, damaged_jobs, damaged_answers]

@@ -4,6 +4,7 @@ import re
 import signal
 import sys
 
+from .arms import arms
 from .diff import diff
 from .layout import ANSWER, JOB
 from .make import MAY_MISS, groups_text, make
@@ -11,7 +12,8 @@ from .show import show
 from .terminal import Failure, say
 
 ABOUT = """\
-Job files of the Sim(3) engine: make them from text, show them as text, compare their answers.
+Job files of the Sim(3) engine: make them from text, show them as text, compare their answers, and
+see which arm gave each coefficient set.
 docs/JOB-FORMAT.md has the bytes of every record.
 
 example:
@@ -19,6 +21,7 @@ example:
   ./sim3-job < jobs.bin > answers.bin
   tools/jobs show answers.bin
   tools/jobs diff last-answers.bin answers.bin
+  tools/jobs arms --svg arms.svg jobs.bin answers.bin
 """
 
 MAKE = """\
@@ -59,6 +62,20 @@ Exit status: 0 equal and whole, 1 different or not whole, 2 not to be read.
 
 example:
   tools/jobs diff --limit 20 last-answers.bin answers.bin
+"""
+
+
+ARMS = """\
+Which arm gave the coefficients of each AR record: how many records each arm has, as a table; with
+--svg also as a picture, in the plane of sigma squared and z, with the limits of the arms as lines.
+JOBS is a job file, ANSWERS the answers to it; records of other marks are passed over.
+
+Exit status: 0, or 1 where an answer's arm is not the one that the limits give, or ANSWERS is not the
+whole answer to JOBS (what is wrong is named), or 2 if a file cannot be read or written.
+
+example:
+  tools/jobs arms jobs.bin answers.bin
+  tools/jobs arms --svg arms.svg jobs.bin answers.bin
 """
 
 
@@ -112,6 +129,10 @@ def parser():
     one.add_argument("--limit", type=limit, metavar="N", help="print at most N differences")
     one.add_argument("old", metavar="OLD")
     one.add_argument("new", metavar="NEW")
+    one = add_command(commands, "arms", ARMS, "count and draw the arms of AR records")
+    one.add_argument("--svg", metavar="FILE", help="the picture to be written")
+    one.add_argument("job", metavar="JOBS")
+    one.add_argument("answers", metavar="ANSWERS")
     return top
 
 
@@ -120,7 +141,9 @@ def run(arguments):
         return make(arguments.file)
     if arguments.command == "show":
         return show(arguments.file, arguments.table, arguments.record, arguments.hex)
-    return diff(arguments.old, arguments.new, arguments.limit)
+    if arguments.command == "diff":
+        return diff(arguments.old, arguments.new, arguments.limit)
+    return arms(arguments.job, arguments.answers, arguments.svg)
 
 
 def main(words):

@@ -2,7 +2,6 @@
 from .doubles import from_bits, is_nan, text, ulps
 from .layout import ANSWER, END, JOB
 from .records import guess, load, scan, walk
-from .show import meaning
 from .terminal import Failure, Lines, Progress, count
 
 EQUAL, DIFFERENT, UNREADABLE = 0, 1, 2
@@ -20,15 +19,16 @@ def shown(layout, i, bits):
     """A number as it stands in a difference."""
     if layout.codes[i] == "d":
         return text(from_bits(bits))
-    return f"{bits} ({meaning(bits)})" if layout.mark == "NO" else str(bits)
+    said = layout.meaning(i, bits)
+    return f"{bits} ({said})" if said else str(bits)
 
 
 def distance(layout, i, old, new):
     """How far apart two numbers are, in words."""
-    if layout.codes[i] != "d":
-        return "another refusal" if layout.mark == "NO" else f"{new - old:+,}"
     if i in layout.flags:
         return "another flag"
+    if layout.codes[i] != "d":
+        return f"another {layout.kind(i)}" if layout.names[i] else f"{new - old:+,}"
     steps = ulps(old, new)
     if steps is None:
         return "NaN against a number"

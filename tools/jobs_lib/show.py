@@ -2,7 +2,7 @@
 import struct
 
 from .doubles import NAN, text
-from .layout import ANSWER, END, JOB, MOST_RECORDS, REFUSALS
+from .layout import ANSWER, END, JOB, MOST_RECORDS
 from .records import guess, hexadecimal, load, name_of, scan, walk
 from .terminal import Failure, Lines, Progress, say
 
@@ -18,8 +18,14 @@ def template(layout):
 TEMPLATES = {layout: template(layout) for layout in (*JOB.values(), *ANSWER.values(), END)}
 
 
-def meaning(refusal):
-    return REFUSALS.get(refusal, "a number that no refusal has")
+def remark(layout, numbers):
+    """What a refusal's number and AR's bytes stand for; of AR once where both signs say the same."""
+    words = [layout.meaning(i, numbers[i]) for i in layout.named]
+    half = len(words) // 2
+    signs = ["; ".join(filter(None, some)) for some in (words[:half], words[half:])]
+    if not half or signs[0] == signs[1]:
+        return signs[1]
+    return f"at sigma: {signs[0]}; at -sigma: {signs[1]}"
 
 
 def one_line(data, at, layout):
@@ -29,9 +35,8 @@ def one_line(data, at, layout):
     nans = line.count("nan")
     if nans and layout.bits.unpack_from(data, at + 2).count(NAN) != nans:
         line = TEMPLATES[layout] % tuple(map(text, numbers))  # a NaN with bits of its own
-    if layout.mark == "NO":
-        line += "  # " + meaning(*numbers)
-    return [line]
+    said = remark(layout, numbers)
+    return [f"{line}  # {said}" if said else line]
 
 
 def hex_lines(data, at, layout):
@@ -39,9 +44,10 @@ def hex_lines(data, at, layout):
     lines = [f"{at:8}  {hexadecimal(data[at:at + 2]):23}  {layout.mark}"]
     numbers = layout.numbers.unpack_from(data, at + 2)
     at += 2
-    for name, code, number in zip(layout.fields, layout.codes, numbers):
+    for i, (name, code, number) in enumerate(zip(layout.fields, layout.codes, numbers)):
         size = struct.calcsize("<" + code)
-        note = f" ({meaning(number)})" if layout.mark == "NO" else ""
+        said = layout.meaning(i, number)
+        note = f" ({said})" if said else ""
         lines.append(f"{at:8}  {hexadecimal(data[at:at + size]):23}  {name} = {text(number)}{note}")
         at += size
     return lines

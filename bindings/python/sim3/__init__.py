@@ -130,6 +130,18 @@ def scaled_pair(sigma, z, values=None):
     return ask("scaled_pair", sigma, z, or_host(values, host.values, sigma, z))
 
 
+def coeffs_armed(sigma, z, values=None):
+    """The arm and its ends, and the nine coefficients and the flag, at sigma; Refusal 1 where z is below zero."""
+    sigma, z = number("sim3.coeffs_armed: sigma", sigma), number("sim3.coeffs_armed: z", z)
+    return ask("coeffs_armed", sigma, z, or_host(values, host.values, sigma, z))
+
+
+def armed_pair(sigma, z, values=None):
+    """Arm and ends at sigma, those at -sigma, and the two of scaled_pair; Refusal 1 where z is below zero."""
+    sigma, z = number("sim3.armed_pair: sigma", sigma), number("sim3.armed_pair: z", z)
+    return ask("armed_pair", sigma, z, or_host(values, host.values, sigma, z))
+
+
 def block_pair(tau, values=None, jl=None, jl_inv=None):
     """Four blocks: J_l(tau), its inverse, J_r(tau), its inverse; jl is J_l(phi) of the rotation, jl_inv its inverse."""
     tau = read("block_pair", "tau", tau)

@@ -19,6 +19,7 @@ KINDS = {
     "block": (31, "a 9, b 9, c 9, f 3, e"),
     "vector": (3, "x y z"),
     "coefficients": (10, "v0 v1 v2 w0 w1 w2 dv1 dv2 chi_delta and the flag"),
+    "arm": (2, "the arm, 1 to 5, and 1 where v0 and w0 of the closed arm come from series, else 0"),
 }
 
 
@@ -46,6 +47,8 @@ FUNCTIONS = {
     "act_many": function("x:pose up:number pts:points", "points"),
     "act_each": function("x:pose up:number pts:points", "points"),
     "scaled_pair": function("sigma:number z:number values:values", "coefficients coefficients"),
+    "coeffs_armed": function("sigma:number z:number values:values", "arm coefficients"),
+    "armed_pair": function("sigma:number z:number values:values", "arm arm coefficients coefficients"),
     "block_pair": function("tau:tangent values:values jl:matrix jl_inv:matrix", "block block block block"),
     "block_inverse": function("j:block", "block"),
     "adjoint": function("x:pose up:number", "block"),

@@ -16,13 +16,15 @@ use Rattle.circle.specs.declared.kernel.SincA.{SincA}
 use Rattle.circle.proofs.Angle.{norm-not-below}
 use Rattle.series.specs.Series.{seriesFull, seriesV, coeffs4, seriesGuard, seriesAnswer, seriesPairAnswer}
 use Rattle.coeffs.specs.Limits.{coeffsDelta, formBBelow, w0Below}
-use Rattle.coeffs.specs.Arm.{coeffsArm, armTerms}
+use Rattle.coeffs.specs.Arm.{coeffsArm, armTerms, armEnds}
 use Rattle.coeffs.specs.Closed.{closedFrom, closedV, closedVFrom, closedNine, closedJoined}
-use Rattle.coeffs.specs.Shared.{closedOnly}
-use Rattle.coeffs.specs.Group.{closedScaled, coeffsScaled, coeffsVScaled, coeffsUnscale, coeffsUnscaleV, coeffsPlain, coeffsV}
+use Rattle.coeffs.specs.Shared.{closedOnly, closedOne, seriesArm}
+use Rattle.coeffs.specs.Group.{closedScaled, coeffsScaled, coeffsArmed, coeffsVScaled, coeffsUnscale, coeffsUnscaleV, coeffsPlain, coeffsV}
+use Rattle.coeffs.specs.Entries.{scaledAnswer, armedAnswer}
 use Rattle.coeffs.specs.declared.values.Values.{Values}
 use Rattle.coeffs.specs.declared.sim3.Scaled.{Scaled}
 use Rattle.coeffs.specs.declared.sim3.VScaled.{VScaled}
+use Rattle.coeffs.specs.declared.sim3.Armed.{Armed}
 
 -- ---- the series arm: its answer x at a term count that is not refused
 guard-is : {A : Type 0} (z : Float) (k : ℕ) (a : A) → k ≤ 64 → seriesGuard z k a ≡ notBelowZero z a
@@ -55,11 +57,63 @@ pub scaled-series :
 unfolding coeffsScaled
 scaled-series f sigma z v k t e = rw (t, e) refl
 
+-- whether v₀ and w₀ come from series of their own, on either arm
+pub ends-series : (f : Format) (sigma : Float) (arm : ℕ) → ltb arm 5 ≡ true → armEnds f sigma arm ≡ false
+unfolding armEnds
+ends-series f sigma arm t = rw t refl
+
+pub ends-closed : (f : Format) (sigma : Float) (arm : ℕ) → ltb arm 5 ≡ false → armEnds f sigma arm ≡ lt (mul f sigma sigma) (w0Below f)
+unfolding armEnds
+ends-closed f sigma arm t = rw t refl
+
+abbrev small : Format → Float → Bool
+small f sigma = lt (mul f sigma sigma) (w0Below f)
+
 pub scaled-closed :
     (f : Format) (sigma z : Float) (v : Values) → ltb (coeffsArm f (coeffsDelta f sigma z)) 5 ≡ false →
-    coeffsScaled f sigma z v ≡ closedScaled f sigma z (circleSincABD f z (v .root) (v .«sin_half») (v .«cos_half») (v .sin)) (v .e) (v .m)
+    coeffsScaled f sigma z v ≡ closedScaled f sigma z (circleSincABD f z (v .root) (v .«sin_half») (v .«cos_half») (v .sin)) (v .e) (v .m) (small f sigma)
 unfolding coeffsScaled
-scaled-closed f sigma z v t = rw t refl
+scaled-closed f sigma z v t = rw (t, ends-closed f sigma (coeffsArm f (coeffsDelta f sigma z)) t) refl
+
+-- ---- the answer of one sign is its arm's
+pub by-series :
+    (f : Format) (sigma z : Float) (v : Values) → ltb (coeffsArm f (coeffsDelta f sigma z)) 5 ≡ true →
+    scaledAnswer f sigma z v ≡ seriesArm f sigma z (coeffsArm f (coeffsDelta f sigma z))
+unfolding scaledAnswer seriesArm
+by-series f sigma z v t = ap (notBelowZero z) (scaled-series f sigma z v _ t refl)
+
+pub by-closed :
+    (f : Format) (sigma z : Float) (v : Values) (t : SincABD) → ltb (coeffsArm f (coeffsDelta f sigma z)) 5 ≡ false →
+    notBelowZero z (circleSincABD f z (v .root) (v .«sin_half») (v .«cos_half») (v .sin)) ≡ answers t →
+    scaledAnswer f sigma z v ≡ answers (closedOne f sigma z (coeffsDelta f sigma z) (small f sigma) t v)
+unfolding scaledAnswer closedOne
+by-closed f sigma z v t h r = arm-answers z _ t _ (λ x. closedOne f sigma z (coeffsDelta f sigma z) (small f sigma) x v) (scaled-closed f sigma z v h) r
+
+pub closed-refuses : (f : Format) (sigma z : Float) (v : Values) (n : ℕ) (x : SincABD) → notBelowZero z x ≡ refuses n → scaledAnswer f sigma z v ≡ refuses n
+unfolding scaledAnswer
+closed-refuses f sigma z v n x r = arm-refuses z n x _ r
+
+-- ---- with the arm told
+pub then-as : {A B : Type 0} (t : Bool) (a : A) (g : A → B) → cond t (refuses 1) (answers (g a)) ≡ andThen (cond t (refuses 1) (answers a)) (λ x. answers (g x))
+then-as true a g = refl
+then-as false a g = refl
+
+abbrev pub told-at : ℕ → Bool → Scaled → Armed
+told-at arm ends s = record { s = s; arm = arm; ends = ends }
+
+pub armed-told :
+    (f : Format) (sigma z : Float) (v : Values) →
+    let arm = coeffsArm f (coeffsDelta f sigma z) in
+    armedAnswer f sigma z v ≡ andThen (scaledAnswer f sigma z v) (λ s. answers (told-at arm (armEnds f sigma arm) s))
+unfolding armedAnswer scaledAnswer coeffsArmed
+armed-told f sigma z v =
+    let arm = coeffsArm f (coeffsDelta f sigma z) in
+    then-as (lt z f0) (coeffsScaled f sigma z v) (told-at arm (armEnds f sigma arm))
+
+pub armed-refuses : (f : Format) (sigma z : Float) (v : Values) (n : ℕ) → scaledAnswer f sigma z v ≡ refuses n → armedAnswer f sigma z v ≡ refuses n
+armed-refuses f sigma z v n r =
+    let arm = coeffsArm f (coeffsDelta f sigma z) in
+    armed-told f sigma z v ∙ ap (λ a. andThen a (λ s. answers (told-at arm (armEnds f sigma arm) s))) r
 
 -- ---- both signs behind the series' tests
 guards :
@@ -92,11 +146,6 @@ unfolding coeffsVScaled coeffs4 closedFrom closedNine closedJoined closedVFrom c
 v-closed f sigma z v t = rw (scaled-closed f sigma z v t) refl
 
 -- ---- the closed arm, from what the circle functions answer
-pub scaled-closed-answers :
-    (f : Format) (sigma z : Float) (v : Values) (t : SincABD) → ltb (coeffsArm f (coeffsDelta f sigma z)) 5 ≡ false →
-    notBelowZero z (circleSincABD f z (v .root) (v .«sin_half») (v .«cos_half») (v .sin)) ≡ answers t → notBelowZero z (coeffsScaled f sigma z v) ≡ answers (closedScaled f sigma z t (v .e) (v .m))
-scaled-closed-answers f sigma z v t h r = arm-answers z _ t _ (λ x. closedScaled f sigma z x (v .e) (v .m)) (scaled-closed f sigma z v h) r
-
 pub v-closed-answers :
     (f : Format) (sigma z : Float) (v : Values) (t : SincA) → ltb (coeffsArm f (coeffsDelta f sigma z)) 5 ≡ false →
     notBelowZero z (circleSincA f z (v .root) (v .«sin_half») (v .«cos_half»)) ≡ answers t → notBelowZero z (coeffsVScaled f sigma z v) ≡ answers (v-scaled f sigma z v t)

@@ -1,28 +1,28 @@
--- The coefficients at -σ and the mirrored values, in what is even in σ: Δ, the arm, the term count, the masks and the circle functions. Assumes nothing.
+-- The coefficients at -σ and the mirrored values, in what is even in σ: Δ, the arm, its ends, the term count, the masks and the circle functions. Assumes nothing.
 use mathlib.Core.Path.{_≡_, refl, sym, ap, _∙_}
-use Prim.Native.Nat.{ℕ, _≤_}
-use mathlib.Core.Bool.{true, false}
+use Prim.Native.Nat.{ℕ}
+use mathlib.Core.Bool.{Bool, true, false}
 use lib.Dec.{ltb}
-use lib.Ieee.{Float, Format, neg, lt}
+use lib.Ieee.{Float, Format, neg, mul, lt}
 use Rattle.ieee.specs.Numbers.{f0}
-use Rattle.linalg.specs.Answer.{answers, refuses}
+use Rattle.linalg.specs.Answer.{answers, refuses, andThen}
 use Rattle.linalg.specs.Vector.{vecNormSq}
 use Rattle.linalg.specs.declared.vector.Vec3.{Vec3}
 use Rattle.linalg.proofs.Answers.{both-as}
 use Rattle.circle.specs.Kernel.{notBelowZero, circleSincABD}
 use Rattle.circle.specs.declared.kernel.SincABD.{SincABD}
-use Rattle.series.specs.Series.{seriesFull, seriesPairAnswer}
-use Rattle.series.specs.declared.sim3.CoeffsPair.{CoeffsPair}
+use Rattle.series.specs.Series.{seriesFull}
 use Rattle.ieee.proofs.Sign.{mul-neg-neg}
 use Rattle.coeffs.specs.Values.{mirrored}
-use Rattle.coeffs.specs.Limits.{coeffsDelta}
-use Rattle.coeffs.specs.Arm.{coeffsArm, armTerms}
-use Rattle.coeffs.specs.Group.{coeffsScaled, coeffsPair}
-use Rattle.coeffs.specs.Entries.{scaledAnswer, beside, pairAnswer}
-use Rattle.coeffs.specs.Shared.{closedPair}
+use Rattle.coeffs.specs.Limits.{coeffsDelta, w0Below}
+use Rattle.coeffs.specs.Arm.{coeffsArm, armTerms, armEnds}
+use Rattle.coeffs.specs.Group.{coeffsScaled, coeffsPair, coeffsArmed, coeffsArmedPair}
+use Rattle.coeffs.specs.Entries.{scaledAnswer, beside, pairAnswer, armedAnswer, besideArmed, armedPairAnswer}
+use Rattle.coeffs.specs.Shared.{closedPair, seriesArms}
 use Rattle.coeffs.specs.declared.values.Values.{Values}
 use Rattle.coeffs.specs.declared.sim3.ScaledPair.{ScaledPair}
-use Rattle.coeffs.proofs.Arms.{series-answers, series-refuses, arm-answers, arm-refuses, scaled-series, scaled-closed, series-pair-is, angle-answers, angle-refuses}
+use Rattle.coeffs.specs.declared.sim3.ArmedPair.{ArmedPair}
+use Rattle.coeffs.proofs.Arms.{arm-answers, arm-refuses, scaled-series, scaled-closed, then-as, told-at, angle-answers, angle-refuses}
 
 pub delta-even : (f : Format) (sigma z : Float) → coeffsDelta f (neg sigma) z ≡ coeffsDelta f sigma z
 unfolding coeffsDelta
@@ -30,6 +30,10 @@ delta-even f sigma z = rw (mul-neg-neg f sigma sigma) refl
 
 arm-even : (f : Format) (sigma z : Float) → coeffsArm f (coeffsDelta f (neg sigma) z) ≡ coeffsArm f (coeffsDelta f sigma z)
 arm-even f sigma z = ap (coeffsArm f) (delta-even f sigma z)
+
+ends-even : (f : Format) (sigma : Float) (arm : ℕ) → armEnds f (neg sigma) arm ≡ armEnds f sigma arm
+unfolding armEnds
+ends-even f sigma arm = rw (mul-neg-neg f sigma sigma) refl
 
 -- ---- the pair in its two arms
 pub pair-series :
@@ -43,7 +47,7 @@ pair-series f sigma z v k t e =
 
 pub pair-closed :
     (f : Format) (sigma z : Float) (v : Values) → ltb (coeffsArm f (coeffsDelta f sigma z)) 5 ≡ false →
-    coeffsPair f sigma z v ≡ closedPair f sigma z (coeffsDelta f sigma z) (circleSincABD f z (v .root) (v .«sin_half») (v .«cos_half») (v .sin)) v
+    coeffsPair f sigma z v ≡ closedPair f sigma z (coeffsDelta f sigma z) (lt (mul f sigma sigma) (w0Below f)) (circleSincABD f z (v .root) (v .«sin_half») (v .«cos_half») (v .sin)) v
 unfolding coeffsPair closedPair mirrored
 pair-closed f sigma z v t =
     let p = scaled-closed f sigma z v t in
@@ -56,26 +60,54 @@ pub pair-answer-is : (f : Format) (sigma z : Float) (v : Values) → pairAnswer 
 unfolding pairAnswer beside scaledAnswer coeffsPair
 pair-answer-is f sigma z v = both-as (lt z f0) 1 (coeffsScaled f sigma z v) (coeffsScaled f (neg sigma) z (mirrored sigma v)) (λ p n. record { pos = p; neg = n })
 
-pub pair-closed-answers :
+-- ---- the pair's answer is its arm's
+pub pair-by-series :
+    (f : Format) (sigma z : Float) (v : Values) → ltb (coeffsArm f (coeffsDelta f sigma z)) 5 ≡ true →
+    pairAnswer f sigma z v ≡ seriesArms f sigma z (coeffsArm f (coeffsDelta f sigma z))
+unfolding seriesArms
+pair-by-series f sigma z v t = pair-answer-is f sigma z v ∙ ap (notBelowZero z) (pair-series f sigma z v _ t refl)
+
+pub pair-by-closed :
     (f : Format) (sigma z : Float) (v : Values) (t : SincABD) → ltb (coeffsArm f (coeffsDelta f sigma z)) 5 ≡ false →
     notBelowZero z (circleSincABD f z (v .root) (v .«sin_half») (v .«cos_half») (v .sin)) ≡ answers t →
-    pairAnswer f sigma z v ≡ answers (closedPair f sigma z (coeffsDelta f sigma z) t v)
-pair-closed-answers f sigma z v t h r = pair-answer-is f sigma z v ∙ arm-answers z _ t _ (λ x. closedPair f sigma z (coeffsDelta f sigma z) x v) (pair-closed f sigma z v h) r
-
-pub pair-series-answers :
-    (f : Format) (sigma z : Float) (v : Values) (k : ℕ) (p : CoeffsPair) → ltb (coeffsArm f (coeffsDelta f sigma z)) 5 ≡ true → k ≡ armTerms f (coeffsArm f (coeffsDelta f sigma z)) →
-    k ≤ 64 → seriesPairAnswer f sigma z k ≡ answers p →
-    pairAnswer f sigma z v ≡ answers (record { pos = record { c = p .pos; scaled = false }; neg = record { c = p .neg; scaled = false } })
-pair-series-answers f sigma z v k p h e b r =
-    pair-answer-is f sigma z v
-    ∙ series-answers z k _ p _ (λ (q : CoeffsPair). record { pos = record { c = q .pos; scaled = false }; neg = record { c = q .neg; scaled = false } }) b
-    (pair-series f sigma z v k h e) (sym (series-pair-is f sigma z k) ∙ r)
-
-pub pair-series-refuses : (f : Format) (sigma z : Float) (v : Values) (k n : ℕ) → k ≤ 64 → seriesPairAnswer f sigma z k ≡ refuses n → pairAnswer f sigma z v ≡ refuses n
-pair-series-refuses f sigma z v k n b r = pair-answer-is f sigma z v ∙ series-refuses z k n _ _ b (sym (series-pair-is f sigma z k) ∙ r)
+    pairAnswer f sigma z v ≡ answers (closedPair f sigma z (coeffsDelta f sigma z) (lt (mul f sigma sigma) (w0Below f)) t v)
+pair-by-closed f sigma z v t h r =
+    pair-answer-is f sigma z v ∙ arm-answers z _ t _ (λ x. closedPair f sigma z (coeffsDelta f sigma z) (lt (mul f sigma sigma) (w0Below f)) x v) (pair-closed f sigma z v h) r
 
 pub pair-closed-refuses : (f : Format) (sigma z : Float) (v : Values) (n : ℕ) (x : SincABD) → notBelowZero z x ≡ refuses n → pairAnswer f sigma z v ≡ refuses n
 pair-closed-refuses f sigma z v n x r = pair-answer-is f sigma z v ∙ arm-refuses z n x _ r
+
+-- ---- with the arms told: the armed pair's answer is the pair's, with the arm at σ and its ends told at either sign
+abbrev pub told-both : ℕ → Bool → ScaledPair → ArmedPair
+told-both arm ends p = record { pos = told-at arm ends (p .pos); neg = told-at arm ends (p .neg) }
+
+armed-pair-is :
+    (f : Format) (sigma z : Float) (v : Values) →
+    let arm = coeffsArm f (coeffsDelta f sigma z) in
+    coeffsArmedPair f sigma z v ≡ told-both arm (armEnds f sigma arm) (coeffsPair f sigma z v)
+unfolding coeffsArmedPair coeffsArmed coeffsPair
+armed-pair-is f sigma z v =
+    let e = ends-even f sigma (coeffsArm f (coeffsDelta f sigma z)) in
+    let n = ap (armEnds f (neg sigma)) (arm-even f sigma z) ∙ e in
+    λ i. record { pos = coeffsArmed f sigma z v; neg = told-at (arm-even f sigma z i) (n i) (coeffsScaled f (neg sigma) z (mirrored sigma v)) }
+
+pub armed-pair-told :
+    (f : Format) (sigma z : Float) (v : Values) →
+    let arm = coeffsArm f (coeffsDelta f sigma z) in
+    armedPairAnswer f sigma z v ≡ andThen (pairAnswer f sigma z v) (λ p. answers (told-both arm (armEnds f sigma arm) p))
+unfolding armedPairAnswer besideArmed armedAnswer coeffsArmedPair
+armed-pair-told f sigma z v =
+    let arm = coeffsArm f (coeffsDelta f sigma z) in
+    let told = told-both arm (armEnds f sigma arm) in
+    both-as (lt z f0) 1 (coeffsArmed f sigma z v) (coeffsArmed f (neg sigma) z (mirrored sigma v)) (λ p n. record { pos = p; neg = n })
+    ∙ ap (notBelowZero z) (armed-pair-is f sigma z v)
+    ∙ then-as (lt z f0) (coeffsPair f sigma z v) told
+    ∙ ap (λ a. andThen a (λ p. answers (told p))) (sym (pair-answer-is f sigma z v))
+
+pub armed-pair-refuses : (f : Format) (sigma z : Float) (v : Values) (n : ℕ) → pairAnswer f sigma z v ≡ refuses n → armedPairAnswer f sigma z v ≡ refuses n
+armed-pair-refuses f sigma z v n r =
+    let arm = coeffsArm f (coeffsDelta f sigma z) in
+    armed-pair-told f sigma z v ∙ ap (λ a. andThen a (λ p. answers (told-both arm (armEnds f sigma arm) p))) r
 
 -- ---- at |φ|²
 pub angle-pair-answers : (f : Format) (phi : Vec3) (sigma : Float) (v : Values) (p : ScaledPair) → pairAnswer f sigma (vecNormSq f phi) v ≡ answers p → p ≡ coeffsPair f sigma (vecNormSq f phi) v

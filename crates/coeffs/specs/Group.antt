@@ -1,4 +1,4 @@
--- The coefficients: which arm, and whether scaled; unscaled; v alone; and at both signs.
+-- The coefficients: which arm, and whether scaled; with the arm told; unscaled; v alone; and at both signs.
 use mathlib.Core.Bool.{Bool, false, cond}
 use lib.Dec.{ltb}
 use lib.Ieee.{Float, Format, neg, mul, lt, le}
@@ -9,17 +9,19 @@ use Rattle.series.specs.declared.sim3.Coeffs4.{Coeffs4}
 use Rattle.circle.specs.Kernel.{circleSincABD}
 use Rattle.circle.specs.declared.kernel.SincABD.{SincABD}
 use Rattle.coeffs.specs.Values.{mirrored}
-use Rattle.coeffs.specs.Limits.{coeffsDelta, formBBelow, w0Below}
-use Rattle.coeffs.specs.Arm.{coeffsArm, armTerms}
+use Rattle.coeffs.specs.Limits.{coeffsDelta, formBBelow}
+use Rattle.coeffs.specs.Arm.{coeffsArm, armTerms, armEnds}
 use Rattle.coeffs.specs.Closed.{closedFrom}
 use Rattle.coeffs.specs.declared.values.Values.{Values}
 use Rattle.coeffs.specs.declared.sim3.Scaled.{Scaled}
 use Rattle.coeffs.specs.declared.sim3.VScaled.{VScaled}
 use Rattle.coeffs.specs.declared.sim3.ScaledPair.{ScaledPair}
+use Rattle.coeffs.specs.declared.sim3.Armed.{Armed}
+use Rattle.coeffs.specs.declared.sim3.ArmedPair.{ArmedPair}
 
--- the closed forms, from the circle functions t and from et and mt: scaled exactly where 0 < σ
-abbrev pub closedScaled : Format → Float → Float → SincABD → Float → Float → Scaled
-closedScaled f sigma z t et mt = record { c = closedFrom f sigma z t et mt (le (formBBelow f) (coeffsDelta f sigma z)) (lt (mul f sigma sigma) (w0Below f)); scaled = lt f0 sigma }
+-- the closed forms, from the circle functions t and from et and mt, v₀ and w₀ by their series where `ends`: scaled exactly where 0 < σ
+abbrev pub closedScaled : Format → Float → Float → SincABD → Float → Float → Bool → Scaled
+closedScaled f sigma z t et mt ends = record { c = closedFrom f sigma z t et mt (le (formBBelow f) (coeffsDelta f sigma z)) ends; scaled = lt f0 sigma }
 
 -- the series on the arms 1 to 4, with the terms of the arm; the closed forms on arm 5
 unfoldable pub coeffsScaled : Format → Float → Float → Values → Scaled
@@ -27,7 +29,13 @@ coeffsScaled f sigma z v =
     let arm = coeffsArm f (coeffsDelta f sigma z) in
     cond (ltb arm 5)
     (record { c = seriesFull f sigma z (armTerms f arm); scaled = false })
-    (closedScaled f sigma z (circleSincABD f z (v .root) (v .«sin_half») (v .«cos_half») (v .sin)) (v .e) (v .m))
+    (closedScaled f sigma z (circleSincABD f z (v .root) (v .«sin_half») (v .«cos_half») (v .sin)) (v .e) (v .m) (armEnds f sigma arm))
+
+-- the same with the arm, and with whether v₀ and w₀ come from series of their own
+unfoldable pub coeffsArmed : Format → Float → Float → Values → Armed
+coeffsArmed f sigma z v =
+    let arm = coeffsArm f (coeffsDelta f sigma z) in
+    record { s = coeffsScaled f sigma z v; arm = arm; ends = armEnds f sigma arm }
 
 -- times up where scaled, times 1 elsewhere
 unfoldable pub coeffsUnscale : Format → Sim3Coeffs → Float → Bool → Sim3Coeffs
@@ -66,3 +74,6 @@ coeffsV f sigma z v = coeffs4 (coeffsPlain f sigma z v)
 -- both signs: at σ on the values, and at -σ on the mirrored values
 unfoldable pub coeffsPair : Format → Float → Float → Values → ScaledPair
 coeffsPair f sigma z v = record { pos = coeffsScaled f sigma z v; neg = coeffsScaled f (neg sigma) z (mirrored sigma v) }
+
+unfoldable pub coeffsArmedPair : Format → Float → Float → Values → ArmedPair
+coeffsArmedPair f sigma z v = record { pos = coeffsArmed f sigma z v; neg = coeffsArmed f (neg sigma) z (mirrored sigma v) }

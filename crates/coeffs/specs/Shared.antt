@@ -1,15 +1,21 @@
--- What the private functions of the closed arm compute; no public contract cites it.
-use mathlib.Core.Bool.{Bool, cond}
-use lib.Ieee.{Float, Format, neg, mul, lt, le}
+-- What the private functions of the arms compute; no public contract cites it.
+use Prim.Native.Nat.{ℕ}
+use mathlib.Core.Bool.{Bool, false, cond}
+use lib.Ieee.{Float, Format, neg, lt, le}
 use Rattle.ieee.specs.Numbers.{f0}
+use Rattle.linalg.specs.Answer.{Answer}
+use Rattle.series.specs.Series.{seriesFull}
+use Rattle.circle.specs.Kernel.{notBelowZero}
 use Rattle.circle.specs.declared.kernel.SincABD.{SincABD}
 use Rattle.circle.specs.declared.kernel.SincA.{SincA}
 use Rattle.coeffs.specs.Values.{atZero}
-use Rattle.coeffs.specs.Limits.{formBBelow, w0Below}
+use Rattle.coeffs.specs.Limits.{formBBelow}
+use Rattle.coeffs.specs.Arm.{armTerms}
 use Rattle.coeffs.specs.Closed.{closedE, closedM, closedG, closedV0, closedW0, closedFrom}
 use Rattle.coeffs.specs.declared.closed.Exps.{Exps}
 use Rattle.coeffs.specs.declared.closed.Ends.{Ends}
 use Rattle.coeffs.specs.declared.values.Values.{Values}
+use Rattle.coeffs.specs.declared.sim3.Scaled.{Scaled}
 use Rattle.coeffs.specs.declared.sim3.ScaledPair.{ScaledPair}
 
 -- the circle functions with those alone that v reads
@@ -30,10 +36,13 @@ closedEnds f sigma x y small =
       «w0_neg» = closedW0 f (neg sigma) (y .g) (y .m1) small;
     }
 
-unfoldable pub closedPair : Format → Float → Float → Float → SincABD → Values → ScaledPair
-closedPair f sigma z delta t v =
+-- one sign of the closed arm at Δ, v₀ and w₀ by their series where `small`; and both
+unfoldable pub closedOne : Format → Float → Float → Float → Bool → SincABD → Values → Scaled
+closedOne f sigma z delta small t v = record { c = closedFrom f sigma z t (v .e) (v .m) (le (formBBelow f) delta) small; scaled = lt f0 sigma }
+
+unfoldable pub closedPair : Format → Float → Float → Float → Bool → SincABD → Values → ScaledPair
+closedPair f sigma z delta small t v =
     let formB = le (formBBelow f) delta in
-    let small = lt (mul f sigma sigma) (w0Below f) in
     record {
       pos = record { c = closedFrom f sigma z t (v .e) (v .m) formB small; scaled = lt f0 sigma };
       neg =
@@ -42,3 +51,12 @@ closedPair f sigma z delta t v =
             scaled = lt f0 (neg sigma);
           };
     }
+
+-- ---- what a series arm answers by its number, for one sign and for both
+unfoldable pub seriesArm : Format → Float → Float → ℕ → Answer Scaled
+seriesArm f sigma z arm = notBelowZero z (record { c = seriesFull f sigma z (armTerms f arm); scaled = false })
+
+unfoldable pub seriesArms : Format → Float → Float → ℕ → Answer ScaledPair
+seriesArms f sigma z arm =
+    let k = armTerms f arm in
+    notBelowZero z (record { pos = record { c = seriesFull f sigma z k; scaled = false }; neg = record { c = seriesFull f (neg sigma) z k; scaled = false } })

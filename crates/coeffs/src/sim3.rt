@@ -1,10 +1,13 @@
-// The entries of the coefficient group: scaled, unscaled, v alone, and the pair for both signs.
+// The entries of the coefficient group: scaled, with the arm told, unscaled, v alone, and the pair for
+// both signs. Each finds the arm once.
 ghost use mathlib.Core.Path.{_≡_};
 ghost use lib.Ieee.{binary64};
+ghost use Rattle.linalg.specs.Answer.{answers, andThen};
 ghost use Rattle.linalg.specs.Vector.{vecNormSq};
 ghost use Rattle.coeffs.specs.Group.{coeffsScaled, coeffsUnscale, coeffsUnscaleV, coeffsPlain, coeffsV, coeffsPair};
-ghost use Rattle.coeffs.specs.Shared.{closedPair};
+ghost use Rattle.coeffs.specs.Shared.{closedOne, closedPair, seriesArm, seriesArms};
 ghost use Rattle.coeffs.specs.Entries.{scaledTold, coeffsTold, vTold, vScaledTold, pairTold, scaledAnswer, coeffsAnswer, vAnswer, vScaledAnswer, pairAnswer};
+ghost use Rattle.coeffs.specs.Entries.{armedTold, armedPairTold, armedAnswer, armedPairAnswer};
 use crate::closed::EtMt;
 use crate::closed::closed_both;
 use crate::closed::closed_from;
@@ -44,6 +47,20 @@ pub struct ScaledPair {
     pub neg: Scaled,
 }
 
+// The coefficients with the arm that formed them, 1 to 4 for the series with more and more terms and 5
+// for the closed one; `ends` says whether v0 and w0 of the closed arm come from series of their own.
+pub struct Armed {
+    pub s: Scaled,
+    pub arm: u8,
+    pub ends: bool,
+}
+
+// The same at sigma and at -sigma.
+pub struct ArmedPair {
+    pub pos: Armed,
+    pub neg: Armed,
+}
+
 // The answers of the entries: the coefficients, or refusal 1.
 pub enum ScaledAnswer {
     Coeffs(Scaled),
@@ -70,6 +87,38 @@ pub enum PairAnswer {
     Refused(u8),
 }
 
+pub enum ArmedAnswer {
+    Coeffs(Armed),
+    Refused(u8),
+}
+
+pub enum ArmedPairAnswer {
+    Coeffs(ArmedPair),
+    Refused(u8),
+}
+
+// The coefficients by a series arm.
+fn by_series(sigma: f64, z: f64, arm: u8) -> ScaledAnswer
+    ensures { λ r. ⌜ scaledTold r ≡ seriesArm binary64 sigma z arm ⌝ }
+{
+    match series::sim3::series(sigma, z, terms(arm)) {
+        SeriesAnswer::Coeffs(c) => ScaledAnswer::Coeffs(Scaled { c, scaled: false }),
+        SeriesAnswer::Refused(n) => ScaledAnswer::Refused(n),
+    }
+}
+
+// The coefficients by the closed arm from the circle functions t, v0 and w0 by their series where
+// `small`.
+fn closed_one(sigma: f64, z: f64, delta: f64, small: bool, t: SincABD, v: Values) -> Scaled
+    ensures { λ r. ⌜ r ≡ closedOne binary64 sigma z delta small t v ⌝ }
+{
+    let c = closed_from(sigma, z, t, v.e, v.m, on_form_b(delta), small);
+    Scaled {
+        c,
+        scaled: 0.0 < sigma,
+    }
+}
+
 // The coefficients at (sigma, z = theta^2) and whether they are scaled; refusal 1 for z < 0.
 pub fn sim3_coeffs_scaled(sigma: f64, z: f64, v: Values) -> ScaledAnswer
     ensures { λ r. ⌜ scaledTold r ≡ scaledAnswer binary64 sigma z v ⌝ }
@@ -77,26 +126,43 @@ pub fn sim3_coeffs_scaled(sigma: f64, z: f64, v: Values) -> ScaledAnswer
     let delta = sigma * sigma + z;
     let at = arm(delta);
     if at < CLOSED {
-        match series::sim3::series(sigma, z, terms(at)) {
-            SeriesAnswer::Coeffs(c) => {
-                return ScaledAnswer::Coeffs(Scaled { c, scaled: false });
-            }
-            SeriesAnswer::Refused(n) => {
-                return ScaledAnswer::Refused(n);
-            }
-        }
+        return by_series(sigma, z, at);
     }
     match circle::kernel::sinc_a_b_d(z, v.root, v.sin_half, v.cos_half, v.sin) {
         SincABDAnswer::Coeffs(t) => {
-            let form_b = on_form_b(delta);
             let small = w0_small(sigma);
-            let c = closed_from(sigma, z, t, v.e, v.m, form_b, small);
-            ScaledAnswer::Coeffs(Scaled {
-                c,
-                scaled: 0.0 < sigma,
-            })
+            ScaledAnswer::Coeffs(closed_one(sigma, z, delta, small, t, v))
         }
         SincABDAnswer::Refused(n) => ScaledAnswer::Refused(n),
+    }
+}
+
+// What an arm answered, with the arm told.
+fn tell(r: ScaledAnswer, arm: u8, ends: bool) -> ArmedAnswer
+    ensures { λ q. ⌜ armedTold q ≡ andThen (scaledTold r) (λ s. answers (record { s = s; arm = arm; ends = ends })) ⌝ }
+{
+    match r {
+        ScaledAnswer::Coeffs(s) => ArmedAnswer::Coeffs(Armed { s, arm, ends }),
+        ScaledAnswer::Refused(n) => ArmedAnswer::Refused(n),
+    }
+}
+
+// sim3_coeffs_scaled with the arm told.
+pub fn sim3_coeffs_armed(sigma: f64, z: f64, v: Values) -> ArmedAnswer
+    ensures { λ r. ⌜ armedTold r ≡ armedAnswer binary64 sigma z v ⌝ }
+{
+    let delta = sigma * sigma + z;
+    let at = arm(delta);
+    if at < CLOSED {
+        return tell(by_series(sigma, z, at), at, false);
+    }
+    match circle::kernel::sinc_a_b_d(z, v.root, v.sin_half, v.cos_half, v.sin) {
+        SincABDAnswer::Coeffs(t) => {
+            let ends = w0_small(sigma);
+            let s = closed_one(sigma, z, delta, ends, t, v);
+            tell(ScaledAnswer::Coeffs(s), at, ends)
+        }
+        SincABDAnswer::Refused(n) => ArmedAnswer::Refused(n),
     }
 }
 
@@ -189,15 +255,15 @@ pub fn sim3_v(sigma: f64, z: f64, v: Values) -> VAnswer
 
 // The closed arm at sigma and at -sigma, from the same circle functions t: delta, form b and the
 // limit on sigma^2 are even in sigma.
-fn closed_pair(sigma: f64, z: f64, delta: f64, t: SincABD, v: Values) -> ScaledPair
-    ensures { λ r. ⌜ r ≡ closedPair binary64 sigma z delta t v ⌝ }
+fn closed_pair(sigma: f64, z: f64, delta: f64, small: bool, t: SincABD, v: Values) -> ScaledPair
+    ensures { λ r. ⌜ r ≡ closedPair binary64 sigma z delta small t v ⌝ }
 {
     let zero = at_zero(sigma);
     let e = ieee::pick(zero, v.e0, v.e);
     let m = ieee::pick(zero, v.m0, v.m);
     let x = EtMt { et: v.e, mt: v.m };
     let y = EtMt { et: e, mt: m };
-    let c = closed_both(sigma, z, t, x, y, on_form_b(delta), w0_small(sigma));
+    let c = closed_both(sigma, z, t, x, y, on_form_b(delta), small);
     let a = c.pos;
     let b = c.neg;
     ScaledPair {
@@ -212,6 +278,28 @@ fn closed_pair(sigma: f64, z: f64, delta: f64, t: SincABD, v: Values) -> ScaledP
     }
 }
 
+// Both signs by a series arm.
+fn pair_by_series(sigma: f64, z: f64, arm: u8) -> PairAnswer
+    ensures { λ r. ⌜ pairTold r ≡ seriesArms binary64 sigma z arm ⌝ }
+{
+    match series_pair::pair::series_pair(sigma, z, terms(arm)) {
+        SeriesPairAnswer::Coeffs(p) => {
+            let a = p.pos;
+            let b = p.neg;
+            let pos = Scaled {
+                c: a,
+                scaled: false,
+            };
+            let neg = Scaled {
+                c: b,
+                scaled: false,
+            };
+            PairAnswer::Coeffs(ScaledPair { pos, neg })
+        }
+        SeriesPairAnswer::Refused(n) => PairAnswer::Refused(n),
+    }
+}
+
 // sim3_coeffs_scaled at sigma and at -sigma, the latter on the mirrored values, each to the bit:
 // the arm, the circle functions, the exponential's values and the recurrence are shared.
 pub fn sim3_coeffs_scaled_pair(sigma: f64, z: f64, v: Values) -> PairAnswer
@@ -220,28 +308,49 @@ pub fn sim3_coeffs_scaled_pair(sigma: f64, z: f64, v: Values) -> PairAnswer
     let delta = sigma * sigma + z;
     let at = arm(delta);
     if at < CLOSED {
-        match series_pair::pair::series_pair(sigma, z, terms(at)) {
-            SeriesPairAnswer::Coeffs(p) => {
-                let a = p.pos;
-                let b = p.neg;
-                let pos = Scaled {
-                    c: a,
-                    scaled: false,
-                };
-                let neg = Scaled {
-                    c: b,
-                    scaled: false,
-                };
-                return PairAnswer::Coeffs(ScaledPair { pos, neg });
-            }
-            SeriesPairAnswer::Refused(n) => {
-                return PairAnswer::Refused(n);
-            }
-        }
+        return pair_by_series(sigma, z, at);
     }
     match circle::kernel::sinc_a_b_d(z, v.root, v.sin_half, v.cos_half, v.sin) {
-        SincABDAnswer::Coeffs(t) => PairAnswer::Coeffs(closed_pair(sigma, z, delta, t, v)),
+        SincABDAnswer::Coeffs(t) => {
+            let small = w0_small(sigma);
+            PairAnswer::Coeffs(closed_pair(sigma, z, delta, small, t, v))
+        }
         SincABDAnswer::Refused(n) => PairAnswer::Refused(n),
+    }
+}
+
+// What an arm answered at both signs, with the arm told: it is even in sigma.
+fn tell_pair(r: PairAnswer, arm: u8, ends: bool) -> ArmedPairAnswer
+    ensures { λ q. ⌜ armedPairTold q ≡ andThen (pairTold r) (λ p. answers (record { pos = record { s = p .pos; arm = arm; ends = ends }; neg = record { s = p .neg; arm = arm; ends = ends } })) ⌝ }
+{
+    match r {
+        PairAnswer::Coeffs(p) => {
+            let a = p.pos;
+            let b = p.neg;
+            let pos = Armed { s: a, arm, ends };
+            let neg = Armed { s: b, arm, ends };
+            ArmedPairAnswer::Coeffs(ArmedPair { pos, neg })
+        }
+        PairAnswer::Refused(n) => ArmedPairAnswer::Refused(n),
+    }
+}
+
+// sim3_coeffs_armed at sigma and at -sigma, likewise.
+pub fn sim3_coeffs_armed_pair(sigma: f64, z: f64, v: Values) -> ArmedPairAnswer
+    ensures { λ r. ⌜ armedPairTold r ≡ armedPairAnswer binary64 sigma z v ⌝ }
+{
+    let delta = sigma * sigma + z;
+    let at = arm(delta);
+    if at < CLOSED {
+        return tell_pair(pair_by_series(sigma, z, at), at, false);
+    }
+    match circle::kernel::sinc_a_b_d(z, v.root, v.sin_half, v.cos_half, v.sin) {
+        SincABDAnswer::Coeffs(t) => {
+            let ends = w0_small(sigma);
+            let p = closed_pair(sigma, z, delta, ends, t, v);
+            tell_pair(PairAnswer::Coeffs(p), at, ends)
+        }
+        SincABDAnswer::Refused(n) => ArmedPairAnswer::Refused(n),
     }
 }
 

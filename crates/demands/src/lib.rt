@@ -1,9 +1,13 @@
-// The third demand: the paired evaluation gives for both signs what the one-sign functions give. The
-// function here makes the eight calls of which the demand speaks, and its contract is the demand: it
-// rests on the contracts of these functions and on nothing else of them.
+// What is said of several calls together. Each function here makes the calls of which a demand speaks,
+// and its contract is the demand: it rests on the contracts of these functions and on nothing else of
+// them. The third demand: the paired evaluation gives for both signs what the one-sign functions give.
+// And of the arms: the flags that are told with them are those by which the block pair scales.
 ghost use lib.Ieee.{binary64};
+ghost use Rattle.coeffs.specs.Entries.{armedPairTold};
 ghost use Rattle.demands.specs.Demand3.{Demand3};
+ghost use Rattle.demands.specs.Flags.{FlagsScale};
 ghost use Rattle.demands.specs.Told.{signsTold};
+use coeffs::sim3::ArmedPairAnswer;
 use coeffs::sim3::PairAnswer;
 use coeffs::sim3::ScaledAnswer;
 use coeffs::values::Values;
@@ -54,4 +58,20 @@ pub fn both_signs(tau: Sim3Tangent, z: f64, v: Values, jl: Mat3, jl_inv: Mat3) -
         exp,
         exp_neg,
     }
+}
+
+// What the two calls return: the coefficients with their arms and flags, and the pair of blocks.
+pub struct Flagged {
+    pub armed: ArmedPairAnswer,
+    pub block: BlockPair,
+}
+
+// The armed pair at tau's sigma and |phi|^2, and the block pair of tau.
+pub fn same_flags(tau: Sim3Tangent, v: Values, jl: Mat3, jl_inv: Mat3) -> Flagged
+    ensures { λ r. ⌜ FlagsScale binary64 tau v jl «jl_inv» (armedPairTold (r .armed)) (r .block) ⌝ }
+{
+    let phi = tau.phi;
+    let armed = coeffs::sim3::sim3_coeffs_armed_pair(tau.sigma, phi.norm_sq(), v);
+    let block = sides::pair::block_pair(tau, v, jl, jl_inv);
+    Flagged { armed, block }
 }

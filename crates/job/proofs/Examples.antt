@@ -98,6 +98,7 @@ table =
     ∷ record { first = 0x4d; second = 0x55; bytes = 136 }
     ∷ record { first = 0x49; second = 0x4e; bytes = 72 }
     ∷ record { first = 0x4a; second = 0x49; bytes = 248 }
+    ∷ record { first = 0x41; second = 0x52; bytes = 96 }
     ∷ []
 
 found : Row → ℕ → Found

@@ -13,6 +13,7 @@ use Rattle.series.specs.declared.sim3.Sim3Coeffs.{Sim3Coeffs}
 use Rattle.coeffs.specs.declared.values.Values.{Values}
 use Rattle.coeffs.specs.declared.sim3.Scaled.{Scaled}
 use Rattle.coeffs.specs.declared.sim3.ScaledPair.{ScaledPair}
+use Rattle.coeffs.specs.declared.sim3.ArmedPair.{ArmedPair}
 use Rattle.so3.specs.Quat.{quat}
 use Rattle.so3.specs.declared.quat.Quat.{Quat}
 use Rattle.sim3.specs.Pose.{pose}
@@ -124,6 +125,10 @@ scaledNumbers s = coeffsNumbers (s .c) ++ (cond (s .scaled) f1 f0 ∷ [])
 
 unfoldable pub scaledPairNumbers : ScaledPair → List Float
 scaledPairNumbers p = scaledNumbers (p .pos) ++ scaledNumbers (p .neg)
+
+-- the scaled pair of one whose arms are told
+abbrev pub armedScaled : ArmedPair → ScaledPair
+armedScaled p = record { pos = p .pos .s; neg = p .neg .s }
 
 unfoldable pub twoNumbers : TwoJacobians → List Float
 twoNumbers t = blockNumbers (t .first) ++ blockNumbers (t .second)

@@ -6,7 +6,7 @@ use lib.Dec.{eqb}
 use lib.Ieee.{binary64}
 use Rattle.linalg.specs.Answer.{Answer, answers, refuses}
 use Rattle.outcome.specs.declared.Entry.{Entry}
-use Rattle.outcome.specs.declared.Entry.the-variants.{Ex, Co, Pa, Ac, Mu, In, Ji}
+use Rattle.outcome.specs.declared.Entry.the-variants.{Ex, Co, Pa, Ac, Mu, In, Ji, Ar}
 use Rattle.outcome.specs.Outcome.{unknownMark, Found, ended, unknown, cut}
 use Rattle.replies.specs.Table.{widthOf, entryFound}
 use Rattle.marks.specs.declared.Look.{Look}
@@ -22,7 +22,8 @@ markKnown k =
     (cond (eqb k 0x4143) (answers Ac)
     (cond (eqb k 0x4d55) (answers Mu)
     (cond (eqb k 0x494e) (answers In)
-    (cond (eqb k 0x4a49) (answers Ji) (refuses unknownMark)))))))
+    (cond (eqb k 0x4a49) (answers Ji)
+    (cond (eqb k 0x4152) (answers Ar) (refuses unknownMark))))))))
 
 unfoldable pub markOf : ℕ → ℕ → Answer Entry
 markOf a b = markKnown (a * 256 + b)

@@ -33,6 +33,7 @@ fn known(k: u16) -> Look
         0x4d55 => Look::Known(Entry::Mu),
         0x494e => Look::Known(Entry::In),
         0x4a49 => Look::Known(Entry::Ji),
+        0x4152 => Look::Known(Entry::Ar),
         _ => Look::Unknown,
     }
 }

@@ -14,6 +14,7 @@ pub enum Entry {
     Mu,
     In,
     Ji,
+    Ar,
 }
 
 // What an entry did: it wrote an answer of so many bytes behind the mark, or refused with a number and

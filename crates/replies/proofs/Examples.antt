@@ -1,19 +1,24 @@
--- Worked records: the scope's AC record, and its examples of the refusals 1 and 2, by computing their replies. Assumes nothing.
+-- Worked records: the scope's AC record, its examples of the refusals 1 and 2, and the arms at a NaN, by computing. Assumes nothing.
 use Prim.Native.Nat.{ℕ}
 use mathlib.Core.Path.{_≡_, refl}
 use mathlib.Core.Bool.{true, false}
 use mathlib.Core.List.{List, [], _∷_, _++_}
-use lib.Ieee.{binary64, ofBits, toBits, add, sub, mul, lt, le}
+use lib.Ieee.{Float, binary64, nan, ofBits, toBits, add, sub, mul, lt, le}
 use Rattle.linalg.specs.Vector.{vecScale, vecCross, vecAdd, vecNumbers}
-use Rattle.coeffs.specs.Entries.{beside, scaledAnswer, pairAnswer}
+use Rattle.ieee.specs.Numbers.{f0}
+use Rattle.coeffs.specs.Limits.{coeffsDelta}
+use Rattle.coeffs.specs.Arm.{coeffsArm, armEnds}
+use Rattle.coeffs.specs.Group.{coeffsArmed}
+use Rattle.coeffs.specs.Entries.{beside, scaledAnswer, pairAnswer, besideArmed, armedAnswer, armedPairAnswer}
+use Rattle.coeffs.specs.declared.values.Values.{Values}
 use Rattle.so3.specs.So3.{so3Act}
 use Rattle.sim3.specs.Pose.{poseAct}
 use Rattle.jacobian.specs.Jac.{jacInverseAnswer}
 use Rattle.layout.specs.Layout.{vecIn, quatIn, poseIn, blockIn}
 use Rattle.wire.specs.Wire.{wordOf, wordBytes, numberOf, numberAt, numberBytes, itemBytes, itemsBytes, numbers}
-use Rattle.outcome.specs.declared.Entry.the-variants.{Co, Ac, Ji}
+use Rattle.outcome.specs.declared.Entry.the-variants.{Co, Ac, Ji, Ar}
 use Rattle.outcome.specs.Outcome.{markBytes, noBytes, replyOf}
-use Rattle.replies.specs.Table.{coOf, acOf, jiOf, answerOf, entryReply}
+use Rattle.replies.specs.Table.{coOf, acOf, jiOf, arOf, answerOf, entryReply}
 
 -- the bytes of numbers that are given by their bits
 unfoldable wordsBytes : List ℕ → List ℕ
@@ -40,6 +45,19 @@ ac-example = refl
 co-example : (values : List ℕ) → entryReply binary64 Co (0x43 ∷ 0x4f ∷ (wordsBytes (0 ∷ 0xbff0000000000000 ∷ []) ++ values)) ≡ record { ok = false; bytes = noBytes 1 }
 unfolding wordsBytes entryReply replyOf answerOf coOf numberAt numberOf wordOf wordBytes ofBits lt scaledAnswer beside pairAnswer
 co-example values = refl
+
+ar-example : (values : List ℕ) → entryReply binary64 Ar (0x41 ∷ 0x52 ∷ (wordsBytes (0 ∷ 0xbff0000000000000 ∷ []) ++ values)) ≡ record { ok = false; bytes = noBytes 1 }
+unfolding wordsBytes entryReply replyOf answerOf arOf numberAt numberOf wordOf wordBytes ofBits lt armedAnswer besideArmed armedPairAnswer
+ar-example values = refl
+
+-- a NaN takes the closed arm: with z alone a NaN, v₀ and w₀ come from series at σ = 0; with σ a NaN they do not, whatever z is
+z-nan : (v : Values) → (coeffsArmed binary64 f0 nan v .arm ≡ 5) × (coeffsArmed binary64 f0 nan v .ends ≡ true)
+unfolding coeffsArmed coeffsArm armEnds coeffsDelta ofBits add mul lt
+z-nan v = (refl, refl)
+
+sigma-nan : (z : Float) (v : Values) → (coeffsArmed binary64 nan z v .arm ≡ 5) × (coeffsArmed binary64 nan z v .ends ≡ false)
+unfolding coeffsArmed coeffsArm armEnds coeffsDelta ofBits add mul lt
+sigma-nan z v = (refl, refl)
 
 -- identity blocks, e = 0
 eye : List ℕ

@@ -1,4 +1,6 @@
 -- The laws of replies, and the runs of stores by which the code writes them.
 pub mod Numbers
+pub mod Arms
 pub mod Replies
+mod ArAsCo
 mod Examples

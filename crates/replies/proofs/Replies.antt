@@ -8,14 +8,15 @@ use lib.ListN.{length, take, drop, getD, set, length-append, length-drop}
 use lib.Seq.{sets, length-sets, length-take-le}
 use lib.Ieee.{Float, Format, binary32, binary64}
 use Rattle.linalg.specs.Answer.{Answer, answers, refuses, andThen}
-use Rattle.coeffs.specs.Entries.{pairAnswer}
+use Rattle.coeffs.specs.Entries.{pairAnswer, armedPairAnswer}
+use Rattle.coeffs.specs.declared.sim3.ArmedPair.{ArmedPair}
 use Rattle.jacobian.specs.Jac.{jacInverseAnswer}
 use Rattle.layout.specs.Layout.{blockPairCount, blockIn, valuesIn, blockNumbers, scaledPairNumbers}
 use Rattle.layout.proofs.Numbers.{vec-count, pose-count, block-count, block-pair-count, scaled-pair-count}
 use Rattle.wire.specs.Wire.{Item, width, numberAt, numbersBytes, itemsBytes, numbers}
 use Rattle.wire.proofs.Bytes.{numbers-length, items-numbers}
 use Rattle.outcome.specs.declared.Entry.{Entry}
-use Rattle.outcome.specs.declared.Entry.the-variants.{Ex, Co, Pa, Ac, Mu, In, Ji}
+use Rattle.outcome.specs.declared.Entry.the-variants.{Ex, Co, Pa, Ac, Mu, In, Ji, Ar}
 use Rattle.outcome.specs.declared.Gave.{Gave}
 use Rattle.outcome.specs.declared.Gave.the-variants as gave
 use Rattle.outcome.specs.declared.Step.the-variants as step
@@ -23,7 +24,8 @@ use Rattle.layout.proofs.Runs.{sets-part}
 use Rattle.outcome.specs.Outcome.{longest, noBytes, markBytes, Reply, replyOf, gaveOf, gaveBytes, becameOf, writtenOf, stepTold}
 use Rattle.outcome.proofs.Never.{never}
 use Rattle.outcome.proofs.Record.{mark-length, no-length, marked, reply-whole}
-use Rattle.replies.specs.Table.{gives, numbersOf, widthOf, exOf, coOf, paOf, acOf, muOf, inOf, jiOf, answerOf, entryReply, entryFound}
+use Rattle.replies.specs.Table.{gives, numbersOf, widthOf, exOf, coOf, paOf, acOf, muOf, inOf, jiOf, armedItems, arOf, answerOf, entryReply, entryFound}
+use Rattle.replies.proofs.Arms.{armed-length}
 
 -- ---- an entry that wrote n numbers
 pub wrote :
@@ -31,6 +33,13 @@ pub wrote :
     (gave.Wrote k ≡ gaveOf f (gives l)) × (out′ ≡ sets out 0 (gaveBytes f (gives l)))
 unfolding gaveOf gaveBytes
 wrote f l n k out out′ h e q = rw (items-numbers f l, numbers-length f l, h, ← e) (refl, q)
+
+-- and one that wrote items of k bytes
+pub wrote-items :
+    (f : Format) (l : List Item) (k : ℕ) (out out′ : List ℕ) → length (itemsBytes f l) ≡ k → out′ ≡ sets out 0 (itemsBytes f l) →
+    (gave.Wrote k ≡ gaveOf f (answers l)) × (out′ ≡ sets out 0 (gaveBytes f (answers l)))
+unfolding gaveOf gaveBytes
+wrote-items f l k out out′ h q = rw h (refl, q)
 
 -- ---- no record is longer than PA's, in doubles
 pub width-most : (f : Format) (e : Entry) → widthOf f e ≤ 8 * numbersOf Pa
@@ -41,6 +50,7 @@ width-most binary32 Ac = omega arith
 width-most binary32 Mu = omega arith
 width-most binary32 In = omega arith
 width-most binary32 Ji = omega arith
+width-most binary32 Ar = omega arith
 width-most binary64 Ex = omega arith
 width-most binary64 Co = omega arith
 width-most binary64 Pa = omega arith
@@ -48,6 +58,7 @@ width-most binary64 Ac = omega arith
 width-most binary64 Mu = omega arith
 width-most binary64 In = omega arith
 width-most binary64 Ji = omega arith
+width-most binary64 Ar = omega arith
 
 -- ---- and no reply than PA's
 widest : (f : Format) (n : ℕ) → n ≤ blockPairCount → 2 + n * width f ≤ longest
@@ -65,8 +76,18 @@ unfolding replyOf
 from-most f a b n of h m (answers x) = gives-most f a b n (of x) (h x) m
 from-most f a b n of h m (refuses k) = rw (no-length k) (omega arith)
 
+-- the four bytes of the arms and the twenty numbers
+arms-most : (f : Format) → 2 + (4 + 20 * width f) ≤ longest
+arms-most binary32 = omega arith
+arms-most binary64 = omega arith
+
+armed-most : (f : Format) (a b : ℕ) (r : Answer ArmedPair) → length (replyOf f a b (andThen r (λ p. answers (armedItems p))) .bytes) ≤ longest
+unfolding replyOf
+armed-most f a b (answers p) = rw (length-append (markBytes a b) (itemsBytes f (armedItems p)), mark-length a b, armed-length f p) (arms-most f)
+armed-most f a b (refuses k) = rw (no-length k) (omega arith)
+
 reply-most : (f : Format) (e : Entry) (a b : ℕ) (r : List ℕ) → length (replyOf f a b (answerOf f e r) .bytes) ≤ longest
-unfolding answerOf exOf coOf paOf acOf muOf inOf jiOf
+unfolding answerOf exOf coOf paOf acOf muOf inOf jiOf arOf
 reply-most f Ex a b r = gives-most f a b 8 _ (pose-count _) (omega arith)
 reply-most f Co a b r = from-most f a b 20 scaledPairNumbers scaled-pair-count (omega arith) (pairAnswer f (numberAt f r 0) (numberAt f r 1) (valuesIn (numberAt f r) 2))
 reply-most f Pa a b r = gives-most f a b 124 _ (block-pair-count _) (omega arith)
@@ -74,6 +95,7 @@ reply-most f Ac a b r = gives-most f a b 3 _ (vec-count _) (omega arith)
 reply-most f Mu a b r = gives-most f a b 8 _ (pose-count _) (omega arith)
 reply-most f In a b r = gives-most f a b 8 _ (pose-count _) (omega arith)
 reply-most f Ji a b r = from-most f a b 31 blockNumbers block-count (omega arith) (jacInverseAnswer f (blockIn (numberAt f r) 0))
+reply-most f Ar a b r = armed-most f a b (armedPairAnswer f (numberAt f r 0) (numberAt f r 1) (valuesIn (numberAt f r) 2))
 
 pub entry-most : (f : Format) (e : Entry) (r : List ℕ) → length (entryReply f e r .bytes) ≤ longest
 unfolding entryReply

@@ -1,20 +1,23 @@
 -- The entries that a record can ask for: how many numbers it has behind its mark, and what it is answered.
 use Prim.Native.Nat.{ℕ, _+_, _*_}
-use mathlib.Core.List.{List}
+use mathlib.Core.Bool.{cond}
+use mathlib.Core.List.{List, [], _∷_, _++_}
 use lib.ListN.{drop, getD}
 use lib.Ieee.{Float, Format}
 use Rattle.linalg.specs.Answer.{Answer, answers, refuses, andThen}
 use Rattle.linalg.specs.Vector.{vecNumbers}
-use Rattle.coeffs.specs.Entries.{pairAnswer}
+use Rattle.coeffs.specs.Entries.{pairAnswer, armedPairAnswer}
+use Rattle.coeffs.specs.declared.sim3.Armed.{Armed}
+use Rattle.coeffs.specs.declared.sim3.ArmedPair.{ArmedPair}
 use Rattle.sim3.specs.Pose.{poseAct, poseMul, poseInverse}
 use Rattle.sim3.specs.Exp.{poseExp}
 use Rattle.jacobian.specs.Jac.{jacInverseAnswer}
 use Rattle.sides.specs.Pair.{blockPair}
 use Rattle.layout.specs.Layout.{vecCount, matCount, poseCount, tangentCount, valuesCount, blockCount, vecIn, matIn, poseIn, tangentIn, valuesIn, blockIn}
-use Rattle.layout.specs.Layout.{poseNumbers, blockNumbers, blockPairNumbers, scaledPairNumbers}
-use Rattle.wire.specs.Wire.{Item, width, numberAt, numbers}
+use Rattle.layout.specs.Layout.{poseNumbers, blockNumbers, blockPairNumbers, scaledPairNumbers, armedScaled}
+use Rattle.wire.specs.Wire.{Item, word, width, numberAt, numbers}
 use Rattle.outcome.specs.declared.Entry.{Entry}
-use Rattle.outcome.specs.declared.Entry.the-variants.{Ex, Co, Pa, Ac, Mu, In, Ji}
+use Rattle.outcome.specs.declared.Entry.the-variants.{Ex, Co, Pa, Ac, Mu, In, Ji, Ar}
 use Rattle.outcome.specs.Outcome.{Reply, Found, replyOf, recordFound}
 
 -- ---- how many numbers follow the mark, and how many bytes
@@ -26,6 +29,7 @@ numbersOf Ac = poseCount + 1 + vecCount
 numbersOf Mu = 2 * poseCount + 1
 numbersOf In = poseCount + 1
 numbersOf Ji = blockCount
+numbersOf Ar = 2 + valuesCount
 
 abbrev pub widthOf : Format → Entry → ℕ
 widthOf f e = numbersOf e * width f
@@ -62,6 +66,18 @@ inOf f b = gives (poseNumbers (poseInverse f (poseIn (numberAt f b) 0) (numberAt
 unfoldable pub jiOf : Format → List ℕ → Answer (List Item)
 jiOf f b = andThen (jacInverseAnswer f (blockIn (numberAt f b) 0)) (λ j. gives (blockNumbers j))
 
+-- the arm of one sign, and 1 where v₀ and w₀ of the closed arm come from series of their own, else 0: a byte each
+unfoldable pub armItems : Armed → List Item
+armItems a = word 1 (a .arm) ∷ word 1 (cond (a .ends) 1 0) ∷ []
+
+-- the arms of σ and of −σ, and the scaled pair
+unfoldable pub armedItems : ArmedPair → List Item
+armedItems p = armItems (p .pos) ++ (armItems (p .neg) ++ numbers (scaledPairNumbers (armedScaled p)))
+
+-- σ, z, values: the scaled pair with its arms before it
+unfoldable pub arOf : Format → List ℕ → Answer (List Item)
+arOf f b = andThen (armedPairAnswer f (numberAt f b 0) (numberAt f b 1) (valuesIn (numberAt f b) 2)) (λ p. answers (armedItems p))
+
 unfoldable pub answerOf : Format → Entry → List ℕ → Answer (List Item)
 answerOf f Ex b = exOf f b
 answerOf f Co b = coOf f b
@@ -70,6 +86,7 @@ answerOf f Ac b = acOf f b
 answerOf f Mu b = muOf f b
 answerOf f In b = inOf f b
 answerOf f Ji b = jiOf f b
+answerOf f Ar b = arOf f b
 
 -- ---- the reply to a whole record r, its mark among its bytes; and what stands at the head of s, whose mark asks for the entry e
 unfoldable pub entryReply : Format → Entry → List ℕ → Reply

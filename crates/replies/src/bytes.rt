@@ -1,10 +1,11 @@
-// The i-th number of a list of bytes: the one place where a number's bytes stand one by one.
+// The i-th number of a list of bytes: the one place where a number's bytes stand one by one. And the
+// whole number of one byte.
 ghost use mathlib.Core.Path.{_≡_};
 ghost use Prim.Native.Nat.{_+_, _*_, _≤_};
 ghost use lib.Ieee.{binary64};
 ghost use lib.ListN.{length};
 ghost use lib.Seq.{sets};
-ghost use Rattle.wire.specs.Wire.{width, numberAt, numberBytes};
+ghost use Rattle.wire.specs.Wire.{word, width, numberAt, numberBytes, itemBytes};
 
 pub(crate) fn number_at(b: &[u8], i: usize) -> f64
     requires { ⌜ (i + 1) * 8 ≤ length (now b) ⌝ }
@@ -37,4 +38,11 @@ pub(crate) fn put_number(out: &mut [u8], i: usize, x: f64)
     out[at + 5] = d[5];
     out[at + 6] = d[6];
     out[at + 7] = d[7];
+}
+
+pub(crate) fn put_word(out: &mut [u8], at: usize, n: u8)
+    requires { ⌜ at + 1 ≤ length (now out) ⌝ }
+    ensures { λ _. ⌜ now (out .exit) ≡ sets (now (out .entry)) at (itemBytes binary64 (word 1 n)) ⌝ }
+{
+    out[at] = n;
 }

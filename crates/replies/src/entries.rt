@@ -7,12 +7,13 @@ ghost use lib.ListN.{length};
 ghost use lib.Seq.{sets};
 ghost use Rattle.outcome.specs.Outcome.{longest, gaveOf, gaveBytes};
 ghost use Rattle.outcome.specs.declared.Entry.{Entry};
-ghost use Rattle.replies.specs.Table.{widthOf, exOf, coOf, paOf, acOf, muOf, inOf, jiOf};
+ghost use Rattle.replies.specs.Table.{widthOf, exOf, coOf, paOf, acOf, muOf, inOf, jiOf, arOf};
 use crate::NUMBER;
 use crate::bytes::number_at;
 use crate::places::block_at;
 use crate::places::mat_at;
 use crate::places::pose_at;
+use crate::places::put_armed_pair;
 use crate::places::put_block;
 use crate::places::put_block_pair;
 use crate::places::put_pose;
@@ -21,6 +22,7 @@ use crate::places::put_vec;
 use crate::places::tangent_at;
 use crate::places::values_at;
 use crate::places::vec_at;
+use coeffs::sim3::ArmedPairAnswer;
 use coeffs::sim3::PairAnswer;
 use jacobian::jac::JacAnswer;
 use layout::BLOCK;
@@ -118,5 +120,21 @@ pub(crate) fn ji(b: &[u8], out: &mut [u8]) -> Gave
             Gave::Wrote(NUMBER * BLOCK)
         }
         JacAnswer::Refused(number) => Gave::Refused(number),
+    }
+}
+
+// The scaled pair of coefficients with the arms that formed it; refusal 1 for z < 0.
+pub(crate) fn ar(b: &[u8], out: &mut [u8]) -> Gave
+    requires { ⌜ length (now b) ≡ widthOf binary64 Entry.Ar ⌝ }
+    requires { ⌜ longest ≤ 2 + length (now out) ⌝ }
+    ensures { λ r. ⌜ r ≡ gaveOf binary64 (arOf binary64 (now (b .entry))) ⌝ }
+    ensures { λ _. ⌜ now (out .exit) ≡ sets (now (out .entry)) 0 (gaveBytes binary64 (arOf binary64 (now (b .entry)))) ⌝ }
+{
+    match coeffs::sim3::sim3_coeffs_armed_pair(number_at(b, 0), number_at(b, 1), values_at(b, 2)) {
+        ArmedPairAnswer::Coeffs(p) => {
+            put_armed_pair(out, p);
+            Gave::Wrote(4 + NUMBER * SCALED_PAIR)
+        }
+        ArmedPairAnswer::Refused(number) => Gave::Refused(number),
     }
 }

@@ -8,6 +8,7 @@ ghost use lib.Seq.{sets};
 ghost use Rattle.outcome.specs.Outcome.{longest, becameOf, writtenOf, stepTold, gaveOf, gaveBytes};
 ghost use Rattle.replies.specs.Table.{widthOf, answerOf, entryFound};
 use crate::entries::ac;
+use crate::entries::ar;
 use crate::entries::co;
 use crate::entries::ex;
 use crate::entries::inv;
@@ -44,6 +45,7 @@ fn width(e: Entry) -> usize
         Entry::Mu => NUMBER * (2 * POSE + 1),
         Entry::In => NUMBER * (POSE + 1),
         Entry::Ji => NUMBER * BLOCK,
+        Entry::Ar => NUMBER * (2 + VALUES),
     }
 }
 
@@ -62,6 +64,7 @@ fn give(e: Entry, b: &[u8], out: &mut [u8]) -> Gave
         Entry::Mu => mu(b, out),
         Entry::In => inv(b, out),
         Entry::Ji => ji(b, out),
+        Entry::Ar => ar(b, out),
     }
 }
 

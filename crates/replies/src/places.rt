@@ -8,9 +8,13 @@ ghost use lib.Seq.{sets};
 ghost use Rattle.linalg.specs.Vector.{vecNumbers};
 ghost use Rattle.layout.specs.Layout.{vecIn, matIn, poseIn, tangentIn, valuesIn, blockIn};
 ghost use Rattle.layout.specs.Layout.{matNumbers, poseNumbers, blockNumbers, blockPairNumbers, scaledNumbers, scaledPairNumbers};
-ghost use Rattle.wire.specs.Wire.{width, numberAt, numbersBytes};
+ghost use Rattle.wire.specs.Wire.{width, numberAt, numbersBytes, itemsBytes};
+ghost use Rattle.replies.specs.Table.{armItems, armedItems};
 use crate::bytes::number_at;
 use crate::bytes::put_number;
+use crate::bytes::put_word;
+use coeffs::sim3::Armed;
+use coeffs::sim3::ArmedPair;
 use coeffs::sim3::ScaledPair;
 use coeffs::values::Values;
 use jacobian::jac::Sim3Jac;
@@ -197,4 +201,27 @@ pub(crate) fn put_scaled_pair(out: &mut [u8], i: usize, p: ScaledPair)
 {
     put_scaled(out, i, p.pos.c, p.pos.scaled);
     put_scaled(out, i + 10, p.neg.c, p.neg.scaled);
+}
+
+// The arm, and 1 or 0 for whether v0 and w0 of the closed arm come from series of their own.
+fn put_arm(out: &mut [u8], at: usize, a: Armed)
+    requires { ⌜ at + 2 ≤ length (now out) ⌝ }
+    ensures { λ _. ⌜ now (out .exit) ≡ sets (now (out .entry)) at (itemsBytes binary64 (armItems a)) ⌝ }
+{
+    put_word(out, at, a.arm);
+    put_word(out, at + 1, a.ends as u8);
+}
+
+// The arms of both signs before the coefficients.
+pub(crate) fn put_armed_pair(out: &mut [u8], p: ArmedPair)
+    requires { ⌜ 4 + 20 * 8 ≤ length (now out) ⌝ }
+    ensures { λ _. ⌜ now (out .exit) ≡ sets (now (out .entry)) 0 (itemsBytes binary64 (armedItems p)) ⌝ }
+{
+    let pos = p.pos;
+    let neg = p.neg;
+    put_arm(out, 0, pos);
+    put_arm(out, 2, neg);
+    let a = pos.s;
+    let b = neg.s;
+    put_scaled_pair(&mut out[4..], 0, ScaledPair { pos: a, neg: b });
 }

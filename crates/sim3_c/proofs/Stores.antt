@@ -6,14 +6,17 @@ use mathlib.Core.List.{List}
 use native.Mathlib.Nat.{add-assoc}
 use native.Mathlib.Omega.{arith}
 use native.Mathlib.Numerals.{towards-suc}
-use lib.ListN.{set, length-append}
+use lib.ListN.{set, length, length-append}
 use lib.Seq.{sets}
-use lib.Ieee.{Float}
+use lib.IntN.{pos}
+use lib.Ieee.{Float, binary64, ofInt}
 use Rattle.ieee.specs.Numbers.{f0, f1}
 use Rattle.linalg.specs.declared.vector.Vec3.{Vec3}
 use Rattle.linalg.specs.declared.matrix.Mat3.{Mat3}
 use Rattle.coeffs.specs.declared.sim3.Scaled.{Scaled}
 use Rattle.coeffs.specs.declared.sim3.ScaledPair.{ScaledPair}
+use Rattle.coeffs.specs.declared.sim3.Armed.{Armed}
+use Rattle.coeffs.specs.declared.sim3.ArmedPair.{ArmedPair}
 use Rattle.so3.specs.declared.quat.Quat.{Quat}
 use Rattle.sim3.specs.declared.sim3.Sim3.{Sim3}
 use Rattle.jacobian.specs.declared.jac.Sim3Jac.{Sim3Jac}
@@ -22,10 +25,15 @@ use Rattle.sides.specs.declared.side.ActJacobians.{ActJacobians}
 use Rattle.sides.specs.declared.side.TwoJacobians.{TwoJacobians}
 use Rattle.layout.proofs.Runs.{sets-split}
 use Rattle.linalg.specs.Vector.{vecNumbers}
+use Rattle.sim3_c.specs.Calls.{armNumbers, armedNumbers, armedPairNumbers}
 use Rattle.layout.specs.Layout.{matNumbers, quatNumbers, poseNumbers, blockNumbers, blockPairNumbers, coeffsNumbers, scaledNumbers, scaledPairNumbers, twoNumbers, actNumbers}
 use Rattle.layout.proofs.Numbers.{quat-count, vec-count, mat-count, block-count, scaled-count}
 
-ruleset runs = (sets-split, add-assoc, length-append, quat-count, vec-count, mat-count, block-count, scaled-count)
+arm-count : (a : Armed) → length (armNumbers a) ≡ 2
+unfolding armNumbers
+arm-count a = refl
+
+ruleset runs = (sets-split, add-assoc, length-append, quat-count, vec-count, mat-count, block-count, scaled-count, arm-count)
 
 pub three-stored : (v : Vec3) (l : List Float) (i : ℕ) → set (set (set l i (v .x)) (i + 1) (v .y)) (i + 2) (v .z) ≡ sets l i (vecNumbers v)
 unfolding vecNumbers
@@ -100,3 +108,26 @@ pub act-stored :
     sets (sets (sets (sets l 0 (matNumbers (j .rot))) 9 (matNumbers (j .trans))) 18 (vecNumbers (j .scale))) 21 (matNumbers (j .point)) ≡ sets l 0 (actNumbers j)
 unfolding actNumbers
 act-stored j l = simp runs
+
+-- ---- with the arms before them
+pub arm-stored : (a : Armed) (l : List Float) (i : ℕ) → set (set l i (ofInt binary64 (pos (a .arm)))) (i + 1) (cond (a .ends) f1 f0) ≡ sets l i (armNumbers a)
+unfolding armNumbers
+arm-stored a l i = simp towards-suc
+
+pub armed-count : (a : Armed) → length (armedNumbers a) ≡ 12
+unfolding armedNumbers
+armed-count a = simp (length-append, arm-count, scaled-count)
+
+pub armed-stored : (a : Armed) (l : List Float) → sets (sets l 0 (armNumbers a)) 2 (scaledNumbers (a .s)) ≡ sets l 0 (armedNumbers a)
+unfolding armedNumbers
+armed-stored a l = simp runs
+
+pub armed-pair-count : (p : ArmedPair) → length (armedPairNumbers p) ≡ 24
+unfolding armedPairNumbers scaledPairNumbers
+armed-pair-count p = simp (length-append, arm-count, scaled-count)
+
+pub armed-pair-stored :
+    (p : ArmedPair) (l : List Float) →
+    sets (sets (sets (sets l 0 (armNumbers (p .pos))) 2 (armNumbers (p .neg))) 4 (scaledNumbers (p .pos .s))) 14 (scaledNumbers (p .neg .s)) ≡ sets l 0 (armedPairNumbers p)
+unfolding armedPairNumbers scaledPairNumbers
+armed-pair-stored p l = simp runs

@@ -1,20 +1,24 @@
 -- What each exported function answers: 0 and the numbers in `out`, or the number of a refusal and `out` as it was. A list whose length is not the one that is due is refused by the boundary's own number; lists of points by the scope's 5.
 use Prim.Native.Nat.{ℕ}
 use mathlib.Core.Bool.{cond}
-use mathlib.Core.List.{List}
+use mathlib.Core.List.{List, [], _∷_, _++_}
 use lib.Dec.{eqb}
 use lib.ListN.{length}
-use lib.Ieee.{Float, binary64}
+use lib.IntN.{pos}
+use lib.Ieee.{Float, binary64, ofInt}
+use Rattle.ieee.specs.Numbers.{f0, f1}
 use Rattle.linalg.specs.Answer.{Answer, answers, refuses, andThen}
 use Rattle.linalg.specs.declared.vector.Vec3.{Vec3}
-use Rattle.coeffs.specs.Entries.{pairAnswer}
+use Rattle.coeffs.specs.Entries.{pairAnswer, armedAnswer, armedPairAnswer}
+use Rattle.coeffs.specs.declared.sim3.Armed.{Armed}
+use Rattle.coeffs.specs.declared.sim3.ArmedPair.{ArmedPair}
 use Rattle.sim3.specs.Pose.{poseMul, poseInverse, poseMulInv, poseInvMul, poseRenormalized}
 use Rattle.sim3.specs.Exp.{poseExp}
 use Rattle.sim3.specs.Points.{pointsAnswer, pointsOut, poseActMany, poseActEach}
 use Rattle.jacobian.specs.Jac.{jacInverseAnswer}
 use Rattle.sides.specs.Pair.{blockPair}
 use Rattle.sides.specs.Side.{poseAdjoint, actJacobiansRight, actJacobiansLeft, composeJacobiansRight, composeJacobiansLeft, inverseJacobianRight, inverseJacobianLeft}
-use Rattle.layout.specs.Layout.{poseNumbers, blockNumbers, blockPairNumbers, scaledPairNumbers, twoNumbers, actNumbers}
+use Rattle.layout.specs.Layout.{poseNumbers, blockNumbers, blockPairNumbers, scaledNumbers, scaledPairNumbers, armedScaled, twoNumbers, actNumbers}
 use Rattle.sim3_c.specs.Lists.{wrongLength, vecFrom, matFrom, poseFrom, tangentFrom, valuesFrom, blockFrom}
 
 -- ---- what is returned, and what `out` then holds
@@ -67,6 +71,24 @@ scaledPairCall sigma z values out = andThen (valuesFrom values) (λ v. andThen (
 unfoldable pub blockPairCall : List Float → List Float → List Float → List Float → List Float → Answer (List Float)
 blockPairCall tau values jl jlInv out =
     andThen (tangentFrom tau) (λ t. andThen (valuesFrom values) (λ v. andThen (matFrom jl) (λ j. andThen (matFrom jlInv) (λ i. fitting out (blockPairNumbers (blockPair binary64 t v j i))))))
+
+-- ---- the coefficients with their arms
+-- the arm of one sign, and 1 where v₀ and w₀ of the closed arm come from series of their own, else 0
+unfoldable pub armNumbers : Armed → List Float
+armNumbers a = ofInt binary64 (pos (a .arm)) ∷ cond (a .ends) f1 f0 ∷ []
+
+-- before the numbers of that sign; and those of both signs before the scaled pair, as AR answers them
+unfoldable pub armedNumbers : Armed → List Float
+armedNumbers a = armNumbers a ++ scaledNumbers (a .s)
+
+unfoldable pub armedPairNumbers : ArmedPair → List Float
+armedPairNumbers p = armNumbers (p .pos) ++ (armNumbers (p .neg) ++ scaledPairNumbers (armedScaled p))
+
+unfoldable pub armedCall : Float → Float → List Float → List Float → Answer (List Float)
+armedCall sigma z values out = andThen (valuesFrom values) (λ v. andThen (armedAnswer binary64 sigma z v) (λ a. fitting out (armedNumbers a)))
+
+unfoldable pub armedPairCall : Float → Float → List Float → List Float → Answer (List Float)
+armedPairCall sigma z values out = andThen (valuesFrom values) (λ v. andThen (armedPairAnswer binary64 sigma z v) (λ p. fitting out (armedPairNumbers p)))
 
 -- ---- blocks
 unfoldable pub blockInverseCall : List Float → List Float → Answer (List Float)

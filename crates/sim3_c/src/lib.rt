@@ -6,6 +6,7 @@ mod write; // the numbers of a thing, to a list
 pub mod pose; // exponential, composition, inverse
 pub mod points; // the action on lists of points
 pub mod pairs; // both signs, both sides
+pub mod arms; // the coefficients with their arms
 pub mod jacobians; // inverse, adjoint, and the Jacobians of the group's operations
 
 // A list has not the length that is due. No refusal of the engine has this number or one near it.

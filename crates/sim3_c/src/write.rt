@@ -6,8 +6,10 @@ ghost use lib.ListN.{length};
 ghost use lib.Seq.{sets};
 ghost use Rattle.linalg.specs.Vector.{vecNumbers};
 ghost use Rattle.layout.specs.Layout.{matNumbers, quatNumbers, poseNumbers, blockNumbers, blockPairNumbers, coeffsNumbers, scaledNumbers, scaledPairNumbers, twoNumbers, actNumbers};
-ghost use Rattle.sim3_c.specs.Calls.{status, written, fitting};
+ghost use Rattle.sim3_c.specs.Calls.{status, written, fitting, armNumbers, armedNumbers, armedPairNumbers};
 use crate::LIST_LENGTH;
+use coeffs::sim3::Armed;
+use coeffs::sim3::ArmedPair;
 use coeffs::sim3::ScaledPair;
 use jacobian::jac::Sim3Jac;
 use layout::ACT_JACOBIANS;
@@ -24,6 +26,12 @@ use sides::side::ActJacobians;
 use sides::side::TwoJacobians;
 use sim3::sim3::Sim3;
 use so3::quat::Quat;
+
+// The arm of one sign and its ends, before the ten numbers of that sign; and those of both signs before
+// the scaled pair.
+const ARMED: usize = 2 + 9 + 1;
+
+const ARMED_PAIR: usize = 2 * ARMED;
 
 fn set_three(out: &mut [f64], at: usize, v: Vec3)
     requires { ⌜ at + 3 ≤ length (now out) ⌝ }
@@ -104,6 +112,42 @@ pub(crate) fn put_scaled_pair(out: &mut [f64], p: ScaledPair) -> u32
     }
     set_scaled(out, 0, p.pos.c, p.pos.scaled);
     set_scaled(out, 10, p.neg.c, p.neg.scaled);
+    0
+}
+
+// The arm, and 1 or 0 for whether v0 and w0 of the closed arm come from series of their own.
+fn set_arm(out: &mut [f64], at: usize, a: Armed)
+    requires { ⌜ at + 2 ≤ length (now out) ⌝ }
+    ensures { λ _. ⌜ now (out .exit) ≡ sets (now (out .entry)) at (armNumbers a) ⌝ }
+{
+    out[at] = a.arm as f64;
+    out[at + 1] = ieee::pick(a.ends, 1.0, 0.0);
+}
+
+pub(crate) fn put_armed(out: &mut [f64], a: Armed) -> u32
+    ensures { λ r. ⌜ r ≡ status (fitting (now (out .entry)) (armedNumbers a)) ⌝ }
+    ensures { λ _. ⌜ now (out .exit) ≡ written (fitting (now (out .entry)) (armedNumbers a)) (now (out .entry)) ⌝ }
+{
+    if out.len() != ARMED {
+        return LIST_LENGTH;
+    }
+    set_arm(out, 0, a);
+    set_scaled(out, 2, a.s.c, a.s.scaled);
+    0
+}
+
+// The arms at sigma and at -sigma, then the coefficients of both.
+pub(crate) fn put_armed_pair(out: &mut [f64], p: ArmedPair) -> u32
+    ensures { λ r. ⌜ r ≡ status (fitting (now (out .entry)) (armedPairNumbers p)) ⌝ }
+    ensures { λ _. ⌜ now (out .exit) ≡ written (fitting (now (out .entry)) (armedPairNumbers p)) (now (out .entry)) ⌝ }
+{
+    if out.len() != ARMED_PAIR {
+        return LIST_LENGTH;
+    }
+    set_arm(out, 0, p.pos);
+    set_arm(out, 2, p.neg);
+    set_scaled(out, 4, p.pos.s.c, p.pos.s.scaled);
+    set_scaled(out, 14, p.neg.s.c, p.neg.s.scaled);
     0
 }
 

@@ -9,7 +9,7 @@ use lib.Seq.{drop-cons, take-all}
 use lib.Dec.{T}
 use lib.Ieee.{Float, Format, nan, binary32, binary64, fits, toBits}
 use lib.Ieee.Bits.{ofBits-toBits, toBits-lt}
-use Rattle.wire.specs.Wire.{wordOf, wordBytes, width, numberOf, numberBytes, numbersBytes, itemBytes, itemsBytes, numbers, countBytes}
+use Rattle.wire.specs.Wire.{wordOf, wordBytes, width, numberOf, numberBytes, numbersBytes, Item, itemBytes, itemsBytes, numbers, countBytes}
 
 -- ---- lengths
 pub word-length : (k n : ℕ) → length (wordBytes k n) ≡ k
@@ -39,7 +39,12 @@ unfolding numbersBytes
 numbers-append f [] m = refl
 numbers-append f (x ∷ l) m = rw (numbers-append f l m) (sym (append-assoc (numberBytes f x) (numbersBytes f l) (numbersBytes f m)))
 
--- ---- items that are numbers alone
+-- ---- items, and those that are numbers alone
+pub items-append : (f : Format) (l m : List Item) → itemsBytes f (l ++ m) ≡ itemsBytes f l ++ itemsBytes f m
+unfolding itemsBytes
+items-append f [] m = refl
+items-append f (x ∷ l) m = rw (items-append f l m) (sym (append-assoc (itemBytes f x) (itemsBytes f l) (itemsBytes f m)))
+
 pub items-numbers : (f : Format) (l : List Float) → itemsBytes f (numbers l) ≡ numbersBytes f l
 unfolding itemBytes itemsBytes numbers numbersBytes
 items-numbers f [] = refl

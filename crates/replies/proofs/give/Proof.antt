@@ -1,4 +1,4 @@
--- Written by tools/proofs from Proof.template: edit that one. Digest 7c044dfa05480bd4.
+-- Written by tools/proofs from Proof.template: edit that one. Digest c2092e2768d9f90f.
 -- `replies::give` meets its contract: by what each entry's function ensures. Assumes nothing.
 use borrow.Author.Needs.{needs}
 use Rattle.replies.specs.Table.{answerOf}
@@ -40,6 +40,11 @@ ji-requires c κs =
     let c1 = c .before .before .before .before .before in
     (rw (c .before .enum-told7 .given .1) at (c1 .pre .0), search needs)
 
+ar-requires : tie.Need-ar-requires
+ar-requires c κs =
+    let c1 = c .before .before .before .before .before in
+    (rw (c .before .enum-told8 .given .1) at (c1 .pre .0), search needs)
+
 returns : tie.Need-returns
 unfolding answerOf
 returns c = rw (c .before .before .before .before .enum-told .given .1) (c .before .before .ex .ensures)
@@ -68,6 +73,10 @@ returns-7 : tie.Need-returns-7
 unfolding answerOf
 returns-7 c = rw (c .before .before .before .before .enum-told7 .given .1) (c .before .before .ji .ensures)
 
+returns-8 : tie.Need-returns-8
+unfolding answerOf
+returns-8 c = rw (c .before .before .before .before .enum-told8 .given .1) (c .before .before .ar .ensures)
+
 pub give-spec : {M : Type 1} → statement M
 give-spec =
     tie.close
@@ -87,6 +96,8 @@ give-spec =
     (λ c. search needs)
     ji-requires
     (λ c. search needs)
+    ar-requires
+    (λ c. search needs)
     returns
     (λ c. search needs)
     returns-2
@@ -99,4 +110,6 @@ give-spec =
     (λ c. search needs)
     returns-6
     (λ c. search needs)
-    returns-7)
+    returns-7
+    (λ c. search needs)
+    returns-8)

@@ -1,4 +1,4 @@
--- Written by tools/proofs from Proof.template: edit that one. Digest 80a58e489e736709.
+-- Written by tools/proofs from Proof.template: edit that one. Digest 084b73c1c47daf59.
 -- `replies::width` meets its contract: by the entry. Assumes nothing.
 use borrow.Author.Needs.{needs}
 use Rattle.replies.proofs.width.Statement.{statement}
@@ -25,10 +25,16 @@ returns-6 c = simp (c .enum-told6 .given .1)
 returns-7 : tie.Need-returns-7
 returns-7 c = simp (c .enum-told7 .given .1)
 
+returns-8 : tie.Need-returns-8
+returns-8 c = simp (c .enum-told8 .given .1)
+
 pub width-spec : {M : Type 1} → statement M
 width-spec =
     tie.close
     (tie.spec
+    (λ c. search needs)
+    (λ c. search needs)
+    (λ c. search needs)
     (λ c. search needs)
     (λ c. search needs)
     (λ c. search needs)
@@ -59,4 +65,5 @@ width-spec =
     returns-4
     returns-5
     returns-6
-    returns-7)
+    returns-7
+    returns-8)

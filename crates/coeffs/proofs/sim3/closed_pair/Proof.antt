@@ -1,4 +1,4 @@
--- `coeffs::sim3::closed_pair` meets its contract: by what its calls ensure. Assumes nothing.
+-- Written by tools/proofs, plain, opening closedPair ofBits. Digest 3367bf5238f7450f.
 use borrow.Author.Needs.{needs}
 use Rattle.coeffs.specs.Shared.{closedPair}
 use lib.Ieee.{ofBits}
@@ -7,7 +7,15 @@ use Rattle.coeffs.proofs.sim3.closed_pair.Tie as tie
 
 returns : tie.Need-returns
 unfolding closedPair ofBits
-returns c = simp (c .before .before .closed-both .ensures, c .before .before .before .w0-small .ensures, c .before .before .before .before .on-form-b .ensures, c .before .before .before .before .before .pick2 .ensures, c .before .before .before .before .before .before .pick .ensures, c .before .before .before .before .before .before .before .at-zero .ensures)
+returns c =
+    let c1 = c .before .before .before .before .before in
+    simp (
+      c .before .before .closed-both .ensures,
+      c .before .before .before .on-form-b .ensures,
+      c .before .before .before .before .pick2 .ensures,
+      c1 .pick .ensures,
+      c1 .before .at-zero .ensures,
+    )
 
 pub closed-pair-spec : {M : Type 1} → statement M
-closed-pair-spec = tie.close (tie.spec (λ c κs. search needs) (λ c κs. search needs) (λ c κs. search needs) (λ c κs. search needs) (λ c κs. search needs) (λ c κs. search needs) returns)
+closed-pair-spec = tie.close (tie.spec (λ c κs. search needs) (λ c κs. search needs) (λ c κs. search needs) (λ c κs. search needs) (λ c κs. search needs) returns)

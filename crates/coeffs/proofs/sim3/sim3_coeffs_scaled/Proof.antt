@@ -1,48 +1,40 @@
--- `coeffs::sim3::sim3_coeffs_scaled` meets its contract: in either arm what the arm answers is answered, and its refusal is handed upward. Assumes nothing.
+-- Written by tools/proofs from Proof.template: edit that one. Digest 5fcf6bb07db4fb41.
+-- `coeffs::sim3::sim3_coeffs_scaled` meets its contract: the answer is that of the arm at Δ. Assumes nothing.
 use borrow.Author.Needs.{needs}
 use mathlib.Core.Path.{sym, ap, _∙_}
 use borrow.Author.Tests.{lt-ltb, le-ltb}
 use lib.Dec.{ltb}
-use mathlib.Core.Bool.{false}
-use lib.Ieee.{binary64, ofBits}
-use Rattle.series.specs.Series.{seriesTold, seriesAnswer}
+use lib.Ieee.{binary64}
 use Rattle.circle.specs.Kernel.{sincABDTold, circleSincABDAnswer}
 use Rattle.coeffs.specs.Limits.{coeffsDelta}
-use Rattle.coeffs.specs.Arm.{armTerms}
-use Rattle.coeffs.specs.Entries.{scaledTold, scaledAnswer}
-use Rattle.coeffs.proofs.Arms.{series-answers, series-refuses, arm-refuses, scaled-series, scaled-closed-answers}
+use Rattle.coeffs.specs.Shared.{seriesArm}
+use Rattle.coeffs.specs.Entries.{scaledTold}
+use Rattle.coeffs.proofs.Arms.{by-series, by-closed, closed-refuses}
 use Rattle.coeffs.proofs.sim3.sim3_coeffs_scaled.Statement.{statement}
 use Rattle.coeffs.proofs.sim3.sim3_coeffs_scaled.Tie as tie
 
 returns : tie.Need-returns
-unfolding scaledTold scaledAnswer seriesTold seriesAnswer coeffsDelta
+unfolding coeffsDelta
 returns c =
-    let a = c .before .before .before .before .before .before .before .args in
-    let d = c .before .before .before .before .terms .ensures in
-    let e = c .before .before .before .before .before .before .arm .ensures in
-    let t = ap (λ n. ltb n 5) (sym e) ∙ lt-ltb _ _ (c .before .before .before .before .before .if1 .taken) in
-    let r = sym (c .before .before .before .series .ensures) ∙ ap seriesTold (c .before .c .given .1) in
-    sym (series-answers (a .z) _ _ _ _ (λ x. record { c = x; scaled = false }) (d .1) (scaled-series binary64 (a .sigma) (a .z) (a .v) _ t (d .0 ∙ ap (armTerms binary64) e)) r)
+    let a = c .before .before .before .args in
+    let e = c .before .before .arm .ensures in
+    let t = ap (λ n. ltb n 5) (sym e) ∙ lt-ltb _ _ (c .before .if1 .taken) in
+    c .by-series .ensures ∙ ap (seriesArm binary64 (a .sigma) (a .z)) e ∙ sym (by-series binary64 (a .sigma) (a .z) (a .v) t)
 
 returns-2 : tie.Need-returns-2
-unfolding scaledTold scaledAnswer seriesTold seriesAnswer
+unfolding scaledTold coeffsDelta sincABDTold circleSincABDAnswer
 returns-2 c =
-    let r = sym (c .before .before .before .series .ensures) ∙ ap seriesTold (c .before .n .given .1) in
-    sym (series-refuses (c .before .before .before .before .before .before .before .args .z) _ _ _ _ (c .before .before .before .before .terms .ensures .1) r)
+    let c1 = c .before .before .before .before .before in
+    let a = c1 .before .before .before .args in
+    let t = ap (λ n. ltb n 5) (sym (c1 .before .before .arm .ensures)) ∙ le-ltb _ _ (c1 .before .if1 .left) in
+    simp (c .closed-one .ensures, c .before .w0-small .ensures) (sym (by-closed binary64 (a .sigma) (a .z) (a .v) _ t (sym (c1 .sinc-a-b-d .ensures) ∙ ap sincABDTold (c .before .before .before .t .given .1))))
 
 returns-3 : tie.Need-returns-3
-unfolding scaledTold scaledAnswer sincABDTold circleSincABDAnswer coeffsDelta ofBits
+unfolding scaledTold sincABDTold circleSincABDAnswer
 returns-3 c =
-    let a = c .before .before .before .before .before .before .before .before .before .args in
-    let e = c .before .before .before .before .before .before .before .before .arm .ensures in
-    let t = ap (λ n. ltb n 5) (sym e) ∙ le-ltb _ _ (c .before .before .before .before .before .before .before .if1 .left) in
-    let r = sym (c .before .before .before .before .before .before .sinc-a-b-d .ensures) ∙ ap sincABDTold (c .before .before .before .before .t .given .1) in
-    simp (c .closed-from .ensures, c .before .w0-small .ensures, c .before .before .on-form-b .ensures)
-    (sym (scaled-closed-answers binary64 (a .sigma) (a .z) (a .v) _ t r))
-
-returns-4 : tie.Need-returns-4
-unfolding scaledTold scaledAnswer sincABDTold circleSincABDAnswer
-returns-4 c = sym (arm-refuses (c .before .before .before .before .before .before .args .z) _ _ _ (sym (c .before .before .before .sinc-a-b-d .ensures) ∙ ap sincABDTold (c .before .n2 .given .1)))
+    let c1 = c .before .before .before .before .before in
+    let a = c1 .before .args in
+    sym (closed-refuses binary64 (a .sigma) (a .z) (a .v) _ _ (sym (c .before .before .before .sinc-a-b-d .ensures) ∙ ap sincABDTold (c .before .n .given .1)))
 
 pub sim3-coeffs-scaled-spec : {M : Type 1} → statement M
 sim3-coeffs-scaled-spec =
@@ -50,16 +42,11 @@ sim3-coeffs-scaled-spec =
     (tie.spec
     (λ c κs. search needs)
     (λ c κs. search needs)
+    returns
     (λ c κs. search needs)
     (λ c. search needs)
-    returns
+    (λ c κs. search needs)
+    (λ c κs. search needs)
     (λ c. search needs)
     returns-2
-    (λ c κs. search needs)
-    (λ c. search needs)
-    (λ c κs. search needs)
-    (λ c κs. search needs)
-    (λ c κs. search needs)
-    (λ c. search needs)
-    returns-3
-    returns-4)
+    returns-3)

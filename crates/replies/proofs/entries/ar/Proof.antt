@@ -1,0 +1,56 @@
+-- Written by tools/proofs from Proof.template: edit that one. Digest 333259e17d62941f.
+-- `replies::entries::ar` meets its contract: the engine is asked at the numbers read, and its answer is written or its refusal told. Assumes nothing.
+use borrow.Author.Needs.{needs}
+use lib.Ieee.{binary64}
+use mathlib.Core.Path.{refl}
+use Rattle.coeffs.specs.Entries.{armedPairTold}
+use Rattle.outcome.specs.Outcome.{gaveOf, gaveBytes}
+use Rattle.replies.specs.Table.{arOf}
+use Rattle.replies.proofs.Arms.{armed-length}
+use Rattle.replies.proofs.Replies.{wrote-items}
+use Rattle.replies.proofs.entries.ar.Statement.{statement}
+use Rattle.replies.proofs.entries.ar.Tie as tie
+
+returns : tie.Need-returns
+unfolding arOf armedPairTold
+returns c =
+    let c1 = c .before .before .before .before .before in
+    let c2 = c1 .before .before .before .before .before in
+    rw (
+      ← (c2 .number-at .ensures),
+      ← (c1 .before .before .before .before .number-at2 .ensures),
+      ← (c1 .before .before .before .values-at .ensures),
+      ← (c1 .before .before .sim3-coeffs-armed-pair .ensures),
+      c1 .p .given .1,
+    )
+    (wrote-items binary64 _ _ (c2 .before .before .before .args .out .now) _ (armed-length binary64 _) (c .before .before .put-armed-pair .ensures))
+
+returns-2 : tie.Need-returns-2
+unfolding arOf armedPairTold gaveOf gaveBytes
+returns-2 c =
+    let c1 = c .before .before .before .before .before in
+    rw (
+      ← (c1 .before .number-at .ensures),
+      ← (c1 .number-at2 .ensures),
+      ← (c .before .before .before .before .values-at .ensures),
+      ← (c .before .before .before .sim3-coeffs-armed-pair .ensures),
+      c .before .number .given .1,
+    )
+    (refl, refl)
+
+pub ar-spec : {M : Type 1} → statement M
+ar-spec =
+    tie.close
+    (tie.spec
+    (λ c κs. search needs)
+    (λ c κs. search needs)
+    (λ c κs. search needs)
+    (λ c κs. search needs)
+    (λ c. search needs)
+    (λ c κs. search needs)
+    (λ c. search needs)
+    (λ c. search needs)
+    (λ c. search needs)
+    (λ c. search needs)
+    returns
+    returns-2)

@@ -1,0 +1,29 @@
+-- Written by tools/proofs from Proof.template: edit that one. Digest 39a4ddbc12ddd12d.
+-- `replies::places::put_armed_pair` meets its contract: the arms of both signs, and the numbers in the part of the list behind them. Assumes nothing.
+use borrow.Author.Needs.{needs}
+use lib.Ieee.{binary64}
+use Rattle.replies.proofs.Arms.{armed-run}
+use Rattle.replies.proofs.places.put_armed_pair.Statement.{statement}
+use Rattle.replies.proofs.places.put_armed_pair.Tie as tie
+
+returns : tie.Need-returns
+returns c =
+    let c1 = c .before .before .before .before .before in
+    let c2 = c1 .before .before .before .before .before in
+    let c3 = c2 .before .before .before .before .before in
+    let a = c3 .before .before .args in
+    let m = rw (c2 .before .before .put-arm .ensures) at (c1 .before .before .before .put-arm2 .ensures) in
+    rw (c .before .before .put-scaled-pair .ensures) (armed-run binary64 (a .p) (a .out .now) _ m (c3 .before .before .pre))
+
+pub put-armed-pair-spec : {M : Type 1} → statement M
+put-armed-pair-spec =
+    tie.close
+    (tie.spec
+    (λ c κs. search needs)
+    (λ c κs. search needs)
+    (λ c. search needs)
+    (λ c. search needs)
+    (λ c. search needs)
+    (λ c κs. search needs)
+    (λ c. search needs)
+    returns)

@@ -1,0 +1,41 @@
+// The coefficients with the arms that formed them: at sigma, and at both signs.
+ghost use mathlib.Core.Path.{_≡_};
+ghost use Rattle.sim3_c.specs.Calls.{status, written, armedCall, armedPairCall};
+use crate::LIST_LENGTH;
+use crate::read::ValuesRead;
+use crate::read::values_from;
+use crate::write::put_armed;
+use crate::write::put_armed_pair;
+use coeffs::sim3::ArmedAnswer;
+use coeffs::sim3::ArmedPairAnswer;
+use coeffs::sim3::sim3_coeffs_armed_pair;
+
+// At sigma; z is the squared angle.
+#[no_mangle]
+pub extern "C" fn sim3_coeffs_armed(sigma: f64, z: f64, values: &[f64], out: &mut [f64]) -> u32
+    ensures { λ r. ⌜ r ≡ status (armedCall sigma z (now (values .entry)) (now (out .entry))) ⌝ }
+    ensures { λ _. ⌜ now (out .exit) ≡ written (armedCall sigma z (now (values .entry)) (now (out .entry))) (now (out .entry)) ⌝ }
+{
+    let ValuesRead::Got(v) = values_from(values) else {
+        return LIST_LENGTH;
+    };
+    match coeffs::sim3::sim3_coeffs_armed(sigma, z, v) {
+        ArmedAnswer::Coeffs(a) => put_armed(out, a),
+        ArmedAnswer::Refused(n) => n as u32,
+    }
+}
+
+// At sigma and at -sigma.
+#[no_mangle]
+pub extern "C" fn sim3_armed_pair(sigma: f64, z: f64, values: &[f64], out: &mut [f64]) -> u32
+    ensures { λ r. ⌜ r ≡ status (armedPairCall sigma z (now (values .entry)) (now (out .entry))) ⌝ }
+    ensures { λ _. ⌜ now (out .exit) ≡ written (armedPairCall sigma z (now (values .entry)) (now (out .entry))) (now (out .entry)) ⌝ }
+{
+    let ValuesRead::Got(v) = values_from(values) else {
+        return LIST_LENGTH;
+    };
+    match sim3_coeffs_armed_pair(sigma, z, v) {
+        ArmedPairAnswer::Coeffs(p) => put_armed_pair(out, p),
+        ArmedPairAnswer::Refused(n) => n as u32,
+    }
+}
