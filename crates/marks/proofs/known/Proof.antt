@@ -1,4 +1,4 @@
--- Written by tools/proofs from Proof.template: edit that one. Digest f816d80d52048e0e.
+-- Written by tools/proofs from Proof.template: edit that one. Digest c2f69c22bf57c247.
 -- `marks::known` meets its contract: by the number, and by its being none of the table's. Assumes nothing.
 use borrow.Author.Tests.{ne-eqb}
 use Rattle.marks.specs.Marks.{markKnown}
@@ -35,7 +35,11 @@ returns-7 c = simp (c .match .keys7)
 
 returns-8 : tie.Need-returns-8
 unfolding markKnown
-returns-8 c =
+returns-8 c = simp (c .match .keys8)
+
+returns-9 : tie.Need-returns-9
+unfolding markKnown
+returns-9 c =
     simp (
       ne-eqb _ _ (c .match .rest .1),
       ne-eqb _ _ (c .match .rest .0 .1),
@@ -44,6 +48,7 @@ returns-8 c =
       ne-eqb _ _ (c .match .rest .0 .0 .0 .0 .1),
       ne-eqb _ _ (c .match .rest .0 .0 .0 .0 .0 .1),
       ne-eqb _ _ (c .match .rest .0 .0 .0 .0 .0 .0 .1),
+      ne-eqb _ _ (c .match .rest .0 .0 .0 .0 .0 .0 .0 .1),
     )
 
 pub known-spec : {M : Type 1} → statement M
@@ -57,4 +62,5 @@ known-spec =
     returns-5
     returns-6
     returns-7
-    returns-8)
+    returns-8
+    returns-9)
