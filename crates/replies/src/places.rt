@@ -7,14 +7,13 @@ ghost use lib.ListN.{length};
 ghost use lib.Seq.{sets};
 ghost use Rattle.linalg.specs.Vector.{vecNumbers};
 ghost use Rattle.layout.specs.Layout.{vecIn, matIn, poseIn, tangentIn, valuesIn, blockIn};
-ghost use Rattle.layout.specs.Layout.{matNumbers, poseNumbers, blockNumbers, blockPairNumbers, scaledNumbers, scaledPairNumbers};
+ghost use Rattle.layout.specs.Layout.{matNumbers, poseNumbers, blockNumbers, scaledNumbers, scaledPairNumbers};
 ghost use Rattle.wire.specs.Wire.{width, numberAt, numbersBytes};
 use crate::bytes::number_at;
 use crate::bytes::put_number;
 use coeffs::sim3::ScaledPair;
 use coeffs::values::Values;
 use jacobian::jac::Sim3Jac;
-use jacobian::pair::BlockPair;
 use linalg::matrix::Mat3;
 use linalg::vector::Vec3;
 use series::sim3::Sim3Coeffs;
@@ -144,16 +143,6 @@ pub(crate) fn put_block(out: &mut [u8], i: usize, j: Sim3Jac)
     put_mat(out, i + 18, j.c);
     put_vec(out, i + 27, j.f);
     put_number(out, i + 30, j.e);
-}
-
-pub(crate) fn put_block_pair(out: &mut [u8], i: usize, p: BlockPair)
-    requires { ⌜ (i + 124) * 8 ≤ length (now out) ⌝ }
-    ensures { λ _. ⌜ now (out .exit) ≡ sets (now (out .entry)) (i * width binary64) (numbersBytes binary64 (blockPairNumbers p)) ⌝ }
-{
-    put_block(out, i, p.left);
-    put_block(out, i + 31, p.left_inv);
-    put_block(out, i + 62, p.right);
-    put_block(out, i + 93, p.right_inv);
 }
 
 // The nine coefficients, three at a time, and the flag as 1 or 0.

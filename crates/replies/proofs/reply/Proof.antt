@@ -1,9 +1,10 @@
--- Written by tools/proofs from Proof.template: edit that one. Digest cc70a1e1280e9304.
+-- Written by tools/proofs from Proof.template: edit that one. Digest a2c48d8023aa3f22.
 -- `replies::reply` meets its contract: a record that is cut and an output without room are told; else the entry is asked behind the mark, and the mark or NO is stored before what it wrote. Assumes nothing.
 use borrow.Author.Needs.{needs}
 use native.Mathlib.Omega.{arith}
 use Prim.Native.Nat.{_+_, _-_, _≤_, _<_}
 use mathlib.Core.Path.{_≡_, refl, sym, ap, _∙_}
+use mathlib.Core.Bool.{true, false}
 use lib.Ieee.{binary64}
 use lib.ListN.{length, take, drop, length-drop, length-set}
 use lib.Seq.{sets, length-take-le}
@@ -41,6 +42,18 @@ shared-slice-read-out-2 c =
     let c2 = c1 .before .before .before .before .before in
     omega (arith, c2 .before .if1 .left)
 
+shared-slice-read-out-3 : tie.Need-shared-slice-read-out-3
+shared-slice-read-out-3 c =
+    let c1 = c .before .before .before .before .before in
+    let c2 = c1 .before .before .before .before .before in
+    omega (arith, c2 .if1 .left)
+
+shared-slice-read-out-4 : tie.Need-shared-slice-read-out-4
+shared-slice-read-out-4 c =
+    let c1 = c .before .before .before .before .before in
+    let c2 = c1 .before .before .before .before .before in
+    omega (arith, c2 .before .if1 .left)
+
 slice-write-out : tie.Need-slice-write-out
 slice-write-out c =
     let c1 = c .before .before .before .before .before in
@@ -55,15 +68,26 @@ slice-write-out-2 c =
 slice-write-out-3 : tie.Need-slice-write-out-3
 slice-write-out-3 c =
     let c1 = c .before .before .before .before .before in
-    let room = c1 .before .before .before .if2 .left in (omega (arith, given-length (given (c1))))
+    let room = c1 .before .before .before .before .if2 .left in (omega (arith, given-length (given (c1 .before))))
 
 slice-write-out-4 : tie.Need-slice-write-out-4
 slice-write-out-4 c =
     let c1 = c .before .before .before .before .before in
-    let room = c1 .before .before .before .if2 .left in simp length-set (omega (arith, given-length (given (c1))))
+    let c2 = c1 .before .before .before .before .before in
+    let room = c2 .if2 .left in simp length-set (omega (arith, given-length (given (c1 .before .before))))
 
 slice-write-out-5 : tie.Need-slice-write-out-5
 slice-write-out-5 c =
+    let c1 = c .before .before .before .before .before in
+    let room = c1 .before .before .before .if2 .left in (omega (arith, given-length (given (c1))))
+
+slice-write-out-6 : tie.Need-slice-write-out-6
+slice-write-out-6 c =
+    let c1 = c .before .before .before .before .before in
+    let room = c1 .before .before .before .if2 .left in simp length-set (omega (arith, given-length (given (c1))))
+
+slice-write-out-7 : tie.Need-slice-write-out-7
+slice-write-out-7 c =
     let c1 = c .before .before .before .before .before in
     let room = c1 .before .before .before .if2 .left in simp length-set (omega (arith, given-length (given (c1))))
 
@@ -75,12 +99,22 @@ same-length c =
 same-length-2 : tie.Need-same-length-2
 same-length-2 c =
     let c1 = c .before .before .before .before .before in
+    simp length-set (given-length (given (c1 .before .before)))
+
+same-length-3 : tie.Need-same-length-3
+same-length-3 c =
+    let c1 = c .before .before .before .before .before in
     simp length-set (given-length (given (c1)))
 
-add-t23 : tie.Need-add-t23
-add-t23 c =
+add-t25 : tie.Need-add-t25
+add-t25 c =
     let c1 = c .before .before .before .before .before in
-    omega (arith, given-most (given (c1 .before .before)) (c .before .before .before .n .given .0 .0) (c .before .before .before .n .given .1))
+    omega (arith, given-most (given (c1 .before .before)) true (c .before .before .before .n .given .0 .0) (c .before .before .before .n .given .1))
+
+add-t32 : tie.Need-add-t32
+add-t32 c =
+    let c1 = c .before .before .before .before .before in
+    omega (arith, given-most (given (c1 .before .before)) false (c .before .before .before .n2 .given .0 .0) (c .before .before .before .n2 .given .1))
 
 add-end : tie.Need-add-end
 add-end c = omega (arith, c .width .ensures, width-most binary64 (c .before .before .before .args .e))
@@ -104,10 +138,16 @@ returns-3 : tie.Need-returns-3
 returns-3 c =
     let c1 = c .before .before .before .before .before in
     let c2 = c1 .before .before .before .before .before in
-    rw (c2 .before .before .width .ensures) (given-wrote (given (c1 .before .before)) (c .before .before .before .n .given .0 .0) (c .before .before .before .n .given .1))
+    rw (c2 .before .before .width .ensures) (given-wrote (given (c1 .before .before)) true (c .before .before .before .n .given .0 .0) (c .before .before .before .n .given .1))
 
 returns-4 : tie.Need-returns-4
 returns-4 c =
+    let c1 = c .before .before .before .before .before in
+    let c2 = c1 .before .before .before .before .before in
+    rw (c2 .before .before .width .ensures) (given-wrote (given (c1 .before .before)) false (c .before .before .before .n2 .given .0 .0) (c .before .before .before .n2 .given .1))
+
+returns-5 : tie.Need-returns-5
+returns-5 c =
     let c1 = c .before .before .before .before .before in
     let c2 = c1 .before .before .before .before .before in
     rw (c2 .width .ensures) (given-refused (given (c1)) (c .before .number .given .0 .0) (c .before .number .given .1))
@@ -132,12 +172,20 @@ reply-spec =
     slice-write-out
     shared-slice-read-out-2
     slice-write-out-2
-    add-t23
+    add-t25
     (λ c. search needs)
+    shared-slice-read-out-3
     slice-write-out-3
+    shared-slice-read-out-4
     slice-write-out-4
+    add-t32
+    (λ c. search needs)
     slice-write-out-5
+    slice-write-out-6
+    slice-write-out-7
     same-length
     returns-3
     same-length-2
-    returns-4)
+    returns-4
+    same-length-3
+    returns-5)
