@@ -1,4 +1,4 @@
--- Written by tools/proofs from Proof.template: edit that one. Digest 22f32ab6bd0d2616.
+-- Written by tools/proofs from Proof.template: edit that one. Digest 22b120579bb0c68d.
 -- `job::records` meets its contract: each turn keeps the definition's value, and each way out is the definition's. Assumes nothing.
 use borrow.Author.Needs.{needs}
 use native.Mathlib.Omega.{arith}
@@ -71,7 +71,7 @@ counted-requires c κs =
 add-at : tie.Need-add-at Inv-loop μ-loop
 add-at c =
     let c1 = c .before .before .before .before .before in
-    let k = c .before .before .ok .given in
+    let k = c .before .before .kind .given in
     let next = round (turn (c1 .before)) (k .0 .0) (k .0 .1 .0) (k .0 .1 .1 .0) (k .1) in
     omega (arith, next .inside)
 
@@ -79,7 +79,7 @@ add-to : tie.Need-add-to Inv-loop μ-loop
 add-to c =
     let c1 = c .before .before .before .before .before in
     let c2 = c1 .before .before .before .before .before in
-    let k = c .before .before .ok .given in
+    let k = c .before .before .kind .given in
     let next = round (turn (c1 .before)) (k .0 .0) (k .0 .1 .0) (k .0 .1 .1 .0) (k .1) in
     omega (arith, next .room, next .kept, c2 .before .before .before .before .good)
 
@@ -89,13 +89,13 @@ loop-less c =
     let c2 = c1 .before .before .before .before .before in
     let L = c2 .before .loop in
     let few : L .c .begun ≤ jobLimit = L .inv .sound .few in
-    let e : c .counted .result .begun ≡ L .c .begun + 1 = ap (λ x. x .begun) (c .counted .ensures) ∙ counted-begun (c .before .before .ok .given .0 .0) (L .c) in
+    let e : c .counted .result .begun ≡ L .c .begun + 1 = ap (λ x. x .begun) (c .counted .ensures) ∙ counted-begun (c .before .before .kind .given .0 .0) (L .c) in
     omega (arith, c1 .before .before .before .before .if1 .left)
 
 loop-again : tie.Need-loop-again Inv-loop μ-loop
 loop-again c =
     let c1 = c .before .before .before .before .before in
-    let k = c .before .before .ok .given in
+    let k = c .before .before .kind .given in
     rw (c .counted .ensures) (round (turn (c1 .before)) (k .0 .0) (k .0 .1 .0) (k .0 .1 .1 .0) (k .1))
 
 counted-requires-2 : tie.Need-counted-requires-2 Inv-loop μ-loop
