@@ -6,8 +6,13 @@ use std::io::{self, BufWriter, Write};
 use std::process::ExitCode;
 
 const USAGE: &str = "\
-gen --seed S --count N [--mark XX] [--end E]    adversarial job records, then end number E
+gen --seed S --count N [--mark XX | --marks M] [--end E]
+                                                adversarial job records, of one mark or of the
+                                                first M of the table in turn, then end number E
                                                 (without --end: number S modulo their count)
+gen --mode lone --seed S --count N [--mark XX | --marks M]
+                                                records whose answer has one number alone that is
+                                                a NaN or an infinity
 gen --mode good --seed S --count N --mark XX [--arm A]
                                                 well-formed ordinary records of one mark,
                                                 the coefficients in arm A (1 to 5)
@@ -22,13 +27,14 @@ struct Settings {
     seed: u64,
     count: u64,
     mark: Option<&'static [u8; 2]>,
+    marks: usize,
     arm: usize,
     id: Option<u8>,
     end: Option<usize>,
 }
 
 fn settings() -> Result<Settings, String> {
-    let mut s = Settings { mode: "job".into(), ..Settings::default() };
+    let mut s = Settings { mode: "job".into(), marks: MARKS.len(), ..Settings::default() };
     let mut args = std::env::args().skip(1);
     while let Some(name) = args.next() {
         let value = args.next().ok_or(format!("{name} lacks its value"))?;
@@ -38,6 +44,7 @@ fn settings() -> Result<Settings, String> {
             "--seed" => s.seed = number()?,
             "--count" => s.count = number()?,
             "--arm" => s.arm = number()?.min(5) as usize,
+            "--marks" => s.marks = (number()? as usize).clamp(1, MARKS.len()),
             "--id" => s.id = Some(number()? as u8),
             "--end" => s.end = Some(number()? as usize),
             "--mark" => {
@@ -50,12 +57,12 @@ fn settings() -> Result<Settings, String> {
     Ok(s)
 }
 
-/// Adversarial records, each mark once in every seven, and an end.
+/// Adversarial records of each mark in turn, and an end.
 fn job(s: &Settings, source: &mut Source, out: &mut impl Write) -> io::Result<()> {
     let mut record = Vec::new();
-    for i in 0..s.count {
+    for i in 0..s.count as usize {
         record.clear();
-        let mark = s.mark.unwrap_or(MARKS[(i % 7) as usize]);
+        let mark = s.mark.unwrap_or(MARKS[i % s.marks]);
         source.job_record(mark, &mut record);
         out.write_all(&record)?;
     }
@@ -64,6 +71,17 @@ fn job(s: &Settings, source: &mut Source, out: &mut impl Write) -> io::Result<()
     record.clear();
     end(all[number], source, &mut record);
     out.write_all(&record)
+}
+
+/// Records with one number alone that is not finite, of each mark in turn.
+fn lone(s: &Settings, source: &mut Source, out: &mut impl Write) -> io::Result<()> {
+    let mut record = Vec::new();
+    for i in 0..s.count as usize {
+        record.clear();
+        source.lone_record(s.mark.unwrap_or(MARKS[i % s.marks]), &mut record);
+        out.write_all(&record)?;
+    }
+    Ok(())
 }
 
 fn good(s: &Settings, source: &mut Source, out: &mut impl Write) -> io::Result<()> {
@@ -94,6 +112,7 @@ fn run(s: &Settings) -> io::Result<bool> {
     let mut source = Source::new(s.seed);
     match s.mode.as_str() {
         "job" => job(s, &mut source, &mut out)?,
+        "lone" => lone(s, &mut source, &mut out)?,
         "good" => good(s, &mut source, &mut out)?,
         "lib" => lib(s, &mut source, &mut out)?,
         "ends" => writeln!(out, "{}", ends().len())?,

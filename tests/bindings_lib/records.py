@@ -5,8 +5,8 @@ from .common import ROOT, compare
 from jobs_lib.layout import ANSWER, JOB
 from jobs_lib.records import walk
 
-# The function that a mark calls; a record's numbers are its arguments in order.
-CALLS = {"EX": "exp", "CO": "scaled_pair", "PA": "block_pair", "AC": "act_each", "MU": "mul", "IN": "inverse", "JI": "block_inverse"}
+# The function that a mark calls; a record's numbers are its arguments in order. AR answers CO's numbers, behind four bytes.
+CALLS = {"EX": "exp", "CO": "scaled_pair", "PA": "block_pair", "AC": "act_each", "MU": "mul", "IN": "inverse", "JI": "block_inverse", "AR": "scaled_pair"}
 LEAST = 50  # records of each mark, fewer would be lost files
 
 
@@ -27,6 +27,7 @@ def stored_records():
             data = job[at + 2:at + asked.size]
             told = answers[answer_at + 2:answer_at + answer.size]
             refusal = told[0] if answer.mark == "NO" else 0
+            told = told[4:] if answer.mark == "AR" else told
             compare(f"{name}, record {number} ({asked.mark})", CALLS[asked.mark], data, refusal, told)
             seen[asked.mark] += 1
             refused[refusal] += 1

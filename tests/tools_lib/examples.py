@@ -22,10 +22,10 @@ def as_a_program():
 
 
 def help_has_examples():
-    for words in [["--help"], ["make", "--help"], ["show", "--help"], ["diff", "--help"]]:
+    for words in [["--help"], *([name, "--help"] for name in ("make", "show", "diff", "arms"))]:
         holds(jobs(*words)[0].decode(), "example:\n", "tools/jobs ")
     holds(jobs(status=2)[1], "COMMAND")
-    holds(jobs("shwo", status=2)[1], "shwo", "make", "show", "diff")
+    holds(jobs("shwo", status=2)[1], "shwo", "make", "show", "diff", "arms")
 
 
 def same_lines(found, expected, what):
@@ -78,12 +78,13 @@ def stored_job():
     answer = file("answers", program(data))
     text = jobs("show", answer)[0].decode()
     marks = " ".join(line.split()[0] for line in text.splitlines())
-    same(marks, "EX EX CO CO NO PA AC MU IN JI NO ZZ", "the answers' marks")
+    same(marks, "EX EX CO CO NO PA AC MU IN JI NO AR AR AR ZZ", "the answers' marks")
     holds(text, "EX pose.q 1.0 0.0 0.0 0.0; pose.t 1.0 2.0 3.0; pose.sigma 0.0\n",
           "AC point 5.0 7.0 9.0\n", "NO refusal 1", "NO refusal 2",
-          "ZZ begun 11; answered 9; refused 2\n")
+          "  # 11 terms\n", "  # closed; v0, w0 by series\n", "  # closed\n",
+          "ZZ begun 14; answered 12; refused 2; unusable 0\n")
     again = jobs("diff", answer, file("again", program(data)))[0].decode()
-    holds(again, "equal: 11 records")
+    holds(again, "equal: 14 records")
 
 
 def renew():

@@ -28,6 +28,13 @@ def what_is_left_out():
         same(jobs("make", data=line.encode())[0], made[:282], line)
 
 
+def arms_like_coefficients():
+    """An AR line is a CO line under another mark, with values given and left out."""
+    for rest in ("sigma 0.5; z 3", "-0.0 bits:3fffb1ffbc2a9c8c", "nan inf 1 2 3 4 5 6 7 8 9 10"):
+        made, co = (jobs("make", data=f"{mark} {rest}".encode())[0] for mark in ("AR", "CO"))
+        same((made[:2], made[2:], len(made)), (b"AR", co[2:], 98), rest)
+
+
 def stored_example():
     """examples/jobs.bin is made from jobs.txt; another math library may move what is computed."""
     made = jobs("make", ROOT / "examples" / "jobs.txt")[0]
@@ -47,8 +54,9 @@ def bad_lines():
             ("JI 1", "JI has 1 number;", "31 (block.a 9"),
             ("EX 1 2 3", "EX has 3 numbers", "7 (phi 3; rho 3; sigma), or 17"),
             ("AC 1 0 0 0 1 2 3 0 1 4 5 six", "'six' is not a number", "a decimal"),
-            ("ZZ 1 2 3", "unknown mark 'ZZ'", "EX CO PA AC MU IN JI"),
-            ("ex 1 2 3 4 5 6 7", "unknown mark 'ex'", "EX CO PA AC MU IN JI"),
+            ("ZZ 1 2 3", "unknown mark 'ZZ'", "EX CO PA AC MU IN JI AR"),
+            ("ex 1 2 3 4 5 6 7", "unknown mark 'ex'", "EX CO PA AC MU IN JI AR"),
+            ("AR 1", "AR has 1 number;", "2 (sigma; z), or 12 (sigma; z; values 10)"),
             ("EX 1 2; 3 4 5 6 7", "';' after 2 numbers is inside phi", "phi 3; rho 3"),
             ("EX rho 1 2 3 phi 4 5 6 sigma 7", "rho after 0 numbers, where phi begins", "phi 3"),
             ("EX phi 1 2 3; rho 4 5; sigma 7", "';' after 5 numbers is inside rho", "takes 3"),
@@ -73,4 +81,4 @@ def bad_files():
     same(jobs("make", data=b"")[0], b"", "the job file of nothing")
 
 
-TESTS = [scope_example, what_is_left_out, stored_example, bad_lines, bad_files]
+TESTS = [scope_example, what_is_left_out, arms_like_coefficients, stored_example, bad_lines, bad_files]

@@ -1,32 +1,38 @@
 """`jobs show`."""
+import collections
+import hashlib
 import struct
 
-from .common import ROOT, answers, end, holds, jobs, records, same
+from .common import ROOT, answers, end, ended, holds, jobs, not_finite, records, same
 from jobs_lib.layout import ANSWER, END, JOB
+from jobs_lib.records import scan, walk
 
 
 def layout_of_the_scope():
     """Lengths of the records, and where some numbers stand, apart from the tool's own table."""
     sizes = {"EX": (136, 64), "CO": (96, 160), "PA": (280, 992), "AC": (96, 24), "MU": (136, 64),
-             "IN": (72, 64), "JI": (248, 248)}
+             "IN": (72, 64), "JI": (248, 248), "AR": (96, 164)}
     for layout in JOB.values():
         out = ANSWER[layout.mark.encode()]
         same((layout.size - 2, out.size - 2), sizes[layout.mark], f"bytes of {layout.mark}")
-    same(END.size, 14, "bytes of ZZ")
+    same((END.size, END.fields), (18, ["begun", "answered", "refused", "unusable"]), "ZZ")
     for table, mark, field, number in [
             (JOB, b"EX", "sigma", 6), (JOB, b"EX", "values.cos_half", 9), (JOB, b"CO", "values.M0", 9),
             (JOB, b"PA", "J[1][0]", 18), (JOB, b"PA", "Jinv[0][2]", 32), (JOB, b"AC", "up", 8),
             (JOB, b"MU", "right.t.x", 12), (JOB, b"JI", "block.e", 30),
             (ANSWER, b"CO", "coeffs(+).scaled", 9), (ANSWER, b"CO", "coeffs(-).dv2", 17),
-            (ANSWER, b"PA", "left.b[1][2]", 16), (ANSWER, b"PA", "right_inv.f[0]", 120)]:
+            (ANSWER, b"PA", "left.b[1][2]", 16), (ANSWER, b"PA", "right_inv.f[0]", 120),
+            (JOB, b"AR", "z", 1), (JOB, b"AR", "values.down", 11), (ANSWER, b"AR", "arm(+)", 0),
+            (ANSWER, b"AR", "series(+)", 1), (ANSWER, b"AR", "arm(-)", 2),
+            (ANSWER, b"AR", "coeffs(+).v0", 4), (ANSWER, b"AR", "coeffs(-).scaled", 23)]:
         same(table[mark].fields[number], field, f"number {number} of {mark.decode()}")
 
 
 def back_by_make():
     """`make` turns the lines of `show` into the same bytes, for every mark and odd numbers."""
-    data = records(JOB, 2, 140)
+    data = records(JOB, 2, 160)
     text, messages = jobs("show", data=data)
-    same((text.count(b"\n"), messages), (140, ""), "lines and messages")
+    same((text.count(b"\n"), messages), (160, ""), "lines and messages")
     same(jobs("make", data=text)[0], data, "the bytes made again")
 
 
@@ -44,24 +50,97 @@ def stored_runs():
 
 def answers_as_text():
     text = jobs("show", data=answers())[0].decode()
-    same(len(text.splitlines()), 9, "lines")
+    same(len(text.splitlines()), 10, "lines")
     holds(text, "EX pose.q ", "; right_inv.e ", "NO refusal 1  # squared angle z below zero\n",
-          "ZZ begun 8; answered 7; refused 1\n")
-    odd = b"AC" + struct.pack("<3d", -0.0, float("nan"), float("-inf")) + end(1)
-    same(jobs("show", data=odd)[0], b"AC point -0.0 nan -inf\nZZ begun 1; answered 1; refused 0\n",
-         "odd numbers")
+          "ZZ begun 9; answered 2; refused 1; unusable 6\n")
+    odd = b"AC" + struct.pack("<3d", -0.0, float("nan"), float("-inf")) + end(1, 0, 1)
+    same(jobs("show", data=odd)[0],
+         b"AC point -0.0 nan -inf\nZZ begun 1; answered 0; refused 0; unusable 1\n", "odd numbers")
+
+
+def unusable_answers():
+    """--unusable: the records' numbers, what in them is not finite, and how many they are; of every field."""
+    inf, nan = float("inf"), float("nan")
+    data = b"".join(b"AC" + struct.pack("<3d", *point) for point in
+                    [(1, 2, 3), (inf, 2, 3), (1, 2, nan), (1.7976931348623157e308, 1.7976931348623157e308, 5e-324)])
+    data = ended(data[:26] + b"NO\2" + data[26:] + b"JI" + struct.pack("<31d", *[-inf] * 31), 1)
+    same(jobs("show", "--unusable", data=data)[0].decode(), """\
+record 3  AC  point.x inf
+record 4  AC  point.z nan
+record 6  JI  inverse.a[0][0] -inf, inverse.a[1][0] -inf, inverse.a[2][0] -inf, inverse.a[0][1] -inf, \
+inverse.a[1][1] -inf, inverse.a[2][1] -inf and 25 more
+not usable: 3 answers of 6 records
+""", "the list")
+    for layout in ANSWER.values():
+        for place, code in enumerate(layout.codes):
+            if code == "d":
+                numbers = [nan if i == place else 0 for i in range(len(layout.fields))]
+                data = layout.mark.encode() + layout.numbers.pack(*numbers)
+                holds(jobs("show", "--unusable", data=data + end(1, 0, 1))[0].decode(),
+                      f"record 1  {layout.mark}  {layout.fields[place]} nan\n")
+                holds(jobs("show", data=data + end(1), status=1)[1], "which are 1 begun, 0 answered, 0 refused, 1 unusable")
+    same(jobs("show", "--unusable", data=end(0))[0], b"not usable: 0 answers of 0 records\n", "no records")
+    holds(jobs("show", "--unusable", data=records(JOB, 1, 3), status=2)[1], "is a job file; expected answers")
+    holds(jobs("show", "--unusable", "--hex", data=end(0), status=2)[1], "--unusable stands alone")
+
+
+def stored_counts():
+    """The stored answers' counts: the last three add up to the first, the fourth is of those that are not finite; both ends of an answer are among them."""
+    alone = collections.Counter()
+    for path in sorted((ROOT / "tests" / "runs").glob("*.out")):
+        data = path.read_bytes()
+        begun, answered, refused, unusable = struct.unpack("<4I", data[-16:])
+        same((data[-18:-16], answered + refused + unusable, unusable), (b"ZZ", begun, not_finite(data)), path.name)
+        for at, layout in walk(data, ANSWER):
+            numbers = layout.bits.unpack_from(data, at + 2)
+            bad = [i for i, x in enumerate(numbers) if layout.codes[i] == "d" and x >> 52 & 0x7FF == 0x7FF]
+            alone.update([(layout.mark, layout.fields[bad[0]])] if len(bad) == 1 else [])
+    for place in [("AC", "point.x"), ("AC", "point.z"), ("MU", "product.q.w"), ("MU", "product.sigma"), ("IN", "inverse.sigma"),
+                  ("CO", "coeffs(+).chi_delta"), ("CO", "coeffs(-).chi_delta"), ("AR", "coeffs(-).chi_delta"), ("JI", "inverse.f[2]")]:
+        assert alone[place], f"no stored answer in which {place} alone is not finite"
+    same({mark for mark, _ in alone}, {layout.mark for layout in JOB.values()}, "marks with one number alone that is not finite")
+
+
+def stored_records():
+    """The stored answers up to ZZ are those whose digests tests/runs.sha256 has: whatever ZZ counts, the records stay."""
+    lines = (ROOT / "tests" / "runs.sha256").read_text().splitlines()
+    digests = {name: digest for digest, name in (line.split("  ") for line in lines)}
+    found = {path.stem: path.read_bytes() for path in (ROOT / "tests" / "runs").glob("*.out")}
+    same(sorted(digests), sorted(found), "the runs in tests/runs.sha256")
+    for name, data in found.items():
+        same(hashlib.sha256(data[:scan(data, ANSWER, "").end]).hexdigest(), digests[name], f"the digest of {name} up to ZZ")
+
+
+def arms_as_text():
+    """An AR answer's line ends with what its bytes stand for; both signs are told where they differ."""
+    for told, said in [((1, 0, 1, 0), "6 terms"), ((2, 0, 2, 0), "11 terms"), ((3, 0, 3, 0), "14 terms"),
+                       ((4, 0, 4, 0), "19 terms"), ((5, 0, 5, 0), "closed"),
+                       ((5, 1, 5, 1), "closed; v0, w0 by series"),
+                       ((4, 0, 5, 1), "at sigma: 19 terms; at -sigma: closed; v0, w0 by series"),
+                       ((6, 0, 6, 0), "a number that no arm has")]:
+        data = b"AR" + bytes(told) + struct.pack("<20d", *range(20)) + end(1)
+        line = jobs("show", data=data)[0].decode().splitlines()[0]
+        begin = "AR arm(+) {}; series(+) {}; arm(-) {}; series(-) {}; coeffs(+) 0.0 1.0 ".format(*told)
+        same((line[:len(begin)], line.partition("  # ")[2]), (begin, said), f"the line of {told}")
+    data = b"AR" + bytes((5, 1, 4, 0)) + bytes(160) + end(1)
+    holds(jobs("show", "--hex", "--record", "1", data=data)[0].decode(),
+          "       2  05                       arm(+) = 5 (closed)\n"
+          "       3  01                       series(+) = 1 (v0, w0 by series)\n"
+          "       4  04                       arm(-) = 4 (19 terms)\n"
+          "       5  00                       series(-) = 0\n"
+          "       6  00 00 00 00 00 00 00 00  coeffs(+).v0 = 0.0\n")
 
 
 def single_records():
     """--record and --hex: the records asked for, no ZZ, and their bytes."""
-    text = jobs("show", "--hex", "--record", "8", data=answers())[0].decode()
+    text = jobs("show", "--hex", "--record", "9", data=answers())[0].decode()
     at = len(answers()) - END.size - 3
     same(text, f"{at:8}  4e 4f                    NO\n"
                f"{at + 2:8}  01                       refusal = 1 (squared angle z below zero)\n",
-         "record 8")
+         "record 9")
     text = jobs("show", "--record", "4-5", data=answers())[0].decode()
     same([line[:2] for line in text.splitlines()], ["AC", "MU"], "records 4 and 5")
-    holds(jobs("show", "--record", "9", data=answers(), status=2)[1], "no record 9", "it has 8")
+    holds(jobs("show", "--record", "10", data=answers(), status=2)[1], "no record 10", "it has 9")
     for word in ("0", "3-2", "x"):
         holds(jobs("show", "--record", word, status=2)[1], "expected 7 or 7-9, from 1")
 
@@ -77,7 +156,7 @@ def guesses():
     for length in (67, 100, 200, 300, 1000, 1500):
         holds(jobs("show", data=answers()[:length], status=1)[0].decode(), "EX pose.q")
     holds(jobs("show", data=answers()[:66] + b"QQ" + end(1), status=1)[0].decode(), "EX pose.q")
-    same(jobs("show", data=end(0))[0], b"ZZ begun 0; answered 0; refused 0\n", "no records")
+    same(jobs("show", data=end(0))[0], b"ZZ begun 0; answered 0; refused 0; unusable 0\n", "no records")
     same(jobs("show", data=b"")[0], b"", "an empty job file")
 
 
@@ -100,14 +179,16 @@ def damaged_answers():
     last = len(whole) - END.size
     for data, message in [
             (whole[:last], f"byte {last}: ZZ and its counts are missing"),
-            (whole[:-1], f"byte {last}: ZZ is short, 13 of 14 bytes"),
+            (whole[:-1], f"byte {last}: ZZ is short, 17 of 18 bytes"),
             (whole[:100], "byte 66: the file ends inside a record: CO takes 162 bytes, 34 are"),
             (whole[:66] + b"QQ" + whole[66:], "byte 66: unknown mark 51 51 ('QQ')"),
             (whole + b"AC", f"byte {len(whole)}: 2 bytes after ZZ"),
             (whole + whole, f"byte {len(whole)}: {len(whole):,} bytes after ZZ"),
-            (whole[:last] + end(9, 1), "ZZ does not fit the records, which are 8 begun, 7 answer")]:
+            (whole[:last] + end(9, 1, 5), "ZZ does not fit the records, which are 9 begun, 2 answered, "
+                                          "1 refused, 6 unusable"),
+            (whole[:last] + end(8, 1, 6), "ZZ does not fit the records, which are 9 begun, 2 answer")]:
         holds(jobs("show", "--out", data=data, status=1)[1], message)
 
 
-TESTS = [layout_of_the_scope, back_by_make, stored_runs, answers_as_text, single_records, guesses,
-         damaged_jobs, damaged_answers]
+TESTS = [layout_of_the_scope, back_by_make, stored_runs, answers_as_text, unusable_answers, stored_counts,
+         stored_records, arms_as_text, single_records, guesses, damaged_jobs, damaged_answers]

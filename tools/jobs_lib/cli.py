@@ -4,6 +4,7 @@ import re
 import signal
 import sys
 
+from .arms import arms
 from .diff import diff
 from .layout import ANSWER, JOB
 from .make import MAY_MISS, groups_text, make
@@ -11,7 +12,8 @@ from .show import show
 from .terminal import Failure, say
 
 ABOUT = """\
-Job files of the Sim(3) engine: make them from text, show them as text, compare their answers.
+Job files of the Sim(3) engine: make them from text, show them as text, compare their answers, and
+see which arm gave each coefficient set.
 docs/JOB-FORMAT.md has the bytes of every record.
 
 example:
@@ -19,6 +21,7 @@ example:
   ./sim3-job < jobs.bin > answers.bin
   tools/jobs show answers.bin
   tools/jobs diff last-answers.bin answers.bin
+  tools/jobs arms --svg arms.svg jobs.bin answers.bin
 """
 
 MAKE = """\
@@ -40,7 +43,8 @@ example:
 SHOW = """\
 A job file or an answer file as text, one record a line: numbers as the shortest decimals that read
 back exactly, refusals with their meaning, and the counts of ZZ. `jobs make` turns the lines of a
-job file into the same bytes again. Which of the two a file is is guessed unless it is said.
+job file into the same bytes again. Which of the two a file is is guessed unless it is said. With
+--unusable only the answers that hold a NaN or an infinity are listed, by their numbers in the file.
 
 Exit status: 0, or 1 where the file is damaged or cut (the byte is named), or 2 if it cannot be read.
 
@@ -48,17 +52,33 @@ example:
   tools/jobs show jobs.bin
   ./sim3-job < jobs.bin | tools/jobs show
   tools/jobs show --hex --record 3 answers.bin
+  tools/jobs show --unusable answers.bin
 """
 
 DIFF = """\
 Compares two answer files record by record. Each difference is a line with the record's number (from
 1), its mark, the field, both values and their distance in units in the last place. A NaN equals
-every NaN; zeros of different sign differ. A file that does not end in ZZ is named first.
+every NaN; zeros of different sign differ. A file that does not end in ZZ is named first. At the end
+stands which answers are not usable, since they hold a NaN or an infinity.
 
 Exit status: 0 equal and whole, 1 different or not whole, 2 not to be read.
 
 example:
   tools/jobs diff --limit 20 last-answers.bin answers.bin
+"""
+
+
+ARMS = """\
+Which arm gave the coefficients of each AR record: how many records each arm has, as a table; with
+--svg also as a picture, in the plane of sigma squared and z, with the limits of the arms as lines.
+JOBS is a job file, ANSWERS the answers to it; records of other marks are passed over.
+
+Exit status: 0, or 1 where an answer's arm is not the one that the limits give, or ANSWERS is not the
+whole answer to JOBS (what is wrong is named), or 2 if a file cannot be read or written.
+
+example:
+  tools/jobs arms jobs.bin answers.bin
+  tools/jobs arms --svg arms.svg jobs.bin answers.bin
 """
 
 
@@ -107,11 +127,17 @@ def parser():
                       help="it is an answer file")
     one.add_argument("--hex", action="store_true", help="the bytes too, one number a line")
     one.add_argument("--record", type=record_range, metavar="N[-M]", help="these records alone")
+    one.add_argument("--unusable", action="store_true",
+                     help="which answers hold a NaN or an infinity, and in which numbers")
     one.add_argument("file", nargs="?", metavar="FILE", help="the file; standard input if not given")
     one = add_command(commands, "diff", DIFF, "compare two answer files")
     one.add_argument("--limit", type=limit, metavar="N", help="print at most N differences")
     one.add_argument("old", metavar="OLD")
     one.add_argument("new", metavar="NEW")
+    one = add_command(commands, "arms", ARMS, "count and draw the arms of AR records")
+    one.add_argument("--svg", metavar="FILE", help="the picture to be written")
+    one.add_argument("job", metavar="JOBS")
+    one.add_argument("answers", metavar="ANSWERS")
     return top
 
 
@@ -119,8 +145,13 @@ def run(arguments):
     if arguments.command == "make":
         return make(arguments.file)
     if arguments.command == "show":
-        return show(arguments.file, arguments.table, arguments.record, arguments.hex)
-    return diff(arguments.old, arguments.new, arguments.limit)
+        if arguments.unusable and (arguments.hex or arguments.record):
+            raise Failure("jobs: --unusable stands alone; expected neither --hex nor --record with it")
+        return show(arguments.file, arguments.table, arguments.record, arguments.hex,
+                    arguments.unusable)
+    if arguments.command == "diff":
+        return diff(arguments.old, arguments.new, arguments.limit)
+    return arms(arguments.job, arguments.answers, arguments.svg)
 
 
 def main(words):

@@ -3,10 +3,11 @@
 All else reads and writes records through these layouts; a new mark is a new entry here.
 """
 import struct
-from typing import NamedTuple, Tuple
+from math import isfinite
+from typing import NamedTuple, Optional, Tuple
 
 MOST_RECORDS = 1_000_000  # the job program answers no more
-FLAG = ".scaled"  # a field that is the double 1 or 0
+SCALED, SERIES = ".scaled", "series("  # how the name of a field that is 1 or 0 ends or begins
 
 REFUSALS = {
     1: "squared angle z below zero",
@@ -17,6 +18,8 @@ REFUSALS = {
     6: "unknown mark",
     7: "input ends inside a mark or record",
 }
+ARMS = {1: "6 terms", 2: "11 terms", 3: "14 terms", 4: "19 terms", 5: "closed"}
+BY_SERIES = {0: "", 1: "v0, w0 by series"}
 
 
 class Group(NamedTuple):
@@ -26,6 +29,7 @@ class Group(NamedTuple):
     parts: Tuple[str, ...]  # what each number adds to the name: ".x", "[1][2]", nothing
     about: str
     code: str = "d"  # struct's letter: d a double, B a byte, I a 32-bit count
+    names: Optional[dict] = None  # what its numbers stand for, where each has a name
 
 
 class Layout:
@@ -35,10 +39,28 @@ class Layout:
         self.mark, self.about, self.groups = mark, about, groups
         self.fields = [g.name + part for g in groups for part in g.parts]
         self.codes = "".join(g.code * len(g.parts) for g in groups)
-        self.flags = {i for i, field in enumerate(self.fields) if field.endswith(FLAG)}
+        self.names = [g.names for g in groups for _ in g.parts]
+        self.named = [i for i, names in enumerate(self.names) if names]
+        self.flags = {i for i, field in enumerate(self.fields)
+                      if field.endswith(SCALED) or field.startswith(SERIES)}
         self.numbers = struct.Struct("<" + self.codes)
         self.bits = struct.Struct("<" + self.codes.replace("d", "Q"))
         self.size = 2 + self.numbers.size
+
+    def kind(self, i):
+        """What sort of number stands in a field that has names: `refusal`, `arm`."""
+        return self.fields[i].partition("(")[0]
+
+    def meaning(self, i, number):
+        """What a number stands for; nothing where it has no name."""
+        names = self.names[i] or {number: ""}
+        return names.get(number, f"a number that no {self.kind(i)} has")
+
+    def usable(self, data, at):
+        """Whether no number of the record at byte `at` is a NaN or an infinity."""
+        numbers = self.numbers.unpack_from(data, at + 2)
+        # A sum is finite only of finite numbers; a sum of such may still overflow.
+        return isfinite(sum(numbers)) or all(map(isfinite, numbers))
 
     def offsets(self):
         """Each group with the byte at which it starts, counted from the mark."""
@@ -54,9 +76,10 @@ WXYZ = (".w", ".x", ".y", ".z")
 ROWS = ("[0]", "[1]", "[2]")
 MATRIX = tuple(f"[{row}][{column}]" for column in range(3) for row in range(3))
 TEN = (".root", ".sin_half", ".cos_half", ".sin", ".E", ".M", ".E0", ".M0", ".up", ".down")
-COEFFICIENTS = (".v0", ".v1", ".v2", ".w0", ".w1", ".w2", ".dv1", ".dv2", ".chi_delta", FLAG)
+COEFFICIENTS = (".v0", ".v1", ".v2", ".w0", ".w1", ".w2", ".dv1", ".dv2", ".chi_delta", SCALED)
 
 SIGMA = Group("sigma", ONE, "log scale")
+ANGLE = Group("z", ONE, "squared angle")
 VALUES = Group("values", TEN, "the ten function values")
 UP = Group("up", ONE, "e^sigma")
 DOWN = Group("down", ONE, "e^-sigma")
@@ -81,6 +104,17 @@ def coefficients(name, about):
     return Group(name, COEFFICIENTS, "nine coefficients and the flag " + about)
 
 
+def arm(sign, about):
+    """The arm of one sign, and whether the closed arm's v0 and w0 came from series."""
+    numbered = ", ".join(f"{number} = {name}" for number, name in ARMS.items())
+    return (Group(f"arm({sign})", ONE, f"arm {about}: {numbered}", "B", ARMS),
+            Group(f"{SERIES}{sign})", ONE, f"1 where v0 and w0 of the closed arm {about} came from "
+                                           "series, else 0", "B", BY_SERIES))
+
+
+PAIR = (coefficients("coeffs(+)", "at sigma"), coefficients("coeffs(-)", "at -sigma"))
+
+
 def table(*layouts):
     """Layouts by their marks as they stand in a file."""
     return {layout.mark.encode(): layout for layout in layouts}
@@ -88,29 +122,31 @@ def table(*layouts):
 
 JOB = table(
     Layout("EX", "exponential of a tangent", *TANGENT, VALUES),
-    Layout("CO", "coefficients of both signs", SIGMA, Group("z", ONE, "squared angle"), VALUES),
+    Layout("CO", "coefficients of both signs", SIGMA, ANGLE, VALUES),
     Layout("PA", "block pair", *TANGENT, VALUES, *ROTATION_JACOBIANS),
     Layout("AC", "action of a pose on a point", *pose("pose"), UP, POINT),
     Layout("MU", "product of two poses", *pose("left"), *pose("right"), UP),
     Layout("IN", "inverse of a pose", *pose("pose"), DOWN),
     Layout("JI", "inverse of a block Jacobian", *block("block")),
+    Layout("AR", "arms and coefficients of both signs", SIGMA, ANGLE, VALUES),
 )
 
 ANSWER = table(
     Layout("EX", "the pose", *pose("pose")),
-    Layout("CO", "the coefficients", coefficients("coeffs(+)", "at sigma"),
-           coefficients("coeffs(-)", "at -sigma")),
+    Layout("CO", "the coefficients", *PAIR),
     Layout("PA", "four blocks", *block("left"), *block("left_inv"), *block("right"),
            *block("right_inv")),
     Layout("AC", "the moved point", POINT),
     Layout("MU", "the product", *pose("product")),
     Layout("IN", "the inverse", *pose("inverse")),
     Layout("JI", "the inverse", *block("inverse")),
-    Layout("NO", "a refusal", Group("refusal", ONE, "its number", "B")),
+    Layout("AR", "the arms and the coefficients", *arm("+", "at sigma"), *arm("-", "at -sigma"), *PAIR),
+    Layout("NO", "a refusal", Group("refusal", ONE, "its number", "B", REFUSALS)),
 )
 
 # The counts behind the last record of an answer file.
 END = Layout("ZZ", "the end",
              Group("begun", ONE, "records begun", "I"),
-             Group("answered", ONE, "records answered", "I"),
-             Group("refused", ONE, "records refused", "I"))
+             Group("answered", ONE, "records answered with finite numbers alone", "I"),
+             Group("refused", ONE, "records refused", "I"),
+             Group("unusable", ONE, "records whose answer holds a NaN or an infinity", "I"))

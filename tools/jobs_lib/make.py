@@ -16,7 +16,8 @@ MOST_MESSAGES = 20
 
 # Groups that a line may leave out, those that go together in one bracket.
 MAY_MISS = {"EX": [("values",)], "CO": [("values",)], "PA": [("values",), ("J", "Jinv")],
-            "AC": [("up",)], "MU": [("up",)], "IN": [("down",)], "JI": []}
+            "AC": [("up",)], "MU": [("up",)], "IN": [("down",)], "JI": [],
+            "AR": [("values",)]}
 
 
 class BadLine(ValueError):

@@ -1,12 +1,14 @@
 """`jobs show`: a job file or an answer file as text, one record a line."""
 import struct
+from math import isfinite
 
 from .doubles import NAN, text
-from .layout import ANSWER, END, JOB, MOST_RECORDS, REFUSALS
+from .layout import ANSWER, END, JOB, MOST_RECORDS
 from .records import guess, hexadecimal, load, name_of, scan, walk
-from .terminal import Failure, Lines, Progress, say
+from .terminal import Failure, Lines, Progress, count, say
 
 MOST_RAW = 32  # bytes that are shown of what begins with no mark
+MOST_NAMED = 6  # numbers of a record that is not usable, in its line
 
 
 def template(layout):
@@ -18,8 +20,14 @@ def template(layout):
 TEMPLATES = {layout: template(layout) for layout in (*JOB.values(), *ANSWER.values(), END)}
 
 
-def meaning(refusal):
-    return REFUSALS.get(refusal, "a number that no refusal has")
+def remark(layout, numbers):
+    """What a refusal's number and AR's bytes stand for; of AR once where both signs say the same."""
+    words = [layout.meaning(i, numbers[i]) for i in layout.named]
+    half = len(words) // 2
+    signs = ["; ".join(filter(None, some)) for some in (words[:half], words[half:])]
+    if not half or signs[0] == signs[1]:
+        return signs[1]
+    return f"at sigma: {signs[0]}; at -sigma: {signs[1]}"
 
 
 def one_line(data, at, layout):
@@ -29,9 +37,8 @@ def one_line(data, at, layout):
     nans = line.count("nan")
     if nans and layout.bits.unpack_from(data, at + 2).count(NAN) != nans:
         line = TEMPLATES[layout] % tuple(map(text, numbers))  # a NaN with bits of its own
-    if layout.mark == "NO":
-        line += "  # " + meaning(*numbers)
-    return [line]
+    said = remark(layout, numbers)
+    return [f"{line}  # {said}" if said else line]
 
 
 def hex_lines(data, at, layout):
@@ -39,12 +46,31 @@ def hex_lines(data, at, layout):
     lines = [f"{at:8}  {hexadecimal(data[at:at + 2]):23}  {layout.mark}"]
     numbers = layout.numbers.unpack_from(data, at + 2)
     at += 2
-    for name, code, number in zip(layout.fields, layout.codes, numbers):
+    for i, (name, code, number) in enumerate(zip(layout.fields, layout.codes, numbers)):
         size = struct.calcsize("<" + code)
-        note = f" ({meaning(number)})" if layout.mark == "NO" else ""
+        said = layout.meaning(i, number)
+        note = f" ({said})" if said else ""
         lines.append(f"{at:8}  {hexadecimal(data[at:at + size]):23}  {name} = {text(number)}{note}")
         at += size
     return lines
+
+
+def unusable_line(number, data, at, layout):
+    """A record's number and mark, and its first numbers that are a NaN or an infinity."""
+    numbers = layout.numbers.unpack_from(data, at + 2)
+    bad = [f"{name} {text(x)}" for name, x in zip(layout.fields, numbers) if not isfinite(x)]
+    more = f" and {len(bad) - MOST_NAMED:,} more" if len(bad) > MOST_NAMED else ""
+    return f"record {number}  {layout.mark}  {', '.join(bad[:MOST_NAMED])}{more}"
+
+
+def print_unusable(data, found):
+    """The answers that are not usable, and how many they are."""
+    out, left = Lines(), set(found.unusable)
+    for number, (at, layout) in enumerate(walk(data, ANSWER), 1):
+        if number in left:
+            out.add(unusable_line(number, data, at, layout))
+    out.add(f"not usable: {count(len(left), 'answer')} of {count(found.records, 'record')}")
+    out.flush()
 
 
 def raw_line(data, at, table):
@@ -90,13 +116,17 @@ def say_damages(name, found, read_as, guessed):
         say(f"jobs: {found.records:,} records; the job program answers the first {MOST_RECORDS:,}")
 
 
-def show(path, table, wanted, as_bytes):
+def show(path, table, wanted, as_bytes, unusable=False):
     """The command: 0, or 1 where the file is damaged. Without `wanted`, everything is shown."""
     data, name = load(path), name_of(path)
     read_as = table or guess(data)
     found = scan(data, read_as, "reading")
     lines_of = hex_lines if as_bytes else one_line
-    if wanted is None:
+    if unusable and read_as is JOB:
+        raise Failure(f"jobs: {name} is a job file; expected answers for --unusable")
+    if unusable:
+        print_unusable(data, found)
+    elif wanted is None:
         print_records(data, read_as, range(1, found.records + 1), lines_of)
         print_end(data, read_as, found, lines_of)
     elif wanted.stop - 1 > found.records:

@@ -115,6 +115,30 @@ impl Source {
         }
     }
 
+    /// The same for the arm itself: more of what decides it and of nothing else.
+    pub fn arm_angle(&mut self) -> (f64, f64) {
+        match self.rng.below(16) {
+            0..=3 => self.at_arm_limit(),
+            4..=5 => (self.at_series_limit().0, self.any_angle()),
+            6 => (self.with_large_square(), self.any_angle()),
+            7 => (self.special(), self.any_angle()),
+            _ => self.sigma_angle(),
+        }
+    }
+
+    /// A squared angle that alone would be in any arm: at a limit, within one, or special.
+    fn any_angle(&mut self) -> f64 {
+        match self.rng.below(4) {
+            0 => self.special().abs(),
+            1 => {
+                let limit = f64::from_bits(self.rng.pick(&ARM_LIMITS));
+                nudge(limit, self.rng.below(3) as i64 - 1)
+            }
+            2 => self.in_a_series().1,
+            _ => self.rng.between(1.39, 15.0),
+        }
+    }
+
     /// `fl(fl(σσ) + z)` on a limit of `Δ` or on a neighbour, with `σ = 0`, `z = 0` or both.
     fn at_arm_limit(&mut self) -> (f64, f64) {
         let limit = f64::from_bits(self.rng.pick(&ARM_LIMITS));

@@ -5,7 +5,7 @@ use super::Source;
 use helicoid::judge::marks::mark;
 
 /// Marks that are in no job table: other case, other order, one letter wrong, the answers' own.
-const UNKNOWN: [&[u8; 2]; 24] = [
+const UNKNOWN: [&[u8; 2]; 25] = [
     b"ex",
     b"co",
     b"pa",
@@ -24,7 +24,8 @@ const UNKNOWN: [&[u8; 2]; 24] = [
     b"FX",
     b"ZZ",
     b"NO",
-    b"AR",
+    b"ar",
+    b"RA",
     b"CH",
     b"\0\0",
     b"\xff\xff",
@@ -66,7 +67,7 @@ pub fn end(end: End, source: &mut Source, out: &mut Vec<u8>) {
         End::Cut(letters, bytes) => {
             let start = out.len();
             source.job_record(letters, out);
-            if letters == b"CO" {
+            if matches!(letters, b"CO" | b"AR") {
                 out[start + 10..start + 18].copy_from_slice(&(-1.0f64).to_le_bytes());
             }
             out.truncate(start + 2 + bytes);

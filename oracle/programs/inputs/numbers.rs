@@ -103,6 +103,16 @@ impl Source {
         self.with_exponent(484, 30)
     }
 
+    /// A number whose square is near the greatest double, on either side of overflow.
+    pub fn with_large_square(&mut self) -> f64 {
+        let steps = self.rng.below(5) as i64 - 2;
+        let edge = nudge(f64::MAX.sqrt(), steps);
+        match self.rng.below(3) {
+            0 => self.with_exponent(1533, 4),
+            _ => self.rng.signed(edge),
+        }
+    }
+
     /// A number with any fraction and sign and one of `how_many` exponents from `lowest` on.
     fn with_exponent(&mut self, lowest: u64, how_many: usize) -> f64 {
         let exponent = lowest + self.rng.below(how_many) as u64;

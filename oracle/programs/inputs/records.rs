@@ -5,15 +5,15 @@ use super::{Mood, Source};
 use crate::library::{Entry, Part};
 use helicoid::judge::Values;
 
-/// The marks in the order of the job table.
-pub const MARKS: [&[u8; 2]; 7] = [b"EX", b"CO", b"PA", b"AC", b"MU", b"IN", b"JI"];
+/// The marks in the order of the job table, the requested ones behind it.
+pub const MARKS: [&[u8; 2]; 8] = [b"EX", b"CO", b"PA", b"AC", b"MU", b"IN", b"JI", b"AR"];
 
 /// `(x² + y²) + z²`.
 pub fn squared_angle([x, y, z]: [f64; 3]) -> f64 {
     (x * x + y * y) + z * z
 }
 
-fn put(out: &mut Vec<u8>, numbers: &[f64]) {
+pub(super) fn put(out: &mut Vec<u8>, numbers: &[f64]) {
     numbers.iter().for_each(|x| out.extend_from_slice(&x.to_bits().to_le_bytes()));
 }
 
@@ -36,8 +36,8 @@ impl Source {
                     put(out, &inverse);
                 }
             }
-            b"CO" => {
-                let (sigma, z) = self.sigma_angle();
+            b"CO" | b"AR" => {
+                let (sigma, z) = if mark == b"CO" { self.sigma_angle() } else { self.arm_angle() };
                 let z = if self.rng.one_in(16) { -z } else { z };
                 put(out, &[sigma, z]);
                 put(out, &self.values(sigma, z.abs()));
@@ -71,10 +71,10 @@ impl Source {
         };
         let phi = self.phi_with(z);
         let rho = self.numbers::<3>(Mood::Ordinary);
-        let angle = if mark == b"CO" { z } else { squared_angle(phi) };
+        let angle = if matches!(mark, b"CO" | b"AR") { z } else { squared_angle(phi) };
         let values = Values::of_host(sigma, angle).to_array();
         match mark {
-            b"CO" => put(out, &[sigma, z]),
+            b"CO" | b"AR" => put(out, &[sigma, z]),
             b"EX" | b"PA" => {
                 put(out, &phi);
                 put(out, &rho);

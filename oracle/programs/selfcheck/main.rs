@@ -1,9 +1,11 @@
 //! Checks of the oracle itself: the paper's proved examples, that a wrong reading stops, the pair
 //! against two single evaluations, the public way to the block Jacobians against the private one,
-//! and the handed-in values against the same Rust with the host's functions.
+//! AR's bytes against the arm that is taken, and the handed-in values against the same Rust with the
+//! host's functions.
 //!
 //! `selfcheck SEED COUNT` runs every comparison on COUNT generated inputs.
 
+mod arms;
 mod examples;
 mod plain;
 mod signs;
@@ -21,12 +23,13 @@ fn same(a: &[f64], b: &[f64]) -> bool {
 /// A comparison on one generated input: what differs, if anything does.
 type Comparison = fn(&mut Source) -> Result<(), String>;
 
-const COMPARISONS: [(&str, Comparison); 8] = [
+const COMPARISONS: [(&str, Comparison); 9] = [
     ("scaled pair = two single signs", signs::scaled_pair),
     ("series pair with free k = two single signs", signs::series_pair),
     ("v alone = v of the full coefficients", signs::v_alone),
     ("blocks: private function = public ones", signs::blocks),
     ("exponential of the negative = conjugate", signs::exponential),
+    ("AR's bytes = the arm that the Rust takes", arms::bytes),
     ("host's functions, coefficients", plain::coefficients),
     ("host's functions, exponential", plain::exponential),
     ("host's functions, block and inverse", plain::blocks),

@@ -103,6 +103,12 @@ impl Writer<'_> {
         self.0.extend_from_slice(a.map(bytes).as_flattened());
     }
 
+    /// Bytes as they are.
+    #[inline(always)]
+    pub fn raw(&mut self, a: &[u8]) {
+        self.0.extend_from_slice(a);
+    }
+
     #[inline(always)]
     pub fn scalar(&mut self, x: H) {
         self.scalars(&[x]);

@@ -1,31 +1,42 @@
-//! The seven marks of the job program: what a record's numbers are and which published function
-//! answers them. A refusal is its number.
+//! The marks of the job program: what a record's numbers are and which published function answers
+//! them. A refusal is its number.
 
 use super::layout::{Reader, Writer};
-use super::{reads, Values};
+use super::{arms, reads, Values};
 use crate::sim3::access::{jl_and_inverse_from, squared_angle};
 use crate::{coefficients, Jac, LieGroup, Sim3, Sim3Tangent, Tangent};
 use helicoid_linalg::handed::{finish, H};
 use helicoid_linalg::{Mat3, Point};
 
-/// A mark: its letters, the bytes of its numbers in and out, and its answer.
+/// A mark: its letters, the bytes of its numbers in, the bytes that its answer has before its
+/// numbers, the bytes of these, and its answer.
 pub struct Mark {
     pub letters: [u8; 2],
     pub bytes_in: usize,
+    pub bytes_before: usize,
     pub bytes_out: usize,
     pub answer: fn(Reader<'_>, Writer<'_>) -> Result<(), u8>,
 }
 
-/// The paper's job table.
-pub const MARKS: [Mark; 7] = [
-    Mark { letters: *b"EX", bytes_in: 136, bytes_out: 64, answer: ex },
-    Mark { letters: *b"CO", bytes_in: 96, bytes_out: 160, answer: co },
-    Mark { letters: *b"PA", bytes_in: 280, bytes_out: 992, answer: pa },
-    Mark { letters: *b"AC", bytes_in: 96, bytes_out: 24, answer: ac },
-    Mark { letters: *b"MU", bytes_in: 136, bytes_out: 64, answer: mu },
-    Mark { letters: *b"IN", bytes_in: 72, bytes_out: 64, answer: inverse },
-    Mark { letters: *b"JI", bytes_in: 248, bytes_out: 248, answer: ji },
+/// The paper's job table, and the requested marks behind it.
+pub const MARKS: [Mark; 8] = [
+    Mark { letters: *b"EX", bytes_in: 136, bytes_before: 0, bytes_out: 64, answer: ex },
+    Mark { letters: *b"CO", bytes_in: 96, bytes_before: 0, bytes_out: 160, answer: co },
+    Mark { letters: *b"PA", bytes_in: 280, bytes_before: 0, bytes_out: 992, answer: pa },
+    Mark { letters: *b"AC", bytes_in: 96, bytes_before: 0, bytes_out: 24, answer: ac },
+    Mark { letters: *b"MU", bytes_in: 136, bytes_before: 0, bytes_out: 64, answer: mu },
+    Mark { letters: *b"IN", bytes_in: 72, bytes_before: 0, bytes_out: 64, answer: inverse },
+    Mark { letters: *b"JI", bytes_in: 248, bytes_before: 0, bytes_out: 248, answer: ji },
+    Mark { letters: *b"AR", bytes_in: 96, bytes_before: 4, bytes_out: 160, answer: ar },
 ];
+
+impl Mark {
+    /// The numbers of a whole answer, its letters and the bytes before them left out.
+    #[inline]
+    pub fn numbers<'a>(&self, answer: &'a [u8]) -> &'a [u8] {
+        &answer[2 + self.bytes_before..]
+    }
+}
 
 /// The mark with these two letters.
 #[inline]
@@ -45,13 +56,21 @@ fn ex(mut r: Reader<'_>, mut w: Writer<'_>) -> Result<(), u8> {
 
 /// The scaled coefficients at `σ` and at `−σ`, each by a call of its own.
 fn co(mut r: Reader<'_>, mut w: Writer<'_>) -> Result<(), u8> {
-    let (sigma, z, v) = (r.number(), r.number(), r.values());
-    if z < 0.0 {
-        return Err(1);
-    }
+    let (sigma, z, v) = sigma_angle(&mut r)?;
     co_one(sigma, z, &v, &mut w);
     co_one(-sigma, z, &v.mirrored(sigma), &mut w);
     Ok(())
+}
+
+/// What CO and AR take; a squared angle below zero is refused.
+#[inline]
+fn sigma_angle(r: &mut Reader<'_>) -> Result<(f64, f64, Values), u8> {
+    let (sigma, z, v) = (r.number(), r.number(), r.values());
+    if z < 0.0 {
+        Err(1)
+    } else {
+        Ok((sigma, z, v))
+    }
 }
 
 #[inline]
@@ -61,6 +80,16 @@ fn co_one(sigma: f64, z: f64, v: &Values, w: &mut Writer<'_>) {
     finish();
     w.scalars(&row);
     w.flag(scaled);
+}
+
+/// The arm of either sign, each by its own numbers, then what CO answers.
+fn ar(mut r: Reader<'_>, mut w: Writer<'_>) -> Result<(), u8> {
+    let (sigma, z, v) = sigma_angle(&mut r)?;
+    w.raw(&arms::told(sigma, z));
+    w.raw(&arms::told(-sigma, z));
+    co_one(sigma, z, &v, &mut w);
+    co_one(-sigma, z, &v.mirrored(sigma), &mut w);
+    Ok(())
 }
 
 /// The block and its inverse of the tangent and of its negative, each by calls of its own.

@@ -1,6 +1,8 @@
 //! The judge: the published functions called on numbers from bytes, with the function values
 //! handed in by the place that reads them.
 
+pub mod arms;
+pub mod counts;
 pub mod layout;
 pub mod marks;
 pub mod reads;
