@@ -8,6 +8,7 @@ ghost use Prim.Native.Nat.{_+_, _-_, _≤_};
 ghost use lib.ListN.{length, drop};
 ghost use lib.Seq.{sets};
 ghost use Rattle.wire.specs.Wire.{countBytes};
+ghost use Rattle.outcome.specs.declared.Kind.{Kind};
 ghost use Rattle.outcome.specs.Outcome.{longest, markBytes, noBytes};
 ghost use Rattle.job.specs.Counts.{countsNone, countsMore, countsSound};
 ghost use Rattle.job.specs.Job.{trailer, jobOf, jobLimit};
@@ -89,6 +90,14 @@ fn counted(c: Counts, kind: Kind) -> Counts
     }
 }
 
+// An unknown mark, or a mark or record that is cut.
+fn refused(c: Counts) -> Counts
+    requires { ⌜ Sound jobLimit c ⌝ }
+    ensures { λ r. ⌜ r ≡ countsMore Kind.Refused c ⌝ }
+{
+    counted(c, Kind::Refused)
+}
+
 fn leave(reason: Reason, counts: Counts, used: usize, written: usize) -> Fed
     ensures { λ r. ⌜ r ≡ record { reason = reason; counts = counts; used = used; written = written } ⌝ }
 {
@@ -141,25 +150,11 @@ fn records(c0: Counts, input: &[u8], last: bool, out: &mut [u8]) -> Fed
                 break stop(Reason::More, c, c, at, to, out.len() - to);
             }
             Step::Unknown => {
-                break stop(
-                    Reason::Unknown,
-                    c,
-                    counted(c, Kind::Refused),
-                    at,
-                    to,
-                    out.len() - to,
-                );
+                break stop(Reason::Unknown, c, refused(c), at, to, out.len() - to);
             }
             Step::Cut => {
                 if last {
-                    break stop(
-                        Reason::Cut,
-                        c,
-                        counted(c, Kind::Refused),
-                        at,
-                        to,
-                        out.len() - to,
-                    );
+                    break stop(Reason::Cut, c, refused(c), at, to, out.len() - to);
                 }
                 break stop(Reason::More, c, c, at, to, out.len() - to);
             }
