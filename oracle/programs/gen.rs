@@ -10,6 +10,9 @@ gen --seed S --count N [--mark XX | --marks M] [--end E]
                                                 adversarial job records, of one mark or of the
                                                 first M of the table in turn, then end number E
                                                 (without --end: number S modulo their count)
+gen --mode lone --seed S --count N [--mark XX | --marks M]
+                                                records whose answer has one number alone that is
+                                                a NaN or an infinity
 gen --mode good --seed S --count N --mark XX [--arm A]
                                                 well-formed ordinary records of one mark,
                                                 the coefficients in arm A (1 to 5)
@@ -70,6 +73,17 @@ fn job(s: &Settings, source: &mut Source, out: &mut impl Write) -> io::Result<()
     out.write_all(&record)
 }
 
+/// Records with one number alone that is not finite, of each mark in turn.
+fn lone(s: &Settings, source: &mut Source, out: &mut impl Write) -> io::Result<()> {
+    let mut record = Vec::new();
+    for i in 0..s.count as usize {
+        record.clear();
+        source.lone_record(s.mark.unwrap_or(MARKS[i % s.marks]), &mut record);
+        out.write_all(&record)?;
+    }
+    Ok(())
+}
+
 fn good(s: &Settings, source: &mut Source, out: &mut impl Write) -> io::Result<()> {
     let mut record = Vec::new();
     for _ in 0..s.count {
@@ -98,6 +112,7 @@ fn run(s: &Settings) -> io::Result<bool> {
     let mut source = Source::new(s.seed);
     match s.mode.as_str() {
         "job" => job(s, &mut source, &mut out)?,
+        "lone" => lone(s, &mut source, &mut out)?,
         "good" => good(s, &mut source, &mut out)?,
         "lib" => lib(s, &mut source, &mut out)?,
         "ends" => writeln!(out, "{}", ends().len())?,

@@ -3,6 +3,7 @@
 //! Reads standard input, writes standard output. Whole records are answered as they arrive; what
 //! is kept is one buffer of input, with at most one cut record at its front, and one of output.
 
+use helicoid::judge::counts::Counts;
 use helicoid::judge::layout::{Reader, Writer};
 use helicoid::judge::marks::mark;
 use std::io::{self, Read, Write};
@@ -11,29 +12,6 @@ use std::io::{self, Read, Write};
 const MOST_RECORDS: u32 = 1_000_000;
 
 const BUFFER: usize = 1 << 16;
-
-/// The three counts of the last line.
-#[derive(Default)]
-struct Counts {
-    begun: u32,
-    answered: u32,
-    refused: u32,
-}
-
-impl Counts {
-    fn refuse(&mut self, number: u8, out: &mut Vec<u8>) {
-        out.extend_from_slice(&[b'N', b'O', number]);
-        self.begun += 1;
-        self.refused += 1;
-    }
-
-    fn write(&self, out: &mut Vec<u8>) {
-        out.extend_from_slice(b"ZZ");
-        for count in [self.begun, self.answered, self.refused] {
-            out.extend_from_slice(&count.to_le_bytes());
-        }
-    }
-}
 
 /// Answers the whole records at the front of `bytes`. Says how many bytes they were, and whether
 /// the program stops here.
@@ -54,9 +32,8 @@ fn feed(bytes: &[u8], out: &mut Vec<u8>, counts: &mut Counts) -> (usize, bool) {
         out.extend_from_slice(letters);
         match (mark.answer)(Reader(numbers), Writer(out)) {
             Ok(()) => {
-                debug_assert!(out.len() == before + 2 + mark.bytes_out);
-                counts.begun += 1;
-                counts.answered += 1;
+                debug_assert!(out.len() == before + 2 + mark.bytes_before + mark.bytes_out);
+                counts.answer(mark.numbers(&out[before..]));
             }
             Err(number) => {
                 out.truncate(before);

@@ -4,9 +4,9 @@ import math
 import struct
 import xml.etree.ElementTree as tree
 
-from .common import ROOT, WORK, answers, end, file, holds, jobs, records, same
+from .common import ROOT, WORK, answers, end, ended, file, holds, jobs, records, same
 from jobs_lib import arms, doubles
-from jobs_lib.layout import ANSWER, JOB
+from jobs_lib.layout import ANSWER, END, JOB
 from jobs_lib.records import walk
 
 VALUES = (1.5, 0.625, 0.75, 0.875, 0.25, -0.75, 0.5, -0.5, 4.0, 0.125)
@@ -107,7 +107,7 @@ arm  rule                           records
      refused                              1
 """, "the table")
     job, told = (records(table, 7, 8) for table in (JOB, ANSWER))
-    text = jobs("arms", file("job", job), file("told", told + end(8)), status=1)[0].decode()
+    text = jobs("arms", file("job", job), file("told", ended(told)), status=1)[0].decode()
     holds(text, "7 records of other marks\n", "record 8  AR  told ")
 
 
@@ -132,10 +132,10 @@ def wrong_files():
     holds(jobs("arms", told, job, status=2)[1], f"{told} is not a job file", "expected JOBS, then ANSWERS")
     holds(jobs("arms", job, job, status=2)[1], f"{job} is not an answer file")
     holds(jobs("arms", job, file("other", answers()), status=2)[1], "record 1 is AR in JOBS and EX in ANSWERS")
-    holds(jobs("arms", job, file("cut", answers_of(POINTS)[:-14]), status=1)[0].decode(), "ZZ and its counts are missing")
+    holds(jobs("arms", job, file("cut", answers_of(POINTS)[:-END.size]), status=1)[0].decode(), "ZZ and its counts are missing")
     holds(jobs("arms", job, file("few", answers_of(POINTS[:2])), status=1)[0].decode(),
           "JOBS has 9 records to be answered, ANSWERS has 2")
-    cut = answers_of(POINTS)[:-14] + b"NO\7" + end(10, 2)
+    cut = answers_of(POINTS)[:-END.size] + b"NO\7" + end(10, 2)
     jobs("arms", file("damaged", job_of(POINTS) + b"AR123"), file("told7", cut))
     holds(jobs("arms", "-", "-", status=2)[1], "both standard input")
     holds(jobs("arms", "--svg", job, job, told, status=2)[1], "would overwrite what is read")

@@ -17,6 +17,7 @@ sys.path.insert(0, str(TOOL.parent))
 from jobs_lib import doubles
 from jobs_lib.cli import main as tool_main
 from jobs_lib.layout import ANSWER, END, JOB
+from jobs_lib.records import walk
 
 ONE, NAN, MINUS = 0x3FF0000000000000, doubles.NAN, 1 << 63
 
@@ -89,14 +90,28 @@ def records(table, seed, count):
     return out
 
 
-def end(begun, refused=0):
+def end(begun, refused=0, unusable=0):
     """ZZ and its counts."""
-    return b"ZZ" + END.numbers.pack(begun, begun - refused, refused)
+    return b"ZZ" + END.numbers.pack(begun, begun - refused - unusable, refused, unusable)
+
+
+def not_finite(data):
+    """How many whole answers hold a NaN or an infinity, by their exponents, apart from the tool's own test."""
+    found = 0
+    for at, layout in walk(data, ANSWER):
+        numbers = layout.bits.unpack_from(data, at + 2)
+        found += any(x >> 52 & 0x7FF == 0x7FF for x, code in zip(numbers, layout.codes) if code == "d")
+    return found
+
+
+def ended(data, refused=0):
+    """Answers with the ZZ that fits them."""
+    return data + end(sum(1 for _ in walk(data, ANSWER)), refused, not_finite(data))
 
 
 def answers():
     """A whole answer file: every mark once, and a refusal."""
-    return records(ANSWER, 3, len(JOB)) + b"NO\1" + end(len(JOB) + 1, 1)
+    return ended(records(ANSWER, 3, len(JOB)) + b"NO\1", 1)
 
 
 def answers_with(mark, field, bits):
@@ -108,6 +123,6 @@ def answers_with(mark, field, bits):
             at += 2 + struct.calcsize("<" + layout.codes[:place])
             size = struct.calcsize("<" + layout.codes[place])
             data[at:at + size] = bits.to_bytes(size, "little")
-            return bytes(data)
+            return ended(bytes(data[:-END.size]), 1)
         at += layout.size
     raise KeyError(mark)

@@ -1,5 +1,7 @@
 """`jobs diff`."""
-from .common import (MINUS, NAN, ONE, WORK, answers, answers_with, end, file, holds, jobs, records,
+import struct
+
+from .common import (MINUS, NAN, ONE, WORK, answers, answers_with, end, ended, file, holds, jobs, records,
                      same)
 from jobs_lib.layout import ANSWER, END, JOB
 
@@ -11,9 +13,29 @@ def diff(old, new, status, *options):
 
 
 def equal_files():
-    expected = "equal: 9 records, ZZ 9 begun, 8 answered, 1 refused\n"
+    expected = ("not usable in both: 6 answers, records 2 to 5, 7 to 8\n"
+                "equal: 9 records, ZZ 9 begun, 2 answered, 1 refused, 6 unusable\n")
     same(diff(answers(), answers(), 0), expected, "diff of a file with itself")
-    same(diff(end(0), end(0), 0), "equal: 0 records, ZZ 0 begun, 0 answered, 0 refused\n", "diff")
+    same(diff(end(0), end(0), 0), "equal: 0 records, ZZ 0 begun, 0 answered, 0 refused, 0 unusable\n", "diff")
+
+
+def unusable_answers():
+    """Which answers hold a NaN or an infinity is said of each file, and how many are left out of a long list."""
+    def points(*values):
+        return ended(b"".join(b"AC" + struct.pack("<3d", 1.0, x, 2.0) for x in values))
+
+    inf, nan = float("inf"), float("nan")
+    text = diff(points(1.0, nan, 3.0, 4.0), points(1.0, nan, -inf, 4.0), 1)
+    holds(text, "not usable in OLD ", ": 1 answer, record 2\n", "not usable in NEW ", ": 2 answers, records 2 to 3\n",
+          "end  ZZ  answered  3  ->  2  -1\n", "end  ZZ  unusable  1  ->  2  +1\n")
+    text = diff(points(1.0, 2.0), points(1.0, inf), 1)
+    assert "not usable in OLD" not in text, text
+    holds(text, ": 1 answer, record 2\n", "ZZ 2 begun, 1 answered, 0 refused, 1 unusable\n")
+    many = points(*([nan, 1.0] * 20))
+    holds(diff(many, many, 0), "not usable in both: 20 answers, records 1, 3, 5, 7, 9, 11, 13, 15, 17, 19, 21, 23 "
+                               "and 8 more (jobs show --unusable lists them)\n")
+    largest = points(1.7976931348623157e308, -1.7976931348623157e308, 5e-324)
+    assert "not usable" not in diff(largest, largest, 0), "the largest finite numbers are usable"
 
 
 def one_changed_bit():
@@ -53,10 +75,10 @@ def arms():
 
 
 def refusals():
-    refused = b"NO\2" + answers()[66:-END.size] + end(9, 2)
+    refused = ended(b"NO\2" + answers()[66:-END.size], 2)
     text = diff(answers(), refused, 1)
-    holds(text, "record 1  EX  ->  NO 2 (e is +0 or -0", "end  ZZ  answered  8  ->  7  -1\n")
-    other = answers()[:-END.size - 1] + b"\2" + end(9, 1)
+    holds(text, "record 1  EX  ->  NO 2 (e is +0 or -0", "end  ZZ  answered  2  ->  1  -1\n")
+    other = ended(answers()[:-END.size - 1] + b"\2", 1)
     holds(diff(answers(), other, 1),
           "record 9  NO  refusal  1 (squared angle z below zero)  ->  2 (e is")
 
@@ -65,7 +87,7 @@ def missing_and_short_ends():
     """They are said first, as is a cut record; equal bytes do not hide them."""
     whole = answers()
     for part, message in [(whole[:-END.size], "ZZ and its counts are missing"),
-                          (whole[:-1], "ZZ is short, 13"),
+                          (whole[:-1], "ZZ is short, 17"), (whole[:-4], "ZZ is short, 14"),
                           (whole[:100], "the file ends inside a record: CO takes 162 bytes, 34")]:
         for old, new, name in [(whole, part, "NEW"), (part, whole, "OLD"), (part, part, "OLD")]:
             holds(diff(old, new, 1).splitlines()[0], name, message)
@@ -86,12 +108,12 @@ def unreadable_files():
 
 
 def limited_output():
-    old, new = (records(ANSWER, seed, 160) + end(160) for seed in (3, 5))
+    old, new = (ended(records(ANSWER, seed, 160)) for seed in (3, 5))
     text = diff(old, new, 1, "--limit", "3")
     same(sum(line.startswith("record ") for line in text.splitlines()), 3, "printed differences")
-    every = sum(line.startswith("record ") for line in diff(old, new, 1).splitlines())
-    holds(text, f"{every - 3:,} more differences not printed", "160 records (EX 20, CO 20")
+    every = sum(line.startswith(("record ", "end ")) for line in diff(old, new, 1).splitlines())
+    holds(text, f"{every - 3:,} more differences not printed", "161 records (EX 20, CO 20", "AR 20, ZZ 1)")
 
 
-TESTS = [equal_files, one_changed_bit, zeros_nans_flags, arms, refusals, missing_and_short_ends,
+TESTS = [equal_files, unusable_answers, one_changed_bit, zeros_nans_flags, arms, refusals, missing_and_short_ends,
          unreadable_files, limited_output]

@@ -82,7 +82,7 @@ def stored_job():
     holds(text, "EX pose.q 1.0 0.0 0.0 0.0; pose.t 1.0 2.0 3.0; pose.sigma 0.0\n",
           "AC point 5.0 7.0 9.0\n", "NO refusal 1", "NO refusal 2",
           "  # 11 terms\n", "  # closed; v0, w0 by series\n", "  # closed\n",
-          "ZZ begun 14; answered 12; refused 2\n")
+          "ZZ begun 14; answered 12; refused 2; unusable 0\n")
     again = jobs("diff", answer, file("again", program(data)))[0].decode()
     holds(again, "equal: 14 records")
 

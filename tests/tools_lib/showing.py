@@ -1,8 +1,11 @@
 """`jobs show`."""
+import collections
+import hashlib
 import struct
 
-from .common import ROOT, answers, end, holds, jobs, records, same
+from .common import ROOT, answers, end, ended, holds, jobs, not_finite, records, same
 from jobs_lib.layout import ANSWER, END, JOB
+from jobs_lib.records import scan, walk
 
 
 def layout_of_the_scope():
@@ -12,7 +15,7 @@ def layout_of_the_scope():
     for layout in JOB.values():
         out = ANSWER[layout.mark.encode()]
         same((layout.size - 2, out.size - 2), sizes[layout.mark], f"bytes of {layout.mark}")
-    same(END.size, 14, "bytes of ZZ")
+    same((END.size, END.fields), (18, ["begun", "answered", "refused", "unusable"]), "ZZ")
     for table, mark, field, number in [
             (JOB, b"EX", "sigma", 6), (JOB, b"EX", "values.cos_half", 9), (JOB, b"CO", "values.M0", 9),
             (JOB, b"PA", "J[1][0]", 18), (JOB, b"PA", "Jinv[0][2]", 32), (JOB, b"AC", "up", 8),
@@ -49,10 +52,63 @@ def answers_as_text():
     text = jobs("show", data=answers())[0].decode()
     same(len(text.splitlines()), 10, "lines")
     holds(text, "EX pose.q ", "; right_inv.e ", "NO refusal 1  # squared angle z below zero\n",
-          "ZZ begun 9; answered 8; refused 1\n")
-    odd = b"AC" + struct.pack("<3d", -0.0, float("nan"), float("-inf")) + end(1)
-    same(jobs("show", data=odd)[0], b"AC point -0.0 nan -inf\nZZ begun 1; answered 1; refused 0\n",
-         "odd numbers")
+          "ZZ begun 9; answered 2; refused 1; unusable 6\n")
+    odd = b"AC" + struct.pack("<3d", -0.0, float("nan"), float("-inf")) + end(1, 0, 1)
+    same(jobs("show", data=odd)[0],
+         b"AC point -0.0 nan -inf\nZZ begun 1; answered 0; refused 0; unusable 1\n", "odd numbers")
+
+
+def unusable_answers():
+    """--unusable: the records' numbers, what in them is not finite, and how many they are; of every field."""
+    inf, nan = float("inf"), float("nan")
+    data = b"".join(b"AC" + struct.pack("<3d", *point) for point in
+                    [(1, 2, 3), (inf, 2, 3), (1, 2, nan), (1.7976931348623157e308, 1.7976931348623157e308, 5e-324)])
+    data = ended(data[:26] + b"NO\2" + data[26:] + b"JI" + struct.pack("<31d", *[-inf] * 31), 1)
+    same(jobs("show", "--unusable", data=data)[0].decode(), """\
+record 3  AC  point.x inf
+record 4  AC  point.z nan
+record 6  JI  inverse.a[0][0] -inf, inverse.a[1][0] -inf, inverse.a[2][0] -inf, inverse.a[0][1] -inf, \
+inverse.a[1][1] -inf, inverse.a[2][1] -inf and 25 more
+not usable: 3 answers of 6 records
+""", "the list")
+    for layout in ANSWER.values():
+        for place, code in enumerate(layout.codes):
+            if code == "d":
+                numbers = [nan if i == place else 0 for i in range(len(layout.fields))]
+                data = layout.mark.encode() + layout.numbers.pack(*numbers)
+                holds(jobs("show", "--unusable", data=data + end(1, 0, 1))[0].decode(),
+                      f"record 1  {layout.mark}  {layout.fields[place]} nan\n")
+                holds(jobs("show", data=data + end(1), status=1)[1], "which are 1 begun, 0 answered, 0 refused, 1 unusable")
+    same(jobs("show", "--unusable", data=end(0))[0], b"not usable: 0 answers of 0 records\n", "no records")
+    holds(jobs("show", "--unusable", data=records(JOB, 1, 3), status=2)[1], "is a job file; expected answers")
+    holds(jobs("show", "--unusable", "--hex", data=end(0), status=2)[1], "--unusable stands alone")
+
+
+def stored_counts():
+    """The stored answers' counts: the last three add up to the first, the fourth is of those that are not finite; both ends of an answer are among them."""
+    alone = collections.Counter()
+    for path in sorted((ROOT / "tests" / "runs").glob("*.out")):
+        data = path.read_bytes()
+        begun, answered, refused, unusable = struct.unpack("<4I", data[-16:])
+        same((data[-18:-16], answered + refused + unusable, unusable), (b"ZZ", begun, not_finite(data)), path.name)
+        for at, layout in walk(data, ANSWER):
+            numbers = layout.bits.unpack_from(data, at + 2)
+            bad = [i for i, x in enumerate(numbers) if layout.codes[i] == "d" and x >> 52 & 0x7FF == 0x7FF]
+            alone.update([(layout.mark, layout.fields[bad[0]])] if len(bad) == 1 else [])
+    for place in [("AC", "point.x"), ("AC", "point.z"), ("MU", "product.q.w"), ("MU", "product.sigma"), ("IN", "inverse.sigma"),
+                  ("CO", "coeffs(+).chi_delta"), ("CO", "coeffs(-).chi_delta"), ("AR", "coeffs(-).chi_delta"), ("JI", "inverse.f[2]")]:
+        assert alone[place], f"no stored answer in which {place} alone is not finite"
+    same({mark for mark, _ in alone}, {layout.mark for layout in JOB.values()}, "marks with one number alone that is not finite")
+
+
+def stored_records():
+    """The stored answers up to ZZ are those whose digests tests/runs.sha256 has: whatever ZZ counts, the records stay."""
+    lines = (ROOT / "tests" / "runs.sha256").read_text().splitlines()
+    digests = {name: digest for digest, name in (line.split("  ") for line in lines)}
+    found = {path.stem: path.read_bytes() for path in (ROOT / "tests" / "runs").glob("*.out")}
+    same(sorted(digests), sorted(found), "the runs in tests/runs.sha256")
+    for name, data in found.items():
+        same(hashlib.sha256(data[:scan(data, ANSWER, "").end]).hexdigest(), digests[name], f"the digest of {name} up to ZZ")
 
 
 def arms_as_text():
@@ -100,7 +156,7 @@ def guesses():
     for length in (67, 100, 200, 300, 1000, 1500):
         holds(jobs("show", data=answers()[:length], status=1)[0].decode(), "EX pose.q")
     holds(jobs("show", data=answers()[:66] + b"QQ" + end(1), status=1)[0].decode(), "EX pose.q")
-    same(jobs("show", data=end(0))[0], b"ZZ begun 0; answered 0; refused 0\n", "no records")
+    same(jobs("show", data=end(0))[0], b"ZZ begun 0; answered 0; refused 0; unusable 0\n", "no records")
     same(jobs("show", data=b"")[0], b"", "an empty job file")
 
 
@@ -123,14 +179,16 @@ def damaged_answers():
     last = len(whole) - END.size
     for data, message in [
             (whole[:last], f"byte {last}: ZZ and its counts are missing"),
-            (whole[:-1], f"byte {last}: ZZ is short, 13 of 14 bytes"),
+            (whole[:-1], f"byte {last}: ZZ is short, 17 of 18 bytes"),
             (whole[:100], "byte 66: the file ends inside a record: CO takes 162 bytes, 34 are"),
             (whole[:66] + b"QQ" + whole[66:], "byte 66: unknown mark 51 51 ('QQ')"),
             (whole + b"AC", f"byte {len(whole)}: 2 bytes after ZZ"),
             (whole + whole, f"byte {len(whole)}: {len(whole):,} bytes after ZZ"),
-            (whole[:last] + end(8, 1), "ZZ does not fit the records, which are 9 begun, 8 answer")]:
+            (whole[:last] + end(9, 1, 5), "ZZ does not fit the records, which are 9 begun, 2 answered, "
+                                          "1 refused, 6 unusable"),
+            (whole[:last] + end(8, 1, 6), "ZZ does not fit the records, which are 9 begun, 2 answer")]:
         holds(jobs("show", "--out", data=data, status=1)[1], message)
 
 
-TESTS = [layout_of_the_scope, back_by_make, stored_runs, answers_as_text, arms_as_text, single_records,
-         guesses, damaged_jobs, damaged_answers]
+TESTS = [layout_of_the_scope, back_by_make, stored_runs, answers_as_text, unusable_answers, stored_counts,
+         stored_records, arms_as_text, single_records, guesses, damaged_jobs, damaged_answers]

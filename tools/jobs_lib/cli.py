@@ -43,7 +43,8 @@ example:
 SHOW = """\
 A job file or an answer file as text, one record a line: numbers as the shortest decimals that read
 back exactly, refusals with their meaning, and the counts of ZZ. `jobs make` turns the lines of a
-job file into the same bytes again. Which of the two a file is is guessed unless it is said.
+job file into the same bytes again. Which of the two a file is is guessed unless it is said. With
+--unusable only the answers that hold a NaN or an infinity are listed, by their numbers in the file.
 
 Exit status: 0, or 1 where the file is damaged or cut (the byte is named), or 2 if it cannot be read.
 
@@ -51,12 +52,14 @@ example:
   tools/jobs show jobs.bin
   ./sim3-job < jobs.bin | tools/jobs show
   tools/jobs show --hex --record 3 answers.bin
+  tools/jobs show --unusable answers.bin
 """
 
 DIFF = """\
 Compares two answer files record by record. Each difference is a line with the record's number (from
 1), its mark, the field, both values and their distance in units in the last place. A NaN equals
-every NaN; zeros of different sign differ. A file that does not end in ZZ is named first.
+every NaN; zeros of different sign differ. A file that does not end in ZZ is named first. At the end
+stands which answers are not usable, since they hold a NaN or an infinity.
 
 Exit status: 0 equal and whole, 1 different or not whole, 2 not to be read.
 
@@ -124,6 +127,8 @@ def parser():
                       help="it is an answer file")
     one.add_argument("--hex", action="store_true", help="the bytes too, one number a line")
     one.add_argument("--record", type=record_range, metavar="N[-M]", help="these records alone")
+    one.add_argument("--unusable", action="store_true",
+                     help="which answers hold a NaN or an infinity, and in which numbers")
     one.add_argument("file", nargs="?", metavar="FILE", help="the file; standard input if not given")
     one = add_command(commands, "diff", DIFF, "compare two answer files")
     one.add_argument("--limit", type=limit, metavar="N", help="print at most N differences")
@@ -140,7 +145,10 @@ def run(arguments):
     if arguments.command == "make":
         return make(arguments.file)
     if arguments.command == "show":
-        return show(arguments.file, arguments.table, arguments.record, arguments.hex)
+        if arguments.unusable and (arguments.hex or arguments.record):
+            raise Failure("jobs: --unusable stands alone; expected neither --hex nor --record with it")
+        return show(arguments.file, arguments.table, arguments.record, arguments.hex,
+                    arguments.unusable)
     if arguments.command == "diff":
         return diff(arguments.old, arguments.new, arguments.limit)
     return arms(arguments.job, arguments.answers, arguments.svg)

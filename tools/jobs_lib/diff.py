@@ -1,10 +1,11 @@
 """`jobs diff`: two answer files record by record."""
 from .doubles import from_bits, is_nan, text, ulps
 from .layout import ANSWER, END, JOB
-from .records import guess, load, scan, walk
+from .records import counts_text, guess, load, scan, walk
 from .terminal import Failure, Lines, Progress, count
 
 EQUAL, DIFFERENT, UNREADABLE = 0, 1, 2
+MOST_SPANS = 12  # of records that are not usable, in a line
 
 
 def differing(layout, old, old_at, new, new_at):
@@ -151,8 +152,31 @@ def ending(found):
     """The records and counts of a file in words."""
     records = count(found.records, "record")
     if found.counts:
-        return records + ", ZZ {:,} begun, {:,} answered, {:,} refused".format(*found.counts)
+        return f"{records}, ZZ {counts_text(found.counts)}"
     return records + (" could be read" if unreadable(found) else ", no ZZ")
+
+
+def spans(numbers, most):
+    """`3, 7 to 9, 12`: the first numbers of a rising list, and how many more there are."""
+    found = []
+    for number in numbers:
+        if found and number == found[-1][1] + 1:
+            found[-1][1] = number
+        else:
+            found.append([number, number])
+    words = [f"{a:,}" if a == b else f"{a:,} to {b:,}" for a, b in found[:most]]
+    left = sum(b - a + 1 for a, b in found[most:])
+    return ", ".join(words) + (f" and {left:,} more (jobs show --unusable lists them)" if left else "")
+
+
+def say_unusable(names, scans, out):
+    """Which answers are not usable, of both files at once where they are the same."""
+    lists = [found.unusable for found in scans]
+    both = lists[0] == lists[1]
+    for name, numbers in zip(("both",) if both else names, lists):
+        if numbers:
+            out.add(f"not usable in {name}: {count(len(numbers), 'answer')}, "
+                    f"record{'s' if len(numbers) > 1 else ''} {spans(numbers, MOST_SPANS)}")
 
 
 def diff(old_path, new_path, limit):
@@ -169,6 +193,7 @@ def diff(old_path, new_path, limit):
     compare_ends(names, old, new, scans, report)
     whole = not any(found.damages for found in scans)
     report.out.add(*report.summary())
+    say_unusable(names, scans, report.out)
     if whole and not report.differences:
         report.out.add(f"equal: {ending(scans[0])}")
     else:

@@ -3,6 +3,7 @@
 All else reads and writes records through these layouts; a new mark is a new entry here.
 """
 import struct
+from math import isfinite
 from typing import NamedTuple, Optional, Tuple
 
 MOST_RECORDS = 1_000_000  # the job program answers no more
@@ -54,6 +55,12 @@ class Layout:
         """What a number stands for; nothing where it has no name."""
         names = self.names[i] or {number: ""}
         return names.get(number, f"a number that no {self.kind(i)} has")
+
+    def usable(self, data, at):
+        """Whether no number of the record at byte `at` is a NaN or an infinity."""
+        numbers = self.numbers.unpack_from(data, at + 2)
+        # A sum is finite only of finite numbers; a sum of such may still overflow.
+        return isfinite(sum(numbers)) or all(map(isfinite, numbers))
 
     def offsets(self):
         """Each group with the byte at which it starts, counted from the mark."""
@@ -140,5 +147,6 @@ ANSWER = table(
 # The counts behind the last record of an answer file.
 END = Layout("ZZ", "the end",
              Group("begun", ONE, "records begun", "I"),
-             Group("answered", ONE, "records answered", "I"),
-             Group("refused", ONE, "records refused", "I"))
+             Group("answered", ONE, "records answered with finite numbers alone", "I"),
+             Group("refused", ONE, "records refused", "I"),
+             Group("unusable", ONE, "records whose answer holds a NaN or an infinity", "I"))

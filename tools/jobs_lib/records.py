@@ -25,6 +25,7 @@ class Scan(NamedTuple):
     """What a walk over a whole file found."""
 
     marks: dict  # how many records of each mark
+    unusable: list  # the numbers of the answers that hold a NaN or an infinity
     end: int  # the byte behind the last whole record
     damages: list
     counts: tuple  # ZZ's, or None
@@ -79,7 +80,13 @@ def torn(data, at, table):
                       f"{count(left, 'byte')} from there cannot be read", True)
 
 
-def end_damages(data, at, marks):
+def counts_text(counts):
+    """ZZ's counts in words."""
+    names = (group.name for group in END.groups)
+    return ", ".join(f"{number:,} {name}" for number, name in zip(counts, names))
+
+
+def end_damages(data, at, marks, unusable):
     """The damages of an answer file whose records end at byte `at`."""
     left = len(data) - at
     if data[at:at + 2] != ZZ:
@@ -91,10 +98,9 @@ def end_damages(data, at, marks):
         return [Damage(at, short, False)]
     found = []
     begun, refused = sum(marks.values()), marks.get("NO", 0)
-    counted = (begun, begun - refused, refused)
+    counted = (begun, begun - refused - unusable, refused, unusable)
     if END.numbers.unpack_from(data, at + 2) != counted:
-        found.append(Damage(at, "ZZ does not fit the records, which are {} begun, {} answered, "
-                                "{} refused".format(*counted), False))
+        found.append(Damage(at, "ZZ does not fit the records, which are " + counts_text(counted), False))
     if left > END.size:
         found.append(Damage(at + END.size, f"{count(left - END.size, 'byte')} after ZZ", True))
     return found
@@ -102,22 +108,25 @@ def end_damages(data, at, marks):
 
 def scan(data, table, what):
     """Walks a whole file."""
-    marks, done, end = {}, 0, 0
+    marks, unusable, done, end = {}, [], 0, 0
     progress = Progress(what, 0)
     for at, layout in walk(data, table):
         mark = layout.mark
         marks[mark] = marks.get(mark, 0) + 1
         end = at + layout.size
         done += 1
+        if table is ANSWER and not layout.usable(data, at):
+            unusable.append(done)
         if not done % Progress.STEP:
             progress(done)
     progress.end()
     if table is JOB:
         damages = [torn(data, end, JOB)] if end < len(data) else []
-        return Scan(marks, end, damages, None)
-    damages = end_damages(data, end, marks)
+        return Scan(marks, unusable, end, damages, None)
+    damages = end_damages(data, end, marks, len(unusable))
     whole = data[end:end + 2] == ZZ and end + END.size <= len(data)
-    return Scan(marks, end, damages, END.numbers.unpack_from(data, end + 2) if whole else None)
+    counts = END.numbers.unpack_from(data, end + 2) if whole else None
+    return Scan(marks, unusable, end, damages, counts)
 
 
 def reading(data, table):

@@ -1,12 +1,14 @@
 """`jobs show`: a job file or an answer file as text, one record a line."""
 import struct
+from math import isfinite
 
 from .doubles import NAN, text
 from .layout import ANSWER, END, JOB, MOST_RECORDS
 from .records import guess, hexadecimal, load, name_of, scan, walk
-from .terminal import Failure, Lines, Progress, say
+from .terminal import Failure, Lines, Progress, count, say
 
 MOST_RAW = 32  # bytes that are shown of what begins with no mark
+MOST_NAMED = 6  # numbers of a record that is not usable, in its line
 
 
 def template(layout):
@@ -53,6 +55,24 @@ def hex_lines(data, at, layout):
     return lines
 
 
+def unusable_line(number, data, at, layout):
+    """A record's number and mark, and its first numbers that are a NaN or an infinity."""
+    numbers = layout.numbers.unpack_from(data, at + 2)
+    bad = [f"{name} {text(x)}" for name, x in zip(layout.fields, numbers) if not isfinite(x)]
+    more = f" and {len(bad) - MOST_NAMED:,} more" if len(bad) > MOST_NAMED else ""
+    return f"record {number}  {layout.mark}  {', '.join(bad[:MOST_NAMED])}{more}"
+
+
+def print_unusable(data, found):
+    """The answers that are not usable, and how many they are."""
+    out, left = Lines(), set(found.unusable)
+    for number, (at, layout) in enumerate(walk(data, ANSWER), 1):
+        if number in left:
+            out.add(unusable_line(number, data, at, layout))
+    out.add(f"not usable: {count(len(left), 'answer')} of {count(found.records, 'record')}")
+    out.flush()
+
+
 def raw_line(data, at, table):
     """A cut record, or the first bytes where there is none, as a line that `make` reads."""
     layout = table.get(data[at:at + 2])
@@ -96,13 +116,17 @@ def say_damages(name, found, read_as, guessed):
         say(f"jobs: {found.records:,} records; the job program answers the first {MOST_RECORDS:,}")
 
 
-def show(path, table, wanted, as_bytes):
+def show(path, table, wanted, as_bytes, unusable=False):
     """The command: 0, or 1 where the file is damaged. Without `wanted`, everything is shown."""
     data, name = load(path), name_of(path)
     read_as = table or guess(data)
     found = scan(data, read_as, "reading")
     lines_of = hex_lines if as_bytes else one_line
-    if wanted is None:
+    if unusable and read_as is JOB:
+        raise Failure(f"jobs: {name} is a job file; expected answers for --unusable")
+    if unusable:
+        print_unusable(data, found)
+    elif wanted is None:
         print_records(data, read_as, range(1, found.records + 1), lines_of)
         print_end(data, read_as, found, lines_of)
     elif wanted.stop - 1 > found.records:

@@ -3,6 +3,7 @@ pub mod Sign
 pub mod Zero
 pub mod Signed
 pub mod Product
+pub mod Finite
 pub mod Clear
 pub mod Order
 pub mod Mono

@@ -14,7 +14,7 @@ round-nothing : (f : Format) (s : Bool) (a c : ℕ) → 0 < c → a ≡ 0 → pl
 unfolding plain
 round-nothing f s a c C p = rw (p, round-zero f s c C)
 
-mul-zero-l : (f : Format) (s : Bool) (e : ℤ) (t : Bool) (n : ℕ) (d : ℤ) → plain (mul f (fin s 0 e) (fin t n d)) ≡ fin false 0 (pos 0)
+pub mul-zero-l : (f : Format) (s : Bool) (e : ℤ) (t : Bool) (n : ℕ) (d : ℤ) → plain (mul f (fin s 0 e) (fin t n d)) ≡ fin false 0 (pos 0)
 unfolding mul
 mul-zero-l f s e t n d = round-nothing f (unlike s t) (0 * up e * (n * up d)) (down e * down d) (mul-pos (down-pos e) (down-pos d)) (simp zero-mul)
 

@@ -26,7 +26,11 @@ ruleset runs = (sets-split, add-assoc, sizes)
 
 pub trailer-run :
     (c : Counts) (l : List ℕ) (i : ℕ) →
-    sets (sets (sets (sets l i (markBytes 0x5a 0x5a)) (i + 2) (countBytes (c .begun))) (i + 6) (countBytes (c .answered))) (i + 10) (countBytes (c .refused)) ≡ sets l i (trailer c)
+    sets
+    (sets (sets (sets (sets l i (markBytes 0x5a 0x5a)) (i + 2) (countBytes (c .begun))) (i + 6) (countBytes (c .answered))) (i + 10) (countBytes (c .refused)))
+    (i + 14)
+    (countBytes (c .unusable))
+    ≡ sets l i (trailer c)
 unfolding trailer
 trailer-run c l i = simp (runs, mark-length)
 

@@ -6,11 +6,12 @@ use lib.Dec.{eqb}
 use lib.ListN.{replicate}
 use mathlib.Core.List.{List, [], _∷_, _++_}
 use lib.Ieee.{ofBits, toBits, add, sub, mul}
+use Rattle.ieee.specs.Finite.{isFinite}
 use Rattle.linalg.specs.Vector.{vecScale, vecCross, vecAdd, vecNumbers}
 use Rattle.so3.specs.So3.{so3Act}
 use Rattle.sim3.specs.Pose.{poseAct}
 use Rattle.layout.specs.Layout.{vecIn, quatIn, poseIn}
-use Rattle.wire.specs.Wire.{wordOf, wordBytes, numberOf, numberAt, numberBytes, itemBytes, itemsBytes, numbers, countBytes}
+use Rattle.wire.specs.Wire.{wordOf, wordBytes, numberOf, numberAt, numberBytes, itemBytes, itemsBytes, allFinite, numbers, countBytes}
 use Rattle.outcome.specs.Outcome.{markBytes, noBytes, replyOf, Found, took, ended, unknown, cut, recordFound}
 use Rattle.replies.specs.Table.{acOf, answerOf, entryReply}
 use Rattle.marks.specs.Marks.{markKnown, markOf, foundAt, foundOf}
@@ -27,9 +28,9 @@ zero = double 0x00 0x00
 one : List ℕ
 one = double 0xf0 0x3f
 
--- ZZ and three counts below 256
-counts : ℕ → ℕ → ℕ → List ℕ
-counts a b c = 0x5a ∷ 0x5a ∷ a ∷ 0 ∷ 0 ∷ 0 ∷ b ∷ 0 ∷ 0 ∷ 0 ∷ c ∷ 0 ∷ 0 ∷ 0 ∷ []
+-- ZZ and four counts below 256
+counts : ℕ → ℕ → ℕ → ℕ → List ℕ
+counts a b c d = 0x5a ∷ 0x5a ∷ a ∷ 0 ∷ 0 ∷ 0 ∷ b ∷ 0 ∷ 0 ∷ 0 ∷ c ∷ 0 ∷ 0 ∷ 0 ∷ d ∷ 0 ∷ 0 ∷ 0 ∷ []
 
 -- pose 1 0 0 0, 1 2 3, 0, up 1, point 4 5 6
 record-in : List ℕ
@@ -41,32 +42,46 @@ record-in =
     ++ (zero
     ++ (zero ++ (one ++ (double 0x00 0x40 ++ (double 0x08 0x40 ++ (zero ++ (one ++ (double 0x10 0x40 ++ (double 0x14 0x40 ++ double 0x18 0x40)))))))))))
 
-answered : jobOf jobLimit record-in ≡ 0x41 ∷ 0x43 ∷ (double 0x14 0x40 ++ (double 0x1c 0x40 ++ (double 0x22 0x40 ++ counts 1 1 0)))
-unfolding ofBits toBits add sub mul vecScale vecCross vecAdd so3Act poseAct vecIn quatIn poseIn vecNumbers wordOf wordBytes numberOf numberAt numberBytes itemBytes itemsBytes numbers countBytes markKnown markOf markBytes replyOf acOf answerOf entryReply countsMore recordFound foundAt foundOf trailer jobOn jobFrom double zero one counts record-in
+answered : jobOf jobLimit record-in ≡ 0x41 ∷ 0x43 ∷ (double 0x14 0x40 ++ (double 0x1c 0x40 ++ (double 0x22 0x40 ++ counts 1 1 0 0)))
+unfolding ofBits toBits add sub mul vecScale vecCross vecAdd so3Act poseAct vecIn quatIn poseIn vecNumbers wordOf wordBytes numberOf numberAt numberBytes itemBytes itemsBytes allFinite isFinite numbers countBytes markKnown markOf markBytes replyOf acOf answerOf entryReply countsMore recordFound foundAt foundOf trailer jobOn jobFrom double zero one counts record-in
 answered = refl
 
+-- the same with an infinite point: it is answered, and counted last
+unfinite-in : List ℕ
+unfinite-in =
+    0x41
+    ∷ 0x43
+    ∷ (one
+    ++ (zero
+    ++ (zero
+    ++ (zero ++ (zero ++ (zero ++ (zero ++ (zero ++ (one ++ (zero ++ (zero ++ double 0xf0 0x7f)))))))))))
+
+unfinite : jobOf jobLimit unfinite-in ≡ 0x41 ∷ 0x43 ∷ (double 0xf8 0x7f ++ (double 0xf8 0x7f ++ (double 0xf8 0x7f ++ counts 1 0 0 1)))
+unfolding ofBits toBits add sub mul vecScale vecCross vecAdd so3Act poseAct vecIn quatIn poseIn vecNumbers wordOf wordBytes numberOf numberAt numberBytes itemBytes itemsBytes allFinite isFinite numbers countBytes markKnown markOf markBytes replyOf acOf answerOf entryReply countsMore recordFound foundAt foundOf trailer jobOn jobFrom double zero one counts unfinite-in
+unfinite = refl
+
 -- nothing at all
-empty : jobOf jobLimit [] ≡ counts 0 0 0
+empty : jobOf jobLimit [] ≡ counts 0 0 0 0
 unfolding wordBytes countBytes markBytes foundOf trailer jobOn jobFrom counts
 empty = refl
 
 -- half a mark
-half : jobOf jobLimit (0x41 ∷ []) ≡ 0x4e ∷ 0x4f ∷ 7 ∷ counts 1 0 1
+half : jobOf jobLimit (0x41 ∷ []) ≡ 0x4e ∷ 0x4f ∷ 7 ∷ counts 1 0 1 0
 unfolding wordBytes countBytes markBytes noBytes countsMore foundOf trailer jobOn jobFrom counts
 half = refl
 
 -- a record that is cut after its mark
-cut-short : jobOf jobLimit (0x41 ∷ 0x43 ∷ 0 ∷ []) ≡ 0x4e ∷ 0x4f ∷ 7 ∷ counts 1 0 1
+cut-short : jobOf jobLimit (0x41 ∷ 0x43 ∷ 0 ∷ []) ≡ 0x4e ∷ 0x4f ∷ 7 ∷ counts 1 0 1 0
 unfolding wordBytes countBytes markKnown markOf markBytes noBytes countsMore recordFound foundAt foundOf trailer jobOn jobFrom counts
 cut-short = refl
 
 -- a mark that is not in the table, with nothing behind it
-unlisted : jobOf jobLimit (0x51 ∷ 0x51 ∷ []) ≡ 0x4e ∷ 0x4f ∷ 6 ∷ counts 1 0 1
+unlisted : jobOf jobLimit (0x51 ∷ 0x51 ∷ []) ≡ 0x4e ∷ 0x4f ∷ 6 ∷ counts 1 0 1 0
 unfolding wordBytes countBytes markKnown markOf markBytes noBytes countsMore recordFound foundAt foundOf trailer jobOn jobFrom counts
 unlisted = refl
 
 -- at the limit no mark is looked at
-at-limit : jobOf 0 (0x51 ∷ 0x51 ∷ []) ≡ counts 0 0 0
+at-limit : jobOf 0 (0x51 ∷ 0x51 ∷ []) ≡ counts 0 0 0 0
 unfolding wordBytes countBytes markBytes trailer jobFrom counts
 at-limit = refl
 
@@ -78,13 +93,13 @@ record Row : Type 0 where
 
 -- how many bytes are taken where a whole record stands at the head, its mark among them
 taken : Found → ℕ
-taken (took ok k b) = k
+taken (took how k b) = k
 taken ended = 0
 taken unknown = 0
 taken cut = 0
 
 isCut : Found → Bool
-isCut (took ok k b) = false
+isCut (took how k b) = false
 isCut ended = false
 isCut unknown = false
 isCut cut = true

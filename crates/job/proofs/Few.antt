@@ -34,7 +34,7 @@ records-few n c xs last room =
     (λ n c xs room h u. never (cc))
     (λ c xs room h u. never (cc))
     (λ n c xs room h f r e q s u. stop-few last c xs f r e q s u)
-    (λ n c xs room h ok k b q p i u. let j = simp length-drop at (i u) in omega arith)
+    (λ n c xs room h how k b q p i u. let j = simp length-drop at (i u) in omega arith)
     n c xs room
 
 pub feed-few : (limit : ℕ) (c : Counts) (xs : List ℕ) (last : Bool) (room : ℕ) → feedOf limit c xs last room .reason ≡ More → length xs - feedOf limit c xs last room .used < recordRoom

@@ -6,6 +6,7 @@ pub mod Ending
 pub mod Pieces
 pub mod Stream
 pub mod Whole
+pub mod Adding
 pub mod Few
 pub mod Progress
 pub mod Examples

@@ -8,6 +8,8 @@ use native.Mathlib.Omega.{arith}
 use lib.ListN.{length, take, drop, length-drop, length-append, take-append-drop}
 use lib.Seq.{sets, sets-eq, length-sets, length-take-le, drop-drop, take-at, drop-at}
 use Rattle.layout.proofs.Runs.{sets-front}
+use Rattle.outcome.specs.declared.Kind.{Kind}
+use Rattle.outcome.specs.declared.Kind.the-variants.{Answered, Refused, Unusable}
 use Rattle.job.specs.declared.Counts.{Counts}
 use Rattle.job.specs.declared.Fed.{Fed}
 use Rattle.job.specs.declared.Reason.{Reason}
@@ -19,10 +21,11 @@ use Rattle.job.specs.Inner.{Sound}
 use Rattle.marks.proofs.Heads.{taken}
 use Rattle.job.proofs.Turns.{records-took, after-after, counted-begun}
 
-pub counted-sound : (ok : Bool) (limit : ℕ) (c : Counts) → Sound limit c → (c .begun ≡ limit → ⊥) → Sound limit (countsMore ok c)
+pub counted-sound : (how : Kind) (limit : ℕ) (c : Counts) → Sound limit c → (c .begun ≡ limit → ⊥) → Sound limit (countsMore how c)
 unfolding countsMore
-counted-sound true limit c s h = let a : c .begun ≤ limit = s .few in record { few = omega arith; sum = omega (arith, s .sum) }
-counted-sound false limit c s h = let a : c .begun ≤ limit = s .few in record { few = omega arith; sum = omega (arith, s .sum) }
+counted-sound Answered limit c s h = let a : c .begun ≤ limit = s .few in record { few = omega arith; sum = omega (arith, s .sum) }
+counted-sound Refused limit c s h = let a : c .begun ≤ limit = s .few in record { few = omega arith; sum = omega (arith, s .sum) }
+counted-sound Unusable limit c s h = let a : c .begun ≤ limit = s .few in record { few = omega arith; sum = omega (arith, s .sum) }
 
 -- The loop began with the counts c₀ and the output out₀, of which it has c and out now; it is done with `at` bytes and has written `to`.
 pub record Going (limit : ℕ) (input : List ℕ) (last : Bool) (c₀ : Counts) (out₀ : List ℕ) (c : Counts) (out : List ℕ) (at to : ℕ) : Type 0 where
@@ -65,10 +68,10 @@ module _ {limit : ℕ} {input : List ℕ} {last : Bool} {c₀ : Counts} {out₀ 
 
   -- round it
   pub going-took :
-      (ok : Bool) (k : ℕ) (b : List ℕ) → longest ≤ length out - to → (c .begun ≡ limit → ⊥) → foundOf (drop at input) ≡ took ok k b →
-      Going limit input last c₀ out₀ (countsMore ok c) (sets out to b) (at + k) (to + length b)
-  going-took ok k b h few e =
-      let t = taken (drop at input) ok k b e in
+      (how : Kind) (k : ℕ) (b : List ℕ) → longest ≤ length out - to → (c .begun ≡ limit → ⊥) → foundOf (drop at input) ≡ took how k b →
+      Going limit input last c₀ out₀ (countsMore how c) (sets out to b) (at + k) (to + length b)
+  going-took how k b h few e =
+      let t = taken (drop at input) how k b e in
       let whole : k ≤ length input - at = simp length-drop at (t .whole) in
       let len : length out ≡ length out₀ = g .kept in
       let ins : at ≤ length input = g .inside in
@@ -79,13 +82,13 @@ module _ {limit : ℕ} {input : List ℕ} {last : Bool} {c₀ : Counts} {out₀ 
       let tk : take (to + length b) (sets out to b) ≡ take to out ++ b = ap (take (to + length b)) eq ∙ take-at (take to out ++ b) _ (to + length b) n in
       let one-less : limit - c .begun ≡ suc (limit - (c .begun + 1)) = omega arith in
       let room : length out₀ - to - length b ≡ length out₀ - (to + length b) = omega arith in
-      let P = recordsOf (limit - (c .begun + 1)) (countsMore ok c) (drop (at + k) input) last (length out₀ - (to + length b)) in
+      let P = recordsOf (limit - (c .begun + 1)) (countsMore how c) (drop (at + k) input) last (length out₀ - (to + length b)) in
       let next : recordsOf (limit - c .begun) c (drop at input) last (length out₀ - to) ≡ after k b P =
       ap (λ (x : ℕ). recordsOf x c (drop at input) last (length out₀ - to)) one-less
-      ∙ records-took (limit - (c .begun + 1)) c (drop at input) last (length out₀ - to) (omega arith) ok k b e
+      ∙ records-took (limit - (c .begun + 1)) c (drop at input) last (length out₀ - to) (omega arith) how k b e
       ∙ rw (room, drop-drop k at input) in
       record {
-        sound = counted-sound ok limit c (g .sound) few;
+        sound = counted-sound how limit c (g .sound) few;
         inside = omega arith;
         room = simp length-sets (omega arith);
         kept = length-sets out to b ∙ g .kept;
@@ -94,5 +97,5 @@ module _ {limit : ℕ} {input : List ℕ} {last : Bool} {c₀ : Counts} {out₀ 
             ∙ sym (drop-drop (length b) to out) ∙ ap (drop (length b)) (g .rest) ∙ drop-drop (length b) to out₀;
         same =
             g .same ∙ ap (after at (take to out)) next ∙ after-after at k (take to out) b P
-            ∙ (λ i. after (at + k) (sym tk i) (recordsOf (limit - sym (counted-begun ok c) i) (countsMore ok c) (drop (at + k) input) last (length out₀ - (to + length b))));
+            ∙ (λ i. after (at + k) (sym tk i) (recordsOf (limit - sym (counted-begun how c) i) (countsMore how c) (drop (at + k) input) last (length out₀ - (to + length b))));
       }

@@ -34,8 +34,8 @@ records-fit n c xs last room =
     (λ n c xs room h. record { uses = omega arith; within = omega arith; spare = λ u. untrue u })
     (λ c xs room h. record { uses = omega arith; within = omega arith; spare = λ u. omega arith })
     (λ n c xs room h f r e q s. record { uses = omega arith; within = omega arith; spare = λ u. omega arith })
-    (λ n c xs room h ok k b q p i.
-    let t = taken xs ok k b q in
+    (λ n c xs room h how k b q p i.
+    let t = taken xs how k b q in
     let whole : k ≤ length xs = t .whole in
     let short : length b ≤ longest = t .short in
     let u : p .used ≤ length xs - k = simp length-drop at (i .uses) in
@@ -55,16 +55,23 @@ pub sound-is : (limit : ℕ) (c : Counts) → countsSound limit c ≡ true → S
 unfolding countsSound
 sound-is limit c e =
     let x = and-right (leb (c .begun) limit) _ e in
+    let y = and-right (leb (c .answered) (c .begun)) _ x in
     let a : c .answered ≤ c .begun = leb-true _ _ (and-left (leb (c .answered) (c .begun)) _ x) in
-    let b : c .refused ≡ c .begun - c .answered = eqb-true _ _ (and-right (leb (c .answered) (c .begun)) _ x) in
+    let b : c .refused ≤ c .begun - c .answered = leb-true _ _ (and-left (leb (c .refused) (c .begun - c .answered)) _ y) in
+    let u : c .unusable ≡ c .begun - c .answered - c .refused = eqb-true _ _ (and-right (leb (c .refused) (c .begun - c .answered)) _ y) in
     record { few = leb-true _ _ (and-left (leb (c .begun) limit) _ e); sum = omega arith }
 
 pub is-sound : (limit : ℕ) (c : Counts) → Sound limit c → countsSound limit c ≡ true
 unfolding countsSound
 is-sound limit c s =
     let f : c .begun ≤ limit = s .few in
-    let e : c .answered + c .refused ≡ c .begun = s .sum in
-    rw (le-leb (c .begun) limit f, le-leb (c .answered) (c .begun) (omega arith), eq-eqb (c .refused) (c .begun - c .answered) (omega arith))
+    let e : c .answered + c .refused + c .unusable ≡ c .begun = s .sum in
+    rw (
+      le-leb (c .begun) limit f,
+      le-leb (c .answered) (c .begun) (omega arith),
+      le-leb (c .refused) (c .begun - c .answered) (omega arith),
+      eq-eqb (c .unusable) (c .begun - c .answered - c .refused) (omega arith),
+    )
 
 pub feed-bad : (limit : ℕ) (c : Counts) (xs : List ℕ) (last : Bool) (room : ℕ) → countsSound limit c ≡ false → feedOf limit c xs last room ≡ halt Bad c
 unfolding feedOf

@@ -4,6 +4,7 @@ use mathlib.Core.Path.{_≡_, refl}
 use mathlib.Core.Bool.{Bool, true, false}
 use mathlib.Core.List.{List, []}
 use native.Mathlib.Omega.{arith}
+use Rattle.outcome.specs.declared.Kind.the-variants.{Refused}
 use Rattle.job.specs.declared.Counts.{Counts}
 use Rattle.job.specs.declared.Reason.{Reason}
 use Rattle.job.specs.declared.Reason.the-variants.{More, Room, Bad}
@@ -27,9 +28,9 @@ stop-goes :
 stop-goes last c room f r e (at-end l) = record { more = λ u. never (cc); grows = omega arith; still = λ u. refl; roomy = λ h u. never (cc); fair = λ u. never (cc) }
 stop-goes last c room f r e (at-pause l) = record { more = λ u. l; grows = omega arith; still = λ u. refl; roomy = λ h u. never (cc); fair = λ u. never (cc) }
 stop-goes last c room f r e at-unknown =
-    record { more = λ u. never (cc); grows = rw (counted-begun false c) (omega arith); still = λ u. refl; roomy = λ h u. never (cc); fair = λ u. never (cc) }
+    record { more = λ u. never (cc); grows = rw (counted-begun Refused c) (omega arith); still = λ u. refl; roomy = λ h u. never (cc); fair = λ u. never (cc) }
 stop-goes last c room f r e (at-cut l) =
-    record { more = λ u. never (cc); grows = rw (counted-begun false c) (omega arith); still = λ u. refl; roomy = λ h u. never (cc); fair = λ u. never (cc) }
+    record { more = λ u. never (cc); grows = rw (counted-begun Refused c) (omega arith); still = λ u. refl; roomy = λ h u. never (cc); fair = λ u. never (cc) }
 stop-goes last c room f r e (at-part l) = record { more = λ u. l; grows = omega arith; still = λ u. refl; roomy = λ h u. never (cc); fair = λ u. never (cc) }
 
 records-progress : (last : Bool) (n : ℕ) (c : Counts) (xs : List ℕ) (room : ℕ) → Progress last c room (recordsOf n c xs last room)
@@ -38,9 +39,9 @@ records-progress last n c xs room =
     (λ n c xs room h. record { more = λ u. never (cc); grows = omega arith; still = λ u. refl; roomy = λ k u. absurd (omega arith); fair = λ u. never (cc) })
     (λ c xs room h. record { more = λ u. never (cc); grows = omega arith; still = λ u. refl; roomy = λ k u. never (cc); fair = λ u. never (cc) })
     (λ n c xs room h f r e q s. stop-goes last c room f r e s)
-    (λ n c xs room h ok k b q p i.
-    let b₁ : countsMore ok c .begun ≡ c .begun + 1 = counted-begun ok c in
-    let g : countsMore ok c .begun ≤ p .counts .begun = i .grows in
+    (λ n c xs room h how k b q p i.
+    let b₁ : countsMore how c .begun ≡ c .begun + 1 = counted-begun how c in
+    let g : countsMore how c .begun ≤ p .counts .begun = i .grows in
     record { more = i .more; grows = omega arith; still = λ u. absurd (omega arith); roomy = λ k u. omega arith; fair = i .fair })
     n c xs room
 

@@ -8,6 +8,8 @@ use borrow.Author.Tests.{ltb-true, ltb-false}
 use lib.Dec.{ltb}
 use lib.ListN.{length, take, drop, length-append, length-drop}
 use lib.Seq.{sets, take-all, length-sets, length-take-le}
+use Rattle.outcome.specs.declared.Kind.{Kind}
+use Rattle.outcome.specs.declared.Kind.the-variants.{Refused}
 use Rattle.job.specs.declared.Counts.{Counts}
 use Rattle.job.specs.declared.Fed.{Fed}
 use Rattle.job.specs.declared.Reason.{Reason}
@@ -92,13 +94,13 @@ module _
   quiet e = let h : length (writtenOf (foundOf (drop at input)) (length out - to)) ≤ length out - to = rw e (omega arith) in stored h ∙ ap (sets out to) e
 
   -- round the loop
-  pub round : (ok : Bool) (k n : ℕ) → q ≡ step.Took ok k n → Going limit input last c₀ out₀ (countsMore ok c) after-it (at + k) (to + n)
-  round ok k n e =
+  pub round : (how : Kind) (k n : ℕ) → q ≡ step.Took how k n → Going limit input last c₀ out₀ (countsMore how c) after-it (at + k) (to + n)
+  round how k n e =
       let b = writtenOf (foundOf (drop at input)) (length out - to) in
-      let f = told-took (foundOf (drop at input)) (length out - to) ok k n (sym told-here ∙ ap stepTold e) in
-      let short : length b ≤ longest = taken (drop at input) ok k b (f .found) .short in
+      let f = told-took (foundOf (drop at input)) (length out - to) how k n (sym told-here ∙ ap stepTold e) in
+      let short : length b ≤ longest = taken (drop at input) how k b (f .found) .short in
       let roomy : longest ≤ length out - to = f .roomy in
-      rw (stored (omega arith), ← (f .long)) (going-took (t .going) ok k b (f .roomy) (t .few) (f .found))
+      rw (stored (omega arith), ← (f .long)) (going-took (t .going) how k b (f .roomy) (t .few) (f .found))
 
   -- ---- out of it: nothing was written
   quiet-room : q ≡ step.Room → after-it ≡ out
@@ -142,11 +144,11 @@ module _
   pub left-pause : q ≡ step.End → last ≡ false → (f : Fed) → f ≡ stopOf More c c at to (length after-it - to) → Left limit input last c₀ out₀ f after-it
   left-pause e l f is = stop (quiet-end e) More c f is (λ n r. records-ended n c _ last _ r (found-ended e) ∙ rw l)
 
-  pub left-unknown : q ≡ step.Unknown → (f : Fed) → f ≡ stopOf Unknown c (countsMore false c) at to (length after-it - to) → Left limit input last c₀ out₀ f after-it
-  left-unknown e f is = stop (quiet-unknown e) Unknown (countsMore false c) f is (λ n r. records-unknown n c _ last _ r (found-unknown e))
+  pub left-unknown : q ≡ step.Unknown → (f : Fed) → f ≡ stopOf Unknown c (countsMore Refused c) at to (length after-it - to) → Left limit input last c₀ out₀ f after-it
+  left-unknown e f is = stop (quiet-unknown e) Unknown (countsMore Refused c) f is (λ n r. records-unknown n c _ last _ r (found-unknown e))
 
-  pub left-cut : q ≡ step.Cut → last ≡ true → (f : Fed) → f ≡ stopOf Cut c (countsMore false c) at to (length after-it - to) → Left limit input last c₀ out₀ f after-it
-  left-cut e l f is = stop (quiet-cut e) Cut (countsMore false c) f is (λ n r. records-cut n c _ last _ r (found-cut e) ∙ rw l)
+  pub left-cut : q ≡ step.Cut → last ≡ true → (f : Fed) → f ≡ stopOf Cut c (countsMore Refused c) at to (length after-it - to) → Left limit input last c₀ out₀ f after-it
+  left-cut e l f is = stop (quiet-cut e) Cut (countsMore Refused c) f is (λ n r. records-cut n c _ last _ r (found-cut e) ∙ rw l)
 
   pub left-part : q ≡ step.Cut → last ≡ false → (f : Fed) → f ≡ stopOf More c c at to (length after-it - to) → Left limit input last c₀ out₀ f after-it
   left-part e l f is = stop (quiet-cut e) More c f is (λ n r. records-cut n c _ last _ r (found-cut e) ∙ rw l)

@@ -8,6 +8,8 @@ use borrow.Author.Tests.{ltb-false, le-ltb}
 use lib.ListN.{length, take, drop, length-append}
 use lib.Seq.{take-append-le, drop-append-le, drop-drop}
 use lib.Dec.{ltb}
+use Rattle.outcome.specs.declared.Kind.{Kind}
+use Rattle.outcome.specs.declared.Kind.the-variants.{Refused}
 use Rattle.job.specs.declared.Counts.{Counts}
 use Rattle.job.specs.declared.Reason.{Reason}
 use Rattle.job.specs.declared.Reason.the-variants.{Room, Full, End, Unknown, Cut, More}
@@ -23,19 +25,19 @@ use Rattle.job.proofs.Turns.{Stops, at-end, at-pause, at-unknown, at-cu
 use Rattle.job.proofs.Pieces.{feed-good}
 
 -- ---- the job at a record and at each stop
-job-took : (n : ℕ) (c : Counts) (xs : List ℕ) (ok : Bool) (k : ℕ) (b : List ℕ) → foundOf xs ≡ took ok k b → jobFrom (suc n) c xs ≡ b ++ jobFrom n (countsMore ok c) (drop k xs)
+job-took : (n : ℕ) (c : Counts) (xs : List ℕ) (how : Kind) (k : ℕ) (b : List ℕ) → foundOf xs ≡ took how k b → jobFrom (suc n) c xs ≡ b ++ jobFrom n (countsMore how c) (drop k xs)
 unfolding jobFrom jobOn
-job-took n c xs ok k b e = rw e
+job-took n c xs how k b e = rw e
 
 job-ended : (n : ℕ) (c : Counts) (xs : List ℕ) → foundOf xs ≡ ended → jobFrom (suc n) c xs ≡ closing End c
 unfolding jobFrom jobOn closingOf
 job-ended n c xs e = rw e
 
-job-unknown : (n : ℕ) (c : Counts) (xs : List ℕ) → foundOf xs ≡ unknown → jobFrom (suc n) c xs ≡ closing Unknown (countsMore false c)
+job-unknown : (n : ℕ) (c : Counts) (xs : List ℕ) → foundOf xs ≡ unknown → jobFrom (suc n) c xs ≡ closing Unknown (countsMore Refused c)
 unfolding jobFrom jobOn closingOf
 job-unknown n c xs e = rw e
 
-job-cut : (n : ℕ) (c : Counts) (xs : List ℕ) → foundOf xs ≡ cut → jobFrom (suc n) c xs ≡ closing Cut (countsMore false c)
+job-cut : (n : ℕ) (c : Counts) (xs : List ℕ) → foundOf xs ≡ cut → jobFrom (suc n) c xs ≡ closing Cut (countsMore Refused c)
 unfolding jobFrom jobOn closingOf
 job-cut n c xs e = rw e
 
@@ -69,13 +71,13 @@ module _ (limit : ℕ) (ys : List ℕ) (last : Bool) (alone : last ≡ true → 
   at-stop n c xs room h f r e q (at-part l) i = waits (suc n) c xs i
 
   at-took :
-      (n : ℕ) (c : Counts) (xs : List ℕ) (room : ℕ) → longest ≤ room → (ok : Bool) (k : ℕ) (b : List ℕ) → foundOf xs ≡ took ok k b →
-      (p : Part) → Onward n (countsMore ok c) (drop k xs) (room - length b) p → Onward (suc n) c xs room (after k b p)
-  at-took n c xs room h ok k b q p ih i =
-      let whole : k ≤ length xs = taken xs ok k b q .whole in
-      let one-less : limit - countsMore ok c .begun ≡ n = rw (counted-begun ok c) (omega arith) in
-      job-took n c (xs ++ ys) ok k b (found-more xs ys (took ok k b) q refl)
-      ∙ ap (λ (l : List ℕ). b ++ jobFrom n (countsMore ok c) l) (drop-append-le k xs ys whole)
+      (n : ℕ) (c : Counts) (xs : List ℕ) (room : ℕ) → longest ≤ room → (how : Kind) (k : ℕ) (b : List ℕ) → foundOf xs ≡ took how k b →
+      (p : Part) → Onward n (countsMore how c) (drop k xs) (room - length b) p → Onward (suc n) c xs room (after k b p)
+  at-took n c xs room h how k b q p ih i =
+      let whole : k ≤ length xs = taken xs how k b q .whole in
+      let one-less : limit - countsMore how c .begun ≡ n = rw (counted-begun how c) (omega arith) in
+      job-took n c (xs ++ ys) how k b (found-more xs ys (took how k b) q refl)
+      ∙ ap (λ (l : List ℕ). b ++ jobFrom n (countsMore how c) l) (drop-append-le k xs ys whole)
       ∙ ap (λ (l : List ℕ). b ++ l) (ih one-less)
       ∙ rw (drop-drop (p .used) k xs) (sym (append-assoc b (p .bytes) _))
 

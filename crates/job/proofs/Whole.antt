@@ -6,13 +6,14 @@ use mathlib.Core.List.{List, [], _++_, append-nil, append-assoc}
 use native.Mathlib.Nat.{sub-zero}
 use native.Mathlib.Omega.{arith}
 use lib.ListN.{drop}
+use Rattle.outcome.specs.declared.Kind.the-variants.{Refused}
 use Rattle.job.specs.declared.Counts.{Counts}
 use Rattle.job.specs.declared.Reason.{Reason}
 use Rattle.job.specs.declared.Reason.the-variants.{More, Room, Bad, Full, End, Unknown, Cut}
 use Rattle.job.specs.Counts.{countsNone, countsSound}
 use Rattle.outcome.specs.Outcome.{Found}
 use Rattle.job.specs.Job.{jobOf}
-use Rattle.job.specs.Feed.{goesOn, Part, ends, recordsOf, feedOf}
+use Rattle.job.specs.Feed.{goesOn, Part, ends, recordsOf, feedOf, FeedTheorem}
 use Rattle.job.specs.Run.{jobWith, Run, reads, feeds, stops, StreamTheorem}
 use Rattle.job.specs.Inner.{Sound}
 use Rattle.job.proofs.Turns.{Stops, at-end, at-pause, at-unknown, at-cut, at-part, records-by, counted-begun}
@@ -28,8 +29,8 @@ module _ (limit : ℕ) (last : Bool) where
   stop-sound : (n : ℕ) (c : Counts) (f : Found) (r : Reason) (e : Counts) → Stops last c f r e → Sound limit c → limit - c .begun ≡ suc n → Sound limit e
   stop-sound n c f r e (at-end l) s i = s
   stop-sound n c f r e (at-pause l) s i = s
-  stop-sound n c f r e at-unknown s i = counted-sound false limit c s (λ x. omega arith)
-  stop-sound n c f r e (at-cut l) s i = counted-sound false limit c s (λ x. omega arith)
+  stop-sound n c f r e at-unknown s i = counted-sound Refused limit c s (λ x. omega arith)
+  stop-sound n c f r e (at-cut l) s i = counted-sound Refused limit c s (λ x. omega arith)
   stop-sound n c f r e (at-part l) s i = s
 
   records-sound : (c : Counts) (xs : List ℕ) (room : ℕ) → Sound limit c → Sound limit (recordsOf (limit - c .begun) c xs last room .counts)
@@ -38,11 +39,16 @@ module _ (limit : ℕ) (last : Bool) where
       (λ n c xs room h s i. s)
       (λ c xs room h s i. s)
       (λ n c xs room h f r e q t s i. stop-sound n c f r e t s i)
-      (λ n c xs room h ok k b q p ih s i. ih (counted-sound ok limit c s (λ x. omega arith)) (rw (counted-begun ok c) (omega arith)))
+      (λ n c xs room h how k b q p ih s i. ih (counted-sound how limit c s (λ x. omega arith)) (rw (counted-begun how c) (omega arith)))
       (limit - c .begun) c xs room s refl
 
+pub feed-counts : FeedTheorem
+feed-counts limit c xs last room s =
+    let k = records-sound limit last c xs room (sound-is limit c s) in
+    rw (feed-good limit c xs last room s) (is-sound limit _ k, k .sum)
+
 pub feed-sound : (limit : ℕ) (c : Counts) (xs : List ℕ) (last : Bool) (room : ℕ) → countsSound limit c ≡ true → countsSound limit (feedOf limit c xs last room .counts) ≡ true
-feed-sound limit c xs last room s = rw (feed-good limit c xs last room s) (is-sound limit _ (records-sound limit last c xs room (sound-is limit c s)))
+feed-sound limit c xs last room s = feed-counts limit c xs last room s .0
 
 none-sound : (limit : ℕ) → countsSound limit countsNone ≡ true
 none-sound limit = is-sound limit countsNone (record { few = omega arith; sum = refl })

@@ -1,16 +1,19 @@
 -- The job in pieces: what one call does with the bytes at hand.
 use Prim.Native.Nat.{ℕ, zero, suc, _+_, _-_}
+use mathlib.Core.Path.{_≡_}
 use mathlib.Core.Bool.{Bool, true, false, cond}
 use mathlib.Core.List.{List, [], _++_}
 use lib.ListN.{length, drop}
 use lib.Dec.{ltb}
+use Rattle.outcome.specs.declared.Kind.{Kind}
+use Rattle.outcome.specs.declared.Kind.the-variants.{Refused}
 use Rattle.outcome.specs.Outcome.{longest, unknownMark, cutRecord, noBytes, Found, took, ended, unknown, cut}
 use Rattle.marks.specs.Marks.{longestRecord, foundOf}
 use Rattle.job.specs.declared.Counts.{Counts}
 use Rattle.job.specs.declared.Fed.{Fed}
 use Rattle.job.specs.declared.Reason.{Reason}
 use Rattle.job.specs.declared.Reason.the-variants.{More, Room, Bad, Full, End, Unknown, Cut}
-use Rattle.job.specs.Counts.{countsMore, countsSound}
+use Rattle.job.specs.Counts.{countsMore, Adds, countsSound}
 use Rattle.job.specs.Job.{trailer}
 
 -- why it stopped, the counts then, how many bytes it is done with, and what it wrote
@@ -28,18 +31,18 @@ abbrev pub after : ℕ → List ℕ → Part → Part
 after k bytes p = record { reason = p .reason; counts = p .counts; used = k + p .used; bytes = bytes ++ p .bytes }
 
 -- by what stands at the head; where the bytes at hand are not the last, an end and a cut wait for more
-unfoldable pub partOn : Bool → Found → Counts → (Bool → ℕ → List ℕ → Part) → Part
-partOn last (took ok k bytes) c go = after k bytes (go ok k bytes)
+unfoldable pub partOn : Bool → Found → Counts → (Kind → ℕ → List ℕ → Part) → Part
+partOn last (took q k bytes) c go = after k bytes (go q k bytes)
 partOn last ended c go = cond last (halt End c) (halt More c)
-partOn last unknown c go = halt Unknown (countsMore false c)
-partOn last cut c go = cond last (halt Cut (countsMore false c)) (halt More c)
+partOn last unknown c go = halt Unknown (countsMore Refused c)
+partOn last cut c go = cond last (halt Cut (countsMore Refused c)) (halt More c)
 
 -- the record loop, where at most n more records are begun: each turn asks first for the room of the longest answer
 unfoldable pub recordsOf : ℕ → Counts → List ℕ → Bool → ℕ → Part
 recordsOf zero c xs last room = cond (ltb room longest) (halt Room c) (halt Full c)
 recordsOf (suc n) c xs last room =
     cond (ltb room longest) (halt Room c)
-    (partOn last (foundOf xs) c (λ ok k bytes. recordsOf n (countsMore ok c) (drop k xs) last (room - length bytes)))
+    (partOn last (foundOf xs) c (λ q k bytes. recordsOf n (countsMore q c) (drop k xs) last (room - length bytes)))
 
 -- what a reason says: the caller is to call again, with more bytes or more room; the counts handed in are none of a job's; the job has ended; or it has ended by a
 -- refusal. The first two are no refusals: nothing is written for them.
@@ -74,6 +77,12 @@ closed p = record { reason = p .reason; counts = p .counts; used = p .used; byte
 -- one call, with an output of some room; counts that are none of a job's are handed back
 unfoldable pub feedOf : ℕ → Counts → List ℕ → Bool → ℕ → Part
 feedOf limit c xs last room = cond (countsSound limit c) (closed (recordsOf (limit - c .begun) c xs last room)) (halt Bad c)
+
+-- with the counts of a job each call leaves counts of a job, the last three of which add up to the first
+abbrev pub FeedTheorem : Type 0
+FeedTheorem =
+    (limit : ℕ) (c : Counts) (xs : List ℕ) (last : Bool) (room : ℕ) → countsSound limit c ≡ true →
+    (countsSound limit (feedOf limit c xs last room .counts) ≡ true) × Adds (feedOf limit c xs last room .counts)
 
 -- what the function answers: how many bytes it wrote in place of the bytes
 abbrev pub toldPart : Part → Fed

@@ -1,6 +1,5 @@
 -- What the private functions ask for and answer; no public contract cites it.
 use Prim.Native.Nat.{ℕ, _+_, _*_, _≤_}
-use mathlib.Core.Path.{_≡_}
 use mathlib.Core.Bool.{cond}
 use lib.Dec.{ltb}
 use Rattle.outcome.specs.Outcome.{longest}
@@ -8,15 +7,16 @@ use Rattle.job.specs.declared.Counts.{Counts}
 use Rattle.job.specs.declared.Fed.{Fed}
 use Rattle.job.specs.declared.Reason.{Reason}
 use Rattle.job.specs.declared.Reason.the-variants.{Room}
+use Rattle.job.specs.Counts.{Adds}
 
 -- counts of a job of at most `limit` records
 pub record Sound (limit : ℕ) (c : Counts) : Type 0 where
   pub few : c .begun ≤ limit
-  pub sum : c .answered + c .refused ≡ c .begun
+  pub sum : Adds c
 
--- the bytes of ZZ and three counts
+-- the bytes of ZZ and four counts
 abbrev pub trailerLength : ℕ
-trailerLength = 2 + 3 * 4
+trailerLength = 2 + 4 * 4
 
 -- out of the loop with the counts e; or, where the output has too little room for the end, with the counts c
 unfoldable pub stopOf : Reason → Counts → Counts → ℕ → ℕ → ℕ → Fed

@@ -1,29 +1,31 @@
 -- The job: all that is written for all that is read. Bytes are numbers below 256.
-use Prim.Native.Nat.{ℕ, zero, suc}
-use mathlib.Core.Bool.{Bool, false}
+use Prim.Native.Nat.{ℕ, zero, suc, _≤_}
+use mathlib.Core.Path.{_≡_}
 use mathlib.Core.List.{List, _++_}
 use lib.ListN.{drop}
 use Rattle.wire.specs.Wire.{countBytes}
+use Rattle.outcome.specs.declared.Kind.{Kind}
+use Rattle.outcome.specs.declared.Kind.the-variants.{Refused}
 use Rattle.outcome.specs.Outcome.{unknownMark, cutRecord, markBytes, noBytes, Found, took, ended, unknown, cut}
 use Rattle.marks.specs.Marks.{foundOf}
 use Rattle.job.specs.declared.Counts.{Counts}
-use Rattle.job.specs.Counts.{countsNone, countsMore}
+use Rattle.job.specs.Counts.{countsNone, countsMore, Adds}
 
 -- ZZ and the counts
 unfoldable pub trailer : Counts → List ℕ
-trailer c = markBytes 0x5a 0x5a ++ (countBytes (c .begun) ++ (countBytes (c .answered) ++ countBytes (c .refused)))
+trailer c = markBytes 0x5a 0x5a ++ (countBytes (c .begun) ++ (countBytes (c .answered) ++ (countBytes (c .refused) ++ countBytes (c .unusable))))
 
 -- by what stands at the head, and after a record what `go` says of the rest
-unfoldable pub jobOn : Found → Counts → (Bool → ℕ → List ℕ) → List ℕ
-jobOn (took ok k bytes) c go = bytes ++ go ok k
+unfoldable pub jobOn : Found → Counts → (Kind → ℕ → List ℕ) → List ℕ
+jobOn (took q k bytes) c go = bytes ++ go q k
 jobOn ended c go = trailer c
-jobOn unknown c go = noBytes unknownMark ++ trailer (countsMore false c)
-jobOn cut c go = noBytes cutRecord ++ trailer (countsMore false c)
+jobOn unknown c go = noBytes unknownMark ++ trailer (countsMore Refused c)
+jobOn cut c go = noBytes cutRecord ++ trailer (countsMore Refused c)
 
 -- all that is written where c are the counts so far and at most n more records are begun
 unfoldable pub jobFrom : ℕ → Counts → List ℕ → List ℕ
 jobFrom zero c xs = trailer c
-jobFrom (suc n) c xs = jobOn (foundOf xs) c (λ ok k. jobFrom n (countsMore ok c) (drop k xs))
+jobFrom (suc n) c xs = jobOn (foundOf xs) c (λ q k. jobFrom n (countsMore q c) (drop k xs))
 
 -- no more records than these are begun
 abbrev pub jobLimit : ℕ
@@ -32,3 +34,23 @@ jobLimit = 1000000
 -- the job on the whole input xs, of at most `limit` records
 abbrev pub jobOf : ℕ → List ℕ → List ℕ
 jobOf limit xs = jobFrom limit countsNone xs
+
+-- ---- the counts with which the job ends
+unfoldable pub countsOn : Found → Counts → (Kind → ℕ → Counts) → Counts
+countsOn (took q k bytes) c go = go q k
+countsOn ended c go = c
+countsOn unknown c go = countsMore Refused c
+countsOn cut c go = countsMore Refused c
+
+unfoldable pub countsFrom : ℕ → Counts → List ℕ → Counts
+countsFrom zero c xs = c
+countsFrom (suc n) c xs = countsOn (foundOf xs) c (λ q k. countsFrom n (countsMore q c) (drop k xs))
+
+abbrev pub countsOf : ℕ → List ℕ → Counts
+countsOf limit xs = countsFrom limit countsNone xs
+
+-- they are what is written last; of no more records than the limit; and on every input the last three of them add up to the first
+pub record CountsTheorem : Type 0 where
+  pub written : (limit : ℕ) (xs : List ℕ) → (body : List ℕ) × (jobOf limit xs ≡ body ++ trailer (countsOf limit xs))
+  pub few : (limit : ℕ) (xs : List ℕ) → countsOf limit xs .begun ≤ limit
+  pub adds : (limit : ℕ) (xs : List ℕ) → Adds (countsOf limit xs)

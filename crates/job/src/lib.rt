@@ -8,11 +8,13 @@ ghost use Prim.Native.Nat.{_+_, _-_, _≤_};
 ghost use lib.ListN.{length, drop};
 ghost use lib.Seq.{sets};
 ghost use Rattle.wire.specs.Wire.{countBytes};
+ghost use Rattle.outcome.specs.declared.Kind.{Kind};
 ghost use Rattle.outcome.specs.Outcome.{longest, markBytes, noBytes};
 ghost use Rattle.job.specs.Counts.{countsNone, countsMore, countsSound};
 ghost use Rattle.job.specs.Job.{trailer, jobOf, jobLimit};
 ghost use Rattle.job.specs.Feed.{Part, recordsOf, closing, ends, feedOf, toldPart};
 ghost use Rattle.job.specs.Inner.{Sound, stopOf, trailerLength};
+use outcome::Kind;
 use outcome::LONGEST;
 use outcome::Step;
 
@@ -26,14 +28,16 @@ const UNKNOWN_MARK: u8 = 6;
 const CUT_RECORD: u8 = 7;
 
 // How many bytes the counts take, their mark among them.
-const TRAILER: usize = 2 + 3 * 4;
+const TRAILER: usize = 2 + 4 * 4;
 
-// How many records were begun, answered and refused. An unknown mark, a half mark and a cut record
+// How many records were begun; and how many of them were answered with finite numbers alone, were
+// refused, and were answered with a NaN or an infinity. An unknown mark, a half mark and a cut record
 // count as begun and refused.
 pub struct Counts {
     pub begun: u32,
     pub answered: u32,
     pub refused: u32,
+    pub unusable: u32,
 }
 
 // Why the record loop was left. `More`: the bytes at hand end within a record, or with one, and more
@@ -60,23 +64,38 @@ pub struct Fed {
 }
 
 // ---- the record loop
-fn counted(c: Counts, ok: bool) -> Counts
+fn counted(c: Counts, kind: Kind) -> Counts
     requires { ⌜ Sound jobLimit c ⌝ }
-    ensures { λ r. ⌜ r ≡ countsMore ok c ⌝ }
+    ensures { λ r. ⌜ r ≡ countsMore kind c ⌝ }
 {
-    if ok {
-        Counts {
+    match kind {
+        Kind::Answered => Counts {
             begun: c.begun + 1,
             answered: c.answered + 1,
             refused: c.refused,
-        }
-    } else {
-        Counts {
+            unusable: c.unusable,
+        },
+        Kind::Refused => Counts {
             begun: c.begun + 1,
             answered: c.answered,
             refused: c.refused + 1,
-        }
+            unusable: c.unusable,
+        },
+        Kind::Unusable => Counts {
+            begun: c.begun + 1,
+            answered: c.answered,
+            refused: c.refused,
+            unusable: c.unusable + 1,
+        },
     }
+}
+
+// An unknown mark, or a mark or record that is cut.
+fn refused(c: Counts) -> Counts
+    requires { ⌜ Sound jobLimit c ⌝ }
+    ensures { λ r. ⌜ r ≡ countsMore Kind.Refused c ⌝ }
+{
+    counted(c, Kind::Refused)
 }
 
 fn leave(reason: Reason, counts: Counts, used: usize, written: usize) -> Fed
@@ -116,8 +135,8 @@ fn records(c0: Counts, input: &[u8], last: bool, out: &mut [u8]) -> Fed
             break stop(Reason::Full, c, c, at, to, out.len() - to);
         }
         match marks::reply(&input[at..], &mut out[to..]) {
-            Step::Took(ok, used, written) => {
-                c = counted(c, ok);
+            Step::Took(kind, used, written) => {
+                c = counted(c, kind);
                 at += used;
                 to += written;
             }
@@ -131,18 +150,11 @@ fn records(c0: Counts, input: &[u8], last: bool, out: &mut [u8]) -> Fed
                 break stop(Reason::More, c, c, at, to, out.len() - to);
             }
             Step::Unknown => {
-                break stop(
-                    Reason::Unknown,
-                    c,
-                    counted(c, false),
-                    at,
-                    to,
-                    out.len() - to,
-                );
+                break stop(Reason::Unknown, c, refused(c), at, to, out.len() - to);
             }
             Step::Cut => {
                 if last {
-                    break stop(Reason::Cut, c, counted(c, false), at, to, out.len() - to);
+                    break stop(Reason::Cut, c, refused(c), at, to, out.len() - to);
                 }
                 break stop(Reason::More, c, c, at, to, out.len() - to);
             }
@@ -190,6 +202,7 @@ fn put_trailer(out: &mut [u8], at: usize, c: Counts) -> usize
     put_count(out, at + 2, c.begun);
     put_count(out, at + 6, c.answered);
     put_count(out, at + 10, c.refused);
+    put_count(out, at + 14, c.unusable);
     TRAILER
 }
 
@@ -225,7 +238,10 @@ fn sound(c: Counts) -> bool
 {
     if c.begun <= LIMIT {
         if c.answered <= c.begun {
-            return c.refused == c.begun - c.answered;
+            let left = c.begun - c.answered;
+            if c.refused <= left {
+                return c.unusable == left - c.refused;
+            }
         }
     }
     false
@@ -260,6 +276,7 @@ pub fn no_counts() -> Counts
         begun: 0,
         answered: 0,
         refused: 0,
+        unusable: 0,
     }
 }
 

@@ -7,6 +7,7 @@ use native.Mathlib.Omega.{arith}
 use lib.ListN.{length, getD}
 use lib.Ieee.{binary64}
 use Rattle.linalg.specs.Answer.{Answer, answers, refuses}
+use Rattle.outcome.specs.declared.Kind.{Kind}
 use Rattle.outcome.specs.declared.Entry.{Entry}
 use Rattle.outcome.specs.Outcome.{longest, unknownMark, Found, took, ended, unknown, cut}
 use Rattle.outcome.proofs.Never.{never, untrue}
@@ -46,18 +47,18 @@ pub record Taken (s : List ℕ) (k : ℕ) (b : List ℕ) : Type 0 where
   pub whole : k ≤ length s
   pub short : length b ≤ longest
 
-taken-at : (v : Answer Entry) (s : List ℕ) (ok : Bool) (k : ℕ) (b : List ℕ) → foundAt v s ≡ took ok k b → Taken s k b
+taken-at : (v : Answer Entry) (s : List ℕ) (how : Kind) (k : ℕ) (b : List ℕ) → foundAt v s ≡ took how k b → Taken s k b
 unfolding foundAt
-taken-at (answers e) s ok k b q =
-    let t = record-taken (2 + widthOf binary64 e) (entryReply binary64 e) (entry-most binary64 e) s ok k b q in
+taken-at (answers e) s how k b q =
+    let t = record-taken (2 + widthOf binary64 e) (entryReply binary64 e) (entry-most binary64 e) s how k b q in
     record { whole = t .0; short = t .1 }
-taken-at (refuses n) s ok k b q = never (cc)
+taken-at (refuses n) s how k b q = never (cc)
 
-pub taken : (s : List ℕ) (ok : Bool) (k : ℕ) (b : List ℕ) → foundOf s ≡ took ok k b → Taken s k b
+pub taken : (s : List ℕ) (how : Kind) (k : ℕ) (b : List ℕ) → foundOf s ≡ took how k b → Taken s k b
 unfolding foundOf
-taken [] ok k b q = never (cc)
-taken (x ∷ []) ok k b q = never (cc)
-taken (x ∷ y ∷ s) ok k b q = taken-at (markOf x y) (x ∷ y ∷ s) ok k b q
+taken [] how k b q = never (cc)
+taken (x ∷ []) how k b q = never (cc)
+taken (x ∷ y ∷ s) how k b q = taken-at (markOf x y) (x ∷ y ∷ s) how k b q
 
 -- ---- a cut record is shorter than the longest
 at-few : (v : Answer Entry) (s : List ℕ) → foundAt v s ≡ cut → length s < longestRecord

@@ -11,6 +11,7 @@ use lib.Dec.{ltb}
 use lib.Ieee.{Format}
 use Rattle.linalg.specs.Answer.{Answer, answers, refuses}
 use Rattle.wire.specs.Wire.{Item, itemsBytes}
+use Rattle.outcome.specs.declared.Kind.{Kind}
 use Rattle.outcome.specs.declared.Step.the-variants as step
 use Rattle.outcome.specs.Outcome.{longest, Reply, markBytes, noBytes, replyOf, Found, took, ended, unknown, cut, recordFound, becameOf, writtenOf, stepTold}
 use Rattle.outcome.proofs.Never.{never, untrue}
@@ -29,13 +30,13 @@ module _ (k : ℕ) (reply : List ℕ → Reply) where
   unfolding recordFound
   record-cut s h = rw (lt-ltb (length s) k h)
 
-  pub record-whole : (s : List ℕ) → k ≤ length s → recordFound k reply s ≡ took (reply (take k s) .ok) k (reply (take k s) .bytes)
+  pub record-whole : (s : List ℕ) → k ≤ length s → recordFound k reply s ≡ took (reply (take k s) .kind) k (reply (take k s) .bytes)
   unfolding recordFound
   record-whole s h = rw (le-ltb (length s) k h)
 
   -- whichever it is
   pub record-by :
-      (s : List ℕ) (P : Found → Type 0) → (length s < k → P cut) → (k ≤ length s → P (took (reply (take k s) .ok) k (reply (take k s) .bytes))) → P (recordFound k reply s)
+      (s : List ℕ) (P : Found → Type 0) → (length s < k → P cut) → (k ≤ length s → P (took (reply (take k s) .kind) k (reply (take k s) .bytes))) → P (recordFound k reply s)
   record-by s P short whole = by (ltb (length s) k) refl
     where
       by : (t : Bool) → ltb (length s) k ≡ t → P (recordFound k reply s)
@@ -44,11 +45,11 @@ module _ (k : ℕ) (reply : List ℕ → Reply) where
 
   -- it lies within the input, and its reply within the room of the longest, if each reply does
   pub record-taken :
-      ((r : List ℕ) → length (reply r .bytes) ≤ longest) → (s : List ℕ) (ok : Bool) (j : ℕ) (b : List ℕ) → recordFound k reply s ≡ took ok j b →
+      ((r : List ℕ) → length (reply r .bytes) ≤ longest) → (s : List ℕ) (q : Kind) (j : ℕ) (b : List ℕ) → recordFound k reply s ≡ took q j b →
       (j ≤ length s) × (length b ≤ longest)
-  record-taken most s ok j b =
+  record-taken most s q j b =
       record-by s
-      (λ f. f ≡ took ok j b → (j ≤ length s) × (length b ≤ longest))
+      (λ f. f ≡ took q j b → (j ≤ length s) × (length b ≤ longest))
       (λ h e. never (cc))
       (λ h e. let n : k ≡ j = cc in let l : reply (take k s) .bytes ≡ b = cc in (rw n at h, rw l at (most (take k s))))
 
@@ -61,7 +62,7 @@ module _ (k : ℕ) (reply : List ℕ → Reply) where
 
 -- ---- what more input cannot change
 abbrev pub settled : Found → Bool
-settled (took ok k b) = true
+settled (took q k b) = true
 settled ended = false
 settled unknown = true
 settled cut = false
@@ -86,10 +87,10 @@ unfolding becameOf writtenOf
 reply-roomless room k reply s h r = rw (record-whole k reply s h, lt-ltb room longest r) (refl, refl)
 
 pub reply-whole :
-    (room k : ℕ) (reply : List ℕ → Reply) (s : List ℕ) (ok : Bool) (b : List ℕ) → k ≤ length s → longest ≤ room → reply (take k s) ≡ record { ok = ok; bytes = b } →
-    (stepTold (step.Took ok k (length b)) ≡ becameOf (recordFound k reply s) room) × (b ≡ writtenOf (recordFound k reply s) room)
+    (room k : ℕ) (reply : List ℕ → Reply) (s : List ℕ) (q : Kind) (b : List ℕ) → k ≤ length s → longest ≤ room → reply (take k s) ≡ record { kind = q; bytes = b } →
+    (stepTold (step.Took q k (length b)) ≡ becameOf (recordFound k reply s) room) × (b ≡ writtenOf (recordFound k reply s) room)
 unfolding becameOf writtenOf
-reply-whole room k reply s ok b h r e = rw (record-whole k reply s h, le-ltb room longest r, e) (refl, refl)
+reply-whole room k reply s q b h r e = rw (record-whole k reply s h, le-ltb room longest r, e) (refl, refl)
 
 -- ---- the mark is stored before what was written behind it
 sets-behind : (x : ℕ) (l b : List ℕ) (i : ℕ) → sets (x ∷ l) (suc i) b ≡ x ∷ sets l i b

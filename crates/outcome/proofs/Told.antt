@@ -7,30 +7,31 @@ use native.Mathlib.Omega.{arith}
 use borrow.Author.Tests.{ltb-true, ltb-false}
 use lib.ListN.{length}
 use lib.Dec.{ltb}
+use Rattle.outcome.specs.declared.Kind.{Kind}
 use Rattle.outcome.specs.Outcome.{longest, unknownMark, cutRecord, Found, took, ended, unknown, cut, Became, wrote, roomless, over, refused, becameOf, writtenOf}
 use Rattle.outcome.proofs.Never.{never}
 
 -- a record was taken, and there was room for its answer
-pub record Takes (f : Found) (room : ℕ) (ok : Bool) (k n : ℕ) : Type 0 where
-  pub found : f ≡ took ok k (writtenOf f room)
+pub record Takes (f : Found) (room : ℕ) (q : Kind) (k n : ℕ) : Type 0 where
+  pub found : f ≡ took q k (writtenOf f room)
   pub long : length (writtenOf f room) ≡ n
   pub roomy : longest ≤ room
 
 takes-by :
-    (t : Bool) (room : ℕ) (a ok : Bool) (j k n : ℕ) (b : List ℕ) → ltb room longest ≡ t → cond t roomless (wrote a j (length b)) ≡ wrote ok k n →
-    (took a j b ≡ took ok k (cond t [] b)) × (length (cond t [] b) ≡ n) × (longest ≤ room)
-takes-by true room a ok j k n b t e = never (cc)
-takes-by false room a ok j k n b t e = (cc, cc, ltb-false room longest t)
+    (t : Bool) (room : ℕ) (a q : Kind) (j k n : ℕ) (b : List ℕ) → ltb room longest ≡ t → cond t roomless (wrote a j (length b)) ≡ wrote q k n →
+    (took a j b ≡ took q k (cond t [] b)) × (length (cond t [] b) ≡ n) × (longest ≤ room)
+takes-by true room a q j k n b t e = never (cc)
+takes-by false room a q j k n b t e = (cc, cc, ltb-false room longest t)
 
-pub told-took : (f : Found) (room : ℕ) (ok : Bool) (k n : ℕ) → becameOf f room ≡ wrote ok k n → Takes f room ok k n
+pub told-took : (f : Found) (room : ℕ) (q : Kind) (k n : ℕ) → becameOf f room ≡ wrote q k n → Takes f room q k n
 unfolding becameOf writtenOf
-told-took (took a j b) room ok k n e = let t = takes-by (ltb room longest) room a ok j k n b refl e in record { found = t .0; long = t .1; roomy = t .2 }
-told-took ended room ok k n e = never (cc)
-told-took unknown room ok k n e = never (cc)
-told-took cut room ok k n e = never (cc)
+told-took (took a j b) room q k n e = let t = takes-by (ltb room longest) room a q j k n b refl e in record { found = t .0; long = t .1; roomy = t .2 }
+told-took ended room q k n e = never (cc)
+told-took unknown room q k n e = never (cc)
+told-took cut room q k n e = never (cc)
 
 -- no room: nothing is written
-room-by : (t : Bool) (room : ℕ) (a : Bool) (j : ℕ) (b : List ℕ) → ltb room longest ≡ t → cond t roomless (wrote a j (length b)) ≡ roomless → (room < longest) × (cond t [] b ≡ [])
+room-by : (t : Bool) (room : ℕ) (a : Kind) (j : ℕ) (b : List ℕ) → ltb room longest ≡ t → cond t roomless (wrote a j (length b)) ≡ roomless → (room < longest) × (cond t [] b ≡ [])
 room-by true room a j b t e = (ltb-true room longest t, refl)
 room-by false room a j b t e = never (cc)
 
@@ -42,7 +43,7 @@ told-room unknown room e = never (cc)
 told-room cut room e = never (cc)
 
 -- the stops
-took-apart : {A : Type 0} (t : Bool) (a : Bool) (j n : ℕ) (x : Became) → cond t roomless (wrote a j n) ≡ x → (roomless ≡ x → A) → (wrote a j n ≡ x → A) → A
+took-apart : {A : Type 0} (t : Bool) (a : Kind) (j n : ℕ) (x : Became) → cond t roomless (wrote a j n) ≡ x → (roomless ≡ x → A) → (wrote a j n ≡ x → A) → A
 took-apart true a j n x e g h = g e
 took-apart false a j n x e g h = h e
 

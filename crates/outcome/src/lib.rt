@@ -17,18 +17,27 @@ pub enum Entry {
     Ar,
 }
 
-// What an entry did: it wrote an answer of so many bytes behind the mark, or refused with a number and
-// wrote nothing.
+// How a record counts: it got an answer whose every number is finite; it was refused; or it got an
+// answer that holds a NaN or an infinity.
+pub enum Kind {
+    Answered,
+    Refused,
+    Unusable,
+}
+
+// What an entry did: it wrote an answer of so many bytes behind the mark, all of whose numbers are finite;
+// it wrote one that holds a NaN or an infinity; or it refused with a number and wrote nothing.
 pub enum Gave {
     Wrote(usize),
+    Unusable(usize),
     Refused(u8),
 }
 
-// What stands at the head of the input: a whole record, which was answered or refused, with its length
-// and how many bytes were written for it; a whole record for whose answer the output has no room;
+// What stands at the head of the input: a whole record, with how it counts, its length and how many
+// bytes were written for it; a whole record for whose answer the output has no room;
 // nothing; two bytes that are no mark; or a mark or record that the input cuts.
 pub enum Step {
-    Took(bool, usize, usize),
+    Took(Kind, usize, usize),
     Room,
     End,
     Unknown,

@@ -13,7 +13,7 @@ use Rattle.coeffs.specs.declared.sim3.ArmedPair.{ArmedPair}
 use Rattle.layout.specs.Layout.{scaledPairNumbers, armedScaled}
 use Rattle.layout.proofs.Numbers.{scaled-pair-count}
 use Rattle.layout.proofs.Runs.{sets-split, sets-part}
-use Rattle.wire.specs.Wire.{word, width, wordBytes, numbersBytes, itemBytes, itemsBytes, numbers}
+use Rattle.wire.specs.Wire.{word, width, wordBytes, numbersBytes, itemBytes, itemsBytes, allFinite, numbers}
 use Rattle.wire.proofs.Bytes.{numbers-length, items-append, items-numbers}
 use Rattle.replies.specs.Table.{armItems, armedItems}
 

@@ -4,6 +4,7 @@ use mathlib.Core.Path.{_≡_, refl}
 use mathlib.Core.Bool.{true, false}
 use mathlib.Core.List.{List, [], _∷_, _++_}
 use lib.Ieee.{Float, binary64, nan, ofBits, toBits, add, sub, mul, lt, le}
+use Rattle.ieee.specs.Finite.{isFinite}
 use Rattle.linalg.specs.Vector.{vecScale, vecCross, vecAdd, vecNumbers}
 use Rattle.ieee.specs.Numbers.{f0}
 use Rattle.coeffs.specs.Limits.{coeffsDelta}
@@ -15,7 +16,8 @@ use Rattle.so3.specs.So3.{so3Act}
 use Rattle.sim3.specs.Pose.{poseAct}
 use Rattle.jacobian.specs.Jac.{jacInverseAnswer}
 use Rattle.layout.specs.Layout.{vecIn, quatIn, poseIn, blockIn}
-use Rattle.wire.specs.Wire.{wordOf, wordBytes, numberOf, numberAt, numberBytes, itemBytes, itemsBytes, numbers}
+use Rattle.wire.specs.Wire.{wordOf, wordBytes, numberOf, numberAt, numberBytes, itemBytes, itemsBytes, allFinite, numbers}
+use Rattle.outcome.specs.declared.Kind.the-variants.{Answered, Refused}
 use Rattle.outcome.specs.declared.Entry.the-variants.{Co, Ac, Ji, Ar}
 use Rattle.outcome.specs.Outcome.{markBytes, noBytes, replyOf}
 use Rattle.replies.specs.Table.{coOf, acOf, jiOf, arOf, answerOf, entryReply}
@@ -35,18 +37,18 @@ ac-numbers = one ∷ 0 ∷ 0 ∷ 0 ∷ one ∷ 0x4000000000000000 ∷ 0x40080000
 ac-example :
     entryReply binary64 Ac (0x41 ∷ 0x43 ∷ wordsBytes ac-numbers)
     ≡ record {
-      ok = true;
+      kind = Answered;
       bytes = 0x41 ∷ 0x43 ∷ 0 ∷ 0 ∷ 0 ∷ 0 ∷ 0 ∷ 0 ∷ 0x14 ∷ 0x40 ∷ 0 ∷ 0 ∷ 0 ∷ 0 ∷ 0 ∷ 0 ∷ 0x1c ∷ 0x40 ∷ 0 ∷ 0 ∷ 0 ∷ 0 ∷ 0 ∷ 0 ∷ 0x22 ∷ 0x40 ∷ [];
     }
-unfolding wordsBytes ac-numbers entryReply replyOf answerOf acOf markBytes poseIn quatIn vecIn vecNumbers numberAt numberOf numberBytes itemBytes itemsBytes numbers wordOf wordBytes ofBits toBits add sub mul vecScale vecCross vecAdd so3Act poseAct
+unfolding wordsBytes ac-numbers entryReply replyOf answerOf acOf markBytes poseIn quatIn vecIn vecNumbers numberAt numberOf numberBytes itemBytes itemsBytes allFinite isFinite numbers wordOf wordBytes ofBits toBits add sub mul vecScale vecCross vecAdd so3Act poseAct
 ac-example = refl
 
 -- σ = 0, z = -1, whatever the values are
-co-example : (values : List ℕ) → entryReply binary64 Co (0x43 ∷ 0x4f ∷ (wordsBytes (0 ∷ 0xbff0000000000000 ∷ []) ++ values)) ≡ record { ok = false; bytes = noBytes 1 }
+co-example : (values : List ℕ) → entryReply binary64 Co (0x43 ∷ 0x4f ∷ (wordsBytes (0 ∷ 0xbff0000000000000 ∷ []) ++ values)) ≡ record { kind = Refused; bytes = noBytes 1 }
 unfolding wordsBytes entryReply replyOf answerOf coOf numberAt numberOf wordOf wordBytes ofBits lt scaledAnswer beside pairAnswer
 co-example values = refl
 
-ar-example : (values : List ℕ) → entryReply binary64 Ar (0x41 ∷ 0x52 ∷ (wordsBytes (0 ∷ 0xbff0000000000000 ∷ []) ++ values)) ≡ record { ok = false; bytes = noBytes 1 }
+ar-example : (values : List ℕ) → entryReply binary64 Ar (0x41 ∷ 0x52 ∷ (wordsBytes (0 ∷ 0xbff0000000000000 ∷ []) ++ values)) ≡ record { kind = Refused; bytes = noBytes 1 }
 unfolding wordsBytes entryReply replyOf answerOf arOf numberAt numberOf wordOf wordBytes ofBits lt armedAnswer besideArmed armedPairAnswer
 ar-example values = refl
 
@@ -66,6 +68,6 @@ eye = one ∷ 0 ∷ 0 ∷ 0 ∷ one ∷ 0 ∷ 0 ∷ 0 ∷ one ∷ []
 nothing : List ℕ
 nothing = 0 ∷ 0 ∷ 0 ∷ 0 ∷ 0 ∷ 0 ∷ 0 ∷ 0 ∷ 0 ∷ []
 
-ji-example : entryReply binary64 Ji (0x4a ∷ 0x49 ∷ wordsBytes (eye ++ (nothing ++ (eye ++ (0 ∷ 0 ∷ 0 ∷ 0 ∷ []))))) ≡ record { ok = false; bytes = noBytes 2 }
+ji-example : entryReply binary64 Ji (0x4a ∷ 0x49 ∷ wordsBytes (eye ++ (nothing ++ (eye ++ (0 ∷ 0 ∷ 0 ∷ 0 ∷ []))))) ≡ record { kind = Refused; bytes = noBytes 2 }
 unfolding wordsBytes eye nothing entryReply replyOf answerOf jiOf blockIn numberAt numberOf wordOf wordBytes ofBits le jacInverseAnswer
 ji-example = refl

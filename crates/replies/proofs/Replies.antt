@@ -1,7 +1,7 @@
 -- Replies: what an entry tells and writes, and that no record and no reply is longer than the longest. Assumes nothing.
 use Prim.Native.Nat.{ℕ, suc, _+_, _-_, _*_, _≤_}
 use mathlib.Core.Path.{_≡_, refl, sym, ap, _∙_}
-use mathlib.Core.Bool.{true, false}
+use mathlib.Core.Bool.{Bool, true, false}
 use mathlib.Core.List.{List, [], _∷_, _++_}
 use native.Mathlib.Omega.{arith}
 use lib.ListN.{length, take, drop, getD, set, length-append, length-drop}
@@ -13,33 +13,34 @@ use Rattle.coeffs.specs.declared.sim3.ArmedPair.{ArmedPair}
 use Rattle.jacobian.specs.Jac.{jacInverseAnswer}
 use Rattle.layout.specs.Layout.{blockPairCount, blockIn, valuesIn, blockNumbers, scaledPairNumbers}
 use Rattle.layout.proofs.Numbers.{vec-count, pose-count, block-count, block-pair-count, scaled-pair-count}
-use Rattle.wire.specs.Wire.{Item, width, numberAt, numbersBytes, itemsBytes, numbers}
+use Rattle.wire.specs.Wire.{Item, width, numberAt, numbersBytes, itemsBytes, allFinite, numbers}
 use Rattle.wire.proofs.Bytes.{numbers-length, items-numbers}
 use Rattle.outcome.specs.declared.Entry.{Entry}
 use Rattle.outcome.specs.declared.Entry.the-variants.{Ex, Co, Pa, Ac, Mu, In, Ji, Ar}
+use Rattle.outcome.specs.declared.Kind.the-variants as kind
 use Rattle.outcome.specs.declared.Gave.{Gave}
 use Rattle.outcome.specs.declared.Gave.the-variants as gave
 use Rattle.outcome.specs.declared.Step.the-variants as step
 use Rattle.layout.proofs.Runs.{sets-part}
-use Rattle.outcome.specs.Outcome.{longest, noBytes, markBytes, Reply, replyOf, gaveOf, gaveBytes, becameOf, writtenOf, stepTold}
+use Rattle.outcome.specs.Outcome.{longest, noBytes, markBytes, Reply, kindOf, replyOf, gaveAs, gaveOf, gaveBytes, becameOf, writtenOf, stepTold}
 use Rattle.outcome.proofs.Never.{never}
 use Rattle.outcome.proofs.Record.{mark-length, no-length, marked, reply-whole}
 use Rattle.replies.specs.Table.{gives, numbersOf, widthOf, exOf, coOf, paOf, acOf, muOf, inOf, jiOf, armedItems, arOf, answerOf, entryReply, entryFound}
 use Rattle.replies.proofs.Arms.{armed-length}
 
--- ---- an entry that wrote n numbers
-pub wrote :
-    (f : Format) (l : List Float) (n k : ℕ) (out out′ : List ℕ) → length l ≡ n → k ≡ n * width f → out′ ≡ sets out 0 (numbersBytes f l) →
-    (gave.Wrote k ≡ gaveOf f (gives l)) × (out′ ≡ sets out 0 (gaveBytes f (gives l)))
-unfolding gaveOf gaveBytes
-wrote f l n k out out′ h e q = rw (items-numbers f l, numbers-length f l, h, ← e) (refl, q)
-
--- and one that wrote items of k bytes
+-- ---- an entry that wrote items of k bytes, and told whether they are finite
 pub wrote-items :
-    (f : Format) (l : List Item) (k : ℕ) (out out′ : List ℕ) → length (itemsBytes f l) ≡ k → out′ ≡ sets out 0 (itemsBytes f l) →
-    (gave.Wrote k ≡ gaveOf f (answers l)) × (out′ ≡ sets out 0 (gaveBytes f (answers l)))
+    (f : Format) (l : List Item) (k : ℕ) (b : Bool) (g : Gave) (out out′ : List ℕ) → length (itemsBytes f l) ≡ k → g ≡ gaveAs b k →
+    (b ≡ allFinite l) × (out′ ≡ sets out 0 (itemsBytes f l)) → (g ≡ gaveOf f (answers l)) × (out′ ≡ sets out 0 (gaveBytes f (answers l)))
 unfolding gaveOf gaveBytes
-wrote-items f l k out out′ h q = rw h (refl, q)
+wrote-items f l k b g out out′ h t q = rw (h, ← (q .0)) (t, q .1)
+
+-- and one that wrote n numbers
+pub wrote :
+    (f : Format) (l : List Float) (n k : ℕ) (b : Bool) (g : Gave) (out out′ : List ℕ) → length l ≡ n → k ≡ n * width f → g ≡ gaveAs b k →
+    (b ≡ allFinite (numbers l)) × (out′ ≡ sets out 0 (numbersBytes f l)) → (g ≡ gaveOf f (gives l)) × (out′ ≡ sets out 0 (gaveBytes f (gives l)))
+unfolding gaveOf gaveBytes
+wrote f l n k b g out out′ h e t q = rw (items-numbers f l, numbers-length f l, h, ← e, ← (q .0)) (t, q .1)
 
 -- ---- no record is longer than PA's, in doubles
 pub width-most : (f : Format) (e : Entry) → widthOf f e ≤ 8 * numbersOf Pa
@@ -116,17 +117,27 @@ unfolding noBytes
 refused-stored n l = refl
 
 -- ---- what an entry gave is what the reply holds
+gave-same : (p q : Bool) (m n : ℕ) → gaveAs p m ≡ gaveAs q n → (q ≡ p) × (n ≡ m)
+gave-same true true m n e = (refl, cc)
+gave-same false false m n e = (refl, cc)
+gave-same true false m n e = never (cc)
+gave-same false true m n e = never (cc)
+
+gave-apart : {A : Type 0} (p : Bool) (n k : ℕ) → gaveAs p n ≡ gave.Refused k → A
+gave-apart true n k e = never (cc)
+gave-apart false n k e = never (cc)
+
 gave-wrote :
-    (f : Format) (a b n : ℕ) (x : Answer (List Item)) → gave.Wrote n ≡ gaveOf f x →
-    (replyOf f a b x ≡ record { ok = true; bytes = markBytes a b ++ gaveBytes f x }) × (length (gaveBytes f x) ≡ n)
+    (f : Format) (a b n : ℕ) (p : Bool) (x : Answer (List Item)) → gaveAs p n ≡ gaveOf f x →
+    (replyOf f a b x ≡ record { kind = kindOf p; bytes = markBytes a b ++ gaveBytes f x }) × (length (gaveBytes f x) ≡ n)
 unfolding replyOf gaveOf gaveBytes
-gave-wrote f a b n (answers l) q = (refl, cc)
-gave-wrote f a b n (refuses k) q = never (cc)
+gave-wrote f a b n p (answers l) q = let s = gave-same p (allFinite l) n _ q in (rw (s .0), s .1)
+gave-wrote f a b n p (refuses k) q = gave-apart p n k q
 
 gave-refused :
-    (f : Format) (a b k : ℕ) (x : Answer (List Item)) → gave.Refused k ≡ gaveOf f x → (replyOf f a b x ≡ record { ok = false; bytes = noBytes k }) × (gaveBytes f x ≡ [])
+    (f : Format) (a b k : ℕ) (x : Answer (List Item)) → gave.Refused k ≡ gaveOf f x → (replyOf f a b x ≡ record { kind = kind.Refused; bytes = noBytes k }) × (gaveBytes f x ≡ [])
 unfolding replyOf gaveOf gaveBytes
-gave-refused f a b k (answers l) q = never (cc)
+gave-refused f a b k (answers l) q = gave-apart (allFinite l) _ k (sym q)
 gave-refused f a b k (refuses j) q = let e : j ≡ k = cc in (rw e, refl)
 
 -- the code has lent the entry e the record's bytes behind its mark and the output behind the mark's place: g is its answer, and R what that part of the output holds then
@@ -155,36 +166,37 @@ module _ {f : Format} {e : Entry} {s out : List ℕ} {g : Gave} {R : List ℕ} (
       let t : length (take 2 out) ≡ 2 = length-take-le 2 out (omega arith) in
       simp (length-append, length-drop) (omega arith)
 
-  whole-reply : (n : ℕ) → g ≡ gave.Wrote n → entryReply f e (take (2 + widthOf f e) s) ≡ record { ok = true; bytes = markBytes (getD s 0 0) (getD s 1 0) ++ gaveBytes f asked }
-  whole-reply n q = own ∙ gave-wrote f (getD s 0 0) (getD s 1 0) n asked (sym q ∙ k .told) .0
+  whole-reply : (p : Bool) (n : ℕ) → g ≡ gaveAs p n → entryReply f e (take (2 + widthOf f e) s) ≡ record { kind = kindOf p; bytes = markBytes (getD s 0 0) (getD s 1 0) ++ gaveBytes f asked }
+  whole-reply p n q = own ∙ gave-wrote f (getD s 0 0) (getD s 1 0) n p asked (sym q ∙ k .told) .0
 
-  body-length : (n : ℕ) → g ≡ gave.Wrote n → length (gaveBytes f asked) ≡ n
-  body-length n q = gave-wrote f (getD s 0 0) (getD s 1 0) n asked (sym q ∙ k .told) .1
+  body-length : (p : Bool) (n : ℕ) → g ≡ gaveAs p n → length (gaveBytes f asked) ≡ n
+  body-length p n q = gave-wrote f (getD s 0 0) (getD s 1 0) n p asked (sym q ∙ k .told) .1
 
-  reply-length : (n : ℕ) → g ≡ gave.Wrote n → length (markBytes (getD s 0 0) (getD s 1 0) ++ gaveBytes f asked) ≡ 2 + n
-  reply-length n q = length-append (markBytes (getD s 0 0) (getD s 1 0)) (gaveBytes f asked) ∙ rw (mark-length (getD s 0 0) (getD s 1 0), body-length n q)
+  reply-length : (p : Bool) (n : ℕ) → g ≡ gaveAs p n → length (markBytes (getD s 0 0) (getD s 1 0) ++ gaveBytes f asked) ≡ 2 + n
+  reply-length p n q = length-append (markBytes (getD s 0 0) (getD s 1 0)) (gaveBytes f asked) ∙ rw (mark-length (getD s 0 0) (getD s 1 0), body-length p n q)
 
-  pub given-most : (n : ℕ) → g ≡ gave.Wrote n → 2 + n ≤ longest
-  given-most n q = rw (whole-reply n q, reply-length n q) at (entry-most f e (take (2 + widthOf f e) s))
+  pub given-most : (p : Bool) (n : ℕ) → g ≡ gaveAs p n → 2 + n ≤ longest
+  given-most p n q = rw (whole-reply p n q, reply-length p n q) at (entry-most f e (take (2 + widthOf f e) s))
 
+  -- finite or not
   pub given-wrote :
-      (n : ℕ) → g ≡ gave.Wrote n →
-      (stepTold (step.Took true (2 + widthOf f e) (2 + n)) ≡ becameOf (entryFound f e s) (length out))
+      (p : Bool) (n : ℕ) → g ≡ gaveAs p n →
+      (stepTold (step.Took (kindOf p) (2 + widthOf f e) (2 + n)) ≡ becameOf (entryFound f e s) (length out))
       × (set (set (take 2 out ++ (R ++ drop (length out - 2) (drop 2 out))) 0 (getD s 0 0)) 1 (getD s 1 0) ≡ sets out 0 (writtenOf (entryFound f e s) (length out)))
-  given-wrote n q =
+  given-wrote p n q =
       let bytes = markBytes (getD s 0 0) (getD s 1 0) ++ gaveBytes f asked in
-      let t = reply-whole (length out) (2 + widthOf f e) (entryReply f e) s true bytes (k .whole) (k .room) (whole-reply n q) in
+      let t = reply-whole (length out) (2 + widthOf f e) (entryReply f e) s (kindOf p) bytes (k .whole) (k .room) (whole-reply p n q) in
       let room : longest ≤ length out = k .room in
-      let body : length (gaveBytes f asked) ≤ length out - 2 = rw (body-length n q) (omega (arith, given-most n q)) in
-      rw (behind body, ← (reply-length n q)) (t .0, marked out (gaveBytes f asked) (getD s 0 0) (getD s 1 0) (omega arith) ∙ ap (sets out 0) (t .1))
+      let body : length (gaveBytes f asked) ≤ length out - 2 = rw (body-length p n q) (omega (arith, given-most p n q)) in
+      rw (behind body, ← (reply-length p n q)) (t .0, marked out (gaveBytes f asked) (getD s 0 0) (getD s 1 0) (omega arith) ∙ ap (sets out 0) (t .1))
 
   pub given-refused :
       (n : ℕ) → g ≡ gave.Refused n →
-      (stepTold (step.Took false (2 + widthOf f e) 3) ≡ becameOf (entryFound f e s) (length out))
+      (stepTold (step.Took kind.Refused (2 + widthOf f e) 3) ≡ becameOf (entryFound f e s) (length out))
       × (set (set (set (take 2 out ++ (R ++ drop (length out - 2) (drop 2 out))) 0 0x4e) 1 0x4f) 2 n ≡ sets out 0 (writtenOf (entryFound f e s) (length out)))
   given-refused n q =
       let p = gave-refused f (getD s 0 0) (getD s 1 0) n asked (sym q ∙ k .told) in
-      let t = reply-whole (length out) (2 + widthOf f e) (entryReply f e) s false (noBytes n) (k .whole) (k .room) (own ∙ p .0) in
+      let t = reply-whole (length out) (2 + widthOf f e) (entryReply f e) s kind.Refused (noBytes n) (k .whole) (k .room) (own ∙ p .0) in
       let room : longest ≤ length out = k .room in
       let none : length (gaveBytes f asked) ≤ length out - 2 = rw (p .1) (omega arith) in
       rw (behind none, p .1) (rw (no-length n) at (t .0), refused-stored n out ∙ ap (sets out 0) (t .1))

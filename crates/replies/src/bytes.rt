@@ -1,10 +1,12 @@
 // The i-th number of a list of bytes: the one place where a number's bytes stand one by one. And the
 // whole number of one byte.
 ghost use mathlib.Core.Path.{_≡_};
+ghost use mathlib.Core.Bool.{true};
 ghost use Prim.Native.Nat.{_+_, _*_, _≤_};
 ghost use lib.Ieee.{binary64};
 ghost use lib.ListN.{length};
 ghost use lib.Seq.{sets};
+ghost use Rattle.ieee.specs.Finite.{isFinite};
 ghost use Rattle.wire.specs.Wire.{word, width, numberAt, numberBytes, itemBytes};
 
 pub(crate) fn number_at(b: &[u8], i: usize) -> f64
@@ -45,4 +47,22 @@ pub(crate) fn put_word(out: &mut [u8], at: usize, n: u8)
     ensures { λ _. ⌜ now (out .exit) ≡ sets (now (out .entry)) at (itemBytes binary64 (word 1 n)) ⌝ }
 {
     out[at] = n;
+}
+
+// Of a finite number the bits are taken as they are.
+pub(crate) fn put_finite(out: &mut [u8], i: usize, x: f64)
+    requires { ⌜ (i + 1) * 8 ≤ length (now out) ⌝ }
+    requires { ⌜ isFinite x ≡ true ⌝ }
+    ensures { λ _. ⌜ now (out .exit) ≡ sets (now (out .entry)) (i * width binary64) (numberBytes binary64 x) ⌝ }
+{
+    let at = i * 8;
+    let d = wire::word_to_le_bytes(f64::to_bits(x));
+    out[at] = d[0];
+    out[at + 1] = d[1];
+    out[at + 2] = d[2];
+    out[at + 3] = d[3];
+    out[at + 4] = d[4];
+    out[at + 5] = d[5];
+    out[at + 6] = d[6];
+    out[at + 7] = d[7];
 }

@@ -5,20 +5,20 @@ ghost use Prim.Native.Nat.{_+_, _≤_};
 ghost use lib.Ieee.{binary64};
 ghost use lib.ListN.{length};
 ghost use lib.Seq.{sets};
-ghost use Rattle.outcome.specs.Outcome.{longest, gaveOf, gaveBytes};
+ghost use Rattle.outcome.specs.Outcome.{longest, gaveAs, gaveOf, gaveBytes};
 ghost use Rattle.outcome.specs.declared.Entry.{Entry};
 ghost use Rattle.replies.specs.Table.{widthOf, exOf, coOf, paOf, acOf, muOf, inOf, jiOf, arOf};
 use crate::NUMBER;
+use crate::answers::answer_armed_pair;
+use crate::answers::answer_block;
+use crate::answers::answer_block_pair;
+use crate::answers::answer_pose;
+use crate::answers::answer_scaled_pair;
+use crate::answers::answer_vec;
 use crate::bytes::number_at;
 use crate::places::block_at;
 use crate::places::mat_at;
 use crate::places::pose_at;
-use crate::places::put_armed_pair;
-use crate::places::put_block;
-use crate::places::put_block_pair;
-use crate::places::put_pose;
-use crate::places::put_scaled_pair;
-use crate::places::put_vec;
 use crate::places::tangent_at;
 use crate::places::values_at;
 use crate::places::vec_at;
@@ -34,6 +34,17 @@ use outcome::Gave;
 use sides::pair::block_pair;
 use sim3::sim3::Sim3;
 
+// What is told of an answer of n bytes, by whether it is finite.
+fn gave(finite: bool, n: usize) -> Gave
+    ensures { λ r. ⌜ r ≡ gaveAs finite n ⌝ }
+{
+    if finite {
+        Gave::Wrote(n)
+    } else {
+        Gave::Unusable(n)
+    }
+}
+
 // The exponential of a tangent.
 pub(crate) fn ex(b: &[u8], out: &mut [u8]) -> Gave
     requires { ⌜ length (now b) ≡ widthOf binary64 Entry.Ex ⌝ }
@@ -41,8 +52,8 @@ pub(crate) fn ex(b: &[u8], out: &mut [u8]) -> Gave
     ensures { λ r. ⌜ r ≡ gaveOf binary64 (exOf binary64 (now (b .entry))) ⌝ }
     ensures { λ _. ⌜ now (out .exit) ≡ sets (now (out .entry)) 0 (gaveBytes binary64 (exOf binary64 (now (b .entry)))) ⌝ }
 {
-    put_pose(out, 0, Sim3::exp(tangent_at(b, 0), values_at(b, 7)));
-    Gave::Wrote(NUMBER * POSE)
+    let finite = answer_pose(out, 0, Sim3::exp(tangent_at(b, 0), values_at(b, 7)));
+    gave(finite, NUMBER * POSE)
 }
 
 // The scaled pair of coefficients; refusal 1 for z < 0.
@@ -54,8 +65,8 @@ pub(crate) fn co(b: &[u8], out: &mut [u8]) -> Gave
 {
     match coeffs::sim3::sim3_coeffs_scaled_pair(number_at(b, 0), number_at(b, 1), values_at(b, 2)) {
         PairAnswer::Coeffs(p) => {
-            put_scaled_pair(out, 0, p);
-            Gave::Wrote(NUMBER * SCALED_PAIR)
+            let finite = answer_scaled_pair(out, 0, p);
+            gave(finite, NUMBER * SCALED_PAIR)
         }
         PairAnswer::Refused(number) => Gave::Refused(number),
     }
@@ -70,8 +81,8 @@ pub(crate) fn pa(b: &[u8], out: &mut [u8]) -> Gave
 {
     let tau = tangent_at(b, 0);
     let v = values_at(b, 7);
-    put_block_pair(out, 0, block_pair(tau, v, mat_at(b, 17), mat_at(b, 26)));
-    Gave::Wrote(NUMBER * BLOCK_PAIR)
+    let finite = answer_block_pair(out, 0, block_pair(tau, v, mat_at(b, 17), mat_at(b, 26)));
+    gave(finite, NUMBER * BLOCK_PAIR)
 }
 
 // A pose's action on a point.
@@ -81,8 +92,8 @@ pub(crate) fn ac(b: &[u8], out: &mut [u8]) -> Gave
     ensures { λ r. ⌜ r ≡ gaveOf binary64 (acOf binary64 (now (b .entry))) ⌝ }
     ensures { λ _. ⌜ now (out .exit) ≡ sets (now (out .entry)) 0 (gaveBytes binary64 (acOf binary64 (now (b .entry)))) ⌝ }
 {
-    put_vec(out, 0, pose_at(b, 0).act(number_at(b, 8), vec_at(b, 9)));
-    Gave::Wrote(NUMBER * VEC)
+    let finite = answer_vec(out, 0, pose_at(b, 0).act(number_at(b, 8), vec_at(b, 9)));
+    gave(finite, NUMBER * VEC)
 }
 
 // The product of two poses.
@@ -92,8 +103,8 @@ pub(crate) fn mu(b: &[u8], out: &mut [u8]) -> Gave
     ensures { λ r. ⌜ r ≡ gaveOf binary64 (muOf binary64 (now (b .entry))) ⌝ }
     ensures { λ _. ⌜ now (out .exit) ≡ sets (now (out .entry)) 0 (gaveBytes binary64 (muOf binary64 (now (b .entry)))) ⌝ }
 {
-    put_pose(out, 0, pose_at(b, 0).mul(pose_at(b, 8), number_at(b, 16)));
-    Gave::Wrote(NUMBER * POSE)
+    let finite = answer_pose(out, 0, pose_at(b, 0).mul(pose_at(b, 8), number_at(b, 16)));
+    gave(finite, NUMBER * POSE)
 }
 
 // The inverse of a pose.
@@ -103,8 +114,8 @@ pub(crate) fn inv(b: &[u8], out: &mut [u8]) -> Gave
     ensures { λ r. ⌜ r ≡ gaveOf binary64 (inOf binary64 (now (b .entry))) ⌝ }
     ensures { λ _. ⌜ now (out .exit) ≡ sets (now (out .entry)) 0 (gaveBytes binary64 (inOf binary64 (now (b .entry)))) ⌝ }
 {
-    put_pose(out, 0, pose_at(b, 0).inverse(number_at(b, 8)));
-    Gave::Wrote(NUMBER * POSE)
+    let finite = answer_pose(out, 0, pose_at(b, 0).inverse(number_at(b, 8)));
+    gave(finite, NUMBER * POSE)
 }
 
 // The inverse of a block; refusal 2 where e is a zero.
@@ -116,8 +127,8 @@ pub(crate) fn ji(b: &[u8], out: &mut [u8]) -> Gave
 {
     match block_at(b, 0).inverse() {
         JacAnswer::Block(j) => {
-            put_block(out, 0, j);
-            Gave::Wrote(NUMBER * BLOCK)
+            let finite = answer_block(out, 0, j);
+            gave(finite, NUMBER * BLOCK)
         }
         JacAnswer::Refused(number) => Gave::Refused(number),
     }
@@ -132,8 +143,8 @@ pub(crate) fn ar(b: &[u8], out: &mut [u8]) -> Gave
 {
     match coeffs::sim3::sim3_coeffs_armed_pair(number_at(b, 0), number_at(b, 1), values_at(b, 2)) {
         ArmedPairAnswer::Coeffs(p) => {
-            put_armed_pair(out, p);
-            Gave::Wrote(4 + NUMBER * SCALED_PAIR)
+            let finite = answer_armed_pair(out, p);
+            gave(finite, 4 + NUMBER * SCALED_PAIR)
         }
         ArmedPairAnswer::Refused(number) => Gave::Refused(number),
     }

@@ -23,11 +23,14 @@ use layout::VALUES;
 use layout::VEC;
 use outcome::Entry;
 use outcome::Gave;
+use outcome::Kind;
 use outcome::LONGEST;
 use outcome::Step;
 
+mod answers; // answers, finite or not
 mod bytes; // the number at a place of a record or an answer
 mod entries; // what each entry answers
+mod finite; // answers that are finite
 mod places; // things of several numbers
 
 // How many bytes a number has.
@@ -86,13 +89,18 @@ pub fn reply(e: Entry, s: &[u8], out: &mut [u8]) -> Step
         Gave::Wrote(n) => {
             out[0] = s[0];
             out[1] = s[1];
-            Step::Took(true, end, 2 + n)
+            Step::Took(Kind::Answered, end, 2 + n)
+        }
+        Gave::Unusable(n) => {
+            out[0] = s[0];
+            out[1] = s[1];
+            Step::Took(Kind::Unusable, end, 2 + n)
         }
         Gave::Refused(number) => {
             out[0] = b'N';
             out[1] = b'O';
             out[2] = number;
-            Step::Took(false, end, 3)
+            Step::Took(Kind::Refused, end, 3)
         }
     }
 }

@@ -7,14 +7,13 @@ ghost use lib.ListN.{length};
 ghost use lib.Seq.{sets};
 ghost use Rattle.linalg.specs.Vector.{vecNumbers};
 ghost use Rattle.layout.specs.Layout.{vecIn, matIn, poseIn, tangentIn, valuesIn, blockIn};
-ghost use Rattle.layout.specs.Layout.{matNumbers, poseNumbers, blockNumbers, blockPairNumbers, scaledNumbers, scaledPairNumbers};
+ghost use Rattle.layout.specs.Layout.{matNumbers, poseNumbers, blockNumbers, scaledNumbers, scaledPairNumbers};
 ghost use Rattle.wire.specs.Wire.{width, numberAt, numbersBytes, itemsBytes};
-ghost use Rattle.replies.specs.Table.{armItems, armedItems};
+ghost use Rattle.replies.specs.Table.{armItems};
 use crate::bytes::number_at;
 use crate::bytes::put_number;
 use crate::bytes::put_word;
 use coeffs::sim3::Armed;
-use coeffs::sim3::ArmedPair;
 use coeffs::sim3::ScaledPair;
 use coeffs::values::Values;
 use jacobian::jac::Sim3Jac;
@@ -150,16 +149,6 @@ pub(crate) fn put_block(out: &mut [u8], i: usize, j: Sim3Jac)
     put_number(out, i + 30, j.e);
 }
 
-pub(crate) fn put_block_pair(out: &mut [u8], i: usize, p: BlockPair)
-    requires { ⌜ (i + 124) * 8 ≤ length (now out) ⌝ }
-    ensures { λ _. ⌜ now (out .exit) ≡ sets (now (out .entry)) (i * width binary64) (numbersBytes binary64 (blockPairNumbers p)) ⌝ }
-{
-    put_block(out, i, p.left);
-    put_block(out, i + 31, p.left_inv);
-    put_block(out, i + 62, p.right);
-    put_block(out, i + 93, p.right_inv);
-}
-
 // The nine coefficients, three at a time, and the flag as 1 or 0.
 fn put_scaled(out: &mut [u8], i: usize, c: Sim3Coeffs, scaled: bool)
     requires { ⌜ (i + 10) * 8 ≤ length (now out) ⌝ }
@@ -204,24 +193,10 @@ pub(crate) fn put_scaled_pair(out: &mut [u8], i: usize, p: ScaledPair)
 }
 
 // The arm, and 1 or 0 for whether v0 and w0 of the closed arm come from series of their own.
-fn put_arm(out: &mut [u8], at: usize, a: Armed)
+pub(crate) fn put_arm(out: &mut [u8], at: usize, a: Armed)
     requires { ⌜ at + 2 ≤ length (now out) ⌝ }
     ensures { λ _. ⌜ now (out .exit) ≡ sets (now (out .entry)) at (itemsBytes binary64 (armItems a)) ⌝ }
 {
     put_word(out, at, a.arm);
     put_word(out, at + 1, a.ends as u8);
-}
-
-// The arms of both signs before the coefficients.
-pub(crate) fn put_armed_pair(out: &mut [u8], p: ArmedPair)
-    requires { ⌜ 4 + 20 * 8 ≤ length (now out) ⌝ }
-    ensures { λ _. ⌜ now (out .exit) ≡ sets (now (out .entry)) 0 (itemsBytes binary64 (armedItems p)) ⌝ }
-{
-    let pos = p.pos;
-    let neg = p.neg;
-    put_arm(out, 0, pos);
-    put_arm(out, 2, neg);
-    let a = pos.s;
-    let b = neg.s;
-    put_scaled_pair(&mut out[4..], 0, ScaledPair { pos: a, neg: b });
 }

@@ -1,6 +1,7 @@
 -- How many bytes a value has, and that what is written reads back. Assumes nothing.
 use Prim.Native.Nat.{ℕ, zero, suc, _+_, _*_, _^_, _/_, _%_, _<_, _≤_}
 use mathlib.Core.Path.{_≡_, refl, sym, ap, _∙_}
+use mathlib.Core.Bool.{_&&_, and-assoc}
 use mathlib.Core.List.{List, [], _∷_, _++_, append-assoc}
 use native.Mathlib.Nat.{div-add-mod, div-div-eq-div-mul, pow-zero, pow-suc}
 use native.Mathlib.Omega.{arith}
@@ -9,7 +10,8 @@ use lib.Seq.{drop-cons, take-all}
 use lib.Dec.{T}
 use lib.Ieee.{Float, Format, nan, binary32, binary64, fits, toBits}
 use lib.Ieee.Bits.{ofBits-toBits, toBits-lt}
-use Rattle.wire.specs.Wire.{wordOf, wordBytes, width, numberOf, numberBytes, numbersBytes, Item, itemBytes, itemsBytes, numbers, countBytes}
+use Rattle.ieee.specs.Finite.{isFinite}
+use Rattle.wire.specs.Wire.{wordOf, wordBytes, width, numberOf, numberBytes, numbersBytes, Item, itemBytes, itemsBytes, allFinite, numbers, countBytes}
 
 -- ---- lengths
 pub word-length : (k n : ℕ) → length (wordBytes k n) ≡ k
@@ -49,6 +51,11 @@ pub items-numbers : (f : Format) (l : List Float) → itemsBytes f (numbers l) �
 unfolding itemBytes itemsBytes numbers numbersBytes
 items-numbers f [] = refl
 items-numbers f (x ∷ l) = ap (λ (b : List ℕ). numberBytes f x ++ b) (items-numbers f l)
+
+pub finite-append : (l m : List Float) → allFinite (numbers (l ++ m)) ≡ allFinite (numbers l) && allFinite (numbers m)
+unfolding allFinite numbers
+finite-append [] m = refl
+finite-append (x ∷ l) m = rw (finite-append l m) (sym (and-assoc (isFinite x) (allFinite (numbers l)) (allFinite (numbers m))))
 
 -- ---- the bytes of a list one by one, as code reads them
 abbrev pub bytesAt : List ℕ → ℕ → ℕ → List ℕ

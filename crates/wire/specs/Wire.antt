@@ -2,7 +2,9 @@
 use Prim.Native.Nat.{ℕ, zero, suc, _+_, _*_, _/_, _%_}
 use mathlib.Core.List.{List, [], _∷_, _++_}
 use lib.ListN.{take, drop}
+use mathlib.Core.Bool.{Bool, true, _&&_}
 use lib.Ieee.{Float, Format, binary32, binary64, ofBits, toBits}
+use Rattle.ieee.specs.Finite.{isFinite}
 
 -- the number that the bytes make
 unfoldable pub wordOf : List ℕ → ℕ
@@ -47,6 +49,15 @@ itemBytes f (word k n) = wordBytes k n
 unfoldable pub itemsBytes : Format → List Item → List ℕ
 itemsBytes f [] = []
 itemsBytes f (i ∷ l) = itemBytes f i ++ itemsBytes f l
+
+-- whether every number among them is finite; a whole number is
+abbrev pub itemFinite : Item → Bool
+itemFinite (number x) = isFinite x
+itemFinite (word k n) = true
+
+unfoldable pub allFinite : List Item → Bool
+allFinite [] = true
+allFinite (i ∷ l) = itemFinite i && allFinite l
 
 -- numbers alone
 unfoldable pub numbers : List Float → List Item

@@ -3,7 +3,7 @@
 ghost use mathlib.Core.Path.{_≡_};
 ghost use Prim.Native.Nat.{_<_};
 ghost use lib.Ieee.{binary64};
-ghost use Rattle.wire.specs.Wire.{numberOf, numberBytes, countBytes};
+ghost use Rattle.wire.specs.Wire.{wordBytes, numberOf, numberBytes, countBytes};
 
 fn wide(x: u8) -> u64
     ensures { λ r. ⌜ (r ≡ x) × (r < 256) ⌝ }
@@ -34,11 +34,10 @@ pub fn from_le_bytes(b: [u8; 8]) -> f64
     ieee::from_bits(n)
 }
 
-// The eight bytes of `x`, the least first; those of 7ff8000000000000 for every NaN.
-pub fn to_le_bytes(x: f64) -> [u8; 8]
-    ensures { λ r. ⌜ r ≡ numberBytes binary64 x ⌝ }
+// The eight bytes of `n`, the least first.
+pub fn word_to_le_bytes(n: u64) -> [u8; 8]
+    ensures { λ r. ⌜ r ≡ wordBytes 8 n ⌝ }
 {
-    let n = ieee::to_bits(x);
     [
         (n % 256) as u8,
         (n / 0x100 % 256) as u8,
@@ -49,6 +48,13 @@ pub fn to_le_bytes(x: f64) -> [u8; 8]
         (n / 0x1_0000_0000_0000 % 256) as u8,
         (n / 0x100_0000_0000_0000 % 256) as u8,
     ]
+}
+
+// The eight bytes of `x`, the least first; those of 7ff8000000000000 for every NaN.
+pub fn to_le_bytes(x: f64) -> [u8; 8]
+    ensures { λ r. ⌜ r ≡ numberBytes binary64 x ⌝ }
+{
+    word_to_le_bytes(ieee::to_bits(x))
 }
 
 // The four bytes of `n`, the least first.

@@ -3,6 +3,7 @@
 
 mod angles;
 mod ends;
+mod lone;
 mod numbers;
 mod poses;
 mod records;

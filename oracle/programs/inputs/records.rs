@@ -13,7 +13,7 @@ pub fn squared_angle([x, y, z]: [f64; 3]) -> f64 {
     (x * x + y * y) + z * z
 }
 
-fn put(out: &mut Vec<u8>, numbers: &[f64]) {
+pub(super) fn put(out: &mut Vec<u8>, numbers: &[f64]) {
     numbers.iter().for_each(|x| out.extend_from_slice(&x.to_bits().to_le_bytes()));
 }
 

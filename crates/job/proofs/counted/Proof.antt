@@ -1,4 +1,5 @@
--- `job::counted` meets its contract: by its two branches. Assumes nothing.
+-- Written by tools/proofs from Proof.template: edit that one. Digest 06484eb849d81999.
+-- `job::counted` meets its contract: by how the record counts. Assumes nothing.
 use borrow.Author.Needs.{needs}
 use Rattle.job.specs.Counts.{countsMore}
 use Rattle.job.proofs.counted.Statement.{statement}
@@ -6,11 +7,29 @@ use Rattle.job.proofs.counted.Tie as tie
 
 returns : tie.Need-returns
 unfolding countsMore
-returns c = simp (c .before .before .if1 .taken)
+returns c = rw (c .before .before .enum-told .given .1)
 
 returns-2 : tie.Need-returns-2
 unfolding countsMore
-returns-2 c = simp (c .before .before .if1 .left)
+returns-2 c = rw (c .before .before .enum-told2 .given .1)
+
+returns-3 : tie.Need-returns-3
+unfolding countsMore
+returns-3 c = rw (c .before .before .enum-told3 .given .1)
 
 pub counted-spec : {M : Type 1} → statement M
-counted-spec = tie.close (tie.spec (λ c. search needs) (λ c. search needs) (λ c. search needs) (λ c. search needs) returns returns-2)
+counted-spec =
+    tie.close
+    (tie.spec
+    (λ c. search needs)
+    (λ c. search needs)
+    (λ c. search needs)
+    (λ c. search needs)
+    (λ c. search needs)
+    (λ c. search needs)
+    (λ c. search needs)
+    (λ c. search needs)
+    (λ c. search needs)
+    returns
+    returns-2
+    returns-3)

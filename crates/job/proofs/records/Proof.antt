@@ -1,4 +1,4 @@
--- Written by tools/proofs from Proof.template: edit that one. Digest 22f32ab6bd0d2616.
+-- Written by tools/proofs from Proof.template: edit that one. Digest e0f412aba4b0b485.
 -- `job::records` meets its contract: each turn keeps the definition's value, and each way out is the definition's. Assumes nothing.
 use borrow.Author.Needs.{needs}
 use native.Mathlib.Omega.{arith}
@@ -71,7 +71,7 @@ counted-requires c κs =
 add-at : tie.Need-add-at Inv-loop μ-loop
 add-at c =
     let c1 = c .before .before .before .before .before in
-    let k = c .before .before .ok .given in
+    let k = c .before .before .kind .given in
     let next = round (turn (c1 .before)) (k .0 .0) (k .0 .1 .0) (k .0 .1 .1 .0) (k .1) in
     omega (arith, next .inside)
 
@@ -79,7 +79,7 @@ add-to : tie.Need-add-to Inv-loop μ-loop
 add-to c =
     let c1 = c .before .before .before .before .before in
     let c2 = c1 .before .before .before .before .before in
-    let k = c .before .before .ok .given in
+    let k = c .before .before .kind .given in
     let next = round (turn (c1 .before)) (k .0 .0) (k .0 .1 .0) (k .0 .1 .1 .0) (k .1) in
     omega (arith, next .room, next .kept, c2 .before .before .before .before .good)
 
@@ -89,22 +89,22 @@ loop-less c =
     let c2 = c1 .before .before .before .before .before in
     let L = c2 .before .loop in
     let few : L .c .begun ≤ jobLimit = L .inv .sound .few in
-    let e : c .counted .result .begun ≡ L .c .begun + 1 = ap (λ x. x .begun) (c .counted .ensures) ∙ counted-begun (c .before .before .ok .given .0 .0) (L .c) in
+    let e : c .counted .result .begun ≡ L .c .begun + 1 = ap (λ x. x .begun) (c .counted .ensures) ∙ counted-begun (c .before .before .kind .given .0 .0) (L .c) in
     omega (arith, c1 .before .before .before .before .if1 .left)
 
 loop-again : tie.Need-loop-again Inv-loop μ-loop
 loop-again c =
     let c1 = c .before .before .before .before .before in
-    let k = c .before .before .ok .given in
+    let k = c .before .before .kind .given in
     rw (c .counted .ensures) (round (turn (c1 .before)) (k .0 .0) (k .0 .1 .0) (k .0 .1 .1 .0) (k .1))
 
-counted-requires-2 : tie.Need-counted-requires-2 Inv-loop μ-loop
-counted-requires-2 c κs =
+refused-requires : tie.Need-refused-requires Inv-loop μ-loop
+refused-requires c κs =
     let c1 = c .before .before .before .before .before in
     c1 .before .before .before .before .loop .inv .sound
 
-counted-requires-3 : tie.Need-counted-requires-3 Inv-loop μ-loop
-counted-requires-3 c κs =
+refused-requires-2 : tie.Need-refused-requires-2 Inv-loop μ-loop
+refused-requires-2 c κs =
     let c1 = c .before .before .before .before .before in
     let c2 = c1 .before .before .before .before .before in
     c2 .loop .inv .sound
@@ -133,12 +133,12 @@ returns-4 c =
 returns-5 : tie.Need-returns-5 Inv-loop μ-loop
 returns-5 c =
     let c1 = c .before .before .before .before .before in
-    left-unknown (turn (c1 .before)) (c .before .before .enum-told3 .given .1) (c .stop4 .result) (rw (c .before .counted2 .ensures) at (c .stop4 .ensures))
+    left-unknown (turn (c1 .before)) (c .before .before .enum-told3 .given .1) (c .stop4 .result) (rw (c .before .refused .ensures) at (c .stop4 .ensures))
 
 returns-6 : tie.Need-returns-6 Inv-loop μ-loop
 returns-6 c =
     let c1 = c .before .before .before .before .before in
-    left-cut (turn (c1 .before .before)) (c .before .before .before .enum-told4 .given .1) (c .before .before .if3 .taken) (c .stop5 .result) (rw (c .before .counted3 .ensures) at (c .stop5 .ensures))
+    left-cut (turn (c1 .before .before)) (c .before .before .before .enum-told4 .given .1) (c .before .before .if3 .taken) (c .stop5 .result) (rw (c .before .refused2 .ensures) at (c .stop5 .ensures))
 
 returns-7 : tie.Need-returns-7 Inv-loop μ-loop
 returns-7 c =
@@ -205,11 +205,11 @@ records-spec =
     sub-stop-3
     (λ c κs. search needs)
     (λ c. search needs)
-    counted-requires-2
+    refused-requires
     sub-stop-4
     (λ c κs. search needs)
     (λ c. search needs)
-    counted-requires-3
+    refused-requires-2
     sub-stop-5
     (λ c κs. search needs)
     sub-stop-6

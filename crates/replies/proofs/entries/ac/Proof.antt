@@ -1,4 +1,4 @@
--- Written by tools/proofs from Proof.template: edit that one. Digest 24a71df88b25e6a9.
+-- Written by tools/proofs from Proof.template: edit that one. Digest c3cea3133084250e.
 -- `replies::entries::ac` meets its contract: the engine is asked at the numbers read, and its answer written. Assumes nothing.
 use borrow.Author.Needs.{needs}
 use lib.Ieee.{binary64}
@@ -14,13 +14,13 @@ unfolding acOf
 returns c =
     let c1 = c .before .before .before .before .before in
     let c2 = c1 .before .before .before .before .before in
-    wrote binary64 _ _ _ (c2 .args .out .now) _ (vec-count _) refl
+    wrote binary64 _ _ _ _ _ (c2 .before .args .out .now) _ (vec-count _) refl (c .gave .ensures)
     (rw (
-      c .before .before .before .act .ensures,
-      c1 .before .pose-at .ensures,
-      c1 .number-at .ensures,
-      c .before .before .before .before .vec-at .ensures,
-    ) at (c .before .before .put-vec .ensures))
+      c .before .before .before .before .act .ensures,
+      c1 .before .before .pose-at .ensures,
+      c1 .before .number-at .ensures,
+      c1 .vec-at .ensures,
+    ) at (c .before .before .before .answer-vec .ensures))
 
 pub ac-spec : {M : Type 1} → statement M
 ac-spec =
@@ -32,5 +32,6 @@ ac-spec =
     (λ c κs. search needs)
     (λ c κs. search needs)
     (λ c. search needs)
+    (λ c κs. search needs)
     (λ c. search needs)
     returns)

@@ -1,4 +1,4 @@
--- Written by tools/proofs from Proof.template: edit that one. Digest 216e213b77a53606.
+-- Written by tools/proofs from Proof.template: edit that one. Digest b261356a15105860.
 -- `replies::entries::co` meets its contract: the engine is asked at the numbers read, and its answer is written or its refusal told. Assumes nothing.
 use borrow.Author.Needs.{needs}
 use lib.Ieee.{binary64}
@@ -17,13 +17,13 @@ returns c =
     let c1 = c .before .before .before .before .before in
     let c2 = c1 .before .before .before .before .before in
     rw (
-      ← (c2 .number-at .ensures),
-      ← (c1 .before .before .before .before .number-at2 .ensures),
-      ← (c1 .before .before .before .values-at .ensures),
-      ← (c1 .before .before .sim3-coeffs-scaled-pair .ensures),
-      c1 .p .given .1,
+      ← (c2 .before .number-at .ensures),
+      ← (c2 .number-at2 .ensures),
+      ← (c1 .before .before .before .before .values-at .ensures),
+      ← (c1 .before .before .before .sim3-coeffs-scaled-pair .ensures),
+      c1 .before .p .given .1,
     )
-    (wrote binary64 _ _ _ (c2 .before .before .before .args .out .now) _ (scaled-pair-count _) refl (c .before .before .put-scaled-pair .ensures))
+    (wrote binary64 _ _ _ _ _ (c2 .before .before .before .before .args .out .now) _ (scaled-pair-count _) refl (c .gave .ensures) (c .before .before .before .answer-scaled-pair .ensures))
 
 returns-2 : tie.Need-returns-2
 unfolding coOf pairTold gaveOf gaveBytes
@@ -49,6 +49,7 @@ co-spec =
     (λ c. search needs)
     (λ c κs. search needs)
     (λ c. search needs)
+    (λ c κs. search needs)
     (λ c. search needs)
     (λ c. search needs)
     returns

@@ -1,4 +1,4 @@
--- Written by tools/proofs from Proof.template: edit that one. Digest e3c1b5384312d4c2.
+-- Written by tools/proofs from Proof.template: edit that one. Digest 5695474902437d35.
 -- `replies::entries::ex` meets its contract: the engine is asked at the numbers read, and its answer written. Assumes nothing.
 use borrow.Author.Needs.{needs}
 use lib.Ieee.{binary64}
@@ -13,12 +13,13 @@ returns : tie.Need-returns
 unfolding exOf
 returns c =
     let c1 = c .before .before .before .before .before in
-    wrote binary64 _ _ _ (c1 .before .before .before .before .args .out .now) _ (pose-count _) refl
+    let c2 = c1 .before .before .before .before .before in
+    wrote binary64 _ _ _ _ _ (c2 .args .out .now) _ (pose-count _) refl (c .gave .ensures)
     (rw (
-      c .before .before .before .exp .ensures,
-      c1 .tangent-at .ensures,
-      c .before .before .before .before .values-at .ensures,
-    ) at (c .before .before .put-pose .ensures))
+      c .before .before .before .before .exp .ensures,
+      c1 .before .tangent-at .ensures,
+      c1 .values-at .ensures,
+    ) at (c .before .before .before .answer-pose .ensures))
 
 pub ex-spec : {M : Type 1} → statement M
 ex-spec =
@@ -29,5 +30,6 @@ ex-spec =
     (λ c κs. search needs)
     (λ c κs. search needs)
     (λ c. search needs)
+    (λ c κs. search needs)
     (λ c. search needs)
     returns)

@@ -1,4 +1,4 @@
--- Written by tools/proofs from Proof.template: edit that one. Digest 6e8d638c18157a8b.
+-- Written by tools/proofs from Proof.template: edit that one. Digest 79617b03f6fd673c.
 -- `replies::entries::inv` meets its contract: the engine is asked at the numbers read, and its answer written. Assumes nothing.
 use borrow.Author.Needs.{needs}
 use lib.Ieee.{binary64}
@@ -13,12 +13,13 @@ returns : tie.Need-returns
 unfolding inOf
 returns c =
     let c1 = c .before .before .before .before .before in
-    wrote binary64 _ _ _ (c1 .before .before .before .before .args .out .now) _ (pose-count _) refl
+    let c2 = c1 .before .before .before .before .before in
+    wrote binary64 _ _ _ _ _ (c2 .args .out .now) _ (pose-count _) refl (c .gave .ensures)
     (rw (
-      c .before .before .before .inverse .ensures,
-      c1 .pose-at .ensures,
-      c .before .before .before .before .number-at .ensures,
-    ) at (c .before .before .put-pose .ensures))
+      c .before .before .before .before .inverse .ensures,
+      c1 .before .pose-at .ensures,
+      c1 .number-at .ensures,
+    ) at (c .before .before .before .answer-pose .ensures))
 
 pub inv-spec : {M : Type 1} → statement M
 inv-spec =
@@ -29,5 +30,6 @@ inv-spec =
     (λ c κs. search needs)
     (λ c κs. search needs)
     (λ c. search needs)
+    (λ c κs. search needs)
     (λ c. search needs)
     returns)

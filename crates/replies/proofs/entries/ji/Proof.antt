@@ -1,4 +1,4 @@
--- Written by tools/proofs from Proof.template: edit that one. Digest 48a24dd2c114762f.
+-- Written by tools/proofs from Proof.template: edit that one. Digest 2062bc2d08b4d354.
 -- `replies::entries::ji` meets its contract: the engine is asked at the numbers read, and its answer is written or its refusal told. Assumes nothing.
 use borrow.Author.Needs.{needs}
 use lib.Ieee.{binary64}
@@ -17,11 +17,11 @@ returns c =
     let c1 = c .before .before .before .before .before in
     let c2 = c1 .before .before .before .before .before in
     rw (
-      ← (c1 .before .before .before .block-at .ensures),
-      ← (c1 .before .before .inverse .ensures),
-      c1 .j .given .1,
+      ← (c1 .before .before .before .before .block-at .ensures),
+      ← (c1 .before .before .before .inverse .ensures),
+      c1 .before .j .given .1,
     )
-    (wrote binary64 _ _ _ (c2 .before .args .out .now) _ (block-count _) refl (c .before .before .put-block .ensures))
+    (wrote binary64 _ _ _ _ _ (c2 .before .before .args .out .now) _ (block-count _) refl (c .gave .ensures) (c .before .before .before .answer-block .ensures))
 
 returns-2 : tie.Need-returns-2
 unfolding jiOf jacTold gaveOf gaveBytes
@@ -42,6 +42,7 @@ ji-spec =
     (λ c. search needs)
     (λ c κs. search needs)
     (λ c. search needs)
+    (λ c κs. search needs)
     (λ c. search needs)
     (λ c. search needs)
     returns

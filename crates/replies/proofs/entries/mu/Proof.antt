@@ -1,4 +1,4 @@
--- Written by tools/proofs from Proof.template: edit that one. Digest 39c5838484cf8451.
+-- Written by tools/proofs from Proof.template: edit that one. Digest 2887e6a312145fd3.
 -- `replies::entries::mu` meets its contract: the engine is asked at the numbers read, and its answer written. Assumes nothing.
 use borrow.Author.Needs.{needs}
 use lib.Ieee.{binary64}
@@ -14,13 +14,13 @@ unfolding muOf
 returns c =
     let c1 = c .before .before .before .before .before in
     let c2 = c1 .before .before .before .before .before in
-    wrote binary64 _ _ _ (c2 .args .out .now) _ (pose-count _) refl
+    wrote binary64 _ _ _ _ _ (c2 .before .args .out .now) _ (pose-count _) refl (c .gave .ensures)
     (rw (
-      c .before .before .before .mul .ensures,
-      c1 .before .pose-at .ensures,
-      c1 .pose-at2 .ensures,
-      c .before .before .before .before .number-at .ensures,
-    ) at (c .before .before .put-pose .ensures))
+      c .before .before .before .before .mul .ensures,
+      c1 .before .before .pose-at .ensures,
+      c1 .before .pose-at2 .ensures,
+      c1 .number-at .ensures,
+    ) at (c .before .before .before .answer-pose .ensures))
 
 pub mu-spec : {M : Type 1} → statement M
 mu-spec =
@@ -32,5 +32,6 @@ mu-spec =
     (λ c κs. search needs)
     (λ c κs. search needs)
     (λ c. search needs)
+    (λ c κs. search needs)
     (λ c. search needs)
     returns)

@@ -1,4 +1,4 @@
--- Written by tools/proofs from Proof.template: edit that one. Digest 0a3a53e206f4b014.
+-- Written by tools/proofs from Proof.template: edit that one. Digest 0629c1e2ee9b30c4.
 -- `replies::entries::pa` meets its contract: the engine is asked at the numbers read, and its answer written. Assumes nothing.
 use borrow.Author.Needs.{needs}
 use native.Mathlib.Omega.{arith}
@@ -10,8 +10,8 @@ use Rattle.replies.proofs.Replies.{wrote}
 use Rattle.replies.proofs.entries.pa.Statement.{statement}
 use Rattle.replies.proofs.entries.pa.Tie as tie
 
-put-block-pair-requires : tie.Need-put-block-pair-requires
-put-block-pair-requires c κs =
+answer-block-pair-requires : tie.Need-answer-block-pair-requires
+answer-block-pair-requires c κs =
     let c1 = c .before .before .before .before .before in
     omega (arith, c1 .before .before .before .pre)
 
@@ -20,14 +20,14 @@ unfolding paOf
 returns c =
     let c1 = c .before .before .before .before .before in
     let c2 = c1 .before .before .before .before .before in
-    wrote binary64 _ _ _ (c2 .before .args .out .now) _ (block-pair-count _) refl
+    wrote binary64 _ _ _ _ _ (c2 .before .before .args .out .now) _ (block-pair-count _) refl (c .gave .ensures)
     (rw (
-      c .before .before .before .block-pair .ensures,
-      c1 .before .before .before .tangent-at .ensures,
-      c1 .before .before .values-at .ensures,
-      c1 .mat-at .ensures,
-      c .before .before .before .before .mat-at2 .ensures,
-    ) at (c .before .before .put-block-pair .ensures))
+      c .before .before .before .before .block-pair .ensures,
+      c1 .before .before .before .before .tangent-at .ensures,
+      c1 .before .before .before .values-at .ensures,
+      c1 .before .mat-at .ensures,
+      c1 .mat-at2 .ensures,
+    ) at (c .before .before .before .answer-block-pair .ensures))
 
 pub pa-spec : {M : Type 1} → statement M
 pa-spec =
@@ -38,7 +38,8 @@ pa-spec =
     (λ c κs. search needs)
     (λ c κs. search needs)
     (λ c κs. search needs)
-    put-block-pair-requires
+    answer-block-pair-requires
     (λ c. search needs)
+    (λ c κs. search needs)
     (λ c. search needs)
     returns)

@@ -8,25 +8,35 @@ use crate::{coefficients, Jac, LieGroup, Sim3, Sim3Tangent, Tangent};
 use helicoid_linalg::handed::{finish, H};
 use helicoid_linalg::{Mat3, Point};
 
-/// A mark: its letters, the bytes of its numbers in and out, and its answer.
+/// A mark: its letters, the bytes of its numbers in, the bytes that its answer has before its
+/// numbers, the bytes of these, and its answer.
 pub struct Mark {
     pub letters: [u8; 2],
     pub bytes_in: usize,
+    pub bytes_before: usize,
     pub bytes_out: usize,
     pub answer: fn(Reader<'_>, Writer<'_>) -> Result<(), u8>,
 }
 
 /// The paper's job table, and the requested marks behind it.
 pub const MARKS: [Mark; 8] = [
-    Mark { letters: *b"EX", bytes_in: 136, bytes_out: 64, answer: ex },
-    Mark { letters: *b"CO", bytes_in: 96, bytes_out: 160, answer: co },
-    Mark { letters: *b"PA", bytes_in: 280, bytes_out: 992, answer: pa },
-    Mark { letters: *b"AC", bytes_in: 96, bytes_out: 24, answer: ac },
-    Mark { letters: *b"MU", bytes_in: 136, bytes_out: 64, answer: mu },
-    Mark { letters: *b"IN", bytes_in: 72, bytes_out: 64, answer: inverse },
-    Mark { letters: *b"JI", bytes_in: 248, bytes_out: 248, answer: ji },
-    Mark { letters: *b"AR", bytes_in: 96, bytes_out: 164, answer: ar },
+    Mark { letters: *b"EX", bytes_in: 136, bytes_before: 0, bytes_out: 64, answer: ex },
+    Mark { letters: *b"CO", bytes_in: 96, bytes_before: 0, bytes_out: 160, answer: co },
+    Mark { letters: *b"PA", bytes_in: 280, bytes_before: 0, bytes_out: 992, answer: pa },
+    Mark { letters: *b"AC", bytes_in: 96, bytes_before: 0, bytes_out: 24, answer: ac },
+    Mark { letters: *b"MU", bytes_in: 136, bytes_before: 0, bytes_out: 64, answer: mu },
+    Mark { letters: *b"IN", bytes_in: 72, bytes_before: 0, bytes_out: 64, answer: inverse },
+    Mark { letters: *b"JI", bytes_in: 248, bytes_before: 0, bytes_out: 248, answer: ji },
+    Mark { letters: *b"AR", bytes_in: 96, bytes_before: 4, bytes_out: 160, answer: ar },
 ];
+
+impl Mark {
+    /// The numbers of a whole answer, its letters and the bytes before them left out.
+    #[inline]
+    pub fn numbers<'a>(&self, answer: &'a [u8]) -> &'a [u8] {
+        &answer[2 + self.bytes_before..]
+    }
+}
 
 /// The mark with these two letters.
 #[inline]

@@ -2,6 +2,7 @@
 //! handed in by the place that reads them.
 
 pub mod arms;
+pub mod counts;
 pub mod layout;
 pub mod marks;
 pub mod reads;

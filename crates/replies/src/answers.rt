@@ -1,0 +1,98 @@
+// The numbers of an answer, written from the i-th number of a list of bytes on. What is told is whether
+// all of them are finite.
+ghost use mathlib.Core.Path.{_≡_};
+ghost use Prim.Native.Nat.{_+_, _*_, _≤_};
+ghost use lib.Ieee.{binary64};
+ghost use lib.ListN.{length};
+ghost use lib.Seq.{sets};
+ghost use Rattle.linalg.specs.Vector.{vecNumbers};
+ghost use Rattle.layout.specs.Layout.{poseNumbers, blockNumbers, blockPairNumbers, scaledPairNumbers};
+ghost use Rattle.wire.specs.Wire.{width, numbersBytes, itemsBytes, allFinite, numbers};
+ghost use Rattle.replies.specs.Table.{armedItems};
+use crate::finite;
+use crate::places;
+use coeffs::sim3::ArmedPair;
+use coeffs::sim3::ScaledPair;
+use jacobian::jac::Sim3Jac;
+use linalg::vector::Vec3;
+use sides::pair::BlockPair;
+use sim3::sim3::Sim3;
+
+pub(crate) fn answer_vec(out: &mut [u8], i: usize, v: Vec3) -> bool
+    requires { ⌜ (i + 3) * 8 ≤ length (now out) ⌝ }
+    ensures { λ r. ⌜ r ≡ allFinite (numbers (vecNumbers v)) ⌝ }
+    ensures { λ _. ⌜ now (out .exit) ≡ sets (now (out .entry)) (i * width binary64) (numbersBytes binary64 (vecNumbers v)) ⌝ }
+{
+    if finite::vec(v) {
+        finite::put_vec(out, i, v);
+        return true;
+    }
+    places::put_vec(out, i, v);
+    false
+}
+
+pub(crate) fn answer_pose(out: &mut [u8], i: usize, x: Sim3) -> bool
+    requires { ⌜ (i + 8) * 8 ≤ length (now out) ⌝ }
+    ensures { λ r. ⌜ r ≡ allFinite (numbers (poseNumbers x)) ⌝ }
+    ensures { λ _. ⌜ now (out .exit) ≡ sets (now (out .entry)) (i * width binary64) (numbersBytes binary64 (poseNumbers x)) ⌝ }
+{
+    if finite::pose(x) {
+        finite::put_pose(out, i, x);
+        return true;
+    }
+    places::put_pose(out, i, x);
+    false
+}
+
+pub(crate) fn answer_block(out: &mut [u8], i: usize, j: Sim3Jac) -> bool
+    requires { ⌜ (i + 31) * 8 ≤ length (now out) ⌝ }
+    ensures { λ r. ⌜ r ≡ allFinite (numbers (blockNumbers j)) ⌝ }
+    ensures { λ _. ⌜ now (out .exit) ≡ sets (now (out .entry)) (i * width binary64) (numbersBytes binary64 (blockNumbers j)) ⌝ }
+{
+    if finite::block(j) {
+        finite::put_block(out, i, j);
+        return true;
+    }
+    places::put_block(out, i, j);
+    false
+}
+
+pub(crate) fn answer_block_pair(out: &mut [u8], i: usize, p: BlockPair) -> bool
+    requires { ⌜ (i + 124) * 8 ≤ length (now out) ⌝ }
+    ensures { λ r. ⌜ r ≡ allFinite (numbers (blockPairNumbers p)) ⌝ }
+    ensures { λ _. ⌜ now (out .exit) ≡ sets (now (out .entry)) (i * width binary64) (numbersBytes binary64 (blockPairNumbers p)) ⌝ }
+{
+    let a = answer_block(out, i, p.left);
+    let b = answer_block(out, i + 31, p.left_inv);
+    let c = answer_block(out, i + 62, p.right);
+    let d = answer_block(out, i + 93, p.right_inv);
+    a & b & c & d
+}
+
+pub(crate) fn answer_scaled_pair(out: &mut [u8], i: usize, p: ScaledPair) -> bool
+    requires { ⌜ (i + 20) * 8 ≤ length (now out) ⌝ }
+    ensures { λ r. ⌜ r ≡ allFinite (numbers (scaledPairNumbers p)) ⌝ }
+    ensures { λ _. ⌜ now (out .exit) ≡ sets (now (out .entry)) (i * width binary64) (numbersBytes binary64 (scaledPairNumbers p)) ⌝ }
+{
+    if finite::scaled_pair(p) {
+        finite::put_scaled_pair(out, i, p);
+        return true;
+    }
+    places::put_scaled_pair(out, i, p);
+    false
+}
+
+// The arms of both signs, and behind them the scaled pair.
+pub(crate) fn answer_armed_pair(out: &mut [u8], p: ArmedPair) -> bool
+    requires { ⌜ 4 + 20 * 8 ≤ length (now out) ⌝ }
+    ensures { λ r. ⌜ r ≡ allFinite (armedItems p) ⌝ }
+    ensures { λ _. ⌜ now (out .exit) ≡ sets (now (out .entry)) 0 (itemsBytes binary64 (armedItems p)) ⌝ }
+{
+    let pos = p.pos;
+    let neg = p.neg;
+    places::put_arm(out, 0, pos);
+    places::put_arm(out, 2, neg);
+    let a = pos.s;
+    let b = neg.s;
+    answer_scaled_pair(&mut out[4..], 0, ScaledPair { pos: a, neg: b })
+}

@@ -1,0 +1,186 @@
+// Whether every number of a thing is finite; and writing it where it is, which needs no test for a NaN.
+//
+// 0 times a finite number is a zero, and 0 times a NaN or an infinity is NaN, which every further factor
+// leaves: a product that begins with 0 is NaN exactly where a factor is not finite. The factors are taken
+// in twos, as they stand in memory.
+ghost use mathlib.Core.Path.{_≡_};
+ghost use mathlib.Core.Bool.{true};
+ghost use Prim.Native.Nat.{_+_, _*_, _≤_};
+ghost use lib.Ieee.{binary64};
+ghost use lib.ListN.{length};
+ghost use lib.Seq.{sets};
+ghost use Rattle.ieee.specs.Finite.{ZeroIf};
+ghost use Rattle.linalg.specs.Vector.{vecNumbers};
+ghost use Rattle.layout.specs.Layout.{matNumbers, poseNumbers, blockNumbers, coeffsNumbers, scaledNumbers, scaledPairNumbers};
+ghost use Rattle.wire.specs.Wire.{width, numbersBytes, allFinite, numbers};
+use crate::bytes::put_finite;
+use coeffs::sim3::ScaledPair;
+use jacobian::jac::Sim3Jac;
+use linalg::matrix::Mat3;
+use linalg::vector::Vec3;
+use series::sim3::Sim3Coeffs;
+use sim3::sim3::Sim3;
+
+// ---- the products: each is a zero, or NaN
+fn vec_zero(v: Vec3) -> f64
+    ensures { λ r. ⌜ ZeroIf (allFinite (numbers (vecNumbers v))) r ⌝ }
+{
+    0.0 * v.x * v.y * v.z
+}
+
+fn mat_zero(m: Mat3) -> f64
+    ensures { λ r. ⌜ ZeroIf (allFinite (numbers (matNumbers m))) r ⌝ }
+{
+    let a = 0.0 * m.c0.x * m.c0.z;
+    let b = 0.0 * m.c0.y * m.c1.x;
+    let c = 0.0 * m.c1.y * m.c2.x;
+    let d = 0.0 * m.c1.z * m.c2.y;
+    a * c * (b * d) * m.c2.z
+}
+
+fn pose_zero(x: Sim3) -> f64
+    ensures { λ r. ⌜ ZeroIf (allFinite (numbers (poseNumbers x))) r ⌝ }
+{
+    let a = 0.0 * x.q.w * x.q.y;
+    let b = 0.0 * x.q.x * x.q.z;
+    let c = 0.0 * x.t.x * x.t.z;
+    let d = 0.0 * x.t.y * x.sigma;
+    a * c * (b * d)
+}
+
+fn block_zero(j: Sim3Jac) -> f64
+    ensures { λ r. ⌜ ZeroIf (allFinite (numbers (blockNumbers j))) r ⌝ }
+{
+    mat_zero(j.a) * mat_zero(j.b) * mat_zero(j.c) * vec_zero(j.f) * j.e
+}
+
+fn coeffs_zero(k: Sim3Coeffs) -> f64
+    ensures { λ r. ⌜ ZeroIf (allFinite (numbers (coeffsNumbers k))) r ⌝ }
+{
+    let a = 0.0 * k.v0 * k.v2;
+    let b = 0.0 * k.v1 * k.w0;
+    let c = 0.0 * k.w1 * k.dv1;
+    let d = 0.0 * k.w2 * k.dv2;
+    a * c * (b * d) * k.chi_delta
+}
+
+// ---- the tests: a NaN does not equal itself
+pub(crate) fn vec(v: Vec3) -> bool
+    ensures { λ r. ⌜ r ≡ allFinite (numbers (vecNumbers v)) ⌝ }
+{
+    let z = vec_zero(v);
+    z == z
+}
+
+pub(crate) fn pose(x: Sim3) -> bool
+    ensures { λ r. ⌜ r ≡ allFinite (numbers (poseNumbers x)) ⌝ }
+{
+    let z = pose_zero(x);
+    z == z
+}
+
+pub(crate) fn block(j: Sim3Jac) -> bool
+    ensures { λ r. ⌜ r ≡ allFinite (numbers (blockNumbers j)) ⌝ }
+{
+    let z = block_zero(j);
+    z == z
+}
+
+// The flags are 1 or 0.
+pub(crate) fn scaled_pair(p: ScaledPair) -> bool
+    ensures { λ r. ⌜ r ≡ allFinite (numbers (scaledPairNumbers p)) ⌝ }
+{
+    let z = coeffs_zero(p.pos.c) * coeffs_zero(p.neg.c);
+    z == z
+}
+
+// ---- written, where all is finite
+pub(crate) fn put_vec(out: &mut [u8], i: usize, v: Vec3)
+    requires { ⌜ (i + 3) * 8 ≤ length (now out) ⌝ }
+    requires { ⌜ allFinite (numbers (vecNumbers v)) ≡ true ⌝ }
+    ensures { λ _. ⌜ now (out .exit) ≡ sets (now (out .entry)) (i * width binary64) (numbersBytes binary64 (vecNumbers v)) ⌝ }
+{
+    put_finite(out, i, v.x);
+    put_finite(out, i + 1, v.y);
+    put_finite(out, i + 2, v.z);
+}
+
+fn put_mat(out: &mut [u8], i: usize, m: Mat3)
+    requires { ⌜ (i + 9) * 8 ≤ length (now out) ⌝ }
+    requires { ⌜ allFinite (numbers (matNumbers m)) ≡ true ⌝ }
+    ensures { λ _. ⌜ now (out .exit) ≡ sets (now (out .entry)) (i * width binary64) (numbersBytes binary64 (matNumbers m)) ⌝ }
+{
+    put_vec(out, i, m.c0);
+    put_vec(out, i + 3, m.c1);
+    put_vec(out, i + 6, m.c2);
+}
+
+pub(crate) fn put_pose(out: &mut [u8], i: usize, x: Sim3)
+    requires { ⌜ (i + 8) * 8 ≤ length (now out) ⌝ }
+    requires { ⌜ allFinite (numbers (poseNumbers x)) ≡ true ⌝ }
+    ensures { λ _. ⌜ now (out .exit) ≡ sets (now (out .entry)) (i * width binary64) (numbersBytes binary64 (poseNumbers x)) ⌝ }
+{
+    put_finite(out, i, x.q.w);
+    put_finite(out, i + 1, x.q.x);
+    put_finite(out, i + 2, x.q.y);
+    put_finite(out, i + 3, x.q.z);
+    put_vec(out, i + 4, x.t);
+    put_finite(out, i + 7, x.sigma);
+}
+
+pub(crate) fn put_block(out: &mut [u8], i: usize, j: Sim3Jac)
+    requires { ⌜ (i + 31) * 8 ≤ length (now out) ⌝ }
+    requires { ⌜ allFinite (numbers (blockNumbers j)) ≡ true ⌝ }
+    ensures { λ _. ⌜ now (out .exit) ≡ sets (now (out .entry)) (i * width binary64) (numbersBytes binary64 (blockNumbers j)) ⌝ }
+{
+    put_mat(out, i, j.a);
+    put_mat(out, i + 9, j.b);
+    put_mat(out, i + 18, j.c);
+    put_vec(out, i + 27, j.f);
+    put_finite(out, i + 30, j.e);
+}
+
+// The nine coefficients, three at a time, and the flag as 1 or 0.
+fn put_scaled(out: &mut [u8], i: usize, c: Sim3Coeffs, scaled: bool)
+    requires { ⌜ (i + 10) * 8 ≤ length (now out) ⌝ }
+    requires { ⌜ allFinite (numbers (scaledNumbers (record { c = c; scaled = scaled }))) ≡ true ⌝ }
+    ensures { λ _. ⌜ now (out .exit) ≡ sets (now (out .entry)) (i * width binary64) (numbersBytes binary64 (scaledNumbers (record { c = c; scaled = scaled }))) ⌝ }
+{
+    put_vec(
+        out,
+        i,
+        Vec3 {
+            x: c.v0,
+            y: c.v1,
+            z: c.v2,
+        },
+    );
+    put_vec(
+        out,
+        i + 3,
+        Vec3 {
+            x: c.w0,
+            y: c.w1,
+            z: c.w2,
+        },
+    );
+    put_vec(
+        out,
+        i + 6,
+        Vec3 {
+            x: c.dv1,
+            y: c.dv2,
+            z: c.chi_delta,
+        },
+    );
+    put_finite(out, i + 9, ieee::pick(scaled, 1.0, 0.0));
+}
+
+pub(crate) fn put_scaled_pair(out: &mut [u8], i: usize, p: ScaledPair)
+    requires { ⌜ (i + 20) * 8 ≤ length (now out) ⌝ }
+    requires { ⌜ allFinite (numbers (scaledPairNumbers p)) ≡ true ⌝ }
+    ensures { λ _. ⌜ now (out .exit) ≡ sets (now (out .entry)) (i * width binary64) (numbersBytes binary64 (scaledPairNumbers p)) ⌝ }
+{
+    put_scaled(out, i, p.pos.c, p.pos.scaled);
+    put_scaled(out, i + 10, p.neg.c, p.neg.scaled);
+}
