@@ -225,9 +225,7 @@ pub fn coeffs_armed(sigma: f64, z: f64, values: &[f64], out: &mut [f64]) -> u32 
 
 pub fn armed_pair(sigma: f64, z: f64, values: &[f64], out: &mut [f64]) -> u32 {
     // SAFETY: LISTS.
-    unsafe {
-        sim3_armed_pair(sigma, z, values.as_ptr(), values.len(), out.as_mut_ptr(), out.len())
-    }
+    unsafe { sim3_armed_pair(sigma, z, values.as_ptr(), values.len(), out.as_mut_ptr(), out.len()) }
 }
 
 pub fn block_pair(tau: &[f64], values: &[f64], jl: &[f64], jl_inv: &[f64], out: &mut [f64]) -> u32 {

@@ -4,7 +4,7 @@
 use super::Part::*;
 use super::{Entry, Parts, Reader, Writer};
 use helicoid::coefficients as c;
-use helicoid::judge::{reads, Values};
+use helicoid::judge::{arms, reads, Values};
 use helicoid_linalg::handed::H;
 
 /// The most terms a series entry takes.
@@ -96,6 +96,18 @@ fn sim3_coeffs_scaled(r: &mut Reader<'_>, w: &mut Writer<'_>) -> Result<(), u8> 
     Ok(w.flag(scaled))
 }
 
+/// The arm and its ends by the paper's limits, and the Rust's coefficients.
+fn sim3_coeffs_armed(r: &mut Reader<'_>, w: &mut Writer<'_>) -> Result<(), u8> {
+    let (sigma, z, v) = sigma_angle(r)?;
+    let [arm, ends] = arms::told(sigma, z);
+    w.scalars(&[H(arm.into())]);
+    w.flag(ends == 1);
+    reads::scaled_coefficients(sigma, z, &v);
+    let (row, scaled) = c::sim3_coeffs_scaled(H(sigma), H(z));
+    w.scalars(&row);
+    Ok(w.flag(scaled))
+}
+
 fn sim3_coeffs_scaled_pair(r: &mut Reader<'_>, w: &mut Writer<'_>) -> Result<(), u8> {
     let (sigma, z, v) = sigma_angle(r)?;
     reads::scaled_pair(sigma, z, &v);
@@ -171,6 +183,14 @@ pub const ENTRIES: &[Entry] = &[
         SIGMA_ANGLE,
         &[("at σ", Coefficients), ("scaled", Flag), ("at −σ", Coefficients), ("scaled", Flag)],
         sim3_coeffs_scaled_pair,
+    )
+    .refusing(&[1]),
+    Entry::new(
+        69,
+        "sim3_coeffs_armed",
+        SIGMA_ANGLE,
+        &[("arm", Number), ("ends", Flag), ("coefficients", Coefficients), ("scaled", Flag)],
+        sim3_coeffs_armed,
     )
     .refusing(&[1]),
 ];
