@@ -10,3 +10,6 @@ pub mod Exact
 pub mod Square
 pub mod Table
 mod Limits
+pub mod Patterns
+pub mod Neighbours
+pub mod Spacing

@@ -1,3 +1,4 @@
 pub mod Numbers
+pub mod Patterns
 pub mod Signs
 pub mod Table
