@@ -10,6 +10,7 @@ pub mod Exact
 pub mod Square
 pub mod Table
 mod Limits
+pub mod Values
 pub mod Patterns
 pub mod Neighbours
 pub mod Spacing

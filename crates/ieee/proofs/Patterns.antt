@@ -3,14 +3,14 @@ use mathlib.Core.Path.{_≡_, sym, ap, _∙_, subst}
 use mathlib.Core.Logic.{inl, inr}
 use Prim.Native.Nat.{ℕ, zero, suc, _+_, _-_, _*_, _/_, _%_, _^_, _≤_, _<_}
 use native.Mathlib.Nat.{le-trans, lt-irrefl, mul-le-mul-right, mul-le-mul-left, one-le-pow, div-lt-iff-lt-mul, le-div-iff-mul-le, div-eq-of-lt, mod-lt, mod-eq-of-lt, div-add-mod'}
-use native.Mathlib.Nat.{zero-add, zero-mul, zero-lt-suc, mul-one, one-mul, mul-right-comm, mul-lt-mul-of-pos-right, mul-div-cancel, pow-suc, pow-succ', mul-pos}
+use native.Mathlib.Nat.{zero-add, zero-mul, zero-lt-suc, mul-one, one-mul, mul-right-comm, mul-lt-mul-of-pos-right, mul-div-cancel, eq-of-mul-eq-mul-right, pow-suc, pow-succ', mul-pos}
 use native.Mathlib.Omega.{arith}
-use mathlib.Core.Bool.{false}
+use mathlib.Core.Bool.{Bool, false}
 use lib.IntN.{ℤ}
 use lib.Dec.{T, ltb→lt}
 use lib.Pow.{pow-pos, pow-add, pow-mono}
 use borrow.Author.Tests.{lt-leb, ne-eqb}
-use lib.Ieee.{Float, nan, inf, fin, Format, prec, emax, low, up, down, hid, ones, top, size, odd, ofFields, ofBits, toBits, fits, le}
+use lib.Ieee.{Float, fin, Format, prec, emax, low, up, down, hid, ones, top, size, odd, ofFields, ofBits, toBits, fits, le}
 use lib.Ieee.Digits.{size-le}
 use lib.Ieee.Fits.{two, reach, kept-lt, up-pos, down-pos, and-l, and-r}
 use lib.Ieee.Bits.{ofBits-toBits}
@@ -19,6 +19,7 @@ use lib.Ieee.Order.{le-of-values}
 use lib.Ieee.Scale.{finite}
 use Rattle.ieee.specs.Patterns.{patterns, unitsOf, fieldUnits, patternUnits}
 use Rattle.ieee.proofs.Signed.{order}
+use Rattle.ieee.proofs.Values.{value-finite, unsigned}
 
 -- ---- a larger field outweighs all digits, so a larger pattern has at least as many units
 outweighs : (h x t y u : ℕ) → t < h → x < y → fieldUnits h x t ≤ fieldUnits h y u
@@ -106,13 +107,8 @@ rising f p q k h =
     le-of-values (ofBits f p) (ofBits f q) _ (2 ^ low f) _ (2 ^ low f) (pow-pos (low f)) (pow-pos (low f))
     (pattern-value f p (omega arith)) (pattern-value f q h) (mul-le-mul-right (2 ^ low f) (units-mono f p q k))
 
-finite-of : (x : Float) (a c : ℕ) → HasValue x false a c → T (finite x)
-finite-of nan a c h = absurd h
-finite-of (inf s) a c h = absurd h
-finite-of (fin s m e) a c h = tt
-
 pub pattern-finite : (f : Format) (p : ℕ) → p < patterns f → T (finite (ofBits f p))
-pattern-finite f p h = finite-of (ofBits f p) _ _ (pattern-value f p h)
+pattern-finite f p h = value-finite (ofBits f p) false _ _ (pattern-value f p h)
 
 -- ---- and a finite value without a minus sign has such a pattern
 room : (n k h w o : ℕ) → n < w → w ≡ 2 * h → k + 2 ≤ o → k * h + n < o * h
@@ -177,3 +173,7 @@ pattern-pos f m e h = elim (order 0 (toBits f (fin false (suc m) e))) [
       let size : unitsOf f (suc m) e ≡ 0 = pattern-units f (suc m) e h ∙ ap (patternUnits f) none ∙ units-small f 0 (hid-pos f) in
       absurd (lt-irrefl 0 (subst (λ (x : ℕ). 0 < x) size (units-pos f m e h)))
 ]
+
+-- ---- of either sign: the units of a value are those of its size
+pub units-are : (f : Format) (s t : Bool) (m : ℕ) (e : ℤ) (a : ℕ) → T (fits f (fin s m e)) → HasValue (fin s m e) t a (2 ^ low f) → a ≡ unitsOf f m e
+units-are f s t m e a h v = eq-of-mul-eq-mul-right (down e) (down-pos e) a (unitsOf f m e) (sym (v .1) ∙ units-exact f m e (unsigned f s m e h))

@@ -1,0 +1,49 @@
+-- What the root's numbers are, in the request's words and without the way they are computed: `RootTheorem` below, proved as `root-theorem` in proofs/Theorem.antt.
+use mathlib.Core.Path.{_≡_}
+use mathlib.Core.Bool.{Bool, true, false}
+use Prim.Native.Nat.{ℕ, suc, _+_, _-_, _*_, _^_, _≤_, _<_}
+use lib.IntN.{ℤ}
+use lib.Dec.{T}
+use lib.Ieee.{Float, fin, binary64, up, down, round, fits}
+use lib.Ieee.Exact.{HasValue}
+use Rattle.linalg.specs.Answer.{Answer, answers}
+use Rattle.root.specs.declared.RootParts.{RootParts}
+use Rattle.root.specs.Root.{nearer, rootOf}
+
+-- `HasValue x false a c` says that x is a / c; 2 ^ s is up s / down s
+pub record Scaling (z : Float) (m : ℕ) (s : ℤ) : Type 0 where
+  pub value : HasValue z false (m * (up s * up s)) (down s * down s)
+  pub least : 2 ^ 104 ≤ m
+  pub most : m < 2 ^ 106
+
+-- r is the largest whole number whose square is at most m
+pub record Largest (m r : ℕ) : Type 0 where
+  pub low : r * r ≤ m
+  pub high : m < (r + 1) * (r + 1)
+
+-- p is what is asked for at z
+pub record RootIs (z : Float) (p : RootParts) : Type 0 where
+  pub m : ℕ
+  pub scaling : Scaling z m (p .exponent)
+  pub root : Largest m (p .root)
+  pub remainder : p .root * p .root + p .remainder ≡ m
+  pub double : T (fits binary64 (p .nearest))
+  pub nearest : HasValue (p .nearest) false (nearer (p .root) (p .remainder) * up (p .exponent)) (down (p .exponent))
+
+-- In units of 2 ^ −1074, where every double is a whole number, z is n, so √z is √(n × 2 ^ 1074). Of the doubles a and ±b the first is the nearer one to √z, and not as near as the other:
+-- √z lies on a's side of their middle, (a ± b) / 2. (At −b the difference a − b ends at 0, which says the same: √z is above it.)
+abbrev pub Nearer : ℕ → ℕ → Bool → ℕ → Type 0
+Nearer n a true b = (a - b) * (a - b) < 4 * (n * 2 ^ 1074)
+Nearer n a false b = (a < b → 4 * (n * 2 ^ 1074) < (a + b) * (a + b)) × (b < a → (a + b) * (a + b) < 4 * (n * 2 ^ 1074))
+
+-- x is the square root of z, correctly rounded: no double is nearer to √z, and there is no tie
+pub record Rounded (z x : Float) : Type 0 where
+  pub nearer : (y : Float) (n a : ℕ) (t : Bool) (b : ℕ) → T (fits binary64 y) → HasValue z false n (2 ^ 1074) → HasValue x false a (2 ^ 1074) → HasValue y t b (2 ^ 1074) → Nearer n a t b
+
+-- for every double z above 0: what is answered is asked for, nothing else is, and the double is the correctly rounded root
+pub record RootTheorem (z : Float) : Type 0 where
+  pub parts : RootParts
+  pub answered : rootOf z ≡ answers parts
+  pub is : RootIs z parts
+  pub only : (p : RootParts) → RootIs z p → p ≡ parts
+  pub rounded : Rounded z (parts .nearest)
