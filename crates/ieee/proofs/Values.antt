@@ -1,7 +1,9 @@
 -- What it says of x that it has a sign and a size, `HasValue x s a c`: it is a number, finite and not -0; and where the format holds x, it is the rounding of a / c, and the only such value.
 -- Assumes nothing.
-use mathlib.Core.Path.{_≡_, sym, _∙_, subst}
+use mathlib.Core.Path.{_≡_, sym, ap, _∙_, subst}
 use Prim.Native.Nat.{ℕ, zero, suc, _*_, _<_}
+use native.Mathlib.Nat.{eq-of-mul-eq-mul-right}
+use native.Mathlib.Omega.{arith}
 use mathlib.Core.Bool.{Bool, false, not}
 use lib.IntN.{ℤ}
 use lib.Dec.{T}
@@ -42,6 +44,13 @@ value-rounds f (fin u m e) s a c t C h =
 
 pub value-only : (f : Format) (x y : Float) (s : Bool) (a c : ℕ) → T (fits f x) → T (fits f y) → 0 < c → HasValue x s a c → HasValue y s a c → x ≡ y
 value-only f x y s a c t u C h k = sym (value-rounds f x s a c t C h) ∙ value-rounds f y s a c u C k
+
+-- two fractions of one size are one
+pub value-cross : (x : Float) (s t : Bool) (a c b d : ℕ) → HasValue x s a c → HasValue x t b d → a * d ≡ b * c
+value-cross nan s t a c b d h k = absurd h
+value-cross (inf u) s t a c b d h k = absurd h
+value-cross (fin u m e) s t a c b d h k =
+    eq-of-mul-eq-mul-right (down e) (down-pos e) _ _ (omega (arith, ap (λ (x : ℕ). x * d) (h .1), ap (λ (x : ℕ). x * c) (k .1)))
 
 -- a format holds a value with either sign
 pub unsigned : (f : Format) (s : Bool) (m : ℕ) (e : ℤ) → T (fits f (fin s m e)) → T (fits f (fin false m e))

@@ -4,3 +4,6 @@ pub mod Largest
 pub mod Digits
 pub mod Assembly
 pub mod Cases
+pub mod Only
+pub mod Nearest
+pub mod Theorem

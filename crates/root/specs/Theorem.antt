@@ -1,12 +1,13 @@
 -- What the root's numbers are, in the request's words and without the way they are computed: `RootTheorem` below, proved as `root-theorem` in proofs/Theorem.antt.
 use mathlib.Core.Path.{_≡_}
 use mathlib.Core.Bool.{Bool, true, false}
-use Prim.Native.Nat.{ℕ, suc, _+_, _-_, _*_, _^_, _≤_, _<_}
+use Prim.Native.Nat.{ℕ, _+_, _-_, _*_, _^_, _≤_, _<_}
 use lib.IntN.{ℤ}
 use lib.Dec.{T}
-use lib.Ieee.{Float, fin, binary64, up, down, round, fits}
+use lib.Ieee.{Float, binary64, up, down, fits}
 use lib.Ieee.Exact.{HasValue}
-use Rattle.linalg.specs.Answer.{Answer, answers}
+use lib.Ieee.Positive.{positive}
+use Rattle.linalg.specs.Answer.{answers}
 use Rattle.root.specs.declared.RootParts.{RootParts}
 use Rattle.root.specs.Root.{nearer, rootOf}
 
@@ -40,10 +41,14 @@ Nearer n a false b = (a < b → 4 * (n * 2 ^ 1074) < (a + b) * (a + b)) × (b < 
 pub record Rounded (z x : Float) : Type 0 where
   pub nearer : (y : Float) (n a : ℕ) (t : Bool) (b : ℕ) → T (fits binary64 y) → HasValue z false n (2 ^ 1074) → HasValue x false a (2 ^ 1074) → HasValue y t b (2 ^ 1074) → Nearer n a t b
 
--- for every double z above 0: what is answered is asked for, nothing else is, and the double is the correctly rounded root
-pub record RootTheorem (z : Float) : Type 0 where
+-- what is answered is asked for, nothing else is, and the double is the correctly rounded root
+pub record Answered (z : Float) : Type 0 where
   pub parts : RootParts
   pub answered : rootOf z ≡ answers parts
   pub is : RootIs z parts
   pub only : (p : RootParts) → RootIs z p → p ≡ parts
   pub rounded : Rounded z (parts .nearest)
+
+-- of every double that is finite and above 0
+abbrev pub RootTheorem : Type 0
+RootTheorem = (z : Float) → T (fits binary64 z) → T (positive z) → Answered z
