@@ -6,4 +6,6 @@ pub mod Assembly
 pub mod Cases
 pub mod Only
 pub mod Nearest
+pub mod Rounding
 pub mod Theorem
+pub mod Examples

@@ -2,15 +2,17 @@
 use mathlib.Core.Path.{_≡_, refl, sym, ap, _∙_, subst}
 use mathlib.Core.Logic.{_⊎_, inl, inr}
 use Prim.Native.Nat.{ℕ, zero, suc, _+_, _-_, _*_, _/_, _%_, _^_, _≤_, _<_}
-use native.Mathlib.Nat.{lt-of-lt-of-le, mul-pos, zero-mul, eq-of-mul-eq-mul-right}
+use native.Mathlib.Nat.{lt-of-lt-of-le, mul-pos, mul-le-mul-right, zero-mul, eq-of-mul-eq-mul-right}
 use native.Mathlib.Omega.{arith}
 use mathlib.Core.Bool.{Bool, true, false}
 use borrow.Author.Tests.{lt-ltb, le-ltb}
 use lib.IntN.{ℤ, subℕ}
-use lib.Dec.{T}
+use lib.Dec.{T, lit<}
 use lib.Pow.{pow-add, pow-pos, pow-mono, shl-lt}
-use lib.Ieee.{Float, nan, inf, fin, binary64, up, down, round, lt, fits, toBits}
+use lib.Ieee.{Float, nan, inf, fin, binary64, up, down, units, round, lt, fits, toBits}
 use lib.Ieee.Exact.{HasValue, round-exact}
+use lib.Ieee.Nearest.{closest}
+use lib.Ieee.Scale.{round-same}
 use lib.Ieee.Fits.{up-pos, down-pos, round-fits}
 use Rattle.ieee.specs.Numbers.{f0}
 use Rattle.ieee.specs.Patterns.{unitsOf}
@@ -21,12 +23,13 @@ use Rattle.linalg.specs.Answer.{answers}
 use Rattle.root.specs.declared.RootParts.{RootParts}
 use Rattle.root.specs.Root.{wholeRoot, quarters, nearer, partsAt, rootParts, rootFrom, rootOf}
 use Rattle.root.specs.Scaled.{ScaledTo}
-use Rattle.root.specs.Theorem.{Largest, RootIs, Nearer, Rounded, Answered, RootTheorem}
+use Rattle.root.specs.Theorem.{Largest, RootIs, Nearer, Rounded, Beside, Answered, RootTheorem}
 use Rattle.root.proofs.Largest.{whole-root-largest, largest-only}
 use Rattle.root.proofs.Cases.{from}
 use Rattle.root.proofs.Only.{root-only}
 use Rattle.root.proofs.Digits.{scaled}
-use Rattle.root.proofs.Assembly.{quarters-is, whole-m, whole-even, four-is, range, r-range, v-range, regroup}
+use Rattle.root.proofs.Assembly.{quarters-is, whole-m, whole-even, four-is, range, r-range, v-range, either, regroup}
+use Rattle.root.proofs.Rounding.{closest-down, closest-up, round-whole}
 use Rattle.root.proofs.Nearest.{half-below, half-above, double-nearer}
 
 -- ---- 2 ^ s for s = j − k: up s / down s is 2 ^ j / 2 ^ k
@@ -101,13 +104,15 @@ module _ (n j m : ℕ) (p : Place n j m) where
   remainder : r * r + (m - r * r) ≡ m
   remainder = omega (arith, largest)
 
-  v-between : (2 ^ 52 ≤ v) × (v < 2 ^ 53)
+  v-is : v ≡ nearer r (m - r * r)
   unfolding v
-  v-between = v-range m r (m - r * r) v (p .least) (p .most) remainder (omega (arith, largest)) refl
+  v-is = refl
 
-  r-least : 2 ^ 52 ≤ r
-  unfolding v
-  r-least = r-range m r (m - r * r) v (p .least) (p .most) remainder (omega (arith, largest)) refl .0
+  r-between : (2 ^ 52 ≤ r) × (r < 2 ^ 53)
+  r-between = r-range m r (m - r * r) v (p .least) (p .most) remainder (omega (arith, largest)) v-is
+
+  v-between : (2 ^ 52 ≤ v) × (v < 2 ^ 53)
+  v-between = v-range m r (m - r * r) v (p .least) (p .most) remainder (omega (arith, largest)) v-is
 
   value : HasValue x false (v * 2 ^ j) (2 ^ 589)
   unfolding x
@@ -116,13 +121,9 @@ module _ (n j m : ℕ) (p : Place n j m) where
       (lt-of-lt-of-le (shl-lt 53 (j + 485) (v-between .1)) (pow-mono {j = 2098} (omega (arith, p .few))))
       (rw (pow-add 2 j 485) (sym (regroup v (2 ^ j) (2 ^ 485) (2 ^ 589))))
 
-  v-is : v ≡ nearer r (m - r * r)
-  unfolding v
-  v-is = refl
-
   -- the units of the double, and the square of √z in units
-  units : (a : ℕ) → HasValue x false a (2 ^ 1074) → a ≡ v * 2 ^ (j + 485)
-  units a h =
+  double-units : (a : ℕ) → HasValue x false a (2 ^ 1074) → a ≡ v * 2 ^ (j + 485)
+  double-units a h =
       rw (pow-add 2 j 485) (go a (2 ^ 589) (2 ^ j) (2 ^ 485) (pow-pos 589) (value-cross x false false a (2 ^ 1074) (v * 2 ^ j) (2 ^ 589) h value))
     where
       go : (a K J Q : ℕ) → 0 < K → a * K ≡ v * J * (Q * K) → a ≡ v * (J * Q)
@@ -138,7 +139,7 @@ module _ (n j m : ℕ) (p : Place n j m) where
   nearest y t b f h =
       let w = v - 1 in
       let e : w + 1 ≡ v = omega (arith, v-between .0) in
-      let low = half-below m r (m - r * r) w largest remainder (omega (arith, r-least)) (e ∙ v-is) in
+      let low = half-below m r (m - r * r) w largest remainder (omega (arith, r-between .0)) (e ∙ v-is) in
       let high = half-above m r (m - r * r) (w + 1) largest remainder (e ∙ v-is) in
       subst (λ (z : ℕ). Nearer n (z * 2 ^ (j + 485)) t b) e (double-nearer n m (j + 485) w square (p .least) (rw e (v-between .0)) low high y t b f h)
 
@@ -167,8 +168,41 @@ module _ (n j m : ℕ) (p : Place n j m) where
   rounded z only = record {
     nearer =
         λ y n' a t b f h k l.
-        subst (λ (i : ℕ). Nearer i a t b) (sym (only n' h)) (subst (λ (i : ℕ). Nearer n i t b) (sym (units a k)) (nearest y t b f l));
+        subst (λ (i : ℕ). Nearer i a t b) (sym (only n' h)) (subst (λ (i : ℕ). Nearer n i t b) (sym (double-units a k)) (nearest y t b f l));
   }
+
+  -- ---- the format's rounding
+  itself : x ≡ units binary64 false v (j + 485)
+  unfolding x
+  itself =
+      round-whole v 1 j (lit< tt) (omega (arith, v-between)) (omega (arith, v-between))
+      ∙ ap (λ (y : ℕ). units binary64 false y (j + 485)) (closest-down v 1 v (omega arith) (omega arith) (omega arith))
+
+  closest-is : (a q : ℕ) → Beside r (m - r * r) a q → closest a q ≡ v
+  closest-is a q b = elim (either r (m - r * r) v v-is) [
+    | inl h ↦ closest-down a q r (b .from) (b .to) (b .below (h .0)) ∙ sym (h .1)
+    | inr h ↦ closest-up a q r (b .from) (b .to) (b .above (h .0)) ∙ sym (h .1)
+  ]
+
+  rounding : (a q : ℕ) → Beside r (m - r * r) a q → round binary64 false (a * 2 ^ j) (q * 2 ^ 589) ≡ x
+  rounding a q b =
+      round-whole a q j (b .some) (omega (arith, b .from, mul-le-mul-right q (r-between .0))) (omega (arith, b .to, mul-le-mul-right q (r-between .1)))
+      ∙ ap (λ (y : ℕ). units binary64 false y (j + 485)) (closest-is a q b)
+      ∙ sym itself
+
+  rounds : (a q : ℕ) → Beside r (m - r * r) a q → round binary64 false (a * up (subℕ j 589)) (q * down (subℕ j 589)) ≡ x
+  rounds a q b =
+      round-same binary64 false (a * up (subℕ j 589)) (q * down (subℕ j 589)) (a * 2 ^ j) (q * 2 ^ 589)
+      (mul-pos (b .some) (down-pos (subℕ j 589))) (mul-pos (b .some) (pow-pos 589)) (go (up (subℕ j 589)) (down (subℕ j 589)) (2 ^ j) (2 ^ 589) (power-of j 589))
+      ∙ rounding a q b
+    where
+      go : (U D J K : ℕ) → U * K ≡ J * D → a * U * (q * K) ≡ a * J * (q * D)
+      go U D J K e = omega (arith, ap (λ (y : ℕ). y * (a * q)) e)
+
+  fraction : (a q : ℕ) → Beside (partsAt j m (wholeRoot 53 m) .root) (partsAt j m (wholeRoot 53 m) .remainder) a q
+      → round binary64 false (a * up (subℕ j 589)) (q * down (subℕ j 589)) ≡ partsAt j m (wholeRoot 53 m) .nearest
+  unfolding r v x
+  fraction a q b = rounds a q b
 
 -- ---- of every double above 0
 above-zero : (k : ℕ) (e : ℤ) → lt (fin false (suc k) e) f0 ≡ false
@@ -197,6 +231,7 @@ at-double k e t =
       is = is;
       only = λ q i. root-only z q (rootParts n) i is;
       rounded = rounded n j m p z (λ a v. units-are binary64 false false (suc k) e a t v);
+      rounds = fraction n j m p;
     }
 
 pub root-theorem : RootTheorem

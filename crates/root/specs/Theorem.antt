@@ -4,7 +4,7 @@ use mathlib.Core.Bool.{Bool, true, false}
 use Prim.Native.Nat.{ℕ, _+_, _-_, _*_, _^_, _≤_, _<_}
 use lib.IntN.{ℤ}
 use lib.Dec.{T}
-use lib.Ieee.{Float, binary64, up, down, fits}
+use lib.Ieee.{Float, binary64, up, down, round, fits}
 use lib.Ieee.Exact.{HasValue}
 use lib.Ieee.Positive.{positive}
 use Rattle.linalg.specs.Answer.{answers}
@@ -41,6 +41,14 @@ Nearer n a false b = (a < b → 4 * (n * 2 ^ 1074) < (a + b) * (a + b)) × (b < 
 pub record Rounded (z x : Float) : Type 0 where
   pub nearer : (y : Float) (n a : ℕ) (t : Bool) (b : ℕ) → T (fits binary64 y) → HasValue z false n (2 ^ 1074) → HasValue x false a (2 ^ 1074) → HasValue y t b (2 ^ 1074) → Nearer n a t b
 
+-- the fraction a / q lies with √m between r and r + 1, and on the same side of their middle: below it where the remainder is at most r, and else above it
+pub record Beside (r remainder a q : ℕ) : Type 0 where
+  pub some : 0 < q
+  pub from : r * q ≤ a
+  pub to : a < (r + 1) * q
+  pub below : remainder ≤ r → 2 * a < (2 * r + 1) * q
+  pub above : r < remainder → (2 * r + 1) * q < 2 * a
+
 -- what is answered is asked for, nothing else is, and the double is the correctly rounded root
 pub record Answered (z : Float) : Type 0 where
   pub parts : RootParts
@@ -48,6 +56,8 @@ pub record Answered (z : Float) : Type 0 where
   pub is : RootIs z parts
   pub only : (p : RootParts) → RootIs z p → p ≡ parts
   pub rounded : Rounded z (parts .nearest)
+  -- and so does the format's rounding have it: it takes every fraction beside √m, times 2 ^ s, to this double
+  pub rounds : (a q : ℕ) → Beside (parts .root) (parts .remainder) a q → round binary64 false (a * up (parts .exponent)) (q * down (parts .exponent)) ≡ parts .nearest
 
 -- of every double that is finite and above 0
 abbrev pub RootTheorem : Type 0
