@@ -2,11 +2,10 @@
 use mathlib.Core.Path.{_≡_, refl, sym, ap, _∙_, subst}
 use mathlib.Core.Logic.{_⊎_, inl, inr}
 use Prim.Native.Nat.{ℕ, zero, suc, _+_, _-_, _*_, _/_, _%_, _^_, _≤_, _<_}
-use native.Mathlib.Nat.{le-antisymm, lt-of-lt-of-le, not-le-of-lt, mul-le-mul, mul-div-cancel, le-of-mul-le-mul-right, lt-of-mul-lt-mul-right, mul-le-mul-right, mul-lt-mul-of-pos-right, pow-suc}
+use native.Mathlib.Nat.{le-antisymm, lt-of-lt-of-le, not-le-of-lt, mul-div-cancel, le-of-mul-le-mul-right, lt-of-mul-lt-mul-right, mul-le-mul-right, mul-lt-mul-of-pos-right, pow-suc}
 use native.Mathlib.Omega.{arith}
 use mathlib.Core.Bool.{false, cond}
 use borrow.Author.Tests.{le-leb, lt-leb}
-use lib.Dec.{leb}
 use lib.IntN.{subℕ}
 use lib.Pow.{pow-add, pow-pos, pow-mono}
 use lib.Ieee.{Float, binary64, size, round, ofBits}

@@ -1,18 +1,18 @@
 -- The answer for each kind of double, by the tests that the code makes: below zero, equal to zero, and the pattern. Assumes nothing.
 use mathlib.Core.Path.{_≡_, refl, sym, ap, _∙_, subst}
-use Prim.Native.Nat.{ℕ, zero, suc, _+_, _*_, _^_, _≤_, _<_}
+use Prim.Native.Nat.{ℕ, zero, suc, _+_, _*_, _≤_, _<_}
 use native.Mathlib.Nat.{zero-mul, zero-lt-suc, mul-pos, not-le-of-lt}
 use native.Mathlib.Omega.{arith}
-use mathlib.Core.Bool.{Bool, true, false, cond, _&&_}
+use mathlib.Core.Bool.{Bool, true, false, _&&_}
 use borrow.Author.Tests.{lt-ltb, ne-eqb}
 use lib.IntN.{ℤ}
 use lib.Dec.{T, eqb, lit≤}
 use lib.Ieee.{Float, nan, inf, fin, binary64, up, down, lt, eq, fits, toBits}
 use lib.Ieee.Fits.{up-pos}
 use Rattle.ieee.specs.Numbers.{f0}
-use Rattle.ieee.specs.Patterns.{patterns, unitsOf, patternUnits}
+use Rattle.ieee.specs.Patterns.{patterns, patternUnits}
 use Rattle.ieee.proofs.Patterns.{pattern-below, pattern-pos, pattern-units}
-use Rattle.linalg.specs.Answer.{Answer, answers, refuses}
+use Rattle.linalg.specs.Answer.{answers, refuses}
 use Rattle.root.specs.Root.{rootOf, rootFrom, rootParts, rootZero}
 
 clash : {X : Type 0} → true ≡ false → X

@@ -1,14 +1,14 @@
 -- The double is nearer to √z than any other: the next doubles beside v * 2 ^ s are 2 ^ s away, or below the least v less than that, and √m lies within 1/2 of v. Assumes nothing.
-use mathlib.Core.Path.{_≡_, refl, sym, ap, _∙_, subst}
-use mathlib.Core.Logic.{_⊎_, inl, inr}
-use Prim.Native.Nat.{ℕ, zero, suc, _+_, _-_, _*_, _^_, _≤_, _<_}
+use mathlib.Core.Path.{_≡_, sym, ap, subst}
+use mathlib.Core.Logic.{inl, inr}
+use Prim.Native.Nat.{ℕ, _+_, _-_, _*_, _^_, _≤_, _<_}
 use native.Mathlib.Nat.{mul-pos, mul-le-mul, mul-le-mul-right, mul-lt-mul-of-pos-right}
 use native.Mathlib.Omega.{arith}
 use mathlib.Core.Bool.{Bool, true, false}
 use lib.Dec.{T}
 use lib.IntN.{ℤ}
 use lib.Pow.{pow-pos}
-use lib.Ieee.{Float, nan, inf, fin, binary64, fits, hid}
+use lib.Ieee.{Float, nan, inf, fin, binary64, fits}
 use lib.Ieee.Exact.{HasValue}
 use Rattle.ieee.specs.Patterns.{unitsOf}
 use Rattle.ieee.proofs.Signed.{order}
@@ -56,24 +56,31 @@ module _ (m w P b : ℕ) (P-pos : 0 < P) where
       omega (arith, mul-le-mul s s, mul-lt-mul-of-pos-right h (mul-pos P-pos P-pos))
 
 -- ---- in units, for any other double y
-module _ (n m h w : ℕ) (is : n * 2 ^ 1074 ≡ m * (2 ^ h * 2 ^ h)) (least : 2 ^ 104 ≤ m) (full : 2 ^ 52 ≤ w + 1) (low : (2 * w + 1) * (2 * w + 1) < 4 * m) (high : 4 * m < (2 * (w + 1) + 1) * (2 * (w + 1) + 1)) where
+-- √m lies within 1/2 of w + 1
+pub record Within (m w : ℕ) : Type 0 where
+  pub full : 2 ^ 52 ≤ w + 1
+  pub least : 2 ^ 104 ≤ m
+  pub low : (2 * w + 1) * (2 * w + 1) < 4 * m
+  pub high : 4 * m < (2 * (w + 1) + 1) * (2 * (w + 1) + 1)
+
+module _ (n m h w : ℕ) (is : n * 2 ^ 1074 ≡ m * (2 ^ h * 2 ^ h)) (i : Within m w) where
   below-least : (b : ℕ) → b < 2 ^ 52 * 2 ^ h → ((w + 1) * 2 ^ h + b) * ((w + 1) * 2 ^ h + b) < 4 * (m * (2 ^ h * 2 ^ h))
   below-least b g = elim (order (2 ^ 52) (w + 1)) [
-    | inl l ↦ farther-below m w (2 ^ h) b (pow-pos h) low (omega (arith, mul-le-mul-right {m = 2 ^ 52} {n = w} (2 ^ h) (omega arith)))
+    | inl l ↦ farther-below m w (2 ^ h) b (pow-pos h) (i .low) (omega (arith, mul-le-mul-right {m = 2 ^ 52} {n = w} (2 ^ h) (omega arith)))
     | inr l ↦
         let v : w + 1 ≡ 2 ^ 52 = omega arith in
-        farther-least m w (2 ^ h) b (pow-pos h) (subst (λ (x : ℕ). x * x ≤ m) (sym v) least) (subst (λ (x : ℕ). b < x * 2 ^ h) (sym v) g)
+        farther-least m w (2 ^ h) b (pow-pos h) (subst (λ (x : ℕ). x * x ≤ m) (sym v) (i .least)) (subst (λ (x : ℕ). b < x * 2 ^ h) (sym v) g)
   ]
 
   at-units : (s : Bool) (k : ℕ) (e : ℤ) → T (fits binary64 (fin s k e)) → (t : Bool) → Nearer n ((w + 1) * 2 ^ h) t (unitsOf binary64 k e)
-  at-units s k e f true = rw is (farther-minus m w (2 ^ h) (unitsOf binary64 k e) (pow-pos h) low)
+  at-units s k e f true = rw is (farther-minus m w (2 ^ h) (unitsOf binary64 k e) (pow-pos h) (i .low))
   at-units s k e f false =
       let b = unitsOf binary64 k e in
       let u = unsigned binary64 s k e f in
       let one-less : w + 1 - 1 ≡ w = omega arith in (
-        λ g. rw is (farther-above m w (2 ^ h) b (pow-pos h) high (next-above binary64 k e u (w + 1) h full g)),
-        λ g. rw is (elim (next-below binary64 k e u (w + 1) h full g) [
-          | inl l ↦ farther-below m w (2 ^ h) b (pow-pos h) low (subst (λ (x : ℕ). b ≤ x * 2 ^ h) one-less l)
+        λ g. rw is (farther-above m w (2 ^ h) b (pow-pos h) (i .high) (next-above binary64 k e u (w + 1) h (i .full) g)),
+        λ g. rw is (elim (next-below binary64 k e u (w + 1) h (i .full) g) [
+          | inl l ↦ farther-below m w (2 ^ h) b (pow-pos h) (i .low) (subst (λ (x : ℕ). b ≤ x * 2 ^ h) one-less l)
           | inr l ↦ below-least b l
         ]),
       )

@@ -1,8 +1,8 @@
 -- What is asked for at z is asked for once: m and s are the only ones, so r, the remainder and the double are. Assumes nothing.
 use mathlib.Core.Path.{_≡_, refl, sym, ap, _∙_, subst}
 use mathlib.Core.Logic.{inl, inr}
-use Prim.Native.Nat.{ℕ, suc, _+_, _-_, _*_, _^_, _≤_, _<_}
-use native.Mathlib.Nat.{lt-irrefl, not-le-of-lt, le-antisymm, mul-one, one-mul, mul-pos, mul-le-mul, mul-lt-mul-of-pos-right, eq-of-mul-eq-mul-right, pow-succ'}
+use Prim.Native.Nat.{ℕ, suc, _+_, _*_, _^_, _≤_, _<_}
+use native.Mathlib.Nat.{lt-irrefl, le-antisymm, mul-one, one-mul, mul-pos, mul-le-mul, mul-lt-mul-of-pos-right, eq-of-mul-eq-mul-right, pow-succ'}
 use native.Mathlib.Omega.{arith}
 use mathlib.Core.Bool.{false}
 use lib.IntN.{ℤ, pos, negsuc}
@@ -91,9 +91,11 @@ root-only z p q h k =
     let o = scaling-only z (h .m) (k .m) (p .exponent) (q .exponent) (h .scaling) (k .scaling) in
     let r : p .root ≡ q .root = largest-only (p .root) (q .root) (k .m) (subst (λ (x : ℕ). Largest x (p .root)) (o .0) (h .root)) (k .root) in
     let l : p .remainder ≡ q .remainder = omega (arith, h .remainder, k .remainder, o .0, ap (λ (x : ℕ). x * x) r) in
-    let same : HasValue (p .nearest) false (nearer (q .root) (q .remainder) * up (q .exponent)) (down (q .exponent)) =
-    subst (λ (x : ℕ). HasValue (p .nearest) false (nearer x (q .remainder) * up (q .exponent)) (down (q .exponent))) r
-    (subst (λ (x : ℕ). HasValue (p .nearest) false (nearer (p .root) x * up (q .exponent)) (down (q .exponent))) l
+    let v = nearer (q .root) (q .remainder) in
+    let t = q .exponent in
+    let same : HasValue (p .nearest) false (v * up t) (down t) =
+    subst (λ (x : ℕ). HasValue (p .nearest) false (nearer x (q .remainder) * up t) (down t)) r
+    (subst (λ (x : ℕ). HasValue (p .nearest) false (nearer (p .root) x * up t) (down t)) l
     (subst (λ (s : ℤ). HasValue (p .nearest) false (nearer (p .root) (p .remainder) * up s) (down s)) (o .1) (h .nearest))) in
-    let x = value-only binary64 (p .nearest) (q .nearest) false (nearer (q .root) (q .remainder) * up (q .exponent)) (down (q .exponent)) (h .double) (k .double) (down-pos (q .exponent)) same (k .nearest) in
+    let x = value-only binary64 (p .nearest) (q .nearest) false (v * up t) (down t) (h .double) (k .double) (down-pos t) same (k .nearest) in
     λ i. record { root = r i; remainder = l i; exponent = o .1 i; nearest = x i }

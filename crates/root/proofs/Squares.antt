@@ -1,8 +1,8 @@
 -- Squares of whole numbers, and the step that widens a root by two digits of a base b. Assumes nothing.
-use mathlib.Core.Path.{_≡_, refl, sym, ap, _∙_, subst}
-use mathlib.Core.Logic.{_⊎_, inl, inr}
+use mathlib.Core.Path.{_≡_, ap}
+use mathlib.Core.Logic.{inl, inr}
 use Prim.Native.Nat.{ℕ, zero, suc, _+_, _-_, _*_, _/_, _%_, _^_, _≤_, _<_}
-use native.Mathlib.Nat.{le-refl, mul-le-mul, mul-le-mul-right, mul-le-mul-left, mod-lt, div-add-mod'}
+use native.Mathlib.Nat.{mul-le-mul, mul-le-mul-right, mul-le-mul-left, mod-lt, div-add-mod'}
 use native.Mathlib.Omega.{arith}
 use Rattle.ieee.proofs.Signed.{order}
 

@@ -1,6 +1,6 @@
 -- `root-theorem`: of every double above 0 the answer is what the request asks for, nothing else is, and its double is the correctly rounded square root. Assumes nothing.
 use mathlib.Core.Path.{_≡_, refl, sym, ap, _∙_, subst}
-use mathlib.Core.Logic.{_⊎_, inl, inr}
+use mathlib.Core.Logic.{inl, inr}
 use Prim.Native.Nat.{ℕ, zero, suc, _+_, _-_, _*_, _/_, _%_, _^_, _≤_, _<_}
 use native.Mathlib.Nat.{lt-of-lt-of-le, mul-pos, mul-le-mul-right, zero-mul, eq-of-mul-eq-mul-right}
 use native.Mathlib.Omega.{arith}
@@ -13,24 +13,23 @@ use lib.Ieee.{Float, nan, inf, fin, binary64, up, down, units, round, lt, fits, 
 use lib.Ieee.Exact.{HasValue, round-exact}
 use lib.Ieee.Nearest.{closest}
 use lib.Ieee.Scale.{round-same}
-use lib.Ieee.Fits.{up-pos, down-pos, round-fits}
+use lib.Ieee.Fits.{down-pos, round-fits}
 use Rattle.ieee.specs.Numbers.{f0}
 use Rattle.ieee.specs.Patterns.{unitsOf}
 use Rattle.ieee.proofs.Signed.{order}
 use Rattle.ieee.proofs.Values.{value-cross}
 use Rattle.ieee.proofs.Patterns.{pattern-below, pattern-pos, pattern-units, units-exact, units-are}
 use Rattle.linalg.specs.Answer.{answers}
-use Rattle.root.specs.declared.RootParts.{RootParts}
 use Rattle.root.specs.Root.{wholeRoot, quarters, nearer, partsAt, rootParts, rootFrom, rootOf}
 use Rattle.root.specs.Scaled.{ScaledTo}
 use Rattle.root.specs.Theorem.{Largest, RootIs, Nearer, Rounded, Beside, Answered, RootTheorem}
-use Rattle.root.proofs.Largest.{whole-root-largest, largest-only}
+use Rattle.root.proofs.Largest.{whole-root-largest}
 use Rattle.root.proofs.Cases.{from}
 use Rattle.root.proofs.Only.{root-only}
 use Rattle.root.proofs.Digits.{scaled}
 use Rattle.root.proofs.Assembly.{quarters-is, whole-m, whole-even, four-is, range, r-range, v-range, either, regroup}
 use Rattle.root.proofs.Rounding.{closest-down, closest-up, round-whole}
-use Rattle.root.proofs.Nearest.{half-below, half-above, double-nearer}
+use Rattle.root.proofs.Nearest.{Within, half-below, half-above, double-nearer}
 
 -- ---- 2 ^ s for s = j − k: up s / down s is 2 ^ j / 2 ^ k
 power-of : (j k : ℕ) → up (subℕ j k) * 2 ^ k ≡ 2 ^ j * down (subℕ j k)
@@ -139,9 +138,13 @@ module _ (n j m : ℕ) (p : Place n j m) where
   nearest y t b f h =
       let w = v - 1 in
       let e : w + 1 ≡ v = omega (arith, v-between .0) in
-      let low = half-below m r (m - r * r) w largest remainder (omega (arith, r-between .0)) (e ∙ v-is) in
-      let high = half-above m r (m - r * r) (w + 1) largest remainder (e ∙ v-is) in
-      subst (λ (z : ℕ). Nearer n (z * 2 ^ (j + 485)) t b) e (double-nearer n m (j + 485) w square (p .least) (rw e (v-between .0)) low high y t b f h)
+      let i : Within m w = record {
+        full = rw e (v-between .0);
+        least = p .least;
+        low = half-below m r (m - r * r) w largest remainder (omega (arith, r-between .0)) (e ∙ v-is);
+        high = half-above m r (m - r * r) (w + 1) largest remainder (e ∙ v-is);
+      } in
+      subst (λ (z : ℕ). Nearer n (z * 2 ^ (j + 485)) t b) e (double-nearer n m (j + 485) w square i y t b f h)
 
   -- z is x' / d
   exact : (x' d : ℕ) → x' * 2 ^ 1074 ≡ n * d → x' * (down (subℕ j 589) * down (subℕ j 589)) ≡ m * (up (subℕ j 589) * up (subℕ j 589)) * d
@@ -167,7 +170,7 @@ module _ (n j m : ℕ) (p : Place n j m) where
   unfolding r v x
   rounded z only = record {
     nearer =
-        λ y n' a t b f h k l.
+        λ y f n' a t b h k l.
         subst (λ (i : ℕ). Nearer i a t b) (sym (only n' h)) (subst (λ (i : ℕ). Nearer n i t b) (sym (double-units a k)) (nearest y t b f l));
   }
 

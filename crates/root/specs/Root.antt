@@ -3,7 +3,7 @@
 use mathlib.Core.Bool.{false, cond}
 use Prim.Native.Nat.{ℕ, zero, suc, _+_, _-_, _*_, _/_, _^_}
 use lib.Dec.{leb}
-use lib.IntN.{ℤ, pos, subℕ}
+use lib.IntN.{pos, subℕ}
 use lib.Ieee.{Float, nan, inf, fin, binary64, size, round, lt}
 use Rattle.ieee.specs.Numbers.{f0}
 use Rattle.ieee.specs.Patterns.{unitsOf}

@@ -31,15 +31,16 @@ pub record RootIs (z : Float) (p : RootParts) : Type 0 where
   pub double : T (fits binary64 (p .nearest))
   pub nearest : HasValue (p .nearest) false (nearer (p .root) (p .remainder) * up (p .exponent)) (down (p .exponent))
 
--- In units of 2 ^ −1074, where every double is a whole number, z is n, so √z is √(n × 2 ^ 1074). Of the doubles a and ±b the first is the nearer one to √z, and not as near as the other:
--- √z lies on a's side of their middle, (a ± b) / 2. (At −b the difference a − b ends at 0, which says the same: √z is above it.)
+-- In units of 2 ^ −1074, where every double is a whole number, z is n, so √z is √(n × 2 ^ 1074). The double a is nearer to √z than the double b or −b, and not as near: √z lies on a's side of
+-- their middle, (a + b) / 2 or (a − b) / 2. For −b that is above the middle, and a − b ends at 0.
 abbrev pub Nearer : ℕ → ℕ → Bool → ℕ → Type 0
 Nearer n a true b = (a - b) * (a - b) < 4 * (n * 2 ^ 1074)
 Nearer n a false b = (a < b → 4 * (n * 2 ^ 1074) < (a + b) * (a + b)) × (b < a → (a + b) * (a + b) < 4 * (n * 2 ^ 1074))
 
 -- x is the square root of z, correctly rounded: no double is nearer to √z, and there is no tie
 pub record Rounded (z x : Float) : Type 0 where
-  pub nearer : (y : Float) (n a : ℕ) (t : Bool) (b : ℕ) → T (fits binary64 y) → HasValue z false n (2 ^ 1074) → HasValue x false a (2 ^ 1074) → HasValue y t b (2 ^ 1074) → Nearer n a t b
+  pub nearer : (y : Float) → T (fits binary64 y) → (n a : ℕ) (t : Bool) (b : ℕ)
+      → HasValue z false n (2 ^ 1074) → HasValue x false a (2 ^ 1074) → HasValue y t b (2 ^ 1074) → Nearer n a t b
 
 -- the fraction a / q lies with √m between r and r + 1, and on the same side of their middle: below it where the remainder is at most r, and else above it
 pub record Beside (r remainder a q : ℕ) : Type 0 where

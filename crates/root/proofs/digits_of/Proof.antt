@@ -1,4 +1,5 @@
--- `root::digits_of` meets its contract (`Lead`). Assumes nothing.
+-- Written by tools/proofs from Proof.template: edit that one. Digest 36df9c08a9189c17.
+-- `root::digits_of` meets its contract: a subnormal's leading zeros say how far its digits move, and any other has its digits in place (`Digits`). Assumes nothing.
 use borrow.Author.Needs.{needs}
 use native.Mathlib.Omega.{arith}
 use Rattle.root.proofs.Digits.{lead, normal}
@@ -17,15 +18,6 @@ shl-t7 c = omega (arith, lead (c .before .args .b) (search needs) (search needs)
 sub-t5 : tie.Need-sub-t5
 sub-t5 c = lead (c .before .args .b) (search needs) (search needs) .1
 
-cast-t8 : tie.Need-cast-t8
-cast-t8 c = search needs
-
-add-t10 : tie.Need-add-t10
-add-t10 c = search needs
-
-add-t12 : tie.Need-add-t12
-add-t12 c = search needs
-
 returns : tie.Need-returns
 returns c = lead (c .before .args .b) (search needs) (search needs) .2
 
@@ -33,4 +25,15 @@ returns-2 : tie.Need-returns-2
 returns-2 c = normal (c .before .args .b) (search needs) (search needs)
 
 pub digits-of-spec : {M : Type 1} → statement M
-digits-of-spec = tie.close (tie.spec sub-k cast-t6 shl-t7 sub-t5 cast-t8 add-t10 add-t12 returns returns-2)
+digits-of-spec =
+    tie.close
+    (tie.spec
+    sub-k
+    cast-t6
+    shl-t7
+    sub-t5
+    (λ c. search needs)
+    (λ c. search needs)
+    (λ c. search needs)
+    returns
+    returns-2)

@@ -1,8 +1,8 @@
--- Written by tools/proofs from Proof.template: edit that one. Digest 57cafa8a5c5705fb.
+-- Written by tools/proofs from Proof.template: edit that one. Digest 98e785f71da98e08.
 -- `root::positive` meets its contract: the digits' range lets every step stay in 64 bits, and `parts-are` puts the answer together. Assumes nothing.
 use borrow.Author.Needs.{needs}
 use mathlib.Core.Path.{refl}
-use Prim.Native.Nat.{_+_, _*_, _/_, _%_, _^_, _<_, _≤_}
+use Prim.Native.Nat.{_/_}
 use native.Mathlib.Omega.{arith}
 use Rattle.root.proofs.Assembly.{range, ranges, parts-are}
 use Rattle.root.proofs.Digits.{exponent-fits, exponent-is}

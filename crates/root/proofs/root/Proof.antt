@@ -1,12 +1,11 @@
--- Written by tools/proofs from Proof.template: edit that one. Digest 9183a2554eeaf5d0.
+-- Written by tools/proofs from Proof.template: edit that one. Digest 373aaa94edea2a1a.
 -- `root::root` meets its contract: each return is the case of the definition that its tests leave (`Cases`). Assumes nothing.
 use borrow.Author.Needs.{needs}
-use mathlib.Core.Path.{_≡_, sym, ap, _∙_, subst}
+use mathlib.Core.Path.{sym, _∙_, subst}
 use Prim.Native.Nat.{ℕ, _<_, _≤_}
 use lib.Dec.{T}
 use lib.Ieee.{binary64, ofBits, fits, toBits}
 use Rattle.ieee.specs.Patterns.{patterns}
-use Rattle.linalg.specs.Answer.{answers}
 use Rattle.root.specs.Root.{rootTold}
 use Rattle.root.proofs.Cases.{below, from, zeros, other, good}
 use Rattle.root.proofs.root.Statement.{statement}
