@@ -70,7 +70,7 @@ cross x d m U D n W E X P p q =
 some : (x c a : ℕ) → 0 < a → x * c ≡ a → 0 < x
 some x c a h e = first-pos x c (subst (λ (y : ℕ). 0 < y) (sym e) h)
 
-scaling-only : (z : Float) (m n : ℕ) (s t : ℤ) → Scaling z m s → Scaling z n t → (m ≡ n) × (s ≡ t)
+pub scaling-only : (z : Float) (m n : ℕ) (s t : ℤ) → Scaling z m s → Scaling z n t → (m ≡ n) × (s ≡ t)
 scaling-only nan m n s t p q = absurd (p .value)
 scaling-only (inf b) m n s t p q = absurd (p .value)
 scaling-only (fin b k e) m n s t p q =
