@@ -4,6 +4,8 @@ import pathlib
 import struct
 import subprocess
 
+from .wrapper import SOURCE
+
 HERE = pathlib.Path(__file__).resolve().parent
 TOP = HERE.parent.parent
 OUT = TOP / "target/root"
@@ -32,7 +34,7 @@ def lay_out():
     (OUT / "crates.txt").write_text("\n".join(lines) + f"\nroot_calls: {USED}\n")
     source = OUT / "crates/root_calls/src/lib.rt"
     source.parent.mkdir(parents=True, exist_ok=True)
-    source.write_text((HERE / "wrapper.rt").read_text())
+    source.write_text(SOURCE)
 
 
 def ran(words, what, **options):

@@ -1,3 +1,6 @@
+"""The wrapper crate's source."""
+
+SOURCE = """\
 // One call of `root` from C: 0, and the whole root, the remainder, the nearest double's pattern and
 // the exponent; or the refusal's number.
 fn code(n: u8) -> u32 { n as u32 }
@@ -18,3 +21,4 @@ pub extern "C" fn root_call(z: f64, out: &mut [u64; 3], power: &mut [i64; 1]) ->
         root::RootAnswer::Refused(n) => code(n),
     }
 }
+"""
