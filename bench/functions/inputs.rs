@@ -143,10 +143,15 @@ pub fn blocks() -> Inputs {
     })
 }
 
+/// Where a list's points begin: after a pose, its exponential and a number that nothing reads. So
+/// they lie on 16 bytes as the output does, and neither side reads across the ends of cache lines.
+pub const LIST: usize = 10;
+
 /// One pose, up 1 and a list of points: a motion that keeps the numbers' size when repeated.
 pub fn list(points: usize) -> Inputs {
     let mut d = Dice(2);
     let mut numbers = [&pose(&mut d)[..], &[1.0]].concat();
+    numbers.resize(LIST, 0.0);
     numbers.extend((0..3 * points).map(|_| d.next()));
     Inputs { width: numbers.len(), numbers }
 }

@@ -1,6 +1,6 @@
 //! The table's rows: what is timed over what.
 
-use crate::inputs::{self, Inputs, ARMS};
+use crate::inputs::{self, Inputs, ARMS, LIST};
 use crate::port::{self, *};
 use crate::rust;
 use std::rc::Rc;
@@ -123,9 +123,9 @@ pub fn blocks() -> Vec<Row> {
 macro_rules! list_call {
     ($name:ident, |$x:ident, $list:ident, $out:ident| $body:expr) => {
         unsafe extern "C" fn $name<const N: usize>(x: *const f64, out: *mut f64) -> u32 {
-            // SAFETY: the rows give 9 + N numbers and an output of N.
+            // SAFETY: the rows give LIST + N numbers and an output of N.
             let ($x, $list, $out) = unsafe {
-                let list = core::slice::from_raw_parts(x.add(9), N);
+                let list = core::slice::from_raw_parts(x.add(LIST), N);
                 (&*x.cast::<[f64; 9]>(), list, core::slice::from_raw_parts_mut(out, N))
             };
             $body

@@ -1,5 +1,6 @@
 //! Bursts of both sides in turn, and what their times say.
 
+use crate::inputs::LIST;
 use crate::rows::{Row, Step};
 use std::hint::black_box;
 use std::time::Instant;
@@ -35,7 +36,7 @@ pub fn room(steps: &[Step]) -> usize {
 /// Puts a list call's points where it works on them in place.
 pub fn prepare(steps: &[Step], out: &mut [f64]) {
     for step in steps.iter().filter(|s| s.list) {
-        out[..step.width].copy_from_slice(&step.inputs.numbers[9..]);
+        out[..step.width].copy_from_slice(&step.inputs.numbers[LIST..]);
     }
 }
 

@@ -70,7 +70,7 @@ ROWS = [
     (52, "sinc_value", "z:num v:values", "num", f"{CIRCLE}sinc_value(z, {HALVES})", CIRCLE + "SincAnswer::Number"),
     (60, "series, full", SERIES_IN, "coeffs", SERIES + "series(sigma, z, k)", SERIES + "SeriesAnswer::Coeffs"),
     (61, "series, v alone", SERIES_IN, "coeffs4", SERIES + "series_v(sigma, z, k)", SERIES + "SeriesVAnswer::Coeffs"),
-    (62, "series, full pair", SERIES_IN, "coeffs:r.pos coeffs:r.neg", "series::pair::series_pair(sigma, z, k)", SERIES + "SeriesPairAnswer::Coeffs"),
+    (62, "series, full pair", SERIES_IN, "coeffs:r.pos coeffs:r.neg", "series_pair::pair::series_pair(sigma, z, k)", SERIES + "SeriesPairAnswer::Coeffs"),
     (63, "sim3_coeffs", COEFFS_IN, "coeffs", COEFFS + "sim3_coeffs(sigma, z, v)", COEFFS + "CoeffsAnswer::Coeffs"),
     (64, "sim3_v", COEFFS_IN, "coeffs4", COEFFS + "sim3_v(sigma, z, v)", COEFFS + "VAnswer::Coeffs"),
     (65, "sim3_v_scaled", COEFFS_IN, "num:r.c.v0 num:r.c.v1 num:r.c.v2 flag:r.scaled", COEFFS + "sim3_v_scaled(sigma, z, v)", COEFFS + "VScaledAnswer::Coeffs"),

@@ -1,3 +1,3 @@
 pub mod Rows
 pub mod Angle
-mod Horner
+pub mod Horner

@@ -5,7 +5,7 @@ use Prim.Native.Nat.{ℕ}
 use lib.ListN.{take}
 use lib.Ieee.{Float, Format, add, sub, mul, div, lt}
 use Rattle.ieee.specs.Numbers.{f0, f1, f2, half}
-use Rattle.linalg.specs.Answer.{Answer, answers, refuses}
+use Rattle.linalg.specs.Answer.{Answer, answers, refuses, unlessBelowZero}
 use Rattle.circle.specs.Tables.{Row, cosHalfRow, kRow, aRow, bRow, dRow, rowTable, rowTerms, rowLimit, shortTerms, expShortLimit, fiveShortLimit}
 use Rattle.circle.specs.declared.kernel.ExpCoeffs.{ExpCoeffs}
 use Rattle.circle.specs.declared.kernel.SincABD.{SincABD}
@@ -104,9 +104,9 @@ circleSincA f z root sh ch =
     let c = circleSincABD f z root sh ch f0 in
     record { sinc = c .sinc; a = c .a }
 
--- ---- the entries: refusal 1 for z below zero, which -0 and NaN are not
+-- ---- the entries
 abbrev pub notBelowZero : {A : Type 0} → Float → A → Answer A
-notBelowZero z x = cond (lt z f0) (refuses 1) (answers x)
+notBelowZero z x = unlessBelowZero z (answers x)
 
 unfoldable pub circleExpAnswer : Format → Float → Float → Float → Float → Answer ExpCoeffs
 circleExpAnswer f z root sh ch = notBelowZero z (circleExp f z root sh ch)

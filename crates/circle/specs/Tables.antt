@@ -1,7 +1,6 @@
 -- The five rows of the circle functions: the rule of each, its table in a format, how many terms an arm reads and below which limit.
 use Prim.Native.Nat.{ℕ, _+_, _*_, _^_, _%_}
 use mathlib.Core.List.{List}
-use mathlib.Core.Bool.{Bool}
 use lib.Dec.{eqb}
 use lib.Ieee.{Float, Format, binary32, binary64, ofBits}
 use Rattle.ieee.specs.Table.{factorial, Rational, entries}

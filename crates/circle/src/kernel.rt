@@ -2,10 +2,12 @@
 // and cosine of x/2 and the sine of x are handed in. A NaN is below no limit, so it takes the exact
 // arms.
 ghost use mathlib.Core.Path.{_≡_};
+ghost use mathlib.Core.Bool.{not};
 ghost use Prim.Native.Nat.{_≤_};
 ghost use lib.Ieee.{binary64, lt};
 ghost use Rattle.ieee.specs.Numbers.{f0};
 ghost use Rattle.linalg.specs.Vector.{vecNormSq};
+ghost use Rattle.circle.specs.Tables.{bRow, rowLimit};
 ghost use Rattle.circle.specs.Rows.{rowNamed};
 ghost use Rattle.circle.specs.Kernel.{expCoeffsTold, sincABDTold, sincATold, sincTold, hornerSum, rowSeries, rowWhole, rowOwn, exactA, exactB, exactD, sincFrom, circleExp, circleSincABD, circleSincA, circleExpAnswer, circleSincAnswer, circleSincABDAnswer, circleSincAAnswer};
 use crate::generated;
@@ -190,6 +192,14 @@ fn five_group(z: f64, root: f64, sin_half: f64, cos_half: f64, sin: f64) -> Sinc
         b: own_arm(Row::B, z, b_from(z, root, sin)),
         d: own_arm(Row::D, z, d_from(z, a)),
     }
+}
+
+// Whether b is on its exact arm at x^2 = z, which a NaN is: nothing is worked. For a caller that forms
+// sin x/x, which is 1 - b z, another way there.
+pub fn b_takes_exact_arm(z: f64) -> bool
+    ensures { λ r. ⌜ r ≡ not (lt z (rowLimit binary64 bRow)) ⌝ }
+{
+    !(z < generated::below(Row::B))
 }
 
 // (sin x/x, a, b, d) at x^2 = z, which the closed forms of Sim(3) read; refusal 1 for z below zero.

@@ -6,20 +6,20 @@ use borrow.Author.Tests.{le-ltb}
 use lib.Dec.{ltb}
 use lib.Ieee.{Float, Format, neg, mul, lt, le}
 use Rattle.ieee.specs.Numbers.{f0}
-use Rattle.linalg.specs.Answer.{Answer, answers, refuses, andThen}
+use Rattle.linalg.specs.Answer.{answers, refuses, andThen}
 use Rattle.linalg.specs.Vector.{vecNormSq}
 use Rattle.linalg.specs.declared.vector.Vec3.{Vec3}
-use Rattle.linalg.proofs.Answers.{refused-as, answered-as, answered-at, not-refused, both-as}
+use Rattle.linalg.proofs.Answers.{refused-as, answered-as, answered-at, not-refused}
 use Rattle.circle.specs.Kernel.{notBelowZero, circleSincABD, circleSincA}
 use Rattle.circle.specs.declared.kernel.SincABD.{SincABD}
 use Rattle.circle.specs.declared.kernel.SincA.{SincA}
 use Rattle.circle.proofs.Angle.{norm-not-below}
 use Rattle.series.specs.Series.{seriesFull, seriesV, coeffs4, seriesGuard, seriesAnswer, seriesPairAnswer}
-use Rattle.series.specs.declared.sim3.CoeffsPair.{CoeffsPair}
-use Rattle.coeffs.specs.Limits.{coeffsDelta, seriesBelow, formBBelow, w0Below, seriesDepth}
-use Rattle.coeffs.specs.Closed.{closedFrom, closedV, closedVFrom, closedNine}
+use Rattle.coeffs.specs.Limits.{coeffsDelta, formBBelow, w0Below}
+use Rattle.coeffs.specs.Arm.{coeffsArm, armTerms}
+use Rattle.coeffs.specs.Closed.{closedFrom, closedV, closedVFrom, closedNine, closedJoined}
 use Rattle.coeffs.specs.Shared.{closedOnly}
-use Rattle.coeffs.specs.Group.{coeffsScaled, coeffsVScaled, coeffsUnscale, coeffsUnscaleV, coeffsPlain, coeffsV}
+use Rattle.coeffs.specs.Group.{closedScaled, coeffsScaled, coeffsVScaled, coeffsUnscale, coeffsUnscaleV, coeffsPlain, coeffsV}
 use Rattle.coeffs.specs.declared.values.Values.{Values}
 use Rattle.coeffs.specs.declared.sim3.Scaled.{Scaled}
 use Rattle.coeffs.specs.declared.sim3.VScaled.{VScaled}
@@ -49,22 +49,23 @@ pub angle-refuses : {A B : Type 0} (f : Format) (phi : Vec3) (n : ℕ) (x : A) �
 angle-refuses f phi n x r = not-refused (lt (vecNormSq f phi) f0) 1 n x (norm-not-below f phi) r
 
 -- ---- one sign: which arm
-pub scaled-series : (f : Format) (sigma z : Float) (v : Values) (k : ℕ) → lt (coeffsDelta f sigma z) (seriesBelow f) ≡ true → k ≡ seriesDepth f (coeffsDelta f sigma z) → coeffsScaled f sigma z v ≡ record { c = seriesFull f sigma z k; scaled = false }
+pub scaled-series :
+    (f : Format) (sigma z : Float) (v : Values) (k : ℕ) → ltb (coeffsArm f (coeffsDelta f sigma z)) 5 ≡ true → k ≡ armTerms f (coeffsArm f (coeffsDelta f sigma z)) →
+    coeffsScaled f sigma z v ≡ record { c = seriesFull f sigma z k; scaled = false }
 unfolding coeffsScaled
 scaled-series f sigma z v k t e = rw (t, e) refl
 
 pub scaled-closed :
-    (f : Format) (sigma z : Float) (v : Values) → lt (coeffsDelta f sigma z) (seriesBelow f) ≡ false →
-    coeffsScaled f sigma z v
-    ≡ record {
-      c = closedFrom f sigma z (circleSincABD f z (v .root) (v .«sin_half») (v .«cos_half») (v .sin)) (v .e) (v .m) (le (formBBelow f) (coeffsDelta f sigma z)) (lt (mul f sigma sigma) (w0Below f));
-      scaled = lt f0 sigma;
-    }
+    (f : Format) (sigma z : Float) (v : Values) → ltb (coeffsArm f (coeffsDelta f sigma z)) 5 ≡ false →
+    coeffsScaled f sigma z v ≡ closedScaled f sigma z (circleSincABD f z (v .root) (v .«sin_half») (v .«cos_half») (v .sin)) (v .e) (v .m)
 unfolding coeffsScaled
 scaled-closed f sigma z v t = rw t refl
 
 -- ---- both signs behind the series' tests
-guards : {A B C : Type 0} (s t : Bool) (a : A) (b : B) (g : A → B → C) → andThen (cond s (refuses 1) (cond t (refuses 4) (answers a))) (λ x. andThen (cond s (refuses 1) (cond t (refuses 4) (answers b))) (λ y. answers (g x y))) ≡ cond s (refuses 1) (cond t (refuses 4) (answers (g a b)))
+guards :
+    {A B C : Type 0} (s t : Bool) (a : A) (b : B) (g : A → B → C) →
+    andThen (cond s (refuses 1) (cond t (refuses 4) (answers a))) (λ x. andThen (cond s (refuses 1) (cond t (refuses 4) (answers b))) (λ y. answers (g x y)))
+    ≡ cond s (refuses 1) (cond t (refuses 4) (answers (g a b)))
 guards true t a b g = refl
 guards false true a b g = refl
 guards false false a b g = refl
@@ -74,38 +75,42 @@ unfolding seriesPairAnswer seriesAnswer
 series-pair-is f sigma z k = guards (lt z f0) (ltb 64 k) (seriesFull f sigma z k) (seriesFull f (neg sigma) z k) (λ p n. record { pos = p; neg = n })
 
 -- ---- v and χΔ alone: which arm
-pub v-series : (f : Format) (sigma z : Float) (v : Values) (k : ℕ) → lt (coeffsDelta f sigma z) (seriesBelow f) ≡ true → k ≡ seriesDepth f (coeffsDelta f sigma z) → coeffsVScaled f sigma z v ≡ record { c = seriesV f sigma z k; scaled = false }
+pub v-series :
+    (f : Format) (sigma z : Float) (v : Values) (k : ℕ) → ltb (coeffsArm f (coeffsDelta f sigma z)) 5 ≡ true → k ≡ armTerms f (coeffsArm f (coeffsDelta f sigma z)) →
+    coeffsVScaled f sigma z v ≡ record { c = seriesV f sigma z k; scaled = false }
 unfolding coeffsVScaled seriesV
 v-series f sigma z v k t e = rw (scaled-series f sigma z v k t e) refl
 
+abbrev v-scaled : Format → Float → Float → Values → SincA → VScaled
+v-scaled f sigma z v t =
+    record { c = closedVFrom f sigma z (closedOnly t) (v .e) (v .m) (le (formBBelow f) (coeffsDelta f sigma z)) (lt (mul f sigma sigma) (w0Below f)); scaled = lt f0 sigma }
+
 pub v-closed :
-    (f : Format) (sigma z : Float) (v : Values) → lt (coeffsDelta f sigma z) (seriesBelow f) ≡ false →
-    coeffsVScaled f sigma z v
-    ≡ record {
-      c = closedVFrom f sigma z (closedOnly (circleSincA f z (v .root) (v .«sin_half») (v .«cos_half»))) (v .e) (v .m) (le (formBBelow f) (coeffsDelta f sigma z)) (lt (mul f sigma sigma) (w0Below f));
-      scaled = lt f0 sigma;
-    }
-unfolding coeffsVScaled coeffs4 closedFrom closedNine closedVFrom closedV closedOnly circleSincA circleSincABD
+    (f : Format) (sigma z : Float) (v : Values) → ltb (coeffsArm f (coeffsDelta f sigma z)) 5 ≡ false →
+    coeffsVScaled f sigma z v ≡ v-scaled f sigma z v (circleSincA f z (v .root) (v .«sin_half») (v .«cos_half»))
+unfolding coeffsVScaled coeffs4 closedFrom closedNine closedJoined closedVFrom closedV closedOnly circleSincA circleSincABD
 v-closed f sigma z v t = rw (scaled-closed f sigma z v t) refl
 
 -- ---- the closed arm, from what the circle functions answer
 pub scaled-closed-answers :
-    (f : Format) (sigma z : Float) (v : Values) (t : SincABD) → lt (coeffsDelta f sigma z) (seriesBelow f) ≡ false → notBelowZero z (circleSincABD f z (v .root) (v .«sin_half») (v .«cos_half») (v .sin)) ≡ answers t →
-    notBelowZero z (coeffsScaled f sigma z v) ≡ answers (record { c = closedFrom f sigma z t (v .e) (v .m) (le (formBBelow f) (coeffsDelta f sigma z)) (lt (mul f sigma sigma) (w0Below f)); scaled = lt f0 sigma })
-scaled-closed-answers f sigma z v t h r =
-    arm-answers z _ t _ (λ x. record { c = closedFrom f sigma z x (v .e) (v .m) (le (formBBelow f) (coeffsDelta f sigma z)) (lt (mul f sigma sigma) (w0Below f)); scaled = lt f0 sigma }) (scaled-closed f sigma z v h) r
+    (f : Format) (sigma z : Float) (v : Values) (t : SincABD) → ltb (coeffsArm f (coeffsDelta f sigma z)) 5 ≡ false →
+    notBelowZero z (circleSincABD f z (v .root) (v .«sin_half») (v .«cos_half») (v .sin)) ≡ answers t → notBelowZero z (coeffsScaled f sigma z v) ≡ answers (closedScaled f sigma z t (v .e) (v .m))
+scaled-closed-answers f sigma z v t h r = arm-answers z _ t _ (λ x. closedScaled f sigma z x (v .e) (v .m)) (scaled-closed f sigma z v h) r
 
 pub v-closed-answers :
-    (f : Format) (sigma z : Float) (v : Values) (t : SincA) → lt (coeffsDelta f sigma z) (seriesBelow f) ≡ false → notBelowZero z (circleSincA f z (v .root) (v .«sin_half») (v .«cos_half»)) ≡ answers t →
-    notBelowZero z (coeffsVScaled f sigma z v) ≡ answers (record { c = closedVFrom f sigma z (closedOnly t) (v .e) (v .m) (le (formBBelow f) (coeffsDelta f sigma z)) (lt (mul f sigma sigma) (w0Below f)); scaled = lt f0 sigma })
-v-closed-answers f sigma z v t h r =
-    arm-answers z _ t _ (λ x. record { c = closedVFrom f sigma z (closedOnly x) (v .e) (v .m) (le (formBBelow f) (coeffsDelta f sigma z)) (lt (mul f sigma sigma) (w0Below f)); scaled = lt f0 sigma }) (v-closed f sigma z v h) r
+    (f : Format) (sigma z : Float) (v : Values) (t : SincA) → ltb (coeffsArm f (coeffsDelta f sigma z)) 5 ≡ false →
+    notBelowZero z (circleSincA f z (v .root) (v .«sin_half») (v .«cos_half»)) ≡ answers t → notBelowZero z (coeffsVScaled f sigma z v) ≡ answers (v-scaled f sigma z v t)
+v-closed-answers f sigma z v t h r = arm-answers z _ t _ (v-scaled f sigma z v) (v-closed f sigma z v h) r
 
 -- ---- unscaled, from the scaled answer
-pub plain-answers : (f : Format) (sigma z : Float) (v : Values) (s : Scaled) → notBelowZero z (coeffsScaled f sigma z v) ≡ answers s → notBelowZero z (coeffsPlain f sigma z v) ≡ answers (coeffsUnscale f (s .c) (v .up) (s .scaled))
+pub plain-answers :
+    (f : Format) (sigma z : Float) (v : Values) (s : Scaled) → notBelowZero z (coeffsScaled f sigma z v) ≡ answers s →
+    notBelowZero z (coeffsPlain f sigma z v) ≡ answers (coeffsUnscale f (s .c) (v .up) (s .scaled))
 unfolding coeffsPlain
 plain-answers f sigma z v s r = arm-answers z _ s _ (λ (x : Scaled). coeffsUnscale f (x .c) (v .up) (x .scaled)) refl r
 
-pub v-answers : (f : Format) (sigma z : Float) (v : Values) (s : VScaled) → notBelowZero z (coeffsVScaled f sigma z v) ≡ answers s → notBelowZero z (coeffsV f sigma z v) ≡ answers (coeffsUnscaleV f (s .c) (v .up) (s .scaled))
+pub v-answers :
+    (f : Format) (sigma z : Float) (v : Values) (s : VScaled) → notBelowZero z (coeffsVScaled f sigma z v) ≡ answers s →
+    notBelowZero z (coeffsV f sigma z v) ≡ answers (coeffsUnscaleV f (s .c) (v .up) (s .scaled))
 unfolding coeffsV coeffsPlain coeffsVScaled coeffs4 coeffsUnscale coeffsUnscaleV
 v-answers f sigma z v s r = arm-answers z _ s _ (λ (x : VScaled). coeffsUnscaleV f (x .c) (v .up) (x .scaled)) refl r

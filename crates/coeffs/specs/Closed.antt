@@ -9,6 +9,8 @@ use Rattle.series.specs.declared.sim3.Coeffs4.{Coeffs4}
 use Rattle.circle.specs.declared.kernel.SincABD.{SincABD}
 use Rattle.coeffs.specs.Values.{atZero}
 use Rattle.coeffs.specs.Limits.{coeffsDelta}
+use Rattle.coeffs.specs.declared.closed.Ws.{Ws}
+use Rattle.coeffs.specs.declared.closed.Dvs.{Dvs}
 
 -- v₀: its series below the limit, else (e^σ - 1)/σ
 unfoldable pub closedV0 : Format → Float → Float → Float → Bool → Float
@@ -35,25 +37,27 @@ closedV f sigma z c e m1 v0 formB =
       «chi_delta» = sub f (add f (mul f sigma (mul f sigma v0)) (mul f e (mul f z (c .sinc)))) (mul f sigma (mul f e (mul f z (c .a))));
     }
 
--- all nine: w₁ and w₂ from w₀, ∂v₁ and ∂v₂ from the derivatives of the circle functions
-unfoldable pub closedNine : Format → Float → Float → SincABD → Float → Coeffs4 → Float → Sim3Coeffs
-closedNine f sigma z c e v w0 =
-    let delta = coeffsDelta f sigma z in
-    let w2 = div f (sub f (add f w0 (mul f sigma (v .v2))) (v .v1)) delta in
+-- w₁ and w₂ from w₀, v₁ and v₂
+unfoldable pub closedWs : Format → Float → Float → Coeffs4 → Float → Ws
+closedWs f sigma z v w0 =
+    let w2 = div f (sub f (add f w0 (mul f sigma (v .v2))) (v .v1)) (coeffsDelta f sigma z) in
+    record { w1 = sub f (v .v2) (mul f sigma w2); w2 = w2 }
+
+-- ∂v₁ and ∂v₂ from v₂ and the derivatives of the circle functions
+unfoldable pub closedDvs : Format → Float → Float → SincABD → Float → Float → Dvs
+closedDvs f sigma z c e v2 =
     let da = neg (mul f half (sub f (c .b) (mul f f2 (c .d)))) in
     let dsinc = neg (mul f half (sub f (c .a) (c .b))) in
-    let dv2 = div f (sub f (sub f (mul f (mul f sigma e) da) (mul f e dsinc)) (v .v2)) delta in
-    record {
-      v0 = v .v0;
-      v1 = v .v1;
-      v2 = v .v2;
-      w0 = w0;
-      w1 = sub f (v .v2) (mul f sigma w2);
-      w2 = w2;
-      dv1 = sub f (mul f e da) (mul f sigma dv2);
-      dv2 = dv2;
-      «chi_delta» = v .«chi_delta»;
-    }
+    let dv2 = div f (sub f (sub f (mul f (mul f sigma e) da) (mul f e dsinc)) v2) (coeffsDelta f sigma z) in
+    record { dv1 = sub f (mul f e da) (mul f sigma dv2); dv2 = dv2 }
+
+-- all nine
+unfoldable pub closedJoined : Coeffs4 → Float → Ws → Dvs → Sim3Coeffs
+closedJoined v w0 w d =
+    record { v0 = v .v0; v1 = v .v1; v2 = v .v2; w0 = w0; w1 = w .w1; w2 = w .w2; dv1 = d .dv1; dv2 = d .dv2; «chi_delta» = v .«chi_delta» }
+
+unfoldable pub closedNine : Format → Float → Float → SincABD → Float → Coeffs4 → Float → Sim3Coeffs
+closedNine f sigma z c e v w0 = closedJoined v w0 (closedWs f sigma z v w0) (closedDvs f sigma z c e (v .v2))
 
 -- the exponential's numbers where 0 < σ, and elsewhere: e, m₁ and g, which is e^-σ where scaled
 abbrev pub closedE : Float → Float → Float

@@ -1,29 +1,33 @@
--- The coefficients for one sign: which arm, and whether scaled; unscaled; and v alone.
+-- The coefficients: which arm, and whether scaled; unscaled; v alone; and at both signs.
 use mathlib.Core.Bool.{Bool, false, cond}
+use lib.Dec.{ltb}
 use lib.Ieee.{Float, Format, neg, mul, lt, le}
 use Rattle.ieee.specs.Numbers.{f0, f1}
 use Rattle.series.specs.Series.{seriesFull, coeffs4}
 use Rattle.series.specs.declared.sim3.Sim3Coeffs.{Sim3Coeffs}
 use Rattle.series.specs.declared.sim3.Coeffs4.{Coeffs4}
 use Rattle.circle.specs.Kernel.{circleSincABD}
+use Rattle.circle.specs.declared.kernel.SincABD.{SincABD}
 use Rattle.coeffs.specs.Values.{mirrored}
-use Rattle.coeffs.specs.Limits.{coeffsDelta, seriesBelow, formBBelow, w0Below, seriesDepth}
+use Rattle.coeffs.specs.Limits.{coeffsDelta, formBBelow, w0Below}
+use Rattle.coeffs.specs.Arm.{coeffsArm, armTerms}
 use Rattle.coeffs.specs.Closed.{closedFrom}
 use Rattle.coeffs.specs.declared.values.Values.{Values}
 use Rattle.coeffs.specs.declared.sim3.Scaled.{Scaled}
 use Rattle.coeffs.specs.declared.sim3.VScaled.{VScaled}
 use Rattle.coeffs.specs.declared.sim3.ScaledPair.{ScaledPair}
 
--- the series arm where Δ is below its limit, and so never at a NaN; else the closed arm, scaled exactly where 0 < σ
+-- the closed forms, from the circle functions t and from et and mt: scaled exactly where 0 < σ
+abbrev pub closedScaled : Format → Float → Float → SincABD → Float → Float → Scaled
+closedScaled f sigma z t et mt = record { c = closedFrom f sigma z t et mt (le (formBBelow f) (coeffsDelta f sigma z)) (lt (mul f sigma sigma) (w0Below f)); scaled = lt f0 sigma }
+
+-- the series on the arms 1 to 4, with the terms of the arm; the closed forms on arm 5
 unfoldable pub coeffsScaled : Format → Float → Float → Values → Scaled
 coeffsScaled f sigma z v =
-    let delta = coeffsDelta f sigma z in
-    cond (lt delta (seriesBelow f))
-    (record { c = seriesFull f sigma z (seriesDepth f delta); scaled = false })
-    (record {
-      c = closedFrom f sigma z (circleSincABD f z (v .root) (v .«sin_half») (v .«cos_half») (v .sin)) (v .e) (v .m) (le (formBBelow f) delta) (lt (mul f sigma sigma) (w0Below f));
-      scaled = lt f0 sigma;
-    })
+    let arm = coeffsArm f (coeffsDelta f sigma z) in
+    cond (ltb arm 5)
+    (record { c = seriesFull f sigma z (armTerms f arm); scaled = false })
+    (closedScaled f sigma z (circleSincABD f z (v .root) (v .«sin_half») (v .«cos_half») (v .sin)) (v .e) (v .m))
 
 -- times up where scaled, times 1 elsewhere
 unfoldable pub coeffsUnscale : Format → Sim3Coeffs → Float → Bool → Sim3Coeffs

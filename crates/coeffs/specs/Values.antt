@@ -1,4 +1,4 @@
--- The ten function values that are handed in, and document 01's mirrored values.
+-- The ten function values that are handed in, and the scope's mirrored values.
 use mathlib.Core.Bool.{Bool, cond, _&&_}
 use lib.Ieee.{Float, le}
 use Rattle.ieee.specs.Numbers.{f0}

@@ -2,8 +2,8 @@
 // where 0 < sigma.
 ghost use mathlib.Core.Path.{_≡_};
 ghost use lib.Ieee.{binary64, neg};
-ghost use Rattle.coeffs.specs.Closed.{closedV0, closedW0, closedV, closedVFrom, closedFrom};
-ghost use Rattle.coeffs.specs.Shared.{closedOnly, closedWs, closedDvs, closedJoined, closedExps, closedEnds};
+ghost use Rattle.coeffs.specs.Closed.{closedV0, closedW0, closedV, closedWs, closedDvs, closedJoined, closedVFrom, closedFrom};
+ghost use Rattle.coeffs.specs.Shared.{closedOnly, closedExps, closedEnds};
 use crate::values::at_zero;
 use circle::kernel::SincA;
 use circle::kernel::SincABD;
@@ -16,7 +16,7 @@ fn v0_of(sigma: f64, g: f64, m1: f64, small: bool) -> f64
     ensures { λ r. ⌜ r ≡ closedV0 binary64 sigma g m1 small ⌝ }
 {
     if small {
-        return g * series::sim3::g1(sigma);
+        return g * series::small::g1(sigma);
     }
     let zero = at_zero(sigma);
     let ss = ieee::pick(zero, 1.0, sigma);
@@ -28,7 +28,7 @@ fn w0_of(sigma: f64, g: f64, m1: f64, small: bool) -> f64
     ensures { λ r. ⌜ r ≡ closedW0 binary64 sigma g m1 small ⌝ }
 {
     if small {
-        return g * series::sim3::g2(sigma);
+        return g * series::small::g2(sigma);
     }
     let ss = ieee::pick(at_zero(sigma), 1.0, sigma);
     (m1 - sigma * g) / (ss * ss)
@@ -109,8 +109,8 @@ fn nine(v: Coeffs4, w0: f64, w: Ws, d: Dvs) -> Sim3Coeffs
     }
 }
 
-// e^t and e^t - 1.
-pub struct Pair {
+// e^t and e^t - 1 at t = -|sigma|.
+pub struct EtMt {
     pub et: f64,
     pub mt: f64,
 }
@@ -197,8 +197,8 @@ fn ends_of(sigma: f64, x: Exps, y: Exps, small: bool) -> Ends
     ensures { λ r. ⌜ r ≡ closedEnds binary64 sigma x y small ⌝ }
 {
     if small {
-        let v = series::pair::g1_pair(sigma);
-        let w = series::pair::g2_pair(sigma);
+        let v = series::small::g1_pair(sigma);
+        let w = series::small::g2_pair(sigma);
         return Ends {
             v0: x.g * v.pos,
             w0: x.g * w.pos,
@@ -215,14 +215,14 @@ fn ends_of(sigma: f64, x: Exps, y: Exps, small: bool) -> Ends
     }
 }
 
-// All nine at sigma, from et and mt, and at -sigma, from et_neg and mt_neg: the circle functions, the
-// squares and the Horner passes are shared.
+// All nine at sigma, from x, and at -sigma, from y: the circle functions, the squares and the Horner
+// passes are shared.
 pub fn closed_both(
     sigma: f64,
     z: f64,
     t: SincABD,
-    x: Pair,
-    y: Pair,
+    x: EtMt,
+    y: EtMt,
     form_b: bool,
     small: bool,
 ) -> CoeffsPair

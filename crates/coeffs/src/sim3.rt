@@ -1,17 +1,19 @@
 // The entries of the coefficient group: scaled, unscaled, v alone, and the pair for both signs.
 ghost use mathlib.Core.Path.{_≡_};
-ghost use Prim.Native.Nat.{_≤_};
-ghost use lib.Ieee.{binary64, neg, mul, lt, le};
+ghost use lib.Ieee.{binary64};
 ghost use Rattle.linalg.specs.Vector.{vecNormSq};
-ghost use Rattle.coeffs.specs.Values.{mirrored};
-ghost use Rattle.coeffs.specs.Limits.{seriesBelow, formBBelow, w0Below, seriesDepth};
 ghost use Rattle.coeffs.specs.Group.{coeffsScaled, coeffsUnscale, coeffsUnscaleV, coeffsPlain, coeffsV, coeffsPair};
 ghost use Rattle.coeffs.specs.Shared.{closedPair};
 ghost use Rattle.coeffs.specs.Entries.{scaledTold, coeffsTold, vTold, vScaledTold, pairTold, scaledAnswer, coeffsAnswer, vAnswer, vScaledAnswer, pairAnswer};
-use crate::closed::Pair;
+use crate::closed::EtMt;
 use crate::closed::closed_both;
 use crate::closed::closed_from;
 use crate::closed::closed_v;
+use crate::limits::CLOSED;
+use crate::limits::arm;
+use crate::limits::on_form_b;
+use crate::limits::terms;
+use crate::limits::w0_small;
 use crate::values::Values;
 use crate::values::at_zero;
 use circle::kernel::SincAAnswer;
@@ -19,7 +21,6 @@ use circle::kernel::SincABD;
 use circle::kernel::SincABDAnswer;
 use linalg::vector::Vec3;
 use series::sim3::Coeffs4;
-use series::sim3::CoeffsPair;
 use series::sim3::SeriesAnswer;
 use series::sim3::SeriesPairAnswer;
 use series::sim3::SeriesVAnswer;
@@ -69,50 +70,14 @@ pub enum PairAnswer {
     Refused(u8),
 }
 
-// Whether delta is on the series arm. A NaN is not.
-fn on_series(delta: f64) -> bool
-    ensures { λ r. ⌜ r ≡ lt delta (seriesBelow binary64) ⌝ }
-{
-    delta < 1.9809567785503388
-}
-
-// Whether v1 takes its form b.
-fn on_form_b(delta: f64) -> bool
-    ensures { λ r. ⌜ r ≡ le (formBBelow binary64) delta ⌝ }
-{
-    1.9809567785503388 <= delta
-}
-
-// Whether the closed arm sums v0 and w0 by their series.
-fn w0_small(sigma: f64) -> bool
-    ensures { λ r. ⌜ r ≡ lt (mul binary64 sigma sigma) (w0Below binary64) ⌝ }
-{
-    sigma * sigma < 0.5829415347136074
-}
-
-// The series' term count at delta.
-fn depth(delta: f64) -> usize
-    ensures { λ r. ⌜ (r ≡ seriesDepth binary64 delta) × (r ≤ 64) ⌝ }
-{
-    if delta < 5.424690937011326e-5 {
-        return 6;
-    }
-    if delta < 0.042169650342858224 {
-        return 11;
-    }
-    if delta < 0.26416483203860924 {
-        return 14;
-    }
-    19
-}
-
 // The coefficients at (sigma, z = theta^2) and whether they are scaled; refusal 1 for z < 0.
 pub fn sim3_coeffs_scaled(sigma: f64, z: f64, v: Values) -> ScaledAnswer
     ensures { λ r. ⌜ scaledTold r ≡ scaledAnswer binary64 sigma z v ⌝ }
 {
     let delta = sigma * sigma + z;
-    if on_series(delta) {
-        match series::sim3::series(sigma, z, depth(delta)) {
+    let at = arm(delta);
+    if at < CLOSED {
+        match series::sim3::series(sigma, z, terms(at)) {
             SeriesAnswer::Coeffs(c) => {
                 return ScaledAnswer::Coeffs(Scaled { c, scaled: false });
             }
@@ -171,8 +136,9 @@ pub fn sim3_v_scaled(sigma: f64, z: f64, v: Values) -> VScaledAnswer
     ensures { λ r. ⌜ vScaledTold r ≡ vScaledAnswer binary64 sigma z v ⌝ }
 {
     let delta = sigma * sigma + z;
-    if on_series(delta) {
-        match series::sim3::series_v(sigma, z, depth(delta)) {
+    let at = arm(delta);
+    if at < CLOSED {
+        match series::sim3::series_v(sigma, z, terms(at)) {
             SeriesVAnswer::Coeffs(c) => {
                 return VScaledAnswer::Coeffs(VScaled { c, scaled: false });
             }
@@ -229,8 +195,8 @@ fn closed_pair(sigma: f64, z: f64, delta: f64, t: SincABD, v: Values) -> ScaledP
     let zero = at_zero(sigma);
     let e = ieee::pick(zero, v.e0, v.e);
     let m = ieee::pick(zero, v.m0, v.m);
-    let x = Pair { et: v.e, mt: v.m };
-    let y = Pair { et: e, mt: m };
+    let x = EtMt { et: v.e, mt: v.m };
+    let y = EtMt { et: e, mt: m };
     let c = closed_both(sigma, z, t, x, y, on_form_b(delta), w0_small(sigma));
     let a = c.pos;
     let b = c.neg;
@@ -252,8 +218,9 @@ pub fn sim3_coeffs_scaled_pair(sigma: f64, z: f64, v: Values) -> PairAnswer
     ensures { λ r. ⌜ pairTold r ≡ pairAnswer binary64 sigma z v ⌝ }
 {
     let delta = sigma * sigma + z;
-    if on_series(delta) {
-        match series::pair::series_pair(sigma, z, depth(delta)) {
+    let at = arm(delta);
+    if at < CLOSED {
+        match series_pair::pair::series_pair(sigma, z, terms(at)) {
             SeriesPairAnswer::Coeffs(p) => {
                 let a = p.pos;
                 let b = p.neg;

@@ -26,7 +26,7 @@ pub fn at_zero(sigma: f64) -> bool
 }
 
 impl Values {
-    // The values of the negative, document 01's mirrored values: up and down change places, and
+    // The values of the negative, the scope's mirrored values: up and down change places, and
     // where sigma is a zero so do e and e0, m and m0.
     pub fn mirrored(self, sigma: f64) -> Values
         ensures { λ r. ⌜ r ≡ mirrored sigma self ⌝ }

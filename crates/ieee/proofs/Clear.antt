@@ -1,5 +1,5 @@
--- A value that is not -0 is `clear`. A sum or a difference is -0 only where its first operand is: a sum that is not zero does not round to zero, since both operands
--- are multiples of the format's smallest value. So of values that fit and are clear, `Same` is equality. Assumes nothing.
+-- Where a result is not -0, which the names of the laws call clear. A sum is -0 only where its first operand is: a sum that is not zero does not round to zero, since both operands
+-- are multiples of the format's smallest value. So of values that fit and are not -0, `Same` is equality. Assumes nothing.
 use mathlib.Core.Path.{_≡_, refl, sym, ap, _∙_, subst}
 use mathlib.Core.Logic.{_⊎_, inl, inr}
 use Prim.Native.Nat.{ℕ, zero, suc, _+_, _-_, _*_, _^_, _≤_, _<_}
@@ -10,14 +10,14 @@ use lib.IntN.{ℤ, pos, negsuc}
 use lib.Dec.{T, ltb, leb→le, eqb→eq, lit<}
 use lib.Pow.{pow-pos, pow-add}
 use borrow.Author.Tests.{lt-ltb, le-ltb}
-use lib.Ieee.{Float, nan, inf, fin, Format, binary32, binary64, prec, emax, low, up, down, odd, units, round, neg, sum, add, sub, fits}
-use lib.Ieee.Fits.{up-pos, down-pos, and-l, and-r, round-is, add-fits, sub-fits, neg-fits}
+use lib.Ieee.{Float, nan, inf, fin, Format, binary32, binary64, prec, emax, low, up, down, odd, units, round, neg, sum, add, fits}
+use lib.Ieee.Fits.{up-pos, down-pos, and-l, and-r, round-is, add-fits}
 use lib.Ieee.Exact.{HasValue, round-exact}
 use lib.Ieee.Order.{round-mono}
 use lib.Ieee.Positive.{above, above-of-le, positive-of-value}
-use Rattle.ieee.specs.Signs.{plain, Same, clear}
+use Rattle.ieee.specs.Signs.{plain, Same, notMinusZero}
 use Rattle.ieee.proofs.Sign.{round-neg}
-use Rattle.ieee.proofs.Signed.{order, add-same, sub-same, add-comm}
+use Rattle.ieee.proofs.Signed.{order, add-same, add-comm}
 
 -- ---- what `fits` says of the exponent
 two-up : (p : ℕ) → 0 < p → 2 * p ≡ 1 → ⊥
@@ -47,7 +47,7 @@ round-above f a c C h =
     above-of-le (round f false 1 (2 ^ low f)) (round f false a c) (positive-of-value (round f false 1 (2 ^ low f)) 1 (2 ^ low f) (unit-value f) (zero-lt-suc 0))
     (round-mono f 1 (2 ^ low f) a c (pow-pos (low f)) C (rw one-mul h))
 
-neg-clear : (x : Float) → T (above x) → T (clear (neg x))
+neg-clear : (x : Float) → T (above x) → T (notMinusZero (neg x))
 unfolding neg
 neg-clear nan t = tt
 neg-clear (inf s) t = tt
@@ -55,27 +55,29 @@ neg-clear (fin true m e) t = absurd t
 neg-clear (fin false zero e) t = absurd t
 neg-clear (fin false (suc m) e) t = tt
 
-round-clear-true : (f : Format) (a c : ℕ) → 0 < c → c ≤ a * 2 ^ low f → T (clear (round f true a c))
+round-clear-true : (f : Format) (a c : ℕ) → 0 < c → c ≤ a * 2 ^ low f → T (notMinusZero (round f true a c))
 round-clear-true f a c C h = rw (round-neg f false a c) (neg-clear (round f false a c) (round-above f a c C h))
 
-odd-clear : (d q k l : ℕ) → T (clear (odd d false q k l))
+odd-clear : (d q k l : ℕ) → T (notMinusZero (odd d false q k l))
 unfolding odd
 odd-clear d zero k l = tt
 odd-clear d (suc q) k l = tt
 
-pub cond-clear : (b : Bool) (x y : Float) → T (clear x) → T (clear y) → T (clear (cond b x y))
+pub cond-clear : (b : Bool) (x y : Float) → T (notMinusZero x) → T (notMinusZero y) → T (notMinusZero (cond b x y))
 cond-clear true x y p q = p
 cond-clear false x y p q = q
 
-units-clear : (f : Format) (q k : ℕ) → T (clear (units f false q k))
+units-clear : (f : Format) (q k : ℕ) → T (notMinusZero (units f false q k))
 unfolding units
 units-clear f q k = cond-clear (ltb (q * 2 ^ k) (2 ^ (low f + suc (emax f)))) (odd (suc (prec f)) false q k (low f)) (inf false) (odd-clear (suc (prec f)) q k (low f)) tt
 
-pub round-clear-false : (f : Format) (a c : ℕ) → T (clear (round f false a c))
+pub round-clear-false : (f : Format) (a c : ℕ) → T (notMinusZero (round f false a c))
 round-clear-false f a c = rw (round-is f false a c) (units-clear f _ _)
 
 -- ---- `sum`
-sum-clear : (f : Format) (s : Bool) (a : ℕ) (t : Bool) (b c : ℕ) → 0 < c → (T s → c ≤ a * 2 ^ low f) → (a < b → c ≤ (b - a) * 2 ^ low f) → (b < a → c ≤ (a - b) * 2 ^ low f) → T (clear (sum f s a t b c))
+sum-clear :
+    (f : Format) (s : Bool) (a : ℕ) (t : Bool) (b c : ℕ) → 0 < c → (T s → c ≤ a * 2 ^ low f) → (a < b → c ≤ (b - a) * 2 ^ low f) → (b < a → c ≤ (a - b) * 2 ^ low f) →
+    T (notMinusZero (sum f s a t b c))
 unfolding sum
 sum-clear f false a false b c C h k l = round-clear-false f (a + b) c
 sum-clear f true a true b c C h k l = round-clear-true f (a + b) c C (le-trans (h tt) (mul-le-mul-right (2 ^ low f) (omega arith)))
@@ -127,14 +129,15 @@ grain A e B d L u v h = elim (ratio e d) [
 ]
 
 -- ---- `add`
-lead : (f : Format) (s : Bool) (m : ℕ) (e d : ℤ) → T (fits f (fin s m e)) → T (clear (fin s m e)) → T s → down e * down d ≤ m * up e * down d * 2 ^ low f
+lead : (f : Format) (s : Bool) (m : ℕ) (e d : ℤ) → T (fits f (fin s m e)) → T (notMinusZero (fin s m e)) → T s → down e * down d ≤ m * up e * down d * 2 ^ low f
 lead f false m e d t c g = absurd g
 lead f true zero e d t c g = absurd c
 lead f true (suc m) e d t c g =
     le-trans (mul-le-mul-right (down d) (fits-down f true (suc m) e t))
-    (le-trans (le-of-eq (times-comm (2 ^ low f) (down d))) (mul-le-mul-right (2 ^ low f) (le-trans (le-of-eq (sym (one-mul (down d)))) (mul-le-mul-right (down d) (mul-pos (zero-lt-suc m) (up-pos e))))))
+    (le-trans (le-of-eq (times-comm (2 ^ low f) (down d)))
+    (mul-le-mul-right (2 ^ low f) (le-trans (le-of-eq (sym (one-mul (down d)))) (mul-le-mul-right (down d) (mul-pos (zero-lt-suc m) (up-pos e))))))
 
-pub add-clear : (f : Format) (x y : Float) → T (fits f x) → T (fits f y) → T (clear x) → T (clear (add f x y))
+pub add-clear : (f : Format) (x y : Float) → T (fits f x) → T (fits f y) → T (notMinusZero x) → T (notMinusZero (add f x y))
 unfolding add
 add-clear f nan y p q c = tt
 add-clear f (inf s) nan p q c = tt
@@ -149,15 +152,11 @@ add-clear f (fin s m e) (fin t n d) p q c =
     (grain (m * up e) e (n * up d) d (2 ^ low f) u v)
     (λ h. le-trans (le-of-eq (times-comm (down e) (down d))) (grain (n * up d) d (m * up e) e (2 ^ low f) v u h))
 
-pub add-clear-r : (f : Format) (x y : Float) → T (fits f x) → T (fits f y) → T (clear y) → T (clear (add f x y))
+pub add-clear-r : (f : Format) (x y : Float) → T (fits f x) → T (fits f y) → T (notMinusZero y) → T (notMinusZero (add f x y))
 add-clear-r f x y p q c = rw (add-comm f x y) (add-clear f y x q p c)
 
-pub sub-clear : (f : Format) (x y : Float) → T (fits f x) → T (fits f y) → T (clear x) → T (clear (sub f x y))
-unfolding sub
-sub-clear f x y p q c = add-clear f x (neg y) p (neg-fits f y q) c
-
 -- ---- `Same` is equality
-pub plain-id : (f : Format) (x : Float) → T (fits f x) → T (clear x) → plain x ≡ x
+pub plain-id : (f : Format) (x : Float) → T (fits f x) → T (notMinusZero x) → plain x ≡ x
 unfolding plain
 plain-id f nan p c = refl
 plain-id f (inf s) p c = refl
@@ -166,12 +165,11 @@ plain-id f (fin true (suc m) e) p c = refl
 plain-id f (fin false zero e) p c = ap (λ (z : ℤ). fin false 0 z) (sym (zero-exp f false e p))
 plain-id f (fin false (suc m) e) p c = refl
 
-pub same-is : (f : Format) (x y : Float) → T (fits f x) → T (fits f y) → T (clear x) → T (clear y) → Same x y → x ≡ y
+pub same-is : (f : Format) (x y : Float) → T (fits f x) → T (fits f y) → T (notMinusZero x) → T (notMinusZero y) → Same x y → x ≡ y
 same-is f x y p q c d h = sym (plain-id f x p c) ∙ h ∙ plain-id f y q d
 
--- so a sum of values that are the same is the same value, where it starts from one that is clear
-pub add-is-same : (f : Format) (x x' y y' : Float) → T (fits f x) → T (fits f x') → T (fits f y) → T (fits f y') → T (clear x) → T (clear x') → Same x x' → Same y y' → add f x y ≡ add f x' y'
+-- so a sum of values that are the same is the same value, where it starts from one that is not -0
+pub add-is-same :
+    (f : Format) (x x' y y' : Float) → T (fits f x) → T (fits f x') → T (fits f y) → T (fits f y') → T (notMinusZero x) → T (notMinusZero x') → Same x x' → Same y y' →
+    add f x y ≡ add f x' y'
 add-is-same f x x' y y' p p' q q' c c' X Y = same-is f (add f x y) (add f x' y') (add-fits f x y) (add-fits f x' y') (add-clear f x y p q c) (add-clear f x' y' p' q' c') (add-same f x x' y y' X Y)
-
-pub sub-is-same : (f : Format) (x x' y y' : Float) → T (fits f x) → T (fits f x') → T (fits f y) → T (fits f y') → T (clear x) → T (clear x') → Same x x' → Same y y' → sub f x y ≡ sub f x' y'
-sub-is-same f x x' y y' p p' q q' c c' X Y = same-is f (sub f x y) (sub f x' y') (sub-fits f x y) (sub-fits f x' y') (sub-clear f x y p q c) (sub-clear f x' y' p' q' c') (sub-same f x x' y y' X Y)

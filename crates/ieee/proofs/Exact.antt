@@ -1,27 +1,26 @@
--- Where a result is a value that the format holds, it is that value: x + 0 and x * 1 are x, x - x is +0. And two values that fit and are the same number are `Same`.
--- Assumes nothing.
+-- Where a result is a value that the format holds, it is that value: so x + 0 is x up to the sign of a zero. And two values that fit and are the same number are
+-- `Same`. For claims on neighbouring values: between two of them lies no third. Assumes nothing.
 use mathlib.Core.Path.{_≡_, refl, sym, ap, _∙_, subst}
 use mathlib.Core.Logic.{inl, inr}
 use Prim.Native.Nat.{ℕ, zero, suc, _+_, _-_, _*_, _%_, _^_, _≤_, _<_}
-use native.Mathlib.Nat.{le-refl as ≤-refl, sub-self as minus-self, le-antisymm, not-le-of-lt, zero-lt-suc, zero-mul, mul-one, one-mul, mul-assoc, mul-left-comm, mul-pos, mul-lt-mul-of-pos-right, lt-of-mul-lt-mul-right, eq-of-mul-eq-mul-right, pow-suc, pow-succ'}
+use native.Mathlib.Nat.{le-antisymm, not-le-of-lt, zero-lt-suc, zero-mul, mul-one, mul-assoc, mul-left-comm, mul-pos}
+use native.Mathlib.Nat.{mul-lt-mul-of-pos-right, lt-of-mul-lt-mul-right, eq-of-mul-eq-mul-right, pow-suc, pow-succ'}
 use native.Mathlib.Omega.{arith}
-use mathlib.Core.Bool.{Bool, true, false, not, Bool·beq, and-false}
-use borrow.Author.Tests.{le-ltb}
+use mathlib.Core.Bool.{Bool, true, false}
 use lib.IntN.{ℤ, pos, negsuc}
 use lib.Dec.{T, ltb→lt, eqb→eq}
 use lib.Pow.{pow-pos, pow-add, pow-lt}
-use lib.Ieee.{Float, nan, inf, fin, Format, prec, emax, low, unlike, up, down, round, sum, add, sub, mul, div, le, fits}
-use lib.Ieee.Fits.{up-pos, down-pos, and-l, and-r, add-fits, round-fits}
+use lib.Ieee.{Float, nan, inf, fin, Format, prec, emax, low, up, down, round, add, le, fits}
+use lib.Ieee.Fits.{up-pos, down-pos, and-l, and-r, round-fits}
 use lib.Ieee.Exact.{HasValue, round-exact}
 use lib.Ieee.Positive.{den, den-pos}
 use lib.Ieee.Scale.{finite}
-use Rattle.ieee.specs.Numbers.{f0, f1, f2}
-use Rattle.ieee.specs.Signs.{plain, Same, clear}
+use Rattle.ieee.specs.Numbers.{f0}
+use Rattle.ieee.specs.Signs.{plain, Same}
 use Rattle.ieee.proofs.Zero.{round-zero}
-use Rattle.ieee.proofs.Signed.{order, signed, signed-same, signed-plus, signed-minus, hi, lo, Level, add-is, add-comm}
-use Rattle.ieee.proofs.Clear.{zero-exp, fits-down, tail, down-is, add-clear, same-is}
+use Rattle.ieee.proofs.Signed.{order, signed, signed-same, signed-plus, signed-minus, hi, lo, Level, add-is}
+use Rattle.ieee.proofs.Clear.{zero-exp, fits-down, tail, down-is}
 use Rattle.ieee.proofs.Order.{le→under}
-use Rattle.ieee.proofs.Mono.{mul-is}
 
 -- ---- a number above 0 is written in one way: an odd m times a power of two
 even-odd : (m t : ℕ) → m % 2 ≡ 1 → m ≡ 2 * t → ⊥
@@ -64,7 +63,9 @@ unfolding fits
 fits-top f s m e t = search (and-l, and-r, ltb→lt)
 
 -- the same sign and the same size
-one-way : (f : Format) (s : Bool) (m : ℕ) (e : ℤ) (n : ℕ) (d : ℤ) → T (fits f (fin s (suc m) e)) → T (fits f (fin s (suc n) d)) → suc m * up e * down d ≡ suc n * up d * down e → fin s (suc m) e ≡ fin s (suc n) d
+one-way :
+    (f : Format) (s : Bool) (m : ℕ) (e : ℤ) (n : ℕ) (d : ℤ) → T (fits f (fin s (suc m) e)) → T (fits f (fin s (suc n) d)) → suc m * up e * down d ≡ suc n * up d * down e →
+    fin s (suc m) e ≡ fin s (suc n) d
 one-way f s m e n d p q h =
     let r = odd-pow (suc m) (suc n) (head e + tail d) (head d + tail e) (fits-odd f s m e p) (fits-odd f s n d q)
     (rw (pow-add 2 (head e) (tail d), pow-add 2 (head d) (tail e), ← up-is e, ← up-is d, ← down-is e, ← down-is d, ← mul-assoc (suc m), ← mul-assoc (suc n)) h) in
@@ -141,53 +142,3 @@ pub add-zero-same : (f : Format) (x : Float) → T (fits f x) → Same (add f x 
 add-zero-same f nan t = unfold add in refl
 add-zero-same f (inf s) t = unfold add in refl
 add-zero-same f (fin s m e) t = add-zero-finite f (fin s m e) tt t
-
--- -0 + 0 is +0; any other x comes back
-pub add-zero-is : (f : Format) (x : Float) → T (fits f x) → T (clear x) → add f x f0 ≡ x
-add-zero-is f x t c = same-is f (add f x f0) x (add-fits f x f0) t (add-clear f x f0 t (unfold fits in tt) c) c (add-zero-same f x t)
-
-pub zero-add-is : (f : Format) (x : Float) → T (fits f x) → T (clear x) → add f f0 x ≡ x
-zero-add-is f x t c = add-comm f f0 x ∙ add-zero-is f x t c
-
--- ---- x - x
-like : (s : Bool) → Bool·beq s (not s) ≡ false
-like true = refl
-like false = refl
-
-pub sub-self : (f : Format) (x : Float) → T (finite x) → sub f x x ≡ f0
-unfolding sub sum
-sub-self f nan p = absurd p
-sub-self f (inf s) p = absurd p
-sub-self f (fin s m e) p =
-    rw (like s, le-ltb (m * up e * down e) (m * up e * down e) (≤-refl (m * up e * down e)), and-false s, minus-self (m * up e * down e))
-    (round-zero f false (down e * down e) (mul-pos (down-pos e) (down-pos e)))
-
--- ---- x * 1 and x / 1
-unlike-false : (s : Bool) → unlike s false ≡ s
-unlike-false true = refl
-unlike-false false = refl
-
-pub mul-one-is : (f : Format) (x : Float) → T (fits f x) → mul f x f1 ≡ x
-unfolding mul
-mul-one-is f nan t = refl
-mul-one-is f (inf s) t = ap inf (unlike-false s)
-mul-one-is f (fin s m e) t = rw (unlike-false s, mul-one (m * up e), mul-one (down e)) (round-id f s m e t)
-
-pub div-one-is : (f : Format) (x : Float) → T (fits f x) → div f x f1 ≡ x
-unfolding div
-div-one-is f nan t = refl
-div-one-is f (inf s) t = ap inf (unlike-false s)
-div-one-is f (fin s m e) t = rw (unlike-false s, mul-one (m * up e), one-mul (down e)) (round-id f s m e t)
-
--- ---- x + x is 2 * x
-double-finite : (f : Format) (x : Float) → T (finite x) → Same (add f x x) (mul f f2 x)
-double-finite f x p =
-    add-is f x x p p
-    ∙ ap plain (signed-same f (hi x * den x + hi x * den x) (lo x * den x + lo x * den x) (den x * den x) (2 * hi x + 0 * lo x) (2 * lo x + 0 * hi x) (1 * den x) (mul-pos (den-pos x) (den-pos x)) (mul-pos (zero-lt-suc 0) (den-pos x)) (omega arith))
-    ∙ sym (mul-is f f2 x tt p)
-
-pub double : (f : Format) (x : Float) → Same (add f x x) (mul f f2 x)
-double f nan = unfold add mul in refl
-double f (inf true) = unfold add mul in refl
-double f (inf false) = unfold add mul in refl
-double f (fin s m e) = double-finite f (fin s m e) tt

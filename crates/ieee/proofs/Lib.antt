@@ -9,6 +9,7 @@ pub mod Mono
 pub mod Exact
 pub mod Square
 pub mod Table
+pub mod Nan
 mod Limits
 pub mod Values
 pub mod Patterns

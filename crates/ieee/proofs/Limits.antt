@@ -19,7 +19,7 @@ not-turned : add binary64 (neg (fin false 1 (pos 0))) (neg (fin true 1 (pos 0)))
 unfolding add neg
 not-turned = refl
 
--- -0 + 0 is +0, so `add-zero-is` wants a value that is clear
+-- `add-zero-same` is no equality: -0 + 0 is +0
 lost : add binary64 (fin true 0 (pos 0)) (fin false 0 (pos 0)) ≡ fin false 0 (pos 0)
 unfolding add
 lost = refl

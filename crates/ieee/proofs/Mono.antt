@@ -1,22 +1,20 @@
--- Rounding keeps the order of signed fractions, so a sum grows with each operand, a difference falls as its second operand grows, and a product by a factor
--- that is not negative grows with the other factor. Infinities are included, as long as no result is a NaN. Assumes nothing.
-use mathlib.Core.Path.{_≡_, refl, _∙_, subst₂}
+-- Rounding keeps the order of signed fractions, so a sum grows with each operand. Infinities are included, as long as no result is a NaN. For claims on Δ, which
+-- rises with z, and on the arm, which rises with Δ. Assumes nothing.
+use mathlib.Core.Path.{_≡_, refl, subst₂}
 use mathlib.Core.Logic.{inl, inr}
 use Prim.Native.Nat.{ℕ, _+_, _-_, _*_, _≤_, _<_, zero-le}
-use native.Mathlib.Nat.{le-of-lt, zero-mul, mul-zero, zero-add, add-zero, mul-comm as times-comm, add-mul, mul-pos, mul-le-mul-right, mul-lt-mul-of-pos-right, zero-lt-suc}
+use native.Mathlib.Nat.{le-of-lt, zero-mul, mul-comm as times-comm, add-mul, mul-pos, mul-le-mul-right, mul-lt-mul-of-pos-right, zero-lt-suc}
 use native.Mathlib.Omega.{arith}
 use mathlib.Core.Bool.{Bool, true, false}
-use lib.IntN.{pos}
 use lib.Dec.{T}
-use lib.Ieee.{Float, nan, inf, fin, Format, up, down, round, neg, add, sub, mul, le}
-use lib.Ieee.Fits.{down-pos}
+use lib.Ieee.{Float, nan, inf, fin, Format, round, neg, add, le}
 use lib.Ieee.Positive.{den, den-pos}
 use lib.Ieee.Order.{round-mono}
 use lib.Ieee.Scale.{finite}
-use Rattle.ieee.specs.Signs.{plain, Same}
-use Rattle.ieee.proofs.Sign.{round-neg, mul-neg-l}
+use Rattle.ieee.specs.Signs.{Same}
+use Rattle.ieee.proofs.Sign.{round-neg}
 use Rattle.ieee.proofs.Zero.{round-zero}
-use Rattle.ieee.proofs.Signed.{order, signed, signed-lt, signed-ge, signed-plus, signed-minus, hi, lo, part, spread, add-is, add-comm, finite-neg}
+use Rattle.ieee.proofs.Signed.{order, signed, signed-lt, signed-ge, hi, lo, part, spread, add-is}
 use Rattle.ieee.proofs.Order.{number, le-refl, le-trans, le-same, le-neg, le→under}
 
 -- ---- a negative fraction rounds to no more than a positive one
@@ -65,7 +63,8 @@ sums-le hx lx dx hx' lx' dx' hy ly dy hy' ly' dy' X Y =
     let A = times-le (hx * dx') (lx' * dx) (hx' * dx) (lx * dx') (dy * dy') X in
     let B = times-le (hy * dy') (ly' * dy) (hy' * dy) (ly * dy') (dx * dx') Y in
     rw (spread hx dy hy dx dx' dy', spread lx' dy' ly' dx' dx dy, spread hx' dy' hy' dx' dx dy, spread lx dy ly dx dx' dy', times-comm dy' dy, times-comm dx' dx)
-    (both-le (hx * dx' * (dy * dy')) (lx' * dx * (dy * dy')) (hx' * dx * (dy * dy')) (lx * dx' * (dy * dy')) (hy * dy' * (dx * dx')) (ly' * dy * (dx * dx')) (hy' * dy * (dx * dx')) (ly * dy' * (dx * dx')) A B)
+    (both-le (hx * dx' * (dy * dy')) (lx' * dx * (dy * dy')) (hx' * dx * (dy * dy')) (lx * dx' * (dy * dy'))
+    (hy * dy' * (dx * dx')) (ly' * dy * (dx * dx')) (hy' * dy * (dx * dx')) (ly * dy' * (dx * dx')) A B)
 
 -- x and y under another name, up to the sign of a zero
 pub le-through : (x x' y y' : Float) → Same x x' → Same y y' → T (le x' y') → T (le x y)
@@ -116,51 +115,3 @@ add-mono-r f (fin s m e) (fin t n d) nan h p q = absurd (unfold le in h)
 add-mono-r f (fin s m e) (fin t n d) (inf true) h p q = absurd (unfold le in h)
 add-mono-r f (fin s m e) (fin t n d) (inf false) h p q = le-top (add f (fin s m e) (fin t n d)) p
 add-mono-r f (fin s m e) (fin t n d) (fin u o g) h p q = add-mono-finite f (fin s m e) (fin s m e) (fin t n d) (fin u o g) tt tt tt tt (le-refl (fin s m e) tt) h
-
-pub add-mono-l : (f : Format) (x x' y : Float) → T (le x x') → T (number (add f x y)) → T (number (add f x' y)) → T (le (add f x y) (add f x' y))
-add-mono-l f x x' y h p q = rw (add-comm f x y, add-comm f x' y) (add-mono-r f y x x' h (rw (add-comm f x y) at p) (rw (add-comm f x' y) at q))
-
-pub sub-mono-l : (f : Format) (x x' y : Float) → T (le x x') → T (number (sub f x y)) → T (number (sub f x' y)) → T (le (sub f x y) (sub f x' y))
-unfolding sub
-sub-mono-l f x x' y h p q = add-mono-l f x x' (neg y) h p q
-
-pub sub-anti-r : (f : Format) (x y y' : Float) → T (le y y') → T (number (sub f x y)) → T (number (sub f x y')) → T (le (sub f x y') (sub f x y))
-unfolding sub
-sub-anti-r f x y y' h p q = add-mono-r f x (neg y') (neg y) (rw (le-neg y' y) h) q p
-
--- ---- products
-pub mul-is : (f : Format) (x y : Float) → T (finite x) → T (finite y) → plain (mul f x y) ≡ plain (signed f (hi x * hi y + lo x * lo y) (hi x * lo y + lo x * hi y) (den x * den y))
-mul-is f nan y p q = absurd p
-mul-is f (inf s) y p q = absurd p
-mul-is f (fin s m e) nan p q = absurd q
-mul-is f (fin s m e) (inf t) p q = absurd q
-mul-is f (fin false m e) (fin false n d) p q = simp (mul-zero, zero-mul, add-zero) (unfold mul in (signed-plus f (m * up e * (n * up d)) (down e * down d)))
-mul-is f (fin false m e) (fin true n d) p q = simp (mul-zero, zero-mul, add-zero) (unfold mul in (signed-minus f (m * up e * (n * up d)) (down e * down d) (mul-pos (down-pos e) (down-pos d))))
-mul-is f (fin true m e) (fin false n d) p q = simp (mul-zero, zero-mul, add-zero, zero-add) (unfold mul in (signed-minus f (m * up e * (n * up d)) (down e * down d) (mul-pos (down-pos e) (down-pos d))))
-mul-is f (fin true m e) (fin true n d) p q = simp (mul-zero, zero-mul, add-zero, zero-add) (unfold mul in (signed-plus f (m * up e * (n * up d)) (down e * down d)))
-
--- a factor x that is not negative: lo x is 0
-pub lo-zero : (x : Float) → T (finite x) → T (le (fin false 0 (pos 0)) x) → lo x ≡ 0
-lo-zero nan p h = refl
-lo-zero (inf s) p h = refl
-lo-zero (fin false m e) p h = refl
-lo-zero (fin true m e) p h = omega (arith, le→under (fin false 0 (pos 0)) (fin true m e) tt tt h)
-
-mul-is-plus : (f : Format) (x y : Float) → T (finite x) → T (finite y) → lo x ≡ 0 → plain (mul f x y) ≡ plain (signed f (hi x * hi y) (hi x * lo y) (den x * den y))
-mul-is-plus f x y p q z = mul-is f x y p q ∙ simp (z, zero-mul, add-zero)
-
-products : (hx dx hy ly dy hy' ly' dy' : ℕ) → hy * dy' + ly' * dy ≤ hy' * dy + ly * dy' → hx * hy * (dx * dy') + hx * ly' * (dx * dy) ≤ hx * hy' * (dx * dy) + hx * ly * (dx * dy')
-products hx dx hy ly dy hy' ly' dy' h = omega (arith, mul-le-mul-right (hx * dx) h)
-
-pub mul-mono-finite : (f : Format) (x y y' : Float) → T (finite x) → T (finite y) → T (finite y') → T (le (fin false 0 (pos 0)) x) → T (le y y') → T (le (mul f x y) (mul f x y'))
-mul-mono-finite f x y y' p q q' z h =
-    let l = lo-zero x p z in
-    le-through (mul f x y) _ (mul f x y') _ (mul-is-plus f x y p q l) (mul-is-plus f x y' p q' l)
-    (signed-mono f (hi x * hi y) (hi x * lo y) (den x * den y) (hi x * hi y') (hi x * lo y') (den x * den y') (mul-pos (den-pos x) (den-pos y)) (mul-pos (den-pos x) (den-pos y'))
-    (products (hi x) (den x) (hi y) (lo y) (den y) (hi y') (lo y') (den y') (le→under y y' q q' h)))
-
--- by a factor that is not positive the order turns round
-pub mul-anti-finite : (f : Format) (x y y' : Float) → T (finite x) → T (finite y) → T (finite y') → T (le x (fin false 0 (pos 0))) → T (le y y') → T (le (mul f x y') (mul f x y))
-mul-anti-finite f x y y' p q q' z h =
-    let k = mul-mono-finite f (neg x) y y' (rw finite-neg p) q q' (le-trans (fin false 0 (pos 0)) (neg (fin false 0 (pos 0))) (neg x) (unfold neg le in tt) (rw (le-neg (fin false 0 (pos 0)) x) z)) h in
-    rw (← le-neg (mul f x y) (mul f x y'), ← mul-neg-l f x y, ← mul-neg-l f x y') k

@@ -1,5 +1,5 @@
--- The comparisons, as comparisons of signed fractions: `le` is reflexive, transitive and total away from a NaN, `lt` is its opposite, a sign turns both round,
--- and all three respect `Same`. Assumes nothing.
+-- The comparisons, as comparisons of signed fractions: `le` is reflexive and transitive, and respects `Same`; away from a NaN `lt` is its opposite, and a sign turns
+-- both round. Assumes nothing.
 use mathlib.Core.Path.{_≡_, refl, sym, ap, _∙_}
 use mathlib.Core.Logic.{_⊎_, inl, inr}
 use Prim.Native.Nat.{ℕ, zero, suc, _+_, _*_, _≤_, _<_, zero-le}
@@ -71,7 +71,9 @@ lt-is nan y p q = absurd p
 lt-is (inf s) y p q = absurd p
 lt-is (fin s m e) nan p q = absurd q
 lt-is (fin s m e) (inf t) p q = absurd q
-lt-is (fin s m e) (fin t n d) p q = below-is s (m * up e * down d) t (n * up d * down e) ∙ rw (over-mul s (m * up e) (down d), over-mul t (n * up d) (down e), under-mul s (m * up e) (down d), under-mul t (n * up d) (down e))
+lt-is (fin s m e) (fin t n d) p q =
+    below-is s (m * up e * down d) t (n * up d * down e)
+    ∙ rw (over-mul s (m * up e) (down d), over-mul t (n * up d) (down e), under-mul s (m * up e) (down d), under-mul t (n * up d) (down e))
 
 pub eq-is : (x y : Float) → T (finite x) → T (finite y) → eq x y ≡ eqb (side x y) (side y x)
 unfolding eq
@@ -79,7 +81,9 @@ eq-is nan y p q = absurd p
 eq-is (inf s) y p q = absurd p
 eq-is (fin s m e) nan p q = absurd q
 eq-is (fin s m e) (inf t) p q = absurd q
-eq-is (fin s m e) (fin t n d) p q = level-is s (m * up e * down d) t (n * up d * down e) ∙ rw (over-mul s (m * up e) (down d), over-mul t (n * up d) (down e), under-mul s (m * up e) (down d), under-mul t (n * up d) (down e))
+eq-is (fin s m e) (fin t n d) p q =
+    level-is s (m * up e * down d) t (n * up d * down e)
+    ∙ rw (over-mul s (m * up e) (down d), over-mul t (n * up d) (down e), under-mul s (m * up e) (down d), under-mul t (n * up d) (down e))
 
 pub le-is : (x y : Float) → T (finite x) → T (finite y) → le x y ≡ leb (side x y) (side y x)
 unfolding le
@@ -136,7 +140,7 @@ le-trans (fin s m e) (fin t n d) (inf true) h k = absurd (unfold le in k)
 le-trans (fin s m e) (fin t n d) (inf false) h k = unfold le in tt
 le-trans (fin s m e) (fin t n d) (fin u o g) h k = le-trans-finite (fin s m e) (fin t n d) (fin u o g) tt tt tt h k
 
--- ---- total: away from a NaN `lt` is the opposite of `le`
+-- ---- away from a NaN `lt` is the opposite of `le`
 ltb-not : (a b : ℕ) → ltb a b ≡ not (leb b a)
 ltb-not a b = elim (order a b) [ inl h ↦ rw (lt-ltb a b h, lt-leb b a h) refl | inr h ↦ rw (le-ltb a b h, le-leb b a h) refl ]
 
@@ -154,10 +158,6 @@ lt-not-le (fin s m e) (inf true) p q = unfold le in refl
 lt-not-le (fin s m e) (inf false) p q = unfold le in refl
 lt-not-le (fin s m e) (fin t n d) p q = rw (lt-is (fin s m e) (fin t n d) tt tt, le-is (fin t n d) (fin s m e) tt tt) (ltb-not (side (fin s m e) (fin t n d)) (side (fin t n d) (fin s m e)))
 
-T-or : (b c : Bool) → c ≡ not b → T b ⊎ T c
-T-or true c e = inl tt
-T-or false c e = inr (rw e tt)
-
 pub lt→le : (x y : Float) → T (lt x y) → T (le x y)
 unfolding le
 lt→le x y t = go (lt x y) (eq x y) t
@@ -165,9 +165,6 @@ lt→le x y t = go (lt x y) (eq x y) t
     go : (a b : Bool) → T a → T (a || b)
     go true b t = tt
     go false b t = absurd t
-
-pub le-total : (x y : Float) → T (number x) → T (number y) → T (le x y) ⊎ T (le y x)
-le-total x y p q = elim (T-or (le x y) (lt y x) (lt-not-le y x q p)) [ inl h ↦ inl h | inr h ↦ inr (lt→le y x h) ]
 
 -- ---- a sign turns an order round
 pub lt-neg : (x y : Float) → lt (neg x) (neg y) ≡ lt y x
@@ -186,7 +183,9 @@ lt-neg (fin s m e) (inf false) = unfold lt neg in refl
 lt-neg (fin s m e) (fin t n d) = finites (fin s m e) (fin t n d) tt tt
   where
     finites : (x y : Float) → T (finite x) → T (finite y) → lt (neg x) (neg y) ≡ lt y x
-    finites x y p q = lt-is (neg x) (neg y) (rw finite-neg p) (rw finite-neg q) ∙ rw (hi-neg x, hi-neg y, lo-neg x, lo-neg y, den-neg x, den-neg y) (rw (plus-comm (lo x * den y), plus-comm (lo y * den x)) (sym (lt-is y x q p)))
+    finites x y p q =
+        lt-is (neg x) (neg y) (rw finite-neg p) (rw finite-neg q)
+        ∙ rw (hi-neg x, hi-neg y, lo-neg x, lo-neg y, den-neg x, den-neg y) (rw (plus-comm (lo x * den y), plus-comm (lo y * den x)) (sym (lt-is y x q p)))
 
 pub eq-neg : (x y : Float) → eq (neg x) (neg y) ≡ eq y x
 eq-neg nan nan = unfold eq neg in refl
@@ -203,20 +202,15 @@ eq-neg (fin s m e) (inf t) = unfold eq neg in refl
 eq-neg (fin s m e) (fin t n d) = finites (fin s m e) (fin t n d) tt tt
   where
     finites : (x y : Float) → T (finite x) → T (finite y) → eq (neg x) (neg y) ≡ eq y x
-    finites x y p q = eq-is (neg x) (neg y) (rw finite-neg p) (rw finite-neg q) ∙ rw (hi-neg x, hi-neg y, lo-neg x, lo-neg y, den-neg x, den-neg y) (rw (plus-comm (lo x * den y), plus-comm (lo y * den x)) (sym (eq-is y x q p)))
+    finites x y p q =
+        eq-is (neg x) (neg y) (rw finite-neg p) (rw finite-neg q)
+        ∙ rw (hi-neg x, hi-neg y, lo-neg x, lo-neg y, den-neg x, den-neg y) (rw (plus-comm (lo x * den y), plus-comm (lo y * den x)) (sym (eq-is y x q p)))
 
 pub le-neg : (x y : Float) → le (neg x) (neg y) ≡ le y x
 unfolding le
 le-neg x y = rw (lt-neg x y, eq-neg x y)
 
 -- ---- `Same` values compare alike
-pub number-plain : (x : Float) → number (plain x) ≡ number x
-unfolding plain
-number-plain nan = refl
-number-plain (inf s) = refl
-number-plain (fin s zero e) = refl
-number-plain (fin s (suc m) e) = refl
-
 pub level→le : (x y : Float) → T (finite x) → T (finite y) → Level x y → T (le x y) × T (le y x)
 level→le x y p q h = (under→le x y p q (le-of-eq h), under→le y x q p (le-of-eq (sym h)))
 
@@ -236,16 +230,6 @@ unfolding le
 le-right nan = refl
 le-right (inf s) = refl
 le-right (fin s m e) = refl
-
-lt-left : (y : Float) → lt nan y ≡ false
-unfolding lt
-lt-left y = refl
-
-lt-right : (x : Float) → lt x nan ≡ false
-unfolding lt
-lt-right nan = refl
-lt-right (inf s) = refl
-lt-right (fin s m e) = refl
 
 -- x is the NaN or it is not
 pub nan-or : (x : Float) → (x ≡ nan) ⊎ T (number x)
@@ -271,43 +255,6 @@ le-to-plain x y = elim (nan-or x) [
 
 pub le-same : (x x' y y' : Float) → Same x x' → Same y y' → le x y ≡ le x' y'
 le-same x x' y y' p q = le-to-plain x y ∙ ap (λ (z : Float). le z (plain y)) p ∙ ap (λ (z : Float). le (plain x') z) q ∙ sym (le-to-plain x' y')
-
-lt-to-plain : (x y : Float) → lt x y ≡ lt (plain x) (plain y)
-lt-to-plain x y = elim (nan-or x) [
-  | inl e ↦ rw (e, plain-nan, lt-left y, lt-left (plain y)) refl
-  | inr p ↦ elim (nan-or y) [
-    | inl e ↦ rw (e, plain-nan, lt-right x, lt-right (plain x)) refl
-    | inr q ↦ lt-not-le x y p q ∙ ap not (le-to-plain y x) ∙ sym (lt-not-le (plain x) (plain y) (rw number-plain p) (rw number-plain q))
-  ]
-]
-
-pub lt-same : (x x' y y' : Float) → Same x x' → Same y y' → lt x y ≡ lt x' y'
-lt-same x x' y y' p q = lt-to-plain x y ∙ ap (λ (z : Float). lt z (plain y)) p ∙ ap (λ (z : Float). lt (plain x') z) q ∙ sym (lt-to-plain x' y')
-
--- ---- `eq` is both orders
-both-leb : (a b : ℕ) → eqb a b ≡ (leb a b && leb b a)
-both-leb a b =
-    iff (eqb a b) (leb a b && leb b a)
-    (λ t. let p = eqb→eq a b t in and-i (leb a b) (leb b a) (le→leb a b (omega arith)) (le→leb b a (omega arith)))
-    (λ t. let p = leb→le a b (and-l (leb a b) (leb b a) t) in let q = leb→le b a (and-r (leb a b) (leb b a) t) in eq→eqb {a = a} {b = b} (omega arith))
-
-pub eq-both : (x y : Float) → eq x y ≡ (le x y && le y x)
-eq-both nan y = unfold le in refl
-eq-both (inf s) nan = unfold le in refl
-eq-both (inf true) (inf true) = unfold le in refl
-eq-both (inf true) (inf false) = unfold le in refl
-eq-both (inf false) (inf true) = unfold le in refl
-eq-both (inf false) (inf false) = unfold le in refl
-eq-both (inf true) (fin t n d) = unfold le in refl
-eq-both (inf false) (fin t n d) = unfold le in refl
-eq-both (fin s m e) nan = unfold le in refl
-eq-both (fin s m e) (inf true) = unfold le in refl
-eq-both (fin s m e) (inf false) = unfold le in refl
-eq-both (fin s m e) (fin t n d) =
-    rw (eq-is (fin s m e) (fin t n d) tt tt, le-is (fin s m e) (fin t n d) tt tt, le-is (fin t n d) (fin s m e) tt tt) (both-leb (side (fin s m e) (fin t n d)) (side (fin t n d) (fin s m e)))
-
-pub eq-same : (x x' y y' : Float) → Same x x' → Same y y' → eq x y ≡ eq x' y'
-eq-same x x' y y' p q = eq-both x y ∙ rw (le-same x x' y y' p q, le-same y y' x x' q p) (sym (eq-both x' y'))
 
 -- ---- `lt`, chained
 pub lt-number : (x y : Float) → T (lt x y) → T (number x) × T (number y)

@@ -1,12 +1,11 @@
--- `mul` respects `Same`, and so does `div` in its dividend. (In its divisor it does not: 1 / +0 is +∞, and 1 / -0 is -∞.) Assumes nothing.
+-- `mul` respects `Same`. (`div` does not in its divisor: 1 / +0 is +∞, and 1 / -0 is -∞.) Assumes nothing.
 use mathlib.Core.Path.{_≡_, refl, sym, ap, _∙_}
 use Prim.Native.Nat.{ℕ, zero, suc, _*_, _<_}
-use native.Mathlib.Nat.{zero-mul, mul-pos, zero-lt-suc}
+use native.Mathlib.Nat.{zero-mul, mul-pos}
 use mathlib.Core.Bool.{Bool, false}
 use lib.IntN.{ℤ, pos}
-use lib.Dec.{eqb·suc-zero}
-use lib.Ieee.{Float, nan, inf, fin, Format, unlike, up, down, round, mul, div}
-use lib.Ieee.Fits.{up-pos, down-pos}
+use lib.Ieee.{Float, nan, inf, fin, Format, unlike, up, down, round, mul}
+use lib.Ieee.Fits.{down-pos}
 use Rattle.ieee.specs.Signs.{plain, Same}
 use Rattle.ieee.proofs.Sign.{mul-comm}
 use Rattle.ieee.proofs.Zero.{round-zero}
@@ -40,24 +39,3 @@ plain-mul f (fin s (suc m) e) (fin t (suc n) d) = refl
 
 pub mul-same : (f : Format) (x x' y y' : Float) → Same x x' → Same y y' → Same (mul f x y) (mul f x' y')
 mul-same f x x' y y' p q = plain-mul f x y ∙ ap (λ (z : Float). plain (mul f z (plain y))) p ∙ ap (λ (z : Float). plain (mul f (plain x') z)) q ∙ sym (plain-mul f x' y')
-
--- ---- the dividend
-div-zero-l : (f : Format) (s : Bool) (e : ℤ) (t : Bool) (n : ℕ) (d : ℤ) → plain (div f (fin s 0 e) (fin t n d)) ≡ plain (div f (fin false 0 (pos 0)) (fin t n d))
-unfolding div
-div-zero-l f s e t zero d = refl
-div-zero-l f s e t (suc n) d =
-    rw (eqb·suc-zero n)
-    (round-nothing f (unlike s t) (0 * up e * down d) (suc n * up d * down e) (mul-pos (mul-pos (zero-lt-suc n) (up-pos d)) (down-pos e)) (simp zero-mul)
-    ∙ sym (round-nothing f (unlike false t) (0 * 1 * down d) (suc n * up d * 1) (mul-pos (mul-pos (zero-lt-suc n) (up-pos d)) (zero-lt-suc 0)) (simp zero-mul)))
-
-plain-div : (f : Format) (x y : Float) → plain (div f x y) ≡ plain (div f (plain x) y)
-unfolding plain
-plain-div f nan y = refl
-plain-div f (inf s) y = refl
-plain-div f (fin s zero e) nan = unfold div in refl
-plain-div f (fin s zero e) (inf t) = unfold div in refl
-plain-div f (fin s zero e) (fin t n d) = div-zero-l f s e t n d
-plain-div f (fin s (suc m) e) y = refl
-
-pub div-same : (f : Format) (x x' y : Float) → Same x x' → Same (div f x y) (div f x' y)
-div-same f x x' y p = plain-div f x y ∙ ap (λ (z : Float). plain (div f z y)) p ∙ sym (plain-div f x' y)

@@ -3,7 +3,8 @@
 use mathlib.Core.Path.{_≡_, refl, sym, ap, _∙_, subst₂}
 use mathlib.Core.Logic.{_⊎_, inl, inr}
 use Prim.Native.Nat.{ℕ, zero, suc, _+_, _-_, _*_, _≤_, _<_, zero-le}
-use native.Mathlib.Nat.{not-le-of-lt, le-of-lt, lt-of-mul-lt-mul-right, le-of-eq, zero-mul, zero-add, add-zero, add-comm as plus-comm, sub-zero, mul-comm as times-comm, mul-pos, eq-zero-or-pos, add-mul, mul-lt-mul-of-pos-right}
+use native.Mathlib.Nat.{not-le-of-lt, le-of-lt, lt-of-mul-lt-mul-right, le-of-eq, zero-mul, zero-add, add-zero, add-comm as plus-comm, sub-zero}
+use native.Mathlib.Nat.{mul-comm as times-comm, mul-pos, eq-zero-or-pos, add-mul, mul-lt-mul-of-pos-right}
 use native.Mathlib.Omega.{arith}
 use mathlib.Core.Bool.{Bool, true, false, not, Bool·beq, cond}
 use lib.IntN.{ℤ, pos}
@@ -14,7 +15,7 @@ use lib.Ieee.Fits.{down-pos}
 use lib.Ieee.Positive.{den, den-pos}
 use lib.Ieee.Scale.{round-same, finite}
 use Rattle.ieee.specs.Signs.{plain, Same}
-use Rattle.ieee.proofs.Sign.{neg-neg, neg-cond, round-neg}
+use Rattle.ieee.proofs.Sign.{neg-cond, round-neg}
 use Rattle.ieee.proofs.Zero.{neg-same, round-zero}
 
 -- ---- the two parts of ±a: one of them is 0
@@ -77,9 +78,6 @@ signed-same f p n c p' n' c' C C' e = elim (order p n) [ inl h ↦ below h | inr
         ∙ sym (signed-ge f p' n' c' h')
 
 -- ---- `sum`
-below-nothing : (a b : ℕ) → a + b ≡ 0 → b ≡ 0
-below-nothing a b e = omega arith
-
 no-difference : (a b : ℕ) → a ≤ b → b ≤ a → a - b ≡ b - a
 no-difference a b h k = omega arith
 
@@ -156,7 +154,8 @@ sums hx lx dx hx' lx' dx' hy ly dy hy' ly' dy' X Y =
     let A = times (hx * dx') (lx' * dx) (hx' * dx) (lx * dx') (dy * dy') X in
     let B = times (hy * dy') (ly' * dy) (hy' * dy) (ly * dy') (dx * dx') Y in
     rw (spread hx dy hy dx dx' dy', spread lx' dy' ly' dx' dx dy, spread hx' dy' hy' dx' dx dy, spread lx dy ly dx dx' dy', times-comm dy' dy, times-comm dx' dx)
-    (both (hx * dx' * (dy * dy')) (lx' * dx * (dy * dy')) (hx' * dx * (dy * dy')) (lx * dx' * (dy * dy')) (hy * dy' * (dx * dx')) (ly' * dy * (dx * dx')) (hy' * dy * (dx * dx')) (ly * dy' * (dx * dx')) A B)
+    (both (hx * dx' * (dy * dy')) (lx' * dx * (dy * dy')) (hx' * dx * (dy * dy')) (lx * dx' * (dy * dy'))
+    (hy * dy' * (dx * dx')) (ly' * dy * (dx * dx')) (hy' * dy * (dx * dx')) (ly * dy' * (dx * dx')) A B)
 
 pub add-level : (f : Format) (x x' y y' : Float) → T (finite x) → T (finite x') → T (finite y) → T (finite y') → Level x x' → Level y y' → Same (add f x y) (add f x' y')
 add-level f x x' y y' p p' q q' X Y =
@@ -294,8 +293,3 @@ add-comm f (inf s) (fin t n d) = refl
 add-comm f (fin s m e) nan = refl
 add-comm f (fin s m e) (inf t) = refl
 add-comm f (fin s m e) (fin t n d) = sum-comm f s (m * up e * down d) t (n * up d * down e) (down e * down d) ∙ rw (times-comm (down e) (down d))
-
--- x - y is -(y - x)
-pub sub-swap : (f : Format) (x y : Float) → Same (sub f x y) (neg (sub f y x))
-unfolding sub
-sub-swap f x y = ap plain (add-comm f x (neg y) ∙ ap (λ (z : Float). add f (neg y) z) (sym (neg-neg x))) ∙ neg-add f y (neg x)

@@ -2,11 +2,11 @@
 use mathlib.Core.Path.{_≡_, refl, sym, ap, _∙_, subst}
 use mathlib.Core.List.{List, [], _∷_}
 use mathlib.Core.Bool.{Bool, true, false, _&&_, Bool·beq}
-use Prim.Native.Nat.{ℕ, zero, suc, _+_, _<_}
+use Prim.Native.Nat.{ℕ, suc}
 use lib.Dec.{T, eqb, eqb→eq}
 use lib.ListN.{length}
 use lib.IntN.{ℤ, pos, negsuc}
-use lib.Ieee.{Float, nan, inf, fin, Format, round, ofBits, toBits}
+use lib.Ieee.{Float, nan, inf, fin, Format, ofBits, toBits}
 use lib.Ieee.Fits.{and-l, and-r, round-fits}
 use lib.Ieee.Bits.{ofBits-toBits}
 use Rattle.ieee.specs.Table.{Rational, rounded, entries}

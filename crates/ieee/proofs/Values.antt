@@ -11,7 +11,7 @@ use lib.Ieee.{Float, nan, inf, fin, Format, up, down, round, fits, isNan}
 use lib.Ieee.Exact.{HasValue}
 use lib.Ieee.Fits.{down-pos}
 use lib.Ieee.Scale.{finite, round-same}
-use Rattle.ieee.specs.Signs.{clear}
+use Rattle.ieee.specs.Signs.{notMinusZero}
 use Rattle.ieee.proofs.Order.{number}
 use Rattle.ieee.proofs.Exact.{round-id}
 
@@ -31,10 +31,10 @@ value-not-nan nan s a c h = absurd h
 value-not-nan (inf t) s a c h = absurd h
 value-not-nan (fin t m e) s a c h = tt
 
-pub value-clear : (x : Float) (a c : ℕ) → HasValue x false a c → T (clear x)
+pub value-clear : (x : Float) (a c : ℕ) → HasValue x false a c → T (notMinusZero x)
 value-clear nan a c h = absurd h
 value-clear (inf t) a c h = absurd h
-value-clear (fin t m e) a c h = subst (λ s. T (clear (fin s m e))) (sym (h .0)) tt
+value-clear (fin t m e) a c h = subst (λ s. T (notMinusZero (fin s m e))) (sym (h .0)) tt
 
 pub value-rounds : (f : Format) (x : Float) (s : Bool) (a c : ℕ) → T (fits f x) → 0 < c → HasValue x s a c → round f s a c ≡ x
 value-rounds f nan s a c t C h = absurd h

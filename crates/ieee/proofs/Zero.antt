@@ -3,17 +3,10 @@
 use mathlib.Core.Path.{_≡_, refl, sym, ap, _∙_}
 use Prim.Native.Nat.{ℕ, zero, suc, _<_, compare·zero-suc}
 use native.Mathlib.Nat.{lt-irrefl, zero-mul, zero-div, zero-mod, mul-one}
-use mathlib.Core.Bool.{Bool, false}
+use mathlib.Core.Bool.{Bool}
 use lib.IntN.{pos}
 use lib.Ieee.{Float, nan, inf, fin, Format, binary32, binary64, size, odd, units, round, neg}
 use Rattle.ieee.specs.Signs.{plain, Same}
-
-pub plain-plain : (x : Float) → plain (plain x) ≡ plain x
-unfolding plain
-plain-plain nan = refl
-plain-plain (inf s) = refl
-plain-plain (fin s zero e) = refl
-plain-plain (fin s (suc m) e) = refl
 
 -- ---- `neg`
 plain-neg : (x : Float) → plain (neg x) ≡ plain (neg (plain x))

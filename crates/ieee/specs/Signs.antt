@@ -17,9 +17,9 @@ abbrev pub Same : Float → Float → Type 0
 Same x y = plain x ≡ plain y
 
 -- not -0
-abbrev pub clear : Float → Bool
-clear nan = true
-clear (inf s) = true
-clear (fin false m e) = true
-clear (fin true zero e) = false
-clear (fin true (suc m) e) = true
+abbrev pub notMinusZero : Float → Bool
+notMinusZero nan = true
+notMinusZero (inf s) = true
+notMinusZero (fin false m e) = true
+notMinusZero (fin true zero e) = false
+notMinusZero (fin true (suc m) e) = true

@@ -1,10 +1,8 @@
 -- The rule of a table: entry i is an exact rational, rounded once to the format.
 use mathlib.Core.List.{List, [], _∷_}
-use mathlib.Core.Bool.{Bool, true, false, not, _&&_, Bool·beq}
+use mathlib.Core.Bool.{Bool}
 use Prim.Native.Nat.{ℕ, zero, suc, _*_}
-use lib.Dec.{eqb}
-use lib.IntN.{ℤ, pos, negsuc}
-use lib.Ieee.{Float, nan, inf, fin, Format, round}
+use lib.Ieee.{Float, Format, round}
 
 -- n!
 unfoldable pub factorial : ℕ → ℕ

@@ -4,3 +4,4 @@ pub mod DenseRows
 pub mod Blocks
 pub mod Side
 pub mod Pair
+pub mod Examples

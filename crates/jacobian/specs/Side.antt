@@ -1,4 +1,4 @@
--- The Jacobians of the exponential, the action, composition and inverse on both sides, each with the values and matrices that document 01 gives it.
+-- The Jacobians of the exponential, the action, composition and inverse on both sides, each with the values and matrices that the scope gives it.
 use lib.Ieee.{Float, Format}
 use Rattle.ieee.specs.Numbers.{f0, f1}
 use Rattle.linalg.specs.Vector.{vecNeg}

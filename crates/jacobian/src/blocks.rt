@@ -107,18 +107,19 @@ pub fn jl_blocks_with(phi: Vec3, rho: Vec3, c: Sim3Coeffs, jl: Mat3) -> Sim3Jac
     }
 }
 
-// J_l(tau) and its inverse from the coefficients as their arm forms them at z = |phi|^2: c of the
-// inverse from the scaled v, e^-sigma applied last; b and f from the unscaled block.
-pub fn jl_and_inverse_from(
+// J_l(tau) and its inverse from the coefficients as their arm forms them at z: c of the inverse from
+// the scaled v, e^-sigma applied last; b and f from the unscaled block.
+pub(crate) fn jl_and_inverse_at(
     phi: Vec3,
     rho: Vec3,
+    z: f64,
     s: Scaled,
     jl: Mat3,
     jl_inv: Mat3,
     up: f64,
     down: f64,
 ) -> JacAndInverse
-    ensures { λ r. ⌜ r ≡ jlAndInverseFrom binary64 phi rho (vecNormSq binary64 phi) s jl «jl_inv» up down ⌝ }
+    ensures { λ r. ⌜ r ≡ jlAndInverseFrom binary64 phi rho z s jl «jl_inv» up down ⌝ }
 {
     let c = s.c;
     let j = jl_blocks_with(phi, rho, coeffs::sim3::unscale(c, up, s.scaled), jl);
@@ -128,7 +129,6 @@ pub fn jl_and_inverse_from(
         x2: c.v2,
     };
     let inv_scale = ieee::pick(s.scaled, down, 1.0);
-    let z = phi.norm_sq();
     let ci = poly(phi, inv_coeffs(v, z)).scale(inv_scale);
     let b = ci.mul(j.b).mul(jl_inv).neg();
     let f = ci.mul_vec(j.f).neg();
@@ -140,4 +140,19 @@ pub fn jl_and_inverse_from(
         e: 1.0,
     };
     JacAndInverse { j, inv }
+}
+
+// The same at z = |phi|^2.
+pub fn jl_and_inverse_from(
+    phi: Vec3,
+    rho: Vec3,
+    s: Scaled,
+    jl: Mat3,
+    jl_inv: Mat3,
+    up: f64,
+    down: f64,
+) -> JacAndInverse
+    ensures { λ r. ⌜ r ≡ jlAndInverseFrom binary64 phi rho (vecNormSq binary64 phi) s jl «jl_inv» up down ⌝ }
+{
+    jl_and_inverse_at(phi, rho, phi.norm_sq(), s, jl, jl_inv, up, down)
 }

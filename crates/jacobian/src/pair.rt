@@ -2,8 +2,10 @@
 ghost use mathlib.Core.Path.{_≡_};
 ghost use lib.Ieee.{binary64};
 ghost use Rattle.jacobian.specs.Pair.{blockPair};
-use crate::blocks::jl_and_inverse_from;
+use crate::blocks::jl_and_inverse_at;
 use crate::jac::Sim3Jac;
+use coeffs::sim3::PairAnswer;
+use coeffs::sim3::sim3_coeffs_scaled_pair;
 use coeffs::values::Values;
 use linalg::matrix::Mat3;
 use sim3::tangent::Sim3Tangent;
@@ -16,21 +18,35 @@ pub struct BlockPair {
     pub right_inv: Sim3Jac,
 }
 
+// What stands in an arm that is never taken.
+fn no_blocks() -> BlockPair {
+    BlockPair {
+        left: Sim3Jac::identity(),
+        left_inv: Sim3Jac::identity(),
+        right: Sim3Jac::identity(),
+        right_inv: Sim3Jac::identity(),
+    }
+}
+
 // The left block and inverse of tau, and those of -tau on the mirrored values and the transposed
 // matrices, which are the right ones: as the end of the Rust's log_inverses assembles them, with
-// J_l(phi) and its inverse given.
+// J_l(phi) and its inverse given. |phi|^2 is the same at -phi, and never below zero: nothing is
+// refused. The coefficients are read where the entry has put them, without a copy.
 pub fn block_pair(tau: Sim3Tangent, v: Values, jl_phi: Mat3, jl_inv: Mat3) -> BlockPair
     ensures { λ r. ⌜ r ≡ blockPair binary64 tau v «jl_phi» «jl_inv» ⌝ }
 {
     let phi = tau.phi;
     let rho = tau.rho;
-    let p = coeffs::sim3::sim3_coeffs_scaled_pair_of(phi, tau.sigma, v);
+    let z = phi.norm_sq();
+    let PairAnswer::Coeffs(p) = sim3_coeffs_scaled_pair(tau.sigma, z, v) else {
+        return no_blocks();
+    };
     let pos = p.pos;
     let neg = p.neg;
-    let l = jl_and_inverse_from(phi, rho, pos, jl_phi, jl_inv, v.up, v.down);
+    let l = jl_and_inverse_at(phi, rho, z, pos, jl_phi, jl_inv, v.up, v.down);
     let jt = jl_phi.transpose();
     let it = jl_inv.transpose();
-    let r = jl_and_inverse_from(phi.neg(), rho.neg(), neg, jt, it, v.down, v.up);
+    let r = jl_and_inverse_at(phi.neg(), rho.neg(), z, neg, jt, it, v.down, v.up);
     let left = l.j;
     let left_inv = l.inv;
     let right = r.j;

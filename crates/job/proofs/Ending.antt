@@ -3,14 +3,15 @@ use Prim.Native.Nat.{ℕ, _+_, _≤_}
 use mathlib.Core.Path.{_≡_, refl}
 use mathlib.Core.Bool.{true}
 use mathlib.Core.List.{List, _++_}
+use native.Mathlib.Nat.{add-assoc}
 use native.Mathlib.Omega.{arith}
-use lib.ListN.{length}
+use lib.ListN.{length, length-append}
 use lib.Seq.{sets}
 use Rattle.wire.specs.Wire.{countBytes}
-use Rattle.wire.proofs.Runs.{sizes, runs}
-use Rattle.marks.specs.Marks.{longest, unknownMark, cutRecord, letterZ}
-use Rattle.marks.specs.Reply.{markBytes, noBytes}
-use Rattle.marks.proofs.Replies.{mark-length, no-length}
+use Rattle.wire.proofs.Bytes.{count-length}
+use Rattle.layout.proofs.Runs.{sets-split}
+use Rattle.outcome.specs.Outcome.{longest, unknownMark, cutRecord, markBytes, noBytes}
+use Rattle.outcome.proofs.Record.{mark-length, no-length}
 use Rattle.job.specs.declared.Counts.{Counts}
 use Rattle.job.specs.declared.Reason.{Reason}
 use Rattle.job.specs.declared.Reason.the-variants.{More, Room, Bad, Full, End, Unknown, Cut}
@@ -18,9 +19,14 @@ use Rattle.job.specs.Job.{trailer}
 use Rattle.job.specs.Inner.{trailerLength}
 use Rattle.job.specs.Feed.{closing, closingOf, ends}
 
+-- how long the pieces are, and a run of several pieces as the runs that the code writes
+ruleset sizes = (length-append, count-length)
+
+ruleset runs = (sets-split, add-assoc, sizes)
+
 pub trailer-run :
     (c : Counts) (l : List ℕ) (i : ℕ) →
-    sets (sets (sets (sets l i (markBytes letterZ letterZ)) (i + 2) (countBytes (c .begun))) (i + 6) (countBytes (c .answered))) (i + 10) (countBytes (c .refused)) ≡ sets l i (trailer c)
+    sets (sets (sets (sets l i (markBytes 0x5a 0x5a)) (i + 2) (countBytes (c .begun))) (i + 6) (countBytes (c .answered))) (i + 10) (countBytes (c .refused)) ≡ sets l i (trailer c)
 unfolding trailer
 trailer-run c l i = simp (runs, mark-length)
 

@@ -9,12 +9,13 @@ use lib.Ieee.{ofBits, toBits, add, sub, mul}
 use Rattle.linalg.specs.Vector.{vecScale, vecCross, vecAdd, vecNumbers}
 use Rattle.so3.specs.So3.{so3Act}
 use Rattle.sim3.specs.Pose.{poseAct}
-use Rattle.wire.specs.Wire.{wordOf, wordBytes, doubleOf, doubleAt, doubleBytes, doublesBytes, countBytes}
-use Rattle.marks.specs.Marks.{markKnown, markOf, widthOf}
-use Rattle.marks.specs.Layout.{vecAt, quatAt, poseAt}
-use Rattle.marks.specs.Reply.{markBytes, noBytes, replyOf, acOf}
+use Rattle.layout.specs.Layout.{vecIn, quatIn, poseIn}
+use Rattle.wire.specs.Wire.{wordOf, wordBytes, numberOf, numberAt, numberBytes, itemBytes, itemsBytes, numbers, countBytes}
+use Rattle.outcome.specs.Outcome.{markBytes, noBytes, replyOf, Found, took, ended, unknown, cut, recordFound}
+use Rattle.replies.specs.Table.{acOf, answerOf, entryReply}
+use Rattle.marks.specs.Marks.{markKnown, markOf, foundAt, foundOf}
 use Rattle.job.specs.Counts.{countsMore}
-use Rattle.job.specs.Job.{Found, took, ended, unknown, cut, foundAt, foundOf, trailer, jobOn, jobFrom, jobOf, jobLimit}
+use Rattle.job.specs.Job.{trailer, jobOn, jobFrom, jobOf, jobLimit}
 
 -- a double by its two greatest bytes, the others 0
 double : ℕ → ℕ → List ℕ
@@ -41,7 +42,7 @@ record-in =
     ++ (zero ++ (one ++ (double 0x00 0x40 ++ (double 0x08 0x40 ++ (zero ++ (one ++ (double 0x10 0x40 ++ (double 0x14 0x40 ++ double 0x18 0x40)))))))))))
 
 answered : jobOf jobLimit record-in ≡ 0x41 ∷ 0x43 ∷ (double 0x14 0x40 ++ (double 0x1c 0x40 ++ (double 0x22 0x40 ++ counts 1 1 0)))
-unfolding ofBits toBits add sub mul vecScale vecCross vecAdd so3Act poseAct vecAt quatAt poseAt vecNumbers wordOf wordBytes doubleOf doubleAt doubleBytes doublesBytes countBytes markKnown markOf markBytes replyOf acOf countsMore foundAt foundOf trailer jobOn jobFrom double zero one counts record-in
+unfolding ofBits toBits add sub mul vecScale vecCross vecAdd so3Act poseAct vecIn quatIn poseIn vecNumbers wordOf wordBytes numberOf numberAt numberBytes itemBytes itemsBytes numbers countBytes markKnown markOf markBytes replyOf acOf answerOf entryReply countsMore recordFound foundAt foundOf trailer jobOn jobFrom double zero one counts record-in
 answered = refl
 
 -- nothing at all
@@ -56,12 +57,12 @@ half = refl
 
 -- a record that is cut after its mark
 cut-short : jobOf jobLimit (0x41 ∷ 0x43 ∷ 0 ∷ []) ≡ 0x4e ∷ 0x4f ∷ 7 ∷ counts 1 0 1
-unfolding wordBytes countBytes markKnown markOf markBytes noBytes countsMore foundAt foundOf trailer jobOn jobFrom counts
+unfolding wordBytes countBytes markKnown markOf markBytes noBytes countsMore recordFound foundAt foundOf trailer jobOn jobFrom counts
 cut-short = refl
 
 -- a mark that is not in the table, with nothing behind it
 unlisted : jobOf jobLimit (0x51 ∷ 0x51 ∷ []) ≡ 0x4e ∷ 0x4f ∷ 6 ∷ counts 1 0 1
-unfolding wordBytes countBytes markKnown markOf markBytes noBytes countsMore foundAt foundOf trailer jobOn jobFrom counts
+unfolding wordBytes countBytes markKnown markOf markBytes noBytes countsMore recordFound foundAt foundOf trailer jobOn jobFrom counts
 unlisted = refl
 
 -- at the limit no mark is looked at
@@ -107,5 +108,5 @@ right [] = true
 right (r ∷ rs) = eqb (taken (found r (r .bytes))) (2 + r .bytes) && (isCut (found r (r .bytes - 1)) && right rs)
 
 lengths : right table ≡ true
-unfolding right table found taken isCut foundOf foundAt markOf markKnown
+unfolding right table found taken isCut foundOf foundAt recordFound markOf markKnown
 lengths = refl

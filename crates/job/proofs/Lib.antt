@@ -1,6 +1,4 @@
 -- The laws of the job, from one record to any run of a program.
-pub mod Never
-pub mod Heads
 pub mod Turns
 pub mod Loop
 pub mod Steps

@@ -7,16 +7,16 @@ use native.Mathlib.Nat.{zero-add, add-zero, sub-zero}
 use native.Mathlib.Omega.{arith}
 use lib.ListN.{length, take, drop, length-drop, length-append, take-append-drop}
 use lib.Seq.{sets, sets-eq, length-sets, length-take-le, drop-drop, take-at, drop-at}
-use Rattle.wire.proofs.Runs.{sets-front}
-use Rattle.marks.specs.Marks.{longest}
+use Rattle.layout.proofs.Runs.{sets-front}
 use Rattle.job.specs.declared.Counts.{Counts}
 use Rattle.job.specs.declared.Fed.{Fed}
 use Rattle.job.specs.declared.Reason.{Reason}
 use Rattle.job.specs.Counts.{countsMore}
-use Rattle.job.specs.Job.{took, foundOf}
+use Rattle.outcome.specs.Outcome.{longest, took}
+use Rattle.marks.specs.Marks.{foundOf}
 use Rattle.job.specs.Feed.{halt, after, recordsOf, toldPart}
 use Rattle.job.specs.Inner.{Sound}
-use Rattle.job.proofs.Heads.{taken}
+use Rattle.marks.proofs.Heads.{taken}
 use Rattle.job.proofs.Turns.{records-took, after-after, counted-begun}
 
 pub counted-sound : (ok : Bool) (limit : ℕ) (c : Counts) → Sound limit c → (c .begun ≡ limit → ⊥) → Sound limit (countsMore ok c)

@@ -9,16 +9,16 @@ use borrow.Author.Tests.{leb-true, eqb-true, le-leb, eq-eqb}
 use lib.ListN.{length, drop, length-append, length-drop}
 use lib.Seq.{sets, length-sets}
 use lib.Dec.{leb}
-use Rattle.wire.proofs.Runs.{sets-front, sets-split}
-use Rattle.marks.specs.Marks.{longest}
+use Rattle.layout.proofs.Runs.{sets-front, sets-split}
+use Rattle.outcome.specs.Outcome.{longest}
 use Rattle.job.specs.declared.Counts.{Counts}
 use Rattle.job.specs.declared.Fed.{Fed}
 use Rattle.job.specs.declared.Reason.the-variants.{Bad}
 use Rattle.job.specs.Counts.{countsSound}
 use Rattle.job.specs.Feed.{Part, halt, closed, closing, ends, recordsOf, feedOf, toldPart}
 use Rattle.job.specs.Inner.{Sound}
-use Rattle.job.proofs.Never.{untrue}
-use Rattle.job.proofs.Heads.{taken}
+use Rattle.outcome.proofs.Never.{untrue}
+use Rattle.marks.proofs.Heads.{taken}
 use Rattle.job.proofs.Turns.{records-by}
 use Rattle.job.proofs.Ending.{closing-fits}
 

@@ -4,14 +4,13 @@ use mathlib.Core.Path.{_≡_, refl}
 use mathlib.Core.Bool.{Bool, true, false}
 use mathlib.Core.List.{List, []}
 use native.Mathlib.Omega.{arith}
-use Rattle.marks.specs.Marks.{longest}
 use Rattle.job.specs.declared.Counts.{Counts}
 use Rattle.job.specs.declared.Reason.{Reason}
 use Rattle.job.specs.declared.Reason.the-variants.{More, Room, Bad}
 use Rattle.job.specs.Counts.{countsMore, countsSound}
-use Rattle.job.specs.Job.{Found}
+use Rattle.outcome.specs.Outcome.{longest, Found}
 use Rattle.job.specs.Feed.{Part, recordsOf, feedOf}
-use Rattle.job.proofs.Never.{never}
+use Rattle.outcome.proofs.Never.{never}
 use Rattle.job.proofs.Turns.{Stops, at-end, at-pause, at-unknown, at-cut, at-part, records-by, counted-begun}
 use Rattle.job.proofs.Pieces.{feed-good}
 

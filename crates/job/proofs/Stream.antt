@@ -8,50 +8,19 @@ use borrow.Author.Tests.{ltb-false, le-ltb}
 use lib.ListN.{length, take, drop, length-append}
 use lib.Seq.{take-append-le, drop-append-le, drop-drop}
 use lib.Dec.{ltb}
-use Rattle.marks.specs.declared.Mark.{Mark}
-use Rattle.linalg.specs.Answer.{Answer, answers, refuses}
-use Rattle.marks.specs.Marks.{markOf, widthOf, longest}
-use Rattle.marks.specs.Reply.{replyOf}
 use Rattle.job.specs.declared.Counts.{Counts}
 use Rattle.job.specs.declared.Reason.{Reason}
 use Rattle.job.specs.declared.Reason.the-variants.{Room, Full, End, Unknown, Cut, More}
 use Rattle.job.specs.Counts.{countsMore, countsSound}
-use Rattle.job.specs.Job.{Found, took, ended, unknown, cut, foundAt, foundOf, jobOn, jobFrom}
+use Rattle.outcome.specs.Outcome.{longest, Found, took, ended, unknown, cut}
+use Rattle.marks.specs.Marks.{foundOf}
+use Rattle.job.specs.Job.{jobOn, jobFrom}
 use Rattle.job.specs.Feed.{goesOn, Part, halt, after, closing, closingOf, recordsOf, feedOf}
 use Rattle.job.specs.Run.{jobWith}
-use Rattle.job.proofs.Never.{untrue}
-use Rattle.job.proofs.Heads.{taken}
+use Rattle.outcome.proofs.Never.{untrue}
+use Rattle.marks.proofs.Heads.{taken, found-more}
 use Rattle.job.proofs.Turns.{Stops, at-end, at-pause, at-unknown, at-cut, at-part, records-by, counted-begun}
 use Rattle.job.proofs.Pieces.{feed-good}
-
--- ---- a record is what it is, whatever follows it
-
--- what more input cannot change
-abbrev settled : Found → Bool
-settled (took ok k b) = true
-settled ended = false
-settled unknown = true
-settled cut = false
-
-cut-more :
-    (t : Bool) (m : Mark) (s ys : List ℕ) → ltb (length s) (widthOf m) ≡ t → (f : Found) →
-    (let r = replyOf m (take (widthOf m) s) in cond t cut (took (r .ok) (2 + widthOf m) (r .bytes))) ≡ f → settled f ≡ true → foundAt (answers m) (s ++ ys) ≡ f
-unfolding foundAt
-cut-more true m s ys e f q k = untrue (rw (← q) at k)
-cut-more false m s ys e f q k =
-    let h : widthOf m ≤ length s = ltb-false (length s) (widthOf m) e in
-    rw (le-ltb (length (s ++ ys)) (widthOf m) (simp length-append (omega arith)), take-append-le (widthOf m) s ys h) q
-
-at-more : (v : Answer Mark) (s ys : List ℕ) (f : Found) → foundAt v s ≡ f → settled f ≡ true → foundAt v (s ++ ys) ≡ f
-unfolding foundAt
-at-more (refuses k₁) s ys f q k = q
-at-more (answers m) s ys f q k = cut-more (ltb (length s) (widthOf m)) m s ys refl f q k
-
-found-more : (xs ys : List ℕ) (f : Found) → foundOf xs ≡ f → settled f ≡ true → foundOf (xs ++ ys) ≡ f
-unfolding foundOf
-found-more [] ys f q k = untrue (rw (← q) at k)
-found-more (x ∷ []) ys f q k = untrue (rw (← q) at k)
-found-more (x ∷ y ∷ s) ys f q k = at-more (markOf x y) s ys f q k
 
 -- ---- the job at a record and at each stop
 job-took : (n : ℕ) (c : Counts) (xs : List ℕ) (ok : Bool) (k : ℕ) (b : List ℕ) → foundOf xs ≡ took ok k b → jobFrom (suc n) c xs ≡ b ++ jobFrom n (countsMore ok c) (drop k xs)

@@ -7,12 +7,12 @@ use native.Mathlib.Nat.{add-assoc}
 use borrow.Author.Tests.{lt-ltb, le-ltb, ltb-true, ltb-false}
 use lib.ListN.{length, drop}
 use lib.Dec.{ltb}
-use Rattle.marks.specs.Marks.{longest}
 use Rattle.job.specs.declared.Counts.{Counts}
 use Rattle.job.specs.declared.Reason.{Reason}
 use Rattle.job.specs.declared.Reason.the-variants.{More, Room, Full, End, Unknown, Cut}
 use Rattle.job.specs.Counts.{countsMore}
-use Rattle.job.specs.Job.{Found, took, ended, unknown, cut, foundOf}
+use Rattle.outcome.specs.Outcome.{longest, Found, took, ended, unknown, cut}
+use Rattle.marks.specs.Marks.{foundOf}
 use Rattle.job.specs.Feed.{Part, halt, after, partOn, recordsOf}
 
 pub records-room : (n : ℕ) (c : Counts) (xs : List ℕ) (last : Bool) (room : ℕ) → room < longest → recordsOf n c xs last room ≡ halt Room c

@@ -10,7 +10,8 @@ use Rattle.job.specs.declared.Counts.{Counts}
 use Rattle.job.specs.declared.Reason.{Reason}
 use Rattle.job.specs.declared.Reason.the-variants.{More, Room, Bad, Full, End, Unknown, Cut}
 use Rattle.job.specs.Counts.{countsNone, countsSound}
-use Rattle.job.specs.Job.{Found, jobOf}
+use Rattle.outcome.specs.Outcome.{Found}
+use Rattle.job.specs.Job.{jobOf}
 use Rattle.job.specs.Feed.{goesOn, Part, ends, recordsOf, feedOf}
 use Rattle.job.specs.Run.{jobWith, Run, reads, feeds, stops, StreamTheorem}
 use Rattle.job.specs.Inner.{Sound}

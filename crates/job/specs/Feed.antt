@@ -4,14 +4,14 @@ use mathlib.Core.Bool.{Bool, true, false, cond}
 use mathlib.Core.List.{List, [], _++_}
 use lib.ListN.{length, drop}
 use lib.Dec.{ltb}
-use Rattle.marks.specs.Marks.{longest, longestRecord, unknownMark, cutRecord}
-use Rattle.marks.specs.Reply.{noBytes}
+use Rattle.outcome.specs.Outcome.{longest, unknownMark, cutRecord, noBytes, Found, took, ended, unknown, cut}
+use Rattle.marks.specs.Marks.{longestRecord, foundOf}
 use Rattle.job.specs.declared.Counts.{Counts}
 use Rattle.job.specs.declared.Fed.{Fed}
 use Rattle.job.specs.declared.Reason.{Reason}
 use Rattle.job.specs.declared.Reason.the-variants.{More, Room, Bad, Full, End, Unknown, Cut}
 use Rattle.job.specs.Counts.{countsMore, countsSound}
-use Rattle.job.specs.Job.{Found, took, ended, unknown, cut, foundOf, trailer}
+use Rattle.job.specs.Job.{trailer}
 
 -- why it stopped, the counts then, how many bytes it is done with, and what it wrote
 pub record Part : Type 0 where

@@ -1,12 +1,13 @@
--- What the private functions answer and ask for; no public contract cites it.
+-- What the private functions ask for and answer; no public contract cites it.
 use Prim.Native.Nat.{ℕ, _+_, _*_, _≤_}
 use mathlib.Core.Path.{_≡_}
-use mathlib.Core.List.{List, []}
-use lib.ListN.{length}
+use mathlib.Core.Bool.{cond}
+use lib.Dec.{ltb}
+use Rattle.outcome.specs.Outcome.{longest}
 use Rattle.job.specs.declared.Counts.{Counts}
-use Rattle.job.specs.declared.Step.{Step}
-use Rattle.job.specs.declared.Step.the-variants.{Took, End, Unknown, Cut}
-use Rattle.job.specs.Job.{Found, took, ended, unknown, cut}
+use Rattle.job.specs.declared.Fed.{Fed}
+use Rattle.job.specs.declared.Reason.{Reason}
+use Rattle.job.specs.declared.Reason.the-variants.{Room}
 
 -- counts of a job of at most `limit` records
 pub record Sound (limit : ℕ) (c : Counts) : Type 0 where
@@ -17,14 +18,7 @@ pub record Sound (limit : ℕ) (c : Counts) : Type 0 where
 abbrev pub trailerLength : ℕ
 trailerLength = 2 + 3 * 4
 
-abbrev pub toldFound : Found → Step
-toldFound (took ok k bytes) = Took ok k (length bytes)
-toldFound ended = End
-toldFound unknown = Unknown
-toldFound cut = Cut
-
-abbrev pub foundBytes : Found → List ℕ
-foundBytes (took ok k bytes) = bytes
-foundBytes ended = []
-foundBytes unknown = []
-foundBytes cut = []
+-- out of the loop with the counts e; or, where the output has too little room for the end, with the counts c
+unfoldable pub stopOf : Reason → Counts → Counts → ℕ → ℕ → ℕ → Fed
+stopOf r c e used written room =
+    cond (ltb room longest) (record { reason = Room; counts = c; used = used; written = written }) (record { reason = r; counts = e; used = used; written = written })

@@ -1,46 +1,17 @@
 -- The job: all that is written for all that is read. Bytes are numbers below 256.
-use Prim.Native.Nat.{ℕ, zero, suc, _+_}
-use mathlib.Core.Bool.{Bool, false, cond}
-use mathlib.Core.List.{List, [], _∷_, _++_}
-use lib.ListN.{length, take, drop}
-use lib.Dec.{ltb}
+use Prim.Native.Nat.{ℕ, zero, suc}
+use mathlib.Core.Bool.{Bool, false}
+use mathlib.Core.List.{List, _++_}
+use lib.ListN.{drop}
 use Rattle.wire.specs.Wire.{countBytes}
-use Rattle.linalg.specs.Answer.{Answer, answers, refuses}
-use Rattle.marks.specs.declared.Mark.{Mark}
-use Rattle.marks.specs.Marks.{markOf, widthOf, unknownMark, cutRecord, letterZ}
-use Rattle.marks.specs.Reply.{replyOf, markBytes, noBytes}
+use Rattle.outcome.specs.Outcome.{unknownMark, cutRecord, markBytes, noBytes, Found, took, ended, unknown, cut}
+use Rattle.marks.specs.Marks.{foundOf}
 use Rattle.job.specs.declared.Counts.{Counts}
 use Rattle.job.specs.Counts.{countsNone, countsMore}
 
--- ---- what stands at the head of the input
-
-pub data Found : Type 0 where
-  -- a whole record: answered or refused, how many bytes it has, and what is written
-  took : Bool → ℕ → List ℕ → Found
-  -- nothing is left
-  ended : Found
-  -- two bytes that are no mark
-  unknown : Found
-  -- the input ends inside a mark or record
-  cut : Found
-
--- behind a mark stands `rest`: the answer sees the record's own bytes and no others
-unfoldable pub foundAt : Answer Mark → List ℕ → Found
-foundAt (refuses k) rest = unknown
-foundAt (answers m) rest =
-    let r = replyOf m (take (widthOf m) rest) in
-    cond (ltb (length rest) (widthOf m)) cut (took (r .ok) (2 + widthOf m) (r .bytes))
-
-unfoldable pub foundOf : List ℕ → Found
-foundOf [] = ended
-foundOf (a ∷ []) = cut
-foundOf (a ∷ b ∷ rest) = foundAt (markOf a b) rest
-
--- ---- the whole job
-
 -- ZZ and the counts
 unfoldable pub trailer : Counts → List ℕ
-trailer c = markBytes letterZ letterZ ++ (countBytes (c .begun) ++ (countBytes (c .answered) ++ countBytes (c .refused)))
+trailer c = markBytes 0x5a 0x5a ++ (countBytes (c .begun) ++ (countBytes (c .answered) ++ countBytes (c .refused)))
 
 -- by what stands at the head, and after a record what `go` says of the rest
 unfoldable pub jobOn : Found → Counts → (Bool → ℕ → List ℕ) → List ℕ

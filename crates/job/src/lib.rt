@@ -8,14 +8,13 @@ ghost use Prim.Native.Nat.{_+_, _-_, _≤_};
 ghost use lib.ListN.{length, drop};
 ghost use lib.Seq.{sets};
 ghost use Rattle.wire.specs.Wire.{countBytes};
-ghost use Rattle.marks.specs.Marks.{longest, letterZ};
-ghost use Rattle.marks.specs.Reply.{markBytes, noBytes};
+ghost use Rattle.outcome.specs.Outcome.{longest, markBytes, noBytes};
 ghost use Rattle.job.specs.Counts.{countsNone, countsMore, countsSound};
-ghost use Rattle.job.specs.Job.{foundOf, trailer, jobOf, jobLimit};
+ghost use Rattle.job.specs.Job.{trailer, jobOf, jobLimit};
 ghost use Rattle.job.specs.Feed.{Part, recordsOf, closing, ends, feedOf, toldPart};
-ghost use Rattle.job.specs.Inner.{Sound, toldFound, foundBytes, trailerLength};
-use marks::Look;
-use marks::Put;
+ghost use Rattle.job.specs.Inner.{Sound, stopOf, trailerLength};
+use outcome::LONGEST;
+use outcome::Step;
 
 // No more records than these are begun.
 const LIMIT: u32 = 1_000_000;
@@ -60,37 +59,6 @@ pub struct Fed {
     pub written: usize,
 }
 
-// What stands at the head of the input: a whole record, answered or refused, its length and how many
-// bytes were written; or why there is none.
-enum Step {
-    Took(bool, usize, usize),
-    End,
-    Unknown,
-    Cut,
-}
-
-// ---- one record
-fn one(s: &[u8], out: &mut [u8], to: usize) -> Step
-    requires { ⌜ to + longest ≤ length (now out) ⌝ }
-    ensures { λ r. ⌜ r ≡ toldFound (foundOf (now (s .entry))) ⌝ }
-    ensures { λ _. ⌜ now (out .exit) ≡ sets (now (out .entry)) to (foundBytes (foundOf (now (s .entry)))) ⌝ }
-{
-    if s.len() == 0 {
-        return Step::End;
-    }
-    if s.len() == 1 {
-        return Step::Cut;
-    }
-    let Look::Known(m) = marks::look_up(s[0], s[1]) else {
-        return Step::Unknown;
-    };
-    match marks::reply(m, &s[2..], &mut out[to..]) {
-        Put::Wrote(ok, written) => Step::Took(ok, 2 + marks::width(m), written),
-        Put::Short => Step::Cut,
-        Put::Room => Step::End, // there is room, so this is never told
-    }
-}
-
 // ---- the record loop
 fn counted(c: Counts, ok: bool) -> Counts
     requires { ⌜ Sound jobLimit c ⌝ }
@@ -122,8 +90,19 @@ fn leave(reason: Reason, counts: Counts, used: usize, written: usize) -> Fed
     }
 }
 
-// The whole records at hand. Each turn asks first for the room of the longest answer, which is more
-// than a refusal and the counts take, and then for the limit, before it looks at a mark.
+// Out of the loop with the counts e, where the output has room for the end: as much as for the longest
+// answer, which is more than a refusal and the counts take. Else for want of room, with the counts c.
+fn stop(reason: Reason, c: Counts, e: Counts, used: usize, written: usize, room: usize) -> Fed
+    ensures { λ r. ⌜ r ≡ stopOf reason c e used written room ⌝ }
+{
+    if room < LONGEST {
+        return leave(Reason::Room, c, used, written);
+    }
+    leave(reason, e, used, written)
+}
+
+// The whole records at hand. A record is asked for room where it is replied to, an end where the loop
+// is left.
 fn records(c0: Counts, input: &[u8], last: bool, out: &mut [u8]) -> Fed
     requires { ⌜ Sound jobLimit c0 ⌝ }
     ensures { λ r. ⌜ r ≡ toldPart (recordsOf (jobLimit - c0 .begun) c0 (now (input .entry)) last (length (now (out .entry)))) ⌝ }
@@ -133,32 +112,39 @@ fn records(c0: Counts, input: &[u8], last: bool, out: &mut [u8]) -> Fed
     let mut at = 0;
     let mut to = 0;
     let left = loop {
-        if out.len() - to < marks::LONGEST {
-            break leave(Reason::Room, c, at, to);
-        }
         if c.begun == LIMIT {
-            break leave(Reason::Full, c, at, to);
+            break stop(Reason::Full, c, c, at, to, out.len() - to);
         }
-        match one(&input[at..], out, to) {
+        match marks::reply(&input[at..], &mut out[to..]) {
             Step::Took(ok, used, written) => {
                 c = counted(c, ok);
                 at += used;
                 to += written;
             }
+            Step::Room => {
+                break leave(Reason::Room, c, at, to);
+            }
             Step::End => {
                 if last {
-                    break leave(Reason::End, c, at, to);
+                    break stop(Reason::End, c, c, at, to, out.len() - to);
                 }
-                break leave(Reason::More, c, at, to);
+                break stop(Reason::More, c, c, at, to, out.len() - to);
             }
             Step::Unknown => {
-                break leave(Reason::Unknown, counted(c, false), at, to);
+                break stop(
+                    Reason::Unknown,
+                    c,
+                    counted(c, false),
+                    at,
+                    to,
+                    out.len() - to,
+                );
             }
             Step::Cut => {
                 if last {
-                    break leave(Reason::Cut, counted(c, false), at, to);
+                    break stop(Reason::Cut, c, counted(c, false), at, to, out.len() - to);
                 }
-                break leave(Reason::More, c, at, to);
+                break stop(Reason::More, c, c, at, to, out.len() - to);
             }
         }
     };
@@ -177,7 +163,7 @@ fn put_no(out: &mut [u8], at: usize, number: u8)
 
 fn put_zz(out: &mut [u8], at: usize)
     requires { ⌜ at + 2 ≤ length (now out) ⌝ }
-    ensures { λ _. ⌜ now (out .exit) ≡ sets (now (out .entry)) at (markBytes letterZ letterZ) ⌝ }
+    ensures { λ _. ⌜ now (out .exit) ≡ sets (now (out .entry)) at (markBytes 0x5a 0x5a) ⌝ }
 {
     out[at] = b'Z';
     out[at + 1] = b'Z';

@@ -1,5 +1,5 @@
 -- The two cases of an answer are apart, and an answer gives its numbers back. A test that refuses hands its refusal upward. Assumes nothing.
-use mathlib.Core.Path.{_≡_, refl, sym, ap, _∙_}
+use mathlib.Core.Path.{_≡_, refl, sym, ap}
 use Prim.Native.Nat.{ℕ}
 use native.Mathlib.Omega.{arith}
 use mathlib.Core.Bool.{Bool, true, false, cond}
@@ -21,7 +21,9 @@ answered-as true n a c g h = never c n (sym h)
 answered-as false n a c g h = ap (λ x. answers (g x)) (answers-is a c h)
 
 -- two answers behind one test are one answer behind it
-pub both-as : {A B C : Type 0} (t : Bool) (n : ℕ) (a : A) (b : B) (g : A → B → C) → andThen (cond t (refuses n) (answers a)) (λ x. andThen (cond t (refuses n) (answers b)) (λ y. answers (g x y))) ≡ cond t (refuses n) (answers (g a b))
+pub both-as :
+    {A B C : Type 0} (t : Bool) (n : ℕ) (a : A) (b : B) (g : A → B → C) →
+    andThen (cond t (refuses n) (answers a)) (λ x. andThen (cond t (refuses n) (answers b)) (λ y. answers (g x y))) ≡ cond t (refuses n) (answers (g a b))
 both-as true n a b g = refl
 both-as false n a b g = refl
 

@@ -79,7 +79,7 @@ matSub f a b = mat (vecSub f (a .c0) (b .c0)) (vecSub f (a .c1) (b .c1)) (vecSub
 unfoldable pub matNeg : Mat3 → Mat3
 matNeg m = mat (vecNeg (m .c0)) (vecNeg (m .c1)) (vecNeg (m .c2))
 
--- row a of a matrix times a vector
+-- the row (a, b, c) of a matrix times a vector
 abbrev pub rowMul : Format → Float → Float → Float → Vec3 → Float
 rowMul f a b c v = sum3 f (mul f a (v .x)) (mul f b (v .y)) (mul f c (v .z))
 

@@ -1,4 +1,2 @@
--- The laws of replies, and the runs of stores by which the code writes them.
-pub mod Numbers
-pub mod Replies
-mod Examples
+-- What stands at the head of the input.
+pub mod Heads

@@ -1,24 +1,20 @@
--- The marks of the job table: their two bytes, and how many bytes follow them in a record.
+-- The marks of the job table: their two bytes, and what stands at the head of the input.
 use Prim.Native.Nat.{ℕ, _+_, _*_}
 use mathlib.Core.Bool.{cond}
+use mathlib.Core.List.{List, [], _∷_}
 use lib.Dec.{eqb}
+use lib.Ieee.{binary64}
 use Rattle.linalg.specs.Answer.{Answer, answers, refuses}
-use Rattle.marks.specs.Layout.{vecCount, matCount, poseCount, tangentCount, valuesCount, blockCount}
-use Rattle.marks.specs.declared.Mark.{Mark}
-use Rattle.marks.specs.declared.Mark.the-variants.{Ex, Co, Pa, Ac, Mu, In, Ji}
+use Rattle.outcome.specs.declared.Entry.{Entry}
+use Rattle.outcome.specs.declared.Entry.the-variants.{Ex, Co, Pa, Ac, Mu, In, Ji}
+use Rattle.outcome.specs.Outcome.{unknownMark, Found, ended, unknown, cut}
+use Rattle.replies.specs.Table.{widthOf, entryFound}
 use Rattle.marks.specs.declared.Look.{Look}
 use Rattle.marks.specs.declared.Look.the-variants.{Known, Unknown}
 
--- ---- the refusals that end a job: a mark that is not in the table; an input that ends inside a mark or record
-abbrev pub unknownMark : ℕ
-unknownMark = 6
-
-abbrev pub cutRecord : ℕ
-cutRecord = 7
-
 -- ---- the two bytes
 -- by the two bytes as one number, the first times 256 and the second
-unfoldable pub markKnown : ℕ → Answer Mark
+unfoldable pub markKnown : ℕ → Answer Entry
 markKnown k =
     cond (eqb k 0x4558) (answers Ex)
     (cond (eqb k 0x434f) (answers Co)
@@ -28,42 +24,24 @@ markKnown k =
     (cond (eqb k 0x494e) (answers In)
     (cond (eqb k 0x4a49) (answers Ji) (refuses unknownMark)))))))
 
-unfoldable pub markOf : ℕ → ℕ → Answer Mark
+unfoldable pub markOf : ℕ → ℕ → Answer Entry
 markOf a b = markKnown (a * 256 + b)
 
 -- what each case of `Look` says
-abbrev pub lookTold : Look → Answer Mark
-lookTold (Known m) = answers m
+abbrev pub lookTold : Look → Answer Entry
+lookTold (Known e) = answers e
 lookTold Unknown = refuses unknownMark
 
--- ---- the length
--- how many numbers follow the mark
-abbrev pub numbersOf : Mark → ℕ
-numbersOf Ex = tangentCount + valuesCount
-numbersOf Co = 2 + valuesCount
-numbersOf Pa = tangentCount + valuesCount + 2 * matCount
-numbersOf Ac = poseCount + 1 + vecCount
-numbersOf Mu = 2 * poseCount + 1
-numbersOf In = poseCount + 1
-numbersOf Ji = blockCount
-
--- how many bytes: eight a number
-abbrev pub widthOf : Mark → ℕ
-widthOf m = 8 * numbersOf m
-
--- the bytes of the longest record and of the longest answer: PA's mark and its numbers, and PA's mark and four blocks
+-- the bytes of the longest record: PA's mark and its numbers
 abbrev pub longestRecord : ℕ
-longestRecord = 2 + 8 * numbersOf Pa
+longestRecord = 2 + widthOf binary64 Pa
 
-abbrev pub longest : ℕ
-longest = 2 + 8 * (4 * blockCount)
+-- ---- what stands at the head of the input s, by its mark
+unfoldable pub foundAt : Answer Entry → List ℕ → Found
+foundAt (answers e) s = entryFound binary64 e s
+foundAt (refuses k) s = unknown
 
--- ---- the letters of what is written without a mark of the table: NO and ZZ
-abbrev pub letterN : ℕ
-letterN = 0x4e
-
-abbrev pub letterO : ℕ
-letterO = 0x4f
-
-abbrev pub letterZ : ℕ
-letterZ = 0x5a
+unfoldable pub foundOf : List ℕ → Found
+foundOf [] = ended
+foundOf (a ∷ []) = cut
+foundOf (a ∷ b ∷ rest) = foundAt (markOf a b) (a ∷ b ∷ rest)

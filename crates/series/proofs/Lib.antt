@@ -1,6 +1,6 @@
--- The laws of the series, each over any format, and the pair theorem.
+-- The laws of the series, each over any format.
 pub mod Recip
 pub mod Mirror
+pub mod Terms
 pub mod Sum
 pub mod Solo
-pub mod Pairs

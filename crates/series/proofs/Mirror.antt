@@ -1,25 +1,19 @@
 -- The levels at -sigma are those at sigma, each part turned by its parity, up to the sign of a zero: every summand of a part has one parity, and negation commutes with
--- rounding. So are the terms of Horner's sum, two by two. Assumes nothing.
-use mathlib.Core.Path.{_≡_, refl, sym, ap, _∙_}
+-- rounding. Assumes nothing.
+use mathlib.Core.Path.{_≡_, refl, ap, _∙_}
 use mathlib.Core.Logic.{inl, inr}
-use Prim.Native.Nat.{ℕ, zero, suc, _+_, _%_}
+use Prim.Native.Nat.{ℕ, zero, suc, _%_}
 use native.Mathlib.Omega.{arith}
 use mathlib.Core.Bool.{Bool, true, false, not}
 use borrow.Author.Tests.{eq-eqb, ne-eqb}
-use lib.Dec.{T}
-use lib.Ieee.{Float, Format, neg, add, sub, mul, fits}
-use lib.Ieee.Fits.{mul-fits}
-use Rattle.ieee.specs.Signs.{plain, Same, clear}
-use Rattle.ieee.proofs.Sign.{neg-neg, mul-neg-l, mul-neg-r, mul-neg-neg}
+use lib.Ieee.{Float, Format, neg, add, sub, mul}
+use Rattle.ieee.specs.Signs.{plain, Same}
+use Rattle.ieee.proofs.Sign.{mul-neg-l, mul-neg-r, mul-neg-neg}
 use Rattle.ieee.proofs.Signed.{order, add-same, sub-same, neg-add, neg-sub}
 use Rattle.ieee.proofs.Product.{mul-same}
-use Rattle.ieee.proofs.Clear.{add-is-same}
-use Rattle.series.specs.Recip.{recipFact}
 use Rattle.series.specs.Series.{seriesFirst, seriesNext, seriesLevel}
-use Rattle.series.specs.Turns.{odd, gTerm, gTwo, gTurn}
+use Rattle.series.specs.Turns.{odd}
 use Rattle.series.specs.declared.recurrence.Level.{Level}
-use Rattle.series.specs.declared.sim3.GPair.{GPair}
-use Rattle.series.proofs.Recip.{recip-fits, recip-clear}
 
 -- -x where b, else x
 abbrev pub turned : Bool → Float → Float
@@ -31,7 +25,7 @@ abbrev pub Turned : Bool → Float → Float → Type 0
 Turned b x y = Same y (turned b x)
 
 -- ---- sums and products of turned values
-add-turned : (f : Format) (b : Bool) (x x' y y' : Float) → Turned b x x' → Turned b y y' → Turned b (add f x y) (add f x' y')
+pub add-turned : (f : Format) (b : Bool) (x x' y y' : Float) → Turned b x x' → Turned b y y' → Turned b (add f x y) (add f x' y')
 add-turned f true x x' y y' p q = add-same f x' (neg x) y' (neg y) p q ∙ neg-add f x y
 add-turned f false x x' y y' p q = add-same f x' x y' y p q
 
@@ -48,7 +42,7 @@ mul-turned-r f true x y y' p = mul-same f x x y' (neg y) refl p ∙ ap plain (mu
 mul-turned-r f false x y y' p = mul-same f x x y' y refl p
 
 -- sigma times a part, at -sigma: turned once more
-by-sigma : (f : Format) (b : Bool) (sigma y y' : Float) → Turned b y y' → Turned (not b) (mul f sigma y) (mul f (neg sigma) y')
+pub by-sigma : (f : Format) (b : Bool) (sigma y y' : Float) → Turned b y y' → Turned (not b) (mul f sigma y) (mul f (neg sigma) y')
 by-sigma f true sigma y y' p = mul-same f (neg sigma) (neg sigma) y' (neg y) refl p ∙ ap plain (mul-neg-neg f sigma y)
 by-sigma f false sigma y y' p = mul-same f (neg sigma) (neg sigma) y' y refl p ∙ ap plain (mul-neg-l f sigma y)
 
@@ -93,16 +87,3 @@ pub level-mirror : (f : Format) (sigma z : Float) (j : ℕ) → Mirror (odd j) (
 unfolding seriesLevel
 level-mirror f sigma z zero = unfold seriesFirst plain neg in record { p = refl; zeta = refl; dzeta = refl; xi = refl; dxi = refl }
 level-mirror f sigma z (suc j) = rw (odd-suc j) (next-mirror f (odd j) sigma z _ _ (level-mirror f sigma z j))
-
--- ---- two terms of Horner's sum at -sigma by products with sigma: the inner sum is turned, and the outer one does not see the sign of a zero
-two-terms :
-    (f : Format) (sigma r s g : Float) → T (fits f r) → T (clear r) → add f r (mul f sigma (add f (neg s) (mul f sigma g))) ≡ add f r (mul f (neg sigma) (add f s (mul f (neg sigma) g)))
-two-terms f sigma r s g p c =
-    let inner : Turned true (add f (neg s) (mul f sigma g)) (add f s (mul f (neg sigma) g)) = add-turned f true (neg s) s (mul f sigma g) (mul f (neg sigma) g) (ap plain (sym (neg-neg s))) (ap plain (mul-neg-l f sigma g)) in
-    add-is-same f r r _ _ p p (mul-fits f _ _) (mul-fits f _ _) c c refl (sym (by-sigma f true sigma _ _ inner))
-
-pub two-turns : (f : Format) (sigma : Float) (n : ℕ) (g : GPair) → gTurn f sigma (recipFact f n) (recipFact f n) (gTurn f sigma (recipFact f (n + 1)) (neg (recipFact f (n + 1))) g) ≡ gTwo f sigma n g
-unfolding gTurn gTwo gTerm
-two-turns f sigma n g =
-    ap (λ (x : Float). record { pos = add f (recipFact f n) (mul f sigma (add f (recipFact f (n + 1)) (mul f sigma (g .pos)))); neg = x })
-    (two-terms f sigma (recipFact f n) (recipFact f (n + 1)) (g .neg) (recip-fits f n) (recip-clear f n))

@@ -8,7 +8,7 @@ use lib.Dec.{T, leb}
 use borrow.Author.Tests.{lt-leb}
 use lib.Ieee.{nan, Format, ofBits, toBits, fits}
 use lib.Ieee.Fits.{round-fits, cond-fits, nan-fits}
-use Rattle.ieee.specs.Signs.{clear}
+use Rattle.ieee.specs.Signs.{notMinusZero}
 use Rattle.ieee.specs.Table.{rounded}
 use Rattle.ieee.proofs.Table.{entry-is}
 use Rattle.ieee.proofs.Clear.{cond-clear, round-clear-false}
@@ -26,7 +26,7 @@ pub recip-fits : (f : Format) (n : ℕ) → T (fits f (recipFact f n))
 unfolding recipFact rounded
 recip-fits f n = cond-fits f (leb n 32) _ nan (round-fits f _ _ _) (nan-fits f)
 
-pub recip-clear : (f : Format) (n : ℕ) → T (clear (recipFact f n))
+pub recip-clear : (f : Format) (n : ℕ) → T (notMinusZero (recipFact f n))
 unfolding recipFact rounded recipRule
 recip-clear f n = cond-clear (leb n 32) _ nan (round-clear-false f _ _) tt
 

@@ -5,7 +5,7 @@ use native.Mathlib.Omega.{arith}
 use native.Mathlib.Numerals.{add-one}
 use lib.Ieee.{Float, Format, add, mul}
 use Rattle.series.specs.Recip.{recipFact}
-use Rattle.series.specs.Series.{seriesFirst, seriesNext, seriesLevel, levelTerms, seriesTerms, seriesSum, seriesSums, gSeries}
+use Rattle.series.specs.Series.{seriesFirst, seriesNext, seriesLevel, levelTerms, seriesTerms, seriesSum, seriesSums}
 use Rattle.series.specs.Turns.{sumsNone, sumsGain, tailTerms, sumsLast, soloTurn, soloTurns, vNone, vTurn, vTurns}
 use Rattle.series.specs.declared.recurrence.TurnsV.{TurnsV}
 use Rattle.series.proofs.Sum.{sumsBelow, sum-more, tail-is}
@@ -18,11 +18,6 @@ solo-more f sigma z j = ap (soloTurns f sigma z) (add-one j)
 pub v-more : (f : Format) (sigma z : Float) (j : ℕ) → vTurns f sigma z (j + 1) ≡ vTurn f sigma z (recipFact f (j + 1)) (vTurns f sigma z j)
 unfolding vTurns
 v-more f sigma z j = ap (vTurns f sigma z) (add-one j)
-
--- Horner's loop: a sum of i terms from index n on, and one term more in front
-pub g-more : (f : Format) (sigma : Float) (m n i : ℕ) → n ≡ suc m → gSeries f sigma m (i + 1) ≡ add f (recipFact f m) (mul f sigma (gSeries f sigma n i))
-unfolding gSeries
-g-more f sigma m n i e = rw (e, add-one i) refl
 
 -- ---- all six sums
 pub solo-are : (f : Format) (sigma z : Float) (n : ℕ) → soloTurns f sigma z n ≡ record { level = seriesLevel f sigma z n; sums = sumsBelow f sigma z n }

@@ -6,7 +6,7 @@ use native.Mathlib.Numerals.{add-one}
 use lib.Dec.{T}
 use lib.Ieee.{Float, Format, add, fits}
 use lib.Ieee.Fits.{add-fits}
-use Rattle.ieee.specs.Signs.{clear}
+use Rattle.ieee.specs.Signs.{notMinusZero}
 use Rattle.ieee.proofs.Clear.{add-clear}
 use Rattle.series.specs.Recip.{recipFact}
 use Rattle.series.specs.Series.{seriesNext, seriesLevel, levelTerms, seriesTerms, seriesSum}
@@ -18,7 +18,7 @@ unfolding seriesSum
 sum-fits f t zero = unfold fits in tt
 sum-fits f t (suc n) = add-fits f (seriesSum f t n) (t n)
 
-pub sum-clear : (f : Format) (t : ℕ → Float) (n : ℕ) → ((j : ℕ) → T (fits f (t j))) → T (clear (seriesSum f t n))
+pub sum-clear : (f : Format) (t : ℕ → Float) (n : ℕ) → ((j : ℕ) → T (fits f (t j))) → T (notMinusZero (seriesSum f t n))
 unfolding seriesSum
 sum-clear f t zero h = tt
 sum-clear f t (suc n) h = add-clear f (seriesSum f t n) (t n) (sum-fits f t n) (h n) (sum-clear f t n h)

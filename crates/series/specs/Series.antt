@@ -2,9 +2,9 @@
 use Prim.Native.Nat.{ℕ, zero, suc, _+_}
 use mathlib.Core.Bool.{cond}
 use lib.Dec.{ltb}
-use lib.Ieee.{Float, Format, binary32, binary64, neg, add, sub, mul, lt}
+use lib.Ieee.{Float, Format, binary32, binary64, neg, add, sub, mul}
 use Rattle.ieee.specs.Numbers.{f0, f1}
-use Rattle.linalg.specs.Answer.{Answer, answers, refuses, andThen}
+use Rattle.linalg.specs.Answer.{Answer, answers, refuses, andThen, unlessBelowZero}
 use Rattle.series.specs.Recip.{recipFact}
 use Rattle.series.specs.declared.recurrence.Level.{Level}
 use Rattle.series.specs.declared.recurrence.Sums.{Sums}
@@ -76,9 +76,13 @@ w0Terms binary32 = 8
 w0Terms binary64 = 15
 
 -- ---- the coefficients
--- (v0 - z v2)(σ² + z)
+-- Δ = σ·σ + z
+unfoldable pub coeffsDelta : Format → Float → Float → Float
+coeffsDelta f sigma z = add f (mul f sigma sigma) z
+
+-- (v0 - z v2) Δ
 unfoldable pub seriesChi : Format → Float → Float → Float → Float → Float
-seriesChi f sigma z v0 v2 = mul f (sub f v0 (mul f z v2)) (add f (mul f sigma sigma) z)
+seriesChi f sigma z v0 v2 = mul f (sub f v0 (mul f z v2)) (coeffsDelta f sigma z)
 
 unfoldable pub seriesCoeffs : Format → Float → Float → Float → Float → Sums → Sim3Coeffs
 seriesCoeffs f sigma z v0 w0 s =
@@ -96,7 +100,7 @@ seriesV f sigma z k = coeffs4 (seriesFull f sigma z k)
 
 -- ---- what the entries answer: refusal 1 for z below zero, then refusal 4 for k above 64
 abbrev pub seriesGuard : {A : Type 0} → Float → ℕ → A → Answer A
-seriesGuard z k a = cond (lt z f0) (refuses 1) (cond (ltb 64 k) (refuses 4) (answers a))
+seriesGuard z k a = unlessBelowZero z (cond (ltb 64 k) (refuses 4) (answers a))
 
 unfoldable pub seriesAnswer : Format → Float → Float → ℕ → Answer Sim3Coeffs
 seriesAnswer f sigma z k = seriesGuard z k (seriesFull f sigma z k)

@@ -3,7 +3,7 @@
 ghost use mathlib.Core.Path.{_≡_};
 ghost use lib.Ieee.{binary64};
 ghost use Rattle.series.specs.Series.{seriesFirst, seriesNext, levelTerms, seriesChi, seriesCoeffs};
-ghost use Rattle.series.specs.Turns.{sumsNone, sumsGain, tailTerms, sumsLast};
+ghost use Rattle.series.specs.Turns.{sumsNone, sumsGain, tailTerms, sumsLast, vNone, vTurn};
 use crate::sim3::Sim3Coeffs;
 
 // Level j: p = sigma^j, xi and zeta, and the z-derivatives of these two.
@@ -185,5 +185,31 @@ pub fn coeffs(sigma: f64, z: f64, v0: f64, w0: f64, s: Sums) -> Sim3Coeffs
         dv1: s.dv1,
         dv2: s.dv2,
         chi_delta: chi_delta(sigma, z, v0, s.v2),
+    }
+}
+
+// The loop for v alone before its first level.
+pub fn none_v() -> TurnsV
+    ensures { λ r. ⌜ r ≡ vNone ⌝ }
+{
+    TurnsV {
+        p: 1.0,
+        xi: 0.0,
+        zeta: 0.0,
+        v1: 0.0,
+        v2: 0.0,
+    }
+}
+
+// One level for v alone, with r1 = 1/(j + 1)!.
+pub fn turn_v(sigma: f64, z: f64, r1: f64, s: TurnsV) -> TurnsV
+    ensures { λ r. ⌜ r ≡ vTurn binary64 sigma z r1 s ⌝ }
+{
+    TurnsV {
+        p: s.p * sigma,
+        xi: (sigma * s.xi + s.p) - z * s.zeta,
+        zeta: sigma * s.zeta + s.xi,
+        v1: s.v1 + s.xi * r1,
+        v2: s.v2 + s.zeta * r1,
     }
 }

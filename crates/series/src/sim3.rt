@@ -4,13 +4,17 @@
 ghost use mathlib.Core.Path.{_≡_};
 ghost use Prim.Native.Nat.{_+_, _≤_};
 ghost use lib.Ieee.{binary64};
-ghost use Rattle.series.specs.Series.{gSeries, w0Terms, seriesSums, seriesFull, seriesV, seriesTold, seriesVTold, seriesAnswer, seriesVAnswer};
-ghost use Rattle.series.specs.Turns.{soloTurn, soloTurns, vNone, vTurn, vTurns};
+ghost use Rattle.series.specs.Series.{seriesSums, seriesFull, seriesV, seriesTold, seriesVTold, seriesAnswer, seriesVAnswer};
+ghost use Rattle.series.specs.Turns.{soloTurn, soloTurns, vTurns};
 use crate::generated_sim3::recip_fact;
+use crate::horner::g_series;
 use crate::recurrence;
 use crate::recurrence::Sums;
 use crate::recurrence::Turns;
 use crate::recurrence::TurnsV;
+use crate::recurrence::none_v;
+use crate::recurrence::turn_v;
+use crate::shortest;
 
 // v0, v1, v2 of V, w0, w1, w2 of Gamma_2(M), the z-derivatives of v1 and v2, and chi times delta,
 // where chi = v0 - z v2 and delta = sigma^2 + z.
@@ -160,83 +164,17 @@ fn series_v_at(sigma: f64, z: f64, k: usize) -> Coeffs4
     }
 }
 
-// The levels to k, for v alone. Those of the shortest arm are written out: a loop costs it a fourth
-// of its time.
+// The levels to k, for v alone.
 fn turns_v_at(sigma: f64, z: f64, k: usize) -> TurnsV
     requires { ⌜ k ≤ 64 ⌝ }
     ensures { λ r. ⌜ r ≡ vTurns binary64 sigma z (k + 1) ⌝ }
 {
-    if k == 6 {
-        return seven_turns_v(sigma, z);
+    if k == shortest::TERMS {
+        return shortest::turns_v(sigma, z);
     }
     let mut s = none_v();
     for j in 0..k + 1 {
         s = turn_v(sigma, z, recip_fact(j + 1), s);
     }
     s
-}
-
-// The loop for v alone before its first level.
-fn none_v() -> TurnsV
-    ensures { λ r. ⌜ r ≡ vNone ⌝ }
-{
-    TurnsV {
-        p: 1.0,
-        xi: 0.0,
-        zeta: 0.0,
-        v1: 0.0,
-        v2: 0.0,
-    }
-}
-
-// The levels to 6, for v alone.
-fn seven_turns_v(sigma: f64, z: f64) -> TurnsV
-    ensures { λ r. ⌜ r ≡ vTurns binary64 sigma z 7 ⌝ }
-{
-    let a = turn_v(sigma, z, recip_fact(1), none_v());
-    let b = turn_v(sigma, z, recip_fact(2), a);
-    let c = turn_v(sigma, z, recip_fact(3), b);
-    let d = turn_v(sigma, z, recip_fact(4), c);
-    let e = turn_v(sigma, z, recip_fact(5), d);
-    let f = turn_v(sigma, z, recip_fact(6), e);
-    turn_v(sigma, z, recip_fact(7), f)
-}
-
-// One level for v alone, with r1 = 1/(j + 1)!.
-fn turn_v(sigma: f64, z: f64, r1: f64, s: TurnsV) -> TurnsV
-    ensures { λ r. ⌜ r ≡ vTurn binary64 sigma z r1 s ⌝ }
-{
-    TurnsV {
-        p: s.p * sigma,
-        xi: (sigma * s.xi + s.p) - z * s.zeta,
-        zeta: sigma * s.zeta + s.xi,
-        v1: s.v1 + s.xi * r1,
-        v2: s.v2 + s.zeta * r1,
-    }
-}
-
-// The sum of sigma^i/(i + l)! over i < terms, by Horner from the last term.
-fn g_series(sigma: f64, l: usize, terms: usize) -> f64
-    requires { ⌜ (l ≤ 2) × (terms ≤ 64) ⌝ }
-    ensures { λ r. ⌜ r ≡ gSeries binary64 sigma l terms ⌝ }
-{
-    let mut acc = 0.0;
-    for i in 0..terms {
-        acc = recip_fact(terms - 1 - i + l) + sigma * acc;
-    }
-    acc
-}
-
-// v0 of the closed arm at small sigma, 16 terms: the first, and sigma times the 15 of `g2`.
-pub fn g1(sigma: f64) -> f64
-    ensures { λ r. ⌜ r ≡ gSeries binary64 sigma 1 (w0Terms binary64 + 1) ⌝ }
-{
-    recip_fact(1) + sigma * g2(sigma)
-}
-
-// w0 of the closed arm at small sigma: 15 terms.
-pub fn g2(sigma: f64) -> f64
-    ensures { λ r. ⌜ r ≡ gSeries binary64 sigma 2 (w0Terms binary64) ⌝ }
-{
-    g_series(sigma, 2, 15)
 }

@@ -6,8 +6,8 @@ use mathlib.Core.List.{List, [], _∷_, _++_, append-assoc, append-nil}
 use native.Mathlib.Numerals.{add-one}
 use native.Mathlib.Omega.{arith}
 use lib.Dec.{T, eqb, leb, eqb→eq}
-use lib.ListN.{getD, set, length, take, drop, length-append, length-drop}
-use lib.Seq.{drop-cons, drop-length, getD-drop, drop-drop}
+use lib.ListN.{getD, set, length, take, drop, length-append, length-drop, take-append-drop}
+use lib.Seq.{drop-at, length-take-le, drop-cons, drop-length, getD-drop, drop-drop}
 use lib.Ieee.{Float, nan}
 use lib.Ieee.Fits.{and-l, and-r}
 use borrow.Rule.Slice.PartAt.{part-to-end}
@@ -45,6 +45,20 @@ unfolding pointsMoved
 moved-more g l out i h =
     let n : (i + 1) * 3 ≡ i * 3 + 3 = omega arith in
     rw (n, add-one i) (put-seam (pointsMoved g l i) out (i * 3) (g (pointAt l i)) (moved-length g l i) h)
+
+-- the last triple, stored before the others are moved
+put-last : (out : List Float) (k : ℕ) (v : Vec3) → k + 3 ≡ length out → drop k (putPoint out k v) ≡ vecNumbers v
+put-last out k v h =
+    let t : length (take k out) ≡ k = length-take-le k out (omega arith) in
+    let s : putPoint (take k out ++ drop k out) k v ≡ (take k out ++ vecNumbers v) ++ drop (k + 3) out = put-seam (take k out) out k v t (omega arith) in
+    let n : (take k out ++ vecNumbers v) ++ drop (k + 3) out ≡ take k out ++ vecNumbers v = rw (h, drop-length) (append-nil (take k out ++ vecNumbers v)) in
+    let e : putPoint out k v ≡ take k out ++ vecNumbers v = ap (λ (o : List Float). putPoint o k v) (sym (take-append-drop k out)) ∙ s ∙ n in
+    ap (drop k) e ∙ drop-at (take k out) (vecNumbers v) k t
+
+pub moved-last :
+    (g : Vec3 → Vec3) (l out : List Float) (i : ℕ) → i * 3 + 3 ≡ length out → pointsMoved g l i ++ drop (i * 3) (putPoint out (i * 3) (g (pointAt l i))) ≡ pointsMoved g l (i + 1)
+unfolding pointsMoved
+moved-last g l out i h = rw (add-one i) (ap (λ (r : List Float). pointsMoved g l i ++ r) (put-last out (i * 3) (g (pointAt l i)) h))
 
 -- after the last triple nothing is left
 pub moved-all : (g : Vec3 → Vec3) (l out : List Float) (i : ℕ) → i * 3 ≡ length out → pointsMoved g l i ++ drop (i * 3) out ≡ pointsMoved g l i

@@ -4,7 +4,8 @@
 ghost use mathlib.Core.Path.{_≡_};
 ghost use Prim.Native.Nat.{_+_, _*_, _≤_};
 ghost use lib.Ieee.{binary64};
-ghost use lib.ListN.{length};
+ghost use mathlib.Core.List.{_++_};
+ghost use lib.ListN.{length, drop};
 ghost use Rattle.sim3.specs.Points.{pointAt, pointsMoved, pointsAccepted, listTold, pointsAnswer, pointsOut, matAct, poseActMany, poseActEach};
 ghost use Rattle.sim3.specs.Pose.{poseAct};
 ghost use Rattle.sim3.specs.Stores.{putPoint};
@@ -44,15 +45,16 @@ fn mat_act(m: Mat3, t: Vec3, p: Vec3) -> Vec3
     m.mul_vec(p).add(t)
 }
 
-// Reads from what is left of pts: the compiler then loads two points as three vectors, where an index
-// into the whole list makes it load number by number.
-fn many(m: Mat3, t: Vec3, pts: &[f64], out: &mut [f64], n: usize)
-    requires { ⌜ (n * 3 ≡ length (now pts)) × (n * 3 ≡ length (now out)) ⌝ }
-    ensures { λ _. ⌜ now (out .exit) ≡ pointsMoved (matAct binary64 m t) (now (pts .entry)) n ⌝ }
+// The first e points, moved into their places. Reads from what is left of pts: the compiler then
+// loads two points as three vectors, where an index into the whole list makes it load number by
+// number.
+fn leading(m: Mat3, t: Vec3, pts: &[f64], out: &mut [f64], e: usize)
+    requires { ⌜ (e * 3 ≤ length (now pts)) × (length (now out) ≡ length (now pts)) ⌝ }
+    ensures { λ _. ⌜ now (out .exit) ≡ pointsMoved (matAct binary64 m t) (now (pts .entry)) e ++ drop (e * 3) (now (out .entry)) ⌝ }
 {
     let mut rest = pts;
     let mut i = 0;
-    while i < n {
+    while i < e {
         let p = mat_act(m, t, point_at(rest, 0));
         rest = &rest[3..];
         put_point(out, i * 3, p);
@@ -60,13 +62,38 @@ fn many(m: Mat3, t: Vec3, pts: &[f64], out: &mut [f64], n: usize)
     }
 }
 
+// The last point, where e is one less than n: after it e points are left to move.
+fn last(m: Mat3, t: Vec3, pts: &[f64], out: &mut [f64], e: usize, n: usize)
+    requires { ⌜ (e ≤ n) × (n ≤ e + 1) × (n * 3 ≡ length (now pts)) × (n * 3 ≡ length (now out)) ⌝ }
+    ensures { λ _. ⌜ pointsMoved (matAct binary64 m t) (now (pts .entry)) e ++ drop (e * 3) (now (out .exit)) ≡ pointsMoved (matAct binary64 m t) (now (pts .entry)) n ⌝ }
+{
+    if e == n {
+        return;
+    }
+    put_point(out, e * 3, mat_act(m, t, point_at(pts, e)));
+}
+
+// The last point of an odd count first, then the others. Their count is even, so the compiler, which
+// moves two points a turn, has none to do after its loop: the loop alone has the registers.
+fn many(m: Mat3, t: Vec3, pts: &[f64], out: &mut [f64], n: usize)
+    requires { ⌜ (n * 3 ≡ length (now pts)) × (n * 3 ≡ length (now out)) ⌝ }
+    ensures { λ _. ⌜ now (out .exit) ≡ pointsMoved (matAct binary64 m t) (now (pts .entry)) n ⌝ }
+{
+    let e = n - n % 2;
+    last(m, t, pts, out, e, n);
+    leading(m, t, pts, out, e);
+}
+
+// Reads from what is left of pts, as leading does.
 fn each(x: Sim3, up: f64, pts: &[f64], out: &mut [f64], n: usize)
     requires { ⌜ (n * 3 ≡ length (now pts)) × (n * 3 ≡ length (now out)) ⌝ }
     ensures { λ _. ⌜ now (out .exit) ≡ pointsMoved (poseAct binary64 x up) (now (pts .entry)) n ⌝ }
 {
+    let mut rest = pts;
     let mut i = 0;
     while i < n {
-        let p = x.act(up, point_at(pts, i));
+        let p = x.act(up, point_at(rest, 0));
+        rest = &rest[3..];
         put_point(out, i * 3, p);
         i += 1;
     }

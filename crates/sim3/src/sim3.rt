@@ -120,7 +120,8 @@ impl Sim3 {
         }
     }
 
-    // X^-1 = (R^-1, -e^-sigma R^-1 t, -sigma); down is e^-sigma.
+    // X^-1 = (R^-1, -e^-sigma R^-1 t, -sigma); down is e^-sigma. The sign is taken to down, which is
+    // there from the start: -(a b) and a (-b) are one number.
     pub fn inverse(self, down: f64) -> Sim3
         ensures { λ r. ⌜ r ≡ poseInverse binary64 self down ⌝ }
     {
@@ -129,7 +130,7 @@ impl Sim3 {
         let rt = so3::so3::act(r, self.t);
         Sim3 {
             q: r,
-            t: rt.scale(down).neg(),
+            t: rt.scale(-down),
             sigma: -self.sigma,
         }
     }
@@ -178,7 +179,7 @@ pub fn v_apply(phi: Vec3, sigma: f64, c: Coeffs4, rho: Vec3) -> Vec3
     ensures { λ r. ⌜ r ≡ vApply binary64 phi sigma c rho ⌝ }
 {
     let z = phi.norm_sq();
-    if z < 7.773650302387758 {
+    if !circle::kernel::b_takes_exact_arm(z) {
         return poly_apply(phi, c.v0, c.v1, c.v2, rho);
     }
     let chi = c.chi_delta / (sigma * sigma + z);

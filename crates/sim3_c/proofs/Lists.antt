@@ -12,8 +12,8 @@ use Rattle.linalg.specs.Answer.{answers, refuses}
 use Rattle.linalg.specs.declared.vector.Vec3.{Vec3}
 use Rattle.linalg.proofs.Answers.{never}
 use Rattle.sim3.specs.Points.{pointsAccepted, pointsAnswer, pointsOut}
-use Rattle.wire.proofs.Runs.{sets-front}
-use Rattle.sim3_c.specs.Layout.{wrongLength, sized}
+use Rattle.layout.proofs.Runs.{sets-front}
+use Rattle.sim3_c.specs.Lists.{wrongLength, sized}
 use Rattle.sim3_c.specs.Calls.{status, written, fitting}
 
 pub sized-right : {A : Type 0} (l : List Float) (n : ℕ) (a : A) → length l ≡ n → sized l n a ≡ answers a

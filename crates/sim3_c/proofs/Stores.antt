@@ -6,7 +6,7 @@ use mathlib.Core.List.{List}
 use native.Mathlib.Nat.{add-assoc}
 use native.Mathlib.Omega.{arith}
 use native.Mathlib.Numerals.{towards-suc}
-use lib.ListN.{length, set, length-append}
+use lib.ListN.{set, length-append}
 use lib.Seq.{sets}
 use lib.Ieee.{Float}
 use Rattle.ieee.specs.Numbers.{f0, f1}
@@ -20,21 +20,12 @@ use Rattle.jacobian.specs.declared.jac.Sim3Jac.{Sim3Jac}
 use Rattle.jacobian.specs.declared.pair.BlockPair.{BlockPair}
 use Rattle.jacobian.specs.declared.side.ActJacobians.{ActJacobians}
 use Rattle.jacobian.specs.declared.side.TwoJacobians.{TwoJacobians}
-use Rattle.wire.proofs.Runs.{sets-split}
+use Rattle.layout.proofs.Runs.{sets-split}
 use Rattle.linalg.specs.Vector.{vecNumbers}
-use Rattle.marks.specs.Layout.{matNumbers, quatNumbers, poseNumbers, blockNumbers, blockPairNumbers, coeffsNumbers, scaledNumbers, scaledPairNumbers}
-use Rattle.marks.proofs.Numbers.{quat-count, vec-count, mat-count, block-count, scaled-count}
-use Rattle.sim3_c.specs.Layout.{twoNumbers, actNumbers}
+use Rattle.layout.specs.Layout.{matNumbers, quatNumbers, poseNumbers, blockNumbers, blockPairNumbers, coeffsNumbers, scaledNumbers, scaledPairNumbers, twoNumbers, actNumbers}
+use Rattle.layout.proofs.Numbers.{quat-count, vec-count, mat-count, block-count, scaled-count}
 
 ruleset runs = (sets-split, add-assoc, length-append, quat-count, vec-count, mat-count, block-count, scaled-count)
-
-pub two-count : (t : TwoJacobians) → length (twoNumbers t) ≡ 62
-unfolding twoNumbers
-two-count t = simp (length-append, block-count)
-
-pub act-count : (j : ActJacobians) → length (actNumbers j) ≡ 30
-unfolding actNumbers
-act-count j = simp (length-append, mat-count, vec-count)
 
 pub three-stored : (v : Vec3) (l : List Float) (i : ℕ) → set (set (set l i (v .x)) (i + 1) (v .y)) (i + 2) (v .z) ≡ sets l i (vecNumbers v)
 unfolding vecNumbers

@@ -14,8 +14,8 @@ use Rattle.sim3.specs.Points.{pointsAnswer, pointsOut, poseActMany, poseActEach
 use Rattle.jacobian.specs.Jac.{jacInverseAnswer}
 use Rattle.jacobian.specs.Pair.{blockPair}
 use Rattle.jacobian.specs.Side.{poseAdjoint, actJacobiansRight, actJacobiansLeft, composeJacobiansRight, composeJacobiansLeft, inverseJacobianRight, inverseJacobianLeft}
-use Rattle.marks.specs.Layout.{poseNumbers, blockNumbers, blockPairNumbers, scaledPairNumbers}
-use Rattle.sim3_c.specs.Layout.{wrongLength, vecFrom, matFrom, poseFrom, tangentFrom, valuesFrom, blockFrom, twoNumbers, actNumbers}
+use Rattle.layout.specs.Layout.{poseNumbers, blockNumbers, blockPairNumbers, scaledPairNumbers, twoNumbers, actNumbers}
+use Rattle.sim3_c.specs.Lists.{wrongLength, vecFrom, matFrom, poseFrom, tangentFrom, valuesFrom, blockFrom}
 
 -- ---- what is returned, and what `out` then holds
 unfoldable pub status : Answer (List Float) → ℕ

@@ -1,2 +1,2 @@
-pub mod Layout
+pub mod Lists
 pub mod Calls

@@ -3,9 +3,16 @@
 ghost use mathlib.Core.Path.{_≡_};
 ghost use Prim.Native.Nat.{_+_, _≤_};
 ghost use lib.ListN.{length};
-ghost use Rattle.sim3_c.specs.Layout.{vecIn, matIn, vecFrom, matFrom, poseFrom, tangentFrom, valuesFrom, blockFrom, vecTold, matTold, poseTold, tangentTold, valuesTold, blockTold};
+ghost use Rattle.layout.specs.Layout.{vecIn, matIn};
+ghost use Rattle.sim3_c.specs.Lists.{numberIn, vecFrom, matFrom, poseFrom, tangentFrom, valuesFrom, blockFrom, vecTold, matTold, poseTold, tangentTold, valuesTold, blockTold};
 use coeffs::values::Values;
 use jacobian::jac::Sim3Jac;
+use layout::BLOCK;
+use layout::MAT;
+use layout::POSE;
+use layout::TANGENT;
+use layout::VALUES;
+use layout::VEC;
 use linalg::matrix::Mat3;
 use linalg::vector::Vec3;
 use sim3::sim3::Sim3;
@@ -44,7 +51,7 @@ pub enum BlockRead {
 
 fn vec_in(l: &[f64], at: usize) -> Vec3
     requires { ⌜ at + 3 ≤ length (now l) ⌝ }
-    ensures { λ r. ⌜ r ≡ vecIn (now (l .entry)) at ⌝ }
+    ensures { λ r. ⌜ r ≡ vecIn (numberIn (now (l .entry))) at ⌝ }
 {
     Vec3 {
         x: l[at],
@@ -55,7 +62,7 @@ fn vec_in(l: &[f64], at: usize) -> Vec3
 
 fn mat_in(l: &[f64], at: usize) -> Mat3
     requires { ⌜ at + 9 ≤ length (now l) ⌝ }
-    ensures { λ r. ⌜ r ≡ matIn (now (l .entry)) at ⌝ }
+    ensures { λ r. ⌜ r ≡ matIn (numberIn (now (l .entry))) at ⌝ }
 {
     Mat3 {
         c0: vec_in(l, at),
@@ -67,7 +74,7 @@ fn mat_in(l: &[f64], at: usize) -> Mat3
 pub(crate) fn vec_from(l: &[f64]) -> VecRead
     ensures { λ r. ⌜ vecTold r ≡ vecFrom (now (l .entry)) ⌝ }
 {
-    if l.len() != 3 {
+    if l.len() != VEC {
         return VecRead::Wrong;
     }
     VecRead::Got(vec_in(l, 0))
@@ -76,7 +83,7 @@ pub(crate) fn vec_from(l: &[f64]) -> VecRead
 pub(crate) fn mat_from(l: &[f64]) -> MatRead
     ensures { λ r. ⌜ matTold r ≡ matFrom (now (l .entry)) ⌝ }
 {
-    if l.len() != 9 {
+    if l.len() != MAT {
         return MatRead::Wrong;
     }
     MatRead::Got(mat_in(l, 0))
@@ -86,7 +93,7 @@ pub(crate) fn mat_from(l: &[f64]) -> MatRead
 pub(crate) fn pose_from(l: &[f64]) -> PoseRead
     ensures { λ r. ⌜ poseTold r ≡ poseFrom (now (l .entry)) ⌝ }
 {
-    if l.len() != 8 {
+    if l.len() != POSE {
         return PoseRead::Wrong;
     }
     let q = Quat {
@@ -106,7 +113,7 @@ pub(crate) fn pose_from(l: &[f64]) -> PoseRead
 pub(crate) fn tangent_from(l: &[f64]) -> TangentRead
     ensures { λ r. ⌜ tangentTold r ≡ tangentFrom (now (l .entry)) ⌝ }
 {
-    if l.len() != 7 {
+    if l.len() != TANGENT {
         return TangentRead::Wrong;
     }
     TangentRead::Got(Sim3Tangent {
@@ -120,7 +127,7 @@ pub(crate) fn tangent_from(l: &[f64]) -> TangentRead
 pub(crate) fn values_from(l: &[f64]) -> ValuesRead
     ensures { λ r. ⌜ valuesTold r ≡ valuesFrom (now (l .entry)) ⌝ }
 {
-    if l.len() != 10 {
+    if l.len() != VALUES {
         return ValuesRead::Wrong;
     }
     ValuesRead::Got(Values {
@@ -141,7 +148,7 @@ pub(crate) fn values_from(l: &[f64]) -> ValuesRead
 pub(crate) fn block_from(l: &[f64]) -> BlockRead
     ensures { λ r. ⌜ blockTold r ≡ blockFrom (now (l .entry)) ⌝ }
 {
-    if l.len() != 31 {
+    if l.len() != BLOCK {
         return BlockRead::Wrong;
     }
     BlockRead::Got(Sim3Jac {

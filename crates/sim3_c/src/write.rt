@@ -5,8 +5,7 @@ ghost use Prim.Native.Nat.{_+_, _≤_};
 ghost use lib.ListN.{length};
 ghost use lib.Seq.{sets};
 ghost use Rattle.linalg.specs.Vector.{vecNumbers};
-ghost use Rattle.marks.specs.Layout.{matNumbers, quatNumbers, poseNumbers, blockNumbers, blockPairNumbers, coeffsNumbers, scaledNumbers, scaledPairNumbers};
-ghost use Rattle.sim3_c.specs.Layout.{twoNumbers, actNumbers};
+ghost use Rattle.layout.specs.Layout.{matNumbers, quatNumbers, poseNumbers, blockNumbers, blockPairNumbers, coeffsNumbers, scaledNumbers, scaledPairNumbers, twoNumbers, actNumbers};
 ghost use Rattle.sim3_c.specs.Calls.{status, written, fitting};
 use crate::LIST_LENGTH;
 use coeffs::sim3::ScaledPair;
@@ -14,6 +13,12 @@ use jacobian::jac::Sim3Jac;
 use jacobian::pair::BlockPair;
 use jacobian::side::ActJacobians;
 use jacobian::side::TwoJacobians;
+use layout::ACT_JACOBIANS;
+use layout::BLOCK;
+use layout::BLOCK_PAIR;
+use layout::POSE;
+use layout::SCALED_PAIR;
+use layout::TWO_JACOBIANS;
 use linalg::matrix::Mat3;
 use linalg::vector::Vec3;
 use series::sim3::Sim3Coeffs;
@@ -80,7 +85,7 @@ pub(crate) fn put_pose(out: &mut [f64], x: Sim3) -> u32
     ensures { λ r. ⌜ r ≡ status (fitting (now (out .entry)) (poseNumbers x)) ⌝ }
     ensures { λ _. ⌜ now (out .exit) ≡ written (fitting (now (out .entry)) (poseNumbers x)) (now (out .entry)) ⌝ }
 {
-    if out.len() != 8 {
+    if out.len() != POSE {
         return LIST_LENGTH;
     }
     set_quat(out, 0, x.q);
@@ -94,7 +99,7 @@ pub(crate) fn put_scaled_pair(out: &mut [f64], p: ScaledPair) -> u32
     ensures { λ r. ⌜ r ≡ status (fitting (now (out .entry)) (scaledPairNumbers p)) ⌝ }
     ensures { λ _. ⌜ now (out .exit) ≡ written (fitting (now (out .entry)) (scaledPairNumbers p)) (now (out .entry)) ⌝ }
 {
-    if out.len() != 20 {
+    if out.len() != SCALED_PAIR {
         return LIST_LENGTH;
     }
     set_scaled(out, 0, p.pos.c, p.pos.scaled);
@@ -106,7 +111,7 @@ pub(crate) fn put_block(out: &mut [f64], j: Sim3Jac) -> u32
     ensures { λ r. ⌜ r ≡ status (fitting (now (out .entry)) (blockNumbers j)) ⌝ }
     ensures { λ _. ⌜ now (out .exit) ≡ written (fitting (now (out .entry)) (blockNumbers j)) (now (out .entry)) ⌝ }
 {
-    if out.len() != 31 {
+    if out.len() != BLOCK {
         return LIST_LENGTH;
     }
     set_block(out, 0, j);
@@ -118,7 +123,7 @@ pub(crate) fn put_block_pair(out: &mut [f64], p: BlockPair) -> u32
     ensures { λ r. ⌜ r ≡ status (fitting (now (out .entry)) (blockPairNumbers p)) ⌝ }
     ensures { λ _. ⌜ now (out .exit) ≡ written (fitting (now (out .entry)) (blockPairNumbers p)) (now (out .entry)) ⌝ }
 {
-    if out.len() != 124 {
+    if out.len() != BLOCK_PAIR {
         return LIST_LENGTH;
     }
     set_block(out, 0, p.left);
@@ -133,7 +138,7 @@ pub(crate) fn put_two(out: &mut [f64], t: TwoJacobians) -> u32
     ensures { λ r. ⌜ r ≡ status (fitting (now (out .entry)) (twoNumbers t)) ⌝ }
     ensures { λ _. ⌜ now (out .exit) ≡ written (fitting (now (out .entry)) (twoNumbers t)) (now (out .entry)) ⌝ }
 {
-    if out.len() != 62 {
+    if out.len() != TWO_JACOBIANS {
         return LIST_LENGTH;
     }
     set_block(out, 0, t.first);
@@ -146,7 +151,7 @@ pub(crate) fn put_act(out: &mut [f64], j: ActJacobians) -> u32
     ensures { λ r. ⌜ r ≡ status (fitting (now (out .entry)) (actNumbers j)) ⌝ }
     ensures { λ _. ⌜ now (out .exit) ≡ written (fitting (now (out .entry)) (actNumbers j)) (now (out .entry)) ⌝ }
 {
-    if out.len() != 30 {
+    if out.len() != ACT_JACOBIANS {
         return LIST_LENGTH;
     }
     set_mat(out, 0, j.rot);

@@ -17,7 +17,7 @@ use Rattle.job.proofs.Pieces.{sound-is}
 use Rattle.job.proofs.Progress.{feed-progress}
 use Rattle.job.proofs.Whole.{feed-sound}
 use Rattle.sim3_job.specs.Ran.{asksFor}
-use Rattle.job.proofs.Never.{untrue}
+use Rattle.outcome.proofs.Never.{untrue}
 
 -- ---- how far the end is: the records that may still be begun, each worth more than a whole buffer; then the room in the buffer; then whether a read comes next
 abbrev pub idle : Bool → ℕ

@@ -23,7 +23,7 @@ use Rattle.sim3_job.specs.declared.Sent.{Sent}
 use Rattle.sim3_job.specs.declared.Sent.the-variants as sent
 use Rattle.sim3_job.specs.Filled.{Within, FromTape, filledOf}
 use Rattle.sim3_job.specs.Sent.{WithinSink, ToSink, sentOf}
-use Rattle.job.proofs.Never.{untrue}
+use Rattle.outcome.proofs.Never.{untrue}
 
 pub record Underway (limit : ℕ) (tape sink : List ℕ) (c : Counts) (kept : List ℕ) (last : Bool) (at sent : ℕ) : Type 0 where
   pub same : take sent sink ++ jobWith limit c (kept ++ drop at tape) ≡ jobOf limit tape

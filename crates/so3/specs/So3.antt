@@ -1,15 +1,11 @@
 -- Rotations by unit quaternions, in the operations of a format f.
-use lib.Ieee.{Float, Format, add, mul}
+use lib.Ieee.{Float, Format, mul}
 use Rattle.ieee.specs.Numbers.{f2}
 use Rattle.linalg.specs.Vector.{vec, vecScale, vecCross, vecAdd, vecNormSq}
 use Rattle.linalg.specs.declared.vector.Vec3.{Vec3}
 use Rattle.circle.specs.Kernel.{circleExp}
 use Rattle.so3.specs.Quat.{quat, quatConjugate}
 use Rattle.so3.specs.declared.quat.Quat.{Quat}
-
--- |v|², the squared angle of a rotation vector
-unfoldable pub so3NormSq : Format → Vec3 → Float
-so3NormSq f v = add f (add f (mul f (v .x) (v .x)) (mul f (v .y) (v .y))) (mul f (v .z) (v .z))
 
 -- (v + 2w (u × v)) + 2 u × (u × v), u = (x, y, z)
 unfoldable pub so3Act : Format → Quat → Vec3 → Vec3

@@ -2,15 +2,16 @@
 // renormalisation are that type's, and the hat products are linalg's.
 ghost use mathlib.Core.Path.{_≡_};
 ghost use lib.Ieee.{binary64};
+ghost use Rattle.linalg.specs.Vector.{vecNormSq};
 ghost use Rattle.so3.specs.Quat.{quatConjugate};
-ghost use Rattle.so3.specs.So3.{so3NormSq, so3Act, so3InvAct, so3Exp};
+ghost use Rattle.so3.specs.So3.{so3Act, so3InvAct, so3Exp};
 use crate::quat::Quat;
 use circle::kernel::exp_coeffs_of;
 use linalg::vector::Vec3;
 
 // |v|² = (x² + y²) + z²: the squared angle of a rotation vector.
 pub fn norm_sq(v: Vec3) -> f64
-    ensures { λ r. ⌜ r ≡ so3NormSq binary64 v ⌝ }
+    ensures { λ r. ⌜ r ≡ vecNormSq binary64 v ⌝ }
 {
     (v.x * v.x + v.y * v.y) + v.z * v.z
 }

@@ -7,9 +7,9 @@ use native.Mathlib.Omega.{arith}
 use lib.ListN.{length, take, drop, getD, length-append}
 use lib.Seq.{drop-cons, take-all}
 use lib.Dec.{T}
-use lib.Ieee.{Float, nan, binary64, fits, toBits}
+use lib.Ieee.{Float, Format, nan, binary32, binary64, fits, toBits}
 use lib.Ieee.Bits.{ofBits-toBits, toBits-lt}
-use Rattle.wire.specs.Wire.{wordOf, wordBytes, doubleOf, doubleBytes, doublesBytes, countBytes}
+use Rattle.wire.specs.Wire.{wordOf, wordBytes, width, numberOf, numberBytes, numbersBytes, itemBytes, itemsBytes, numbers, countBytes}
 
 -- ---- lengths
 pub word-length : (k n : ℕ) → length (wordBytes k n) ≡ k
@@ -17,23 +17,33 @@ unfolding wordBytes
 word-length zero n = refl
 word-length (suc k) n = ap suc (word-length k (n / 256))
 
-pub double-length : (x : Float) → length (doubleBytes x) ≡ 8
-unfolding doubleBytes
-double-length x = word-length 8 _
+pub number-length : (f : Format) (x : Float) → length (numberBytes f x) ≡ width f
+unfolding numberBytes
+number-length f x = word-length (width f) _
 
 pub count-length : (n : ℕ) → length (countBytes n) ≡ 4
 unfolding countBytes
 count-length n = word-length 4 n
 
-pub doubles-length : (l : List Float) → length (doublesBytes l) ≡ 8 * length l
-unfolding doublesBytes
-doubles-length [] = refl
-doubles-length (x ∷ l) = length-append (doubleBytes x) (doublesBytes l) ∙ rw (double-length x, doubles-length l) (omega arith)
+one-more : (f : Format) (n : ℕ) → width f + n * width f ≡ suc n * width f
+one-more binary32 n = omega arith
+one-more binary64 n = omega arith
 
-pub doubles-append : (l m : List Float) → doublesBytes (l ++ m) ≡ doublesBytes l ++ doublesBytes m
-unfolding doublesBytes
-doubles-append [] m = refl
-doubles-append (x ∷ l) m = rw (doubles-append l m) (sym (append-assoc (doubleBytes x) (doublesBytes l) (doublesBytes m)))
+pub numbers-length : (f : Format) (l : List Float) → length (numbersBytes f l) ≡ length l * width f
+unfolding numbersBytes
+numbers-length f [] = omega arith
+numbers-length f (x ∷ l) = length-append (numberBytes f x) (numbersBytes f l) ∙ rw (number-length f x, numbers-length f l) (one-more f (length l))
+
+pub numbers-append : (f : Format) (l m : List Float) → numbersBytes f (l ++ m) ≡ numbersBytes f l ++ numbersBytes f m
+unfolding numbersBytes
+numbers-append f [] m = refl
+numbers-append f (x ∷ l) m = rw (numbers-append f l m) (sym (append-assoc (numberBytes f x) (numbersBytes f l) (numbersBytes f m)))
+
+-- ---- items that are numbers alone
+pub items-numbers : (f : Format) (l : List Float) → itemsBytes f (numbers l) ≡ numbersBytes f l
+unfolding itemBytes itemsBytes numbers numbersBytes
+items-numbers f [] = refl
+items-numbers f (x ∷ l) = ap (λ (b : List ℕ). numberBytes f x ++ b) (items-numbers f l)
 
 -- ---- the bytes of a list one by one, as code reads them
 abbrev pub bytesAt : List ℕ → ℕ → ℕ → List ℕ
@@ -82,9 +92,13 @@ unfolding wordBytes
 bytes-four n = simp div-div-eq-div-mul
 
 -- ---- what is written for NaN, and that what is written reads back
-pub nan-bytes : doubleBytes nan ≡ 0 ∷ 0 ∷ 0 ∷ 0 ∷ 0 ∷ 0 ∷ 0xf8 ∷ 0x7f ∷ []
-unfolding doubleBytes wordBytes toBits
-nan-bytes = refl
+pub nan-double : numberBytes binary64 nan ≡ 0 ∷ 0 ∷ 0 ∷ 0 ∷ 0 ∷ 0 ∷ 0xf8 ∷ 0x7f ∷ []
+unfolding numberBytes wordBytes toBits
+nan-double = refl
+
+pub nan-single : numberBytes binary32 nan ≡ 0 ∷ 0 ∷ 0xc0 ∷ 0x7f ∷ []
+unfolding numberBytes wordBytes toBits
+nan-single = refl
 
 pub word-back : (k n : ℕ) → n < 256 ^ k → wordOf (wordBytes k n) ≡ n
 unfolding wordOf wordBytes
@@ -93,8 +107,10 @@ word-back (suc k) n h =
     let less : n / 256 < 256 ^ k = omega (arith, pow-suc 256 k) in
     rw (word-back k (n / 256) less) (omega (arith, div-add-mod n 256))
 
-pub double-back : (x : Float) → T (fits binary64 x) → doubleOf (doubleBytes x) ≡ x
-unfolding doubleOf doubleBytes
-double-back x h =
-    let less : toBits binary64 x < 256 ^ 8 = toBits-lt binary64 x h in
-    rw (word-back 8 (toBits binary64 x) less) (ofBits-toBits binary64 x h)
+bits-less : (f : Format) (x : Float) → T (fits f x) → toBits f x < 256 ^ width f
+bits-less binary32 x h = toBits-lt binary32 x h
+bits-less binary64 x h = toBits-lt binary64 x h
+
+pub number-back : (f : Format) (x : Float) → T (fits f x) → numberOf f (numberBytes f x) ≡ x
+unfolding numberOf numberBytes
+number-back f x h = rw (word-back (width f) (toBits f x) (bits-less f x h)) (ofBits-toBits f x h)

@@ -1,4 +1,3 @@
--- The laws of bytes, and of lists into which bytes are stored.
+-- The laws of bytes, and of bytes at a place of a list.
 pub mod Bytes
-pub mod Runs
 pub mod Places

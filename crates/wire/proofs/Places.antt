@@ -1,17 +1,19 @@
 -- The bytes at a place of a list, as code reads and stores them one by one. Assumes nothing.
-use Prim.Native.Nat.{ℕ, _+_, _≤_}
+use Prim.Native.Nat.{ℕ, _+_, _*_, _≤_}
 use mathlib.Core.Path.{_≡_, sym, ap, _∙_}
 use mathlib.Core.List.{List, [], _∷_}
 use native.Mathlib.Numerals.{towards-suc}
 use lib.ListN.{length, getD, set}
 use lib.Seq.{sets}
-use lib.Ieee.{Float}
-use Rattle.wire.specs.Wire.{doubleOf, doubleAt, doubleBytes, countBytes}
-use Rattle.wire.proofs.Bytes.{bytes-at, bytes-all, double-length, count-length}
+use lib.Ieee.{Float, binary64}
+use Rattle.wire.specs.Wire.{numberOf, numberAt, numberBytes, countBytes}
+use Rattle.wire.proofs.Bytes.{bytes-at, bytes-all, number-length, count-length}
 
+-- the i-th double, whose bytes begin at `at`
 pub double-read :
-    (b : List ℕ) (at : ℕ) → at + 8 ≤ length b →
-    doubleOf
+    (b : List ℕ) (i at : ℕ) → at ≡ i * 8 → at + 8 ≤ length b →
+    numberOf
+    binary64
     (getD b at 0
     ∷ getD b (at + 1) 0
     ∷ getD b (at + 2) 0
@@ -21,9 +23,9 @@ pub double-read :
     ∷ getD b (at + 6) 0
     ∷ getD b (at + 7) 0
     ∷ [])
-    ≡ doubleAt b at
-unfolding doubleAt
-double-read b at h = rw (bytes-at b at 8 h) (simp towards-suc)
+    ≡ numberAt binary64 b i
+unfolding numberAt
+double-read b i at e h = rw (← e, bytes-at b at 8 h) (simp towards-suc)
 
 -- ---- four and eight stores
 abbrev pub fourStores : List ℕ → ℕ → List ℕ → List ℕ
@@ -41,5 +43,5 @@ eight-are d l at h = sym (ap (sets l at) (bytes-all d 8 h) ∙ sym (simp towards
 pub count-stored : (n : ℕ) (d l : List ℕ) (at : ℕ) → d ≡ countBytes n → fourStores l at d ≡ sets l at (countBytes n)
 count-stored n d l at e = four-are d l at (ap length e ∙ count-length n) ∙ ap (sets l at) e
 
-pub double-stored : (x : Float) (d l : List ℕ) (at : ℕ) → d ≡ doubleBytes x → eightStores l at d ≡ sets l at (doubleBytes x)
-double-stored x d l at e = eight-are d l at (ap length e ∙ double-length x) ∙ ap (sets l at) e
+pub double-stored : (x : Float) (d l : List ℕ) (at : ℕ) → d ≡ numberBytes binary64 x → eightStores l at d ≡ sets l at (numberBytes binary64 x)
+double-stored x d l at e = eight-are d l at (ap length e ∙ number-length binary64 x) ∙ ap (sets l at) e

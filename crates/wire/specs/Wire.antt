@@ -1,8 +1,8 @@
--- Numbers and doubles as bytes, the least first. A byte is a number below 256.
+-- Whole numbers and those of a format as bytes, the least first. A byte is a number below 256.
 use Prim.Native.Nat.{ℕ, zero, suc, _+_, _*_, _/_, _%_}
 use mathlib.Core.List.{List, [], _∷_, _++_}
 use lib.ListN.{take, drop}
-use lib.Ieee.{Float, ofBits, toBits, binary64}
+use lib.Ieee.{Float, Format, binary32, binary64, ofBits, toBits}
 
 -- the number that the bytes make
 unfoldable pub wordOf : List ℕ → ℕ
@@ -14,21 +14,44 @@ unfoldable pub wordBytes : ℕ → ℕ → List ℕ
 wordBytes zero n = []
 wordBytes (suc k) n = n % 256 ∷ wordBytes k (n / 256)
 
--- the double that eight bytes make: every NaN pattern is the one nan
-unfoldable pub doubleOf : List ℕ → Float
-doubleOf b = ofBits binary64 (wordOf b)
+-- how many bytes a number of the format has
+abbrev pub width : Format → ℕ
+width binary32 = 4
+width binary64 = 8
 
--- the double in the eight bytes from a place on
-unfoldable pub doubleAt : List ℕ → ℕ → Float
-doubleAt b at = doubleOf (take 8 (drop at b))
+-- the number of the format that its bytes make: every NaN pattern is the one nan
+unfoldable pub numberOf : Format → List ℕ → Float
+numberOf f b = ofBits f (wordOf b)
 
--- toBits gives 7ff8000000000000 for nan
-unfoldable pub doubleBytes : Float → List ℕ
-doubleBytes x = wordBytes 8 (toBits binary64 x)
+-- the i-th number of the bytes
+unfoldable pub numberAt : Format → List ℕ → ℕ → Float
+numberAt f b i = numberOf f (take (width f) (drop (i * width f) b))
 
-unfoldable pub doublesBytes : List Float → List ℕ
-doublesBytes [] = []
-doublesBytes (x ∷ l) = doubleBytes x ++ doublesBytes l
+-- toBits gives 7ff8000000000000 for nan, and 7fc00000 in single precision
+unfoldable pub numberBytes : Format → Float → List ℕ
+numberBytes f x = wordBytes (width f) (toBits f x)
+
+unfoldable pub numbersBytes : Format → List Float → List ℕ
+numbersBytes f [] = []
+numbersBytes f (x ∷ l) = numberBytes f x ++ numbersBytes f l
+
+-- ---- what an answer is made of: numbers of the format, and whole numbers, each with how many bytes it has
+pub data Item : Type 0 where
+  number : Float → Item
+  word : ℕ → ℕ → Item
+
+unfoldable pub itemBytes : Format → Item → List ℕ
+itemBytes f (number x) = numberBytes f x
+itemBytes f (word k n) = wordBytes k n
+
+unfoldable pub itemsBytes : Format → List Item → List ℕ
+itemsBytes f [] = []
+itemsBytes f (i ∷ l) = itemBytes f i ++ itemsBytes f l
+
+-- numbers alone
+unfoldable pub numbers : List Float → List Item
+numbers [] = []
+numbers (x ∷ l) = number x ∷ numbers l
 
 -- a count of 32 bits
 unfoldable pub countBytes : ℕ → List ℕ

@@ -2,7 +2,8 @@
 // bytes, so that each is total; where in a list the bytes stand is the business of the crates above.
 ghost use mathlib.Core.Path.{_≡_};
 ghost use Prim.Native.Nat.{_<_};
-ghost use Rattle.wire.specs.Wire.{doubleOf, doubleBytes, countBytes};
+ghost use lib.Ieee.{binary64};
+ghost use Rattle.wire.specs.Wire.{numberOf, numberBytes, countBytes};
 
 fn wide(x: u8) -> u64
     ensures { λ r. ⌜ (r ≡ x) × (r < 256) ⌝ }
@@ -12,7 +13,7 @@ fn wide(x: u8) -> u64
 
 // The double whose eight bytes, the least first, are `b`. Every NaN pattern reads as NaN.
 pub fn from_le_bytes(b: [u8; 8]) -> f64
-    ensures { λ r. ⌜ r ≡ doubleOf b ⌝ }
+    ensures { λ r. ⌜ r ≡ numberOf binary64 b ⌝ }
 {
     let b0 = wide(b[0]);
     let b1 = wide(b[1]);
@@ -35,7 +36,7 @@ pub fn from_le_bytes(b: [u8; 8]) -> f64
 
 // The eight bytes of `x`, the least first; those of 7ff8000000000000 for every NaN.
 pub fn to_le_bytes(x: f64) -> [u8; 8]
-    ensures { λ r. ⌜ r ≡ doubleBytes x ⌝ }
+    ensures { λ r. ⌜ r ≡ numberBytes binary64 x ⌝ }
 {
     let n = ieee::to_bits(x);
     [

@@ -1,25 +1,14 @@
 -- `ieee::to_bits` meets its contract: what does not equal itself is the NaN, and any other double has its own pattern. Assumes nothing.
-use mathlib.Core.Path.{refl, _≡_, sym, subst, ap}
-use mathlib.Core.Bool.{Bool, not, true, false}
+use mathlib.Core.Path.{refl, sym, subst}
 use lib.Dec.{T}
-use lib.Ieee.{Float, toBits, ne, nan, isNan, binary64, fin, inf}
-use lib.Ieee.Compare.{differs-from-itself, nan-differs}
+use lib.Ieee.{binary64}
+use lib.Ieee.Compare.{differs-from-itself}
+use Rattle.ieee.proofs.Nan.{no-nan, nan-pattern}
 use Rattle.ieee.proofs.to_bits.Statement.{statement}
 use Rattle.ieee.proofs.to_bits.Tie as tie
 
-pattern : toBits binary64 nan ≡ 0x7ff8_0000_0000_0000
-unfolding toBits
-pattern = refl
-
--- a float that does not differ from itself is no NaN
-no-nan : (x : Float) → ne x x ≡ false → T (not (isNan x))
-unfolding isNan ne
-no-nan nan e = subst T e tt
-no-nan (inf s) e = tt
-no-nan (fin s m k) e = tt
-
 returns : tie.Need-returns
-returns c = cc (pattern, differs-from-itself (c .before .args .x) (subst T (sym (c .if1 .taken)) tt))
+returns c = cc (nan-pattern binary64, differs-from-itself (c .before .args .x) (subst T (sym (c .if1 .taken)) tt))
 
 float-to-bits-result : tie.Need-float-to-bits-result
 float-to-bits-result c = no-nan (c .before .args .x) (c .if1 .left)

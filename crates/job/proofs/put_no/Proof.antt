@@ -3,7 +3,7 @@ use borrow.Author.Needs.{needs}
 use native.Mathlib.Omega.{arith}
 use lib.ListN.{length-set}
 use native.Mathlib.Numerals.{towards-suc}
-use Rattle.marks.specs.Reply.{noBytes}
+use Rattle.outcome.specs.Outcome.{noBytes}
 use Rattle.job.proofs.put_no.Statement.{statement}
 use Rattle.job.proofs.put_no.Tie as tie
 

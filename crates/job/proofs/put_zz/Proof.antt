@@ -3,7 +3,7 @@ use borrow.Author.Needs.{needs}
 use native.Mathlib.Omega.{arith}
 use lib.ListN.{length-set}
 use native.Mathlib.Numerals.{towards-suc}
-use Rattle.marks.specs.Reply.{markBytes}
+use Rattle.outcome.specs.Outcome.{markBytes}
 use Rattle.job.proofs.put_zz.Statement.{statement}
 use Rattle.job.proofs.put_zz.Tie as tie
 

@@ -1,4 +1,5 @@
--- `marks::known` meets its contract: by what its calls ensure and its tests say. Assumes nothing.
+-- Written by tools/proofs from Proof.template: edit that one. Digest f816d80d52048e0e.
+-- `marks::known` meets its contract: by the number, and by its being none of the table's. Assumes nothing.
 use borrow.Author.Tests.{ne-eqb}
 use Rattle.marks.specs.Marks.{markKnown}
 use Rattle.marks.proofs.known.Statement.{statement}
@@ -34,7 +35,26 @@ returns-7 c = simp (c .match .keys7)
 
 returns-8 : tie.Need-returns-8
 unfolding markKnown
-returns-8 c = simp (ne-eqb _ _ (c .match .rest .1), ne-eqb _ _ (c .match .rest .0 .1), ne-eqb _ _ (c .match .rest .0 .0 .1), ne-eqb _ _ (c .match .rest .0 .0 .0 .1), ne-eqb _ _ (c .match .rest .0 .0 .0 .0 .1), ne-eqb _ _ (c .match .rest .0 .0 .0 .0 .0 .1), ne-eqb _ _ (c .match .rest .0 .0 .0 .0 .0 .0 .1))
+returns-8 c =
+    simp (
+      ne-eqb _ _ (c .match .rest .1),
+      ne-eqb _ _ (c .match .rest .0 .1),
+      ne-eqb _ _ (c .match .rest .0 .0 .1),
+      ne-eqb _ _ (c .match .rest .0 .0 .0 .1),
+      ne-eqb _ _ (c .match .rest .0 .0 .0 .0 .1),
+      ne-eqb _ _ (c .match .rest .0 .0 .0 .0 .0 .1),
+      ne-eqb _ _ (c .match .rest .0 .0 .0 .0 .0 .0 .1),
+    )
 
 pub known-spec : {M : Type 1} → statement M
-known-spec = tie.close (tie.spec returns returns-2 returns-3 returns-4 returns-5 returns-6 returns-7 returns-8)
+known-spec =
+    tie.close
+    (tie.spec
+    returns
+    returns-2
+    returns-3
+    returns-4
+    returns-5
+    returns-6
+    returns-7
+    returns-8)

@@ -1,10 +1,46 @@
--- `marks::reply` meets its contract: it is `answered`'s. Assumes nothing.
+-- Written by tools/proofs from Proof.template: edit that one. Digest b9a736b06872a3d8.
+-- `marks::reply` meets its contract: by the length of the input, by its mark, and by the reply of its entry. Assumes nothing.
 use borrow.Author.Needs.{needs}
+use native.Mathlib.Omega.{arith}
+use mathlib.Core.Path.{refl, sym, ap, _∙_}
+use Rattle.outcome.specs.Outcome.{becameOf, writtenOf}
+use Rattle.marks.specs.Marks.{lookTold}
+use Rattle.marks.proofs.Heads.{found-none, found-half, found-unknown, found-entry}
 use Rattle.marks.proofs.reply.Statement.{statement}
 use Rattle.marks.proofs.reply.Tie as tie
 
 returns : tie.Need-returns
-returns c = c .before .before .answered .ensures
+unfolding becameOf writtenOf
+returns c = rw (found-none (c .before .before .before .args .s .now) (c .if1 .taken)) (refl, refl)
+
+returns-2 : tie.Need-returns-2
+unfolding becameOf writtenOf
+returns-2 c = rw (found-half (c .before .before .before .before .args .s .now) (c .if2 .taken)) (refl, refl)
+
+returns-3 : tie.Need-returns-3
+unfolding becameOf writtenOf
+returns-3 c =
+    let c1 = c .before .before .before .before .before in
+    rw (found-unknown (c1 .before .before .before .before .args .s .now) (omega arith) (sym (c .before .before .look-up .ensures) ∙ ap lookTold (c .enum-told .given .1))) (refl, refl)
+
+returns-4 : tie.Need-returns-4
+returns-4 c =
+    let c1 = c .before .before .before .before .before in
+    let c2 = c1 .before .before .before .before .before in
+    rw (found-entry (c2 .before .before .before .before .args .s .now) (c1 .e .given .0 .0) (omega arith) (sym (c1 .before .before .look-up .ensures) ∙ ap lookTold (c1 .e .given .1))) (c .before .before .reply .ensures)
 
 pub reply-spec : {M : Type 1} → statement M
-reply-spec = tie.close (tie.spec (λ c κs. search needs) (λ c. search needs) returns)
+reply-spec =
+    tie.close
+    (tie.spec
+    returns
+    returns-2
+    (λ c. search needs)
+    (λ c. search needs)
+    (λ c κs. search needs)
+    (λ c. search needs)
+    (λ c. search needs)
+    returns-3
+    (λ c κs. search needs)
+    (λ c. search needs)
+    returns-4)

@@ -1,4 +1,4 @@
--- Written by tools/proofs from Proof.template: edit that one. Digest 9947ad55f4039dff.
+-- Written by tools/proofs from Proof.template: edit that one. Digest 89108c7b0b172282.
 -- `sim3_job::fill` meets its contract: nothing is read where nothing is asked for. Assumes nothing.
 use borrow.Author.Needs.{needs}
 use native.Mathlib.Omega.{arith}
@@ -8,7 +8,7 @@ use mathlib.Core.Bool.{Bool, false}
 use mathlib.Core.List.{append-nil}
 use lib.ListN.{length}
 use Rattle.sim3_job.specs.Filled.{Within}
-use Rattle.job.proofs.Never.{untrue}
+use Rattle.outcome.proofs.Never.{untrue}
 use Rattle.sim3_job.proofs.Underway.{tape-any, tape-kept}
 use Rattle.sim3_job.proofs.fill.Statement.{statement}
 use Rattle.sim3_job.proofs.fill.Tie as tie

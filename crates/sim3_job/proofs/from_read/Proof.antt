@@ -14,7 +14,7 @@ use Rattle.io.specs.Counts.{clamped}
 use Rattle.sim3_job.specs.declared.Filled.{Filled}
 use Rattle.sim3_job.specs.declared.Filled.the-variants.{Bytes, Failed}
 use Rattle.sim3_job.specs.Filled.{filledOf}
-use Rattle.job.proofs.Never.{untrue}
+use Rattle.outcome.proofs.Never.{untrue}
 use Rattle.sim3_job.proofs.from_read.Statement.{statement}
 use Rattle.sim3_job.proofs.from_read.Tie as tie
 

@@ -1,4 +1,4 @@
--- Written by tools/proofs from Proof.template: edit that one. Digest 239df37da44e41d6.
+-- Written by tools/proofs from Proof.template: edit that one. Digest 9ee842c9c06f1571.
 -- `sim3_job::put` meets its contract: from the sink's place on stand the bytes, or there is no room for them. Assumes nothing.
 use borrow.Author.Needs.{needs}
 use native.Mathlib.Omega.{arith}
@@ -8,7 +8,7 @@ use mathlib.Core.List.{List, _++_}
 use lib.ListN.{length, take}
 use lib.Seq.{take-paste, take-length}
 use Rattle.sim3_job.proofs.Underway.{sent-sink-within}
-use Rattle.job.proofs.Never.{untrue}
+use Rattle.outcome.proofs.Never.{untrue}
 use Rattle.sim3_job.proofs.put.Statement.{statement}
 use Rattle.sim3_job.proofs.put.Tie as tie
 

@@ -1,12 +1,12 @@
 -- `wire::from_le_bytes` meets its contract: the sum is the number that the bytes make. Assumes nothing.
 use borrow.Author.Needs.{needs}
-use Rattle.wire.specs.Wire.{doubleOf}
+use Rattle.wire.specs.Wire.{numberOf}
 use Rattle.wire.proofs.Bytes.{word-eight}
 use Rattle.wire.proofs.from_le_bytes.Statement.{statement}
 use Rattle.wire.proofs.from_le_bytes.Tie as tie
 
 returns : tie.Need-returns
-unfolding doubleOf
+unfolding numberOf
 returns c = simp (c .from-bits .ensures, c .before .wide8 .ensures .0, c .before .before .wide7 .ensures .0, c .before .before .before .wide6 .ensures .0, c .before .before .before .before .wide5 .ensures .0, c .before .before .before .before .before .wide4 .ensures .0, c .before .before .before .before .before .before .wide3 .ensures .0, c .before .before .before .before .before .before .before .wide2 .ensures .0, c .before .before .before .before .before .before .before .before .wide .ensures .0, word-eight (c .before .before .before .before .before .before .before .before .before .args .t1) (search needs))
 
 pub from-le-bytes-spec : {M : Type 1} → statement M

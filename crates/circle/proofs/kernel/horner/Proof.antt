@@ -1,6 +1,6 @@
 -- `circle::kernel::horner` meets its contract: with i terms left to take, p is the sum of the terms from i on. Assumes nothing.
 use Prim.Native.Nat.{_<_}
-use mathlib.Core.Path.{_≡_, refl, sym, _∙_}
+use mathlib.Core.Path.{_≡_, sym, _∙_}
 use native.Mathlib.Omega.{arith}
 use lib.ListN.{length, drop}
 use lib.Ieee.{binary64, ofBits}

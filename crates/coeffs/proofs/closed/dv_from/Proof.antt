@@ -1,6 +1,6 @@
 -- `coeffs::closed::dv_from` meets its contract: operation by operation, as the definition has it. Assumes nothing.
 use mathlib.Core.Path.{refl}
-use Rattle.coeffs.specs.Shared.{closedDvs}
+use Rattle.coeffs.specs.Closed.{closedDvs}
 use Rattle.coeffs.specs.Limits.{coeffsDelta}
 use lib.Ieee.{ofBits}
 use Rattle.coeffs.proofs.closed.dv_from.Statement.{statement}

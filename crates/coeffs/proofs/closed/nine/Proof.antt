@@ -1,6 +1,6 @@
 -- `coeffs::closed::nine` meets its contract: operation by operation, as the definition has it. Assumes nothing.
 use mathlib.Core.Path.{refl}
-use Rattle.coeffs.specs.Shared.{closedJoined}
+use Rattle.coeffs.specs.Closed.{closedJoined}
 use Rattle.coeffs.proofs.closed.nine.Statement.{statement}
 use Rattle.coeffs.proofs.closed.nine.Tie as tie
 

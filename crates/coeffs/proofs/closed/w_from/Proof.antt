@@ -1,6 +1,6 @@
 -- `coeffs::closed::w_from` meets its contract: operation by operation, as the definition has it. Assumes nothing.
 use mathlib.Core.Path.{refl}
-use Rattle.coeffs.specs.Shared.{closedWs}
+use Rattle.coeffs.specs.Closed.{closedWs}
 use Rattle.coeffs.specs.Limits.{coeffsDelta}
 use Rattle.coeffs.proofs.closed.w_from.Statement.{statement}
 use Rattle.coeffs.proofs.closed.w_from.Tie as tie

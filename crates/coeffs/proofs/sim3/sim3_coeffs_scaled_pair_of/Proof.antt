@@ -1,6 +1,6 @@
 -- `coeffs::sim3::sim3_coeffs_scaled_pair_of` meets its contract: |phi|² is not below zero, so the entry answers. Assumes nothing.
 use borrow.Author.Needs.{needs}
-use mathlib.Core.Path.{_≡_, sym, ap, _∙_}
+use mathlib.Core.Path.{sym, ap, _∙_}
 use lib.Ieee.{binary64}
 use Rattle.coeffs.specs.Entries.{pairTold, pairAnswer}
 use Rattle.coeffs.proofs.Even.{angle-pair-answers, angle-pair-refuses}
@@ -11,13 +11,26 @@ returns : tie.Need-returns
 unfolding pairTold
 returns c =
     let a = c .before .before .before .before .before .args in
-    angle-pair-answers binary64 (a .phi) (a .sigma) (a .v) _ (sym (c .before .before .before .sim3-coeffs-scaled-pair .ensures ∙ ap (λ z. pairAnswer binary64 (a .sigma) z (a .v)) (c .before .before .before .before .norm-sq .ensures)) ∙ ap pairTold (c .before .p .given .1))
+    let r = sym (c .before .before .before .sim3-coeffs-scaled-pair .ensures ∙ ap (λ z. pairAnswer binary64 (a .sigma) z (a .v)) (c .before .before .before .before .norm-sq .ensures)) in
+    angle-pair-answers binary64 (a .phi) (a .sigma) (a .v) _ (r ∙ ap pairTold (c .before .p .given .1))
 
 returns-2 : tie.Need-returns-2
 unfolding pairTold
 returns-2 c =
     let a = c .before .before .before .before .before .before .args in
-    angle-pair-refuses binary64 (a .phi) (a .sigma) (a .v) _ (sym (c .before .before .before .before .sim3-coeffs-scaled-pair .ensures ∙ ap (λ z. pairAnswer binary64 (a .sigma) z (a .v)) (c .before .before .before .before .before .norm-sq .ensures)) ∙ ap pairTold (c .before .before .enum-told .given .1))
+    let n = c .before .before .before .before .before .norm-sq .ensures in
+    let r = sym (c .before .before .before .before .sim3-coeffs-scaled-pair .ensures ∙ ap (λ z. pairAnswer binary64 (a .sigma) z (a .v)) n) in
+    angle-pair-refuses binary64 (a .phi) (a .sigma) (a .v) _ (r ∙ ap pairTold (c .before .before .enum-told .given .1))
 
 pub sim3-coeffs-scaled-pair-of-spec : {M : Type 1} → statement M
-sim3-coeffs-scaled-pair-of-spec = tie.close (tie.spec (λ c κs. search needs) (λ c κs. search needs) (λ c. search needs) (λ c. search needs) (λ c κs. search needs) (λ c κs. search needs) returns returns-2)
+sim3-coeffs-scaled-pair-of-spec =
+    tie.close
+    (tie.spec
+    (λ c κs. search needs)
+    (λ c κs. search needs)
+    (λ c. search needs)
+    (λ c. search needs)
+    (λ c κs. search needs)
+    (λ c κs. search needs)
+    returns
+    returns-2)

@@ -1,6 +1,6 @@
 -- `coeffs::sim3::sim3_v` meets its contract: the scaled answer, unscaled, or its refusal. Assumes nothing.
 use borrow.Author.Needs.{needs}
-use mathlib.Core.Path.{_≡_, sym, ap, _∙_}
+use mathlib.Core.Path.{sym, ap, _∙_}
 use lib.Ieee.{binary64}
 use Rattle.coeffs.specs.Entries.{vScaledTold, vTold, vScaledAnswer, vAnswer}
 use Rattle.coeffs.proofs.Arms.{arm-refuses, v-answers}
@@ -11,7 +11,8 @@ returns : tie.Need-returns
 unfolding vTold vScaledTold vScaledAnswer vAnswer
 returns c =
     let a = c .before .before .before .before .before .before .args in
-    simp (c .unscale-v .ensures) (sym (v-answers binary64 (a .sigma) (a .z) (a .v) _ (sym (c .before .before .before .before .before .sim3-v-scaled .ensures) ∙ ap vScaledTold (c .before .before .before .s .given .1))))
+    let r = sym (c .before .before .before .before .before .sim3-v-scaled .ensures) ∙ ap vScaledTold (c .before .before .before .s .given .1) in
+    simp (c .unscale-v .ensures) (sym (v-answers binary64 (a .sigma) (a .z) (a .v) _ r))
 
 returns-2 : tie.Need-returns-2
 unfolding vTold vScaledTold vScaledAnswer vAnswer

@@ -1,17 +1,58 @@
--- `jacobian::pair::block_pair` meets its contract: by what its calls ensure and its tests say. Assumes nothing.
+-- `jacobian::pair::block_pair` meets its contract: |phi|² is not below zero, so the entry answers, and the sides are what their calls ensure. Assumes nothing.
 use borrow.Author.Needs.{needs}
+use mathlib.Core.Path.{sym, ap, _∙_}
+use lib.Ieee.{binary64}
 use Rattle.so3.proofs.Even.{norm-sq-even}
-use Rattle.jacobian.specs.Pair.{blockPair}
-use Rattle.jacobian.specs.Blocks.{jlAndInverse}
-use Rattle.sim3.specs.Tangent.{tangentNeg}
+use Rattle.coeffs.proofs.Even.{angle-pair-answers, angle-pair-refuses}
+use Rattle.coeffs.specs.Entries.{pairTold, pairAnswer}
 use Rattle.coeffs.specs.Group.{coeffsPair}
 use Rattle.coeffs.specs.Values.{mirrored}
+use Rattle.sim3.specs.Tangent.{tangentNeg}
+use Rattle.jacobian.specs.Pair.{blockPair}
+use Rattle.jacobian.specs.Blocks.{jlAndInverse}
 use Rattle.jacobian.proofs.pair.block_pair.Statement.{statement}
 use Rattle.jacobian.proofs.pair.block_pair.Tie as tie
 
 returns : tie.Need-returns
-unfolding blockPair jlAndInverse tangentNeg coeffsPair mirrored
-returns c = simp (norm-sq-even, c .before .before .before .before .jl-and-inverse-from2 .ensures, c .before .before .before .before .before .neg3 .ensures, c .before .before .before .before .before .before .neg2 .ensures, c .before .before .before .before .before .before .before .transpose2 .ensures, c .before .before .before .before .before .before .before .before .transpose .ensures, c .before .before .before .before .before .before .before .before .before .jl-and-inverse-from .ensures, c .before .before .before .before .before .before .before .before .before .before .before .before .sim3-coeffs-scaled-pair-of .ensures)
+unfolding pairTold
+returns c =
+    let told = c .before in
+    let z = told .before .before .before in
+    let a = z .before .before .before .args in
+    let entry = told .before .before .sim3-coeffs-scaled-pair .ensures in
+    let at = ap (λ x. pairAnswer binary64 (a .tau .sigma) x (a .v)) (z .norm-sq .ensures) in
+    angle-pair-refuses binary64 (a .tau .phi) (a .tau .sigma) (a .v) _ (sym (entry ∙ at) ∙ ap pairTold (told .enum-told .given .1))
+
+returns-2 : tie.Need-returns-2
+unfolding blockPair jlAndInverse tangentNeg coeffsPair mirrored pairTold
+returns-2 c =
+    let right = c .before .before .before .before in
+    let left = right .before .before .before .before .before in
+    let p = left .before .before .before .before in
+    let z = p .before .before .before in
+    let a = z .before .before .before .args in
+    let entry = p .before .before .sim3-coeffs-scaled-pair .ensures in
+    let at = ap (λ x. pairAnswer binary64 (a .tau .sigma) x (a .v)) (z .norm-sq .ensures) in
+    let both = angle-pair-answers binary64 (a .tau .phi) (a .tau .sigma) (a .v) _ (sym (entry ∙ at) ∙ ap pairTold (p .p .given .1)) in
+    let n = right .before in
+    let t = n .before .before in
+    let other = right .jl-and-inverse-at2 .ensures in
+    simp (norm-sq-even, other, n .neg3 .ensures, n .before .neg2 .ensures, t .transpose2 .ensures, t .before .transpose .ensures, left .jl-and-inverse-at .ensures, z .norm-sq .ensures, both)
 
 pub block-pair-spec : {M : Type 1} → statement M
-block-pair-spec = tie.close (tie.spec (λ c κs. search needs) (λ c κs. search needs) (λ c κs. search needs) (λ c κs. search needs) (λ c κs. search needs) (λ c κs. search needs) (λ c κs. search needs) returns)
+block-pair-spec =
+    tie.close
+    (tie.spec
+    (λ c κs. search needs)
+    (λ c κs. search needs)
+    (λ c. search needs)
+    (λ c. search needs)
+    (λ c κs. search needs)
+    returns
+    (λ c κs. search needs)
+    (λ c κs. search needs)
+    (λ c κs. search needs)
+    (λ c κs. search needs)
+    (λ c κs. search needs)
+    (λ c κs. search needs)
+    returns-2)

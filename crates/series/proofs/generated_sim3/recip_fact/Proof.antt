@@ -1,18 +1,15 @@
 -- `series::generated_sim3::recip_fact` meets its contract: each constant has the pattern of its rational, rounded once, and what is past the table is 0 / 0. Assumes nothing.
-use mathlib.Core.Path.{_≡_, refl, sym, _∙_}
-use lib.Ieee.{nan, binary64, round, div, ofBits, toBits}
+use mathlib.Core.Path.{refl, sym, _∙_}
+use lib.Ieee.{binary64, round, toBits}
 use Rattle.ieee.specs.Table.{factorial, rounded}
+use Rattle.ieee.proofs.Nan.{zero-over-zero}
 use Rattle.series.specs.Recip.{recipRule}
 use Rattle.series.proofs.Recip.{recip-is, recip-past, none-below}
 use Rattle.series.proofs.generated_sim3.recip_fact.Statement.{statement}
 use Rattle.series.proofs.generated_sim3.recip_fact.Tie as tie
 
-zero-over-zero : div binary64 (ofBits binary64 0) (ofBits binary64 0) ≡ nan
-unfolding div ofBits
-zero-over-zero = refl
-
 past : tie.Need-returns-34
-past c = zero-over-zero ∙ sym (recip-past binary64 _ (none-below _ 33 (c .match .rest)))
+past c = zero-over-zero binary64 ∙ sym (recip-past binary64 _ (none-below _ 33 (c .match .rest)))
 
 pub recip-fact-spec : {M : Type 1} → statement M
 unfolding recipRule factorial rounded round toBits

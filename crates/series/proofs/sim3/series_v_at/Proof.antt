@@ -7,7 +7,15 @@ use Rattle.series.proofs.sim3.series_v_at.Tie as tie
 
 returns : tie.Need-returns
 unfolding seriesV seriesFull coeffs4 seriesCoeffs
-returns c = simp (v1-is, v2-is, c .chi-delta .ensures, c .before .before .before .recip-fact .ensures, c .before .before .before .before .g-series .ensures, c .before .before .before .before .before .turns-v-at .ensures)
+returns c =
+    simp (
+      v1-is,
+      v2-is,
+      c .chi-delta .ensures,
+      c .before .before .before .recip-fact .ensures,
+      c .before .before .before .before .g-series .ensures,
+      c .before .before .before .before .before .turns-v-at .ensures,
+    )
 
 pub series-v-at-spec : {M : Type 1} → statement M
 series-v-at-spec = tie.close (tie.spec (λ c κs. search needs) (λ c κs. search needs) (λ c. search needs) (λ c κs. search needs) (λ c κs. search needs) returns)

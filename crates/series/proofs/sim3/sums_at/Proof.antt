@@ -5,7 +5,29 @@ use Rattle.series.proofs.sim3.sums_at.Statement.{statement}
 use Rattle.series.proofs.sim3.sums_at.Tie as tie
 
 returns : tie.Need-returns
-returns c = simp (solo-are, last-is, c .last .ensures, c .before .tail-terms .ensures, c .before .before .recip-fact3 .ensures, c .before .before .before .recip-fact2 .ensures, c .before .before .before .before .recip-fact .ensures, c .before .before .before .before .before .turns-at .ensures)
+returns c =
+    simp (
+      solo-are,
+      last-is,
+      c .last .ensures,
+      c .before .tail-terms .ensures,
+      c .before .before .recip-fact3 .ensures,
+      c .before .before .before .recip-fact2 .ensures,
+      c .before .before .before .before .recip-fact .ensures,
+      c .before .before .before .before .before .turns-at .ensures,
+    )
 
 pub sums-at-spec : {M : Type 1} → statement M
-sums-at-spec = tie.close (tie.spec (λ c κs. search needs) (λ c. search needs) (λ c κs. search needs) (λ c. search needs) (λ c κs. search needs) (λ c. search needs) (λ c κs. search needs) (λ c κs. search needs) (λ c κs. search needs) returns)
+sums-at-spec =
+    tie.close
+    (tie.spec
+    (λ c κs. search needs)
+    (λ c. search needs)
+    (λ c κs. search needs)
+    (λ c. search needs)
+    (λ c κs. search needs)
+    (λ c. search needs)
+    (λ c κs. search needs)
+    (λ c κs. search needs)
+    (λ c κs. search needs)
+    returns)

@@ -16,15 +16,15 @@ abbrev μ-loop : tie.MeasureT-loop
 
 loop-holds : tie.Need-loop-holds Inv-loop μ-loop
 unfolding soloTurns
-loop-holds c = (omega arith, λ i. record { level = c .before .first .ensures i; sums = c .none .ensures i })
+loop-holds c = (omega arith, simp (c .none .ensures, c .before .first .ensures))
 
 loop-again : tie.Need-loop-again Inv-loop μ-loop
-loop-again c = (omega arith, cc (solo-more binary64 _ _ (c .before .before .before .before .loop .j)))
+loop-again c = (omega arith, simp (c .turn .ensures, c .before .recip-fact2 .ensures, c .before .before .recip-fact .ensures, c .before .before .before .before .loop .inv .1, solo-more))
 
 returns : tie.Need-returns Inv-loop μ-loop
 returns c =
     let last : c .before .loop .j ≡ c .before .before .before .before .args .k + 1 = omega arith in
-    cc
+    simp (c .before .loop .inv .1, last)
 
 pub turns-at-spec : {M : Type 1} → statement M
 turns-at-spec =

@@ -1,5 +1,5 @@
 -- `series::sim3::turns_v_at` meets its contract: the shortest arm's turns are written out; after j turns the loop holds `vTurns` at j, and it stops at k + 1. Assumes nothing.
-use mathlib.Core.Path.{_≡_, refl}
+use mathlib.Core.Path.{_≡_}
 use Prim.Native.Nat.{_+_, _-_, _≤_}
 use native.Mathlib.Omega.{arith}
 use lib.Ieee.{binary64}
@@ -19,15 +19,15 @@ unfolding vTurns
 loop-holds c = (omega arith, c .none-v .ensures)
 
 loop-again : tie.Need-loop-again Inv-loop μ-loop
-loop-again c = (omega arith, cc (v-more binary64 _ _ (c .before .before .before .loop .j)))
+loop-again c = (omega arith, simp (c .turn-v .ensures, c .before .recip-fact .ensures, c .before .before .before .loop .inv .1, v-more))
 
 returns : tie.Need-returns Inv-loop μ-loop
-returns c = rw (c .before .if1 .taken) (c .seven-turns-v .ensures)
+returns c = rw (c .before .if1 .taken) (c .turns-v .ensures)
 
 returns-2 : tie.Need-returns-2 Inv-loop μ-loop
 returns-2 c =
     let last : c .before .loop .j ≡ c .before .before .before .before .args .k + 1 = omega arith in
-    cc
+    simp (c .before .loop .inv .1, last)
 
 pub turns-v-at-spec : {M : Type 1} → statement M
 turns-v-at-spec =

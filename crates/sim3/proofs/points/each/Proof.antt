@@ -1,4 +1,4 @@
--- `sim3::points::each` meets its contract: after i turns the first i triples are moved and the rest is as it was. Assumes nothing.
+-- `sim3::points::each` meets its contract: after i turns the first i triples are moved and the rest is as it was, and what is left to read begins at triple i. Assumes nothing.
 use borrow.Author.Needs.{needs}
 use Prim.Native.Nat.{_+_, _*_, _-_, _≤_}
 use mathlib.Core.Path.{_≡_, refl, _∙_}
@@ -8,27 +8,34 @@ use lib.ListN.{length, drop}
 use lib.Ieee.{binary64}
 use Rattle.sim3.specs.Points.{pointsMoved}
 use Rattle.sim3.specs.Pose.{poseAct}
-use Rattle.sim3.proofs.Lists.{moved-more, moved-all}
+use Rattle.sim3.proofs.Lists.{moved-more, moved-all, left-first, left-next, left-length}
 use Rattle.sim3.proofs.points.each.Statement.{statement}
 use Rattle.sim3.proofs.points.each.Tie as tie
 
 abbrev Inv-loop : tie.InvT-loop
-Inv-loop x up pts out₀ n i₀ out i = (i ≤ n) × (out ≡ pointsMoved (poseAct binary64 x up) pts i ++ drop (i * 3) out₀) × (length out ≡ length out₀)
+Inv-loop x up pts out₀ n rest₀ i₀ out rest i =
+    (i ≤ n) × (out ≡ pointsMoved (poseAct binary64 x up) pts i ++ drop (i * 3) out₀)
+    × (length out ≡ length out₀) × (rest ≡ drop (i * 3) pts) × (length rest + i * 3 ≡ length pts)
 
 abbrev μ-loop : tie.MeasureT-loop
-μ-loop x up pts out₀ n i₀ out i = n - i
+μ-loop x up pts out₀ n rest₀ i₀ out rest i = n - i
 
 loop-holds : tie.Need-loop-holds Inv-loop μ-loop
 unfolding pointsMoved
-loop-holds c = (omega arith, refl, refl)
+loop-holds c = (omega arith, refl, refl, refl, omega arith)
 
 loop-again : tie.Need-loop-again Inv-loop μ-loop
 loop-again c =
-    let L = c .before .before .before .before .before .before .before in
-    let a = L .before .before .before .args in (
+    let P = c .before .before in
+    let M = P .before .before .before in
+    let L = M .before .before .before in
+    let a = L .before .before .before .args in
+    let more = moved-more (poseAct binary64 (a .x) (a .up)) (a .pts .now) (a .out .now) (L .loop .i) (omega arith) in (
       omega arith,
-      cc (moved-more (poseAct binary64 (a .x) (a .up)) (a .pts .now) (a .out .now) (L .loop .i) (omega arith)),
-      c .before .before .put-point .kept .0 ∙ L .loop .inv .2,
+      simp (P .put-point .ensures, M .act .ensures, M .before .point-at .ensures, L .loop .inv .3, left-first (a .pts .now) (L .loop .i), L .loop .inv .1) more,
+      P .put-point .kept .0 ∙ L .loop .inv .2,
+      left-next (a .pts .now) (L .loop .rest .now) (L .loop .i) (L .loop .inv .3),
+      left-length (a .pts .now) (L .loop .rest .now) (L .loop .i) (L .loop .inv .3) (omega arith),
     )
 
 same-length : tie.Need-same-length Inv-loop μ-loop
@@ -49,6 +56,9 @@ each-spec =
     loop-holds
     (λ c κs. omega arith)
     (λ c κs. search needs)
+    (λ c. omega arith)
+    (λ c. omega arith)
+    (λ c. search needs)
     (λ c. omega arith)
     (λ c κs. omega arith)
     (λ c. omega arith)

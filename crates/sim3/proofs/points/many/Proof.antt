@@ -1,62 +1,15 @@
--- `sim3::points::many` meets its contract: after i turns the first i triples are moved and the rest is as it was, and what is left to read begins at triple i. Assumes nothing.
+-- `sim3::points::many` meets its contract: the last triple of an odd count is in its place before the others are moved. Assumes nothing.
 use borrow.Author.Needs.{needs}
-use Prim.Native.Nat.{_+_, _*_, _-_, _≤_}
-use mathlib.Core.Path.{_≡_, refl, _∙_}
-use mathlib.Core.List.{_++_}
+use mathlib.Core.Path.{_∙_}
 use native.Mathlib.Omega.{arith}
-use lib.ListN.{length, drop}
-use lib.Ieee.{binary64}
-use Rattle.sim3.specs.Points.{pointsMoved, matAct}
-use Rattle.sim3.proofs.Lists.{moved-more, moved-all, left-first, left-next, left-length}
 use Rattle.sim3.proofs.points.many.Statement.{statement}
 use Rattle.sim3.proofs.points.many.Tie as tie
 
-abbrev Inv-loop : tie.InvT-loop
-Inv-loop m t pts out₀ n rest₀ i₀ out rest i = (i ≤ n) × (out ≡ pointsMoved (matAct binary64 m t) pts i ++ drop (i * 3) out₀) × (length out ≡ length out₀) × (rest ≡ drop (i * 3) pts) × (length rest + i * 3 ≡ length pts)
+same-length : tie.Need-same-length
+same-length c = c .before .before .leading .kept .1 .1 .1 .0 ∙ c .before .before .before .before .before .before .last .kept .1 .1 .1 .0
 
-abbrev μ-loop : tie.MeasureT-loop
-μ-loop m t pts out₀ n rest₀ i₀ out rest i = n - i
-
-loop-holds : tie.Need-loop-holds Inv-loop μ-loop
-unfolding pointsMoved
-loop-holds c = (omega arith, refl, refl, refl, omega arith)
-
-loop-again : tie.Need-loop-again Inv-loop μ-loop
-loop-again c =
-    let L = c .before .before .before .before .before .before .before .before in
-    let a = L .before .before .before .args in (
-      omega arith,
-      simp (c .before .before .put-point .ensures, c .before .before .before .before .before .mat-act .ensures, c .before .before .before .before .before .before .point-at .ensures, L .loop .inv .3, left-first (a .pts .now) (L .loop .i), L .loop .inv .1) (moved-more (matAct binary64 (a .m) (a .t)) (a .pts .now) (a .out .now) (L .loop .i) (omega arith)),
-      c .before .before .put-point .kept .0 ∙ L .loop .inv .2,
-      left-next (a .pts .now) (L .loop .rest .now) (L .loop .i) (L .loop .inv .3),
-      left-length (a .pts .now) (L .loop .rest .now) (L .loop .i) (L .loop .inv .3) (omega arith),
-    )
-
-same-length : tie.Need-same-length Inv-loop μ-loop
-same-length c = c .before .loop .inv .2
-
-returns : tie.Need-returns Inv-loop μ-loop
-returns c =
-    let a = c .before .before .before .before .args in
-    let e : c .before .loop .i ≡ a .n = omega arith in
-    cc (moved-all (matAct binary64 (a .m) (a .t)) (a .pts .now) (a .out .now) (c .before .loop .i) (omega arith))
+returns : tie.Need-returns
+returns c = c .before .before .leading .ensures ∙ c .before .before .before .before .before .before .last .ensures
 
 pub many-spec : {M : Type 1} → statement M
-many-spec =
-    tie.close
-    (tie.spec
-    Inv-loop
-    μ-loop
-    loop-holds
-    (λ c κs. omega arith)
-    (λ c κs. search needs)
-    (λ c. omega arith)
-    (λ c. omega arith)
-    (λ c. search needs)
-    (λ c. omega arith)
-    (λ c κs. omega arith)
-    (λ c. omega arith)
-    (λ c. omega arith)
-    loop-again
-    same-length
-    returns)
+many-spec = tie.close (tie.spec (λ c. omega arith) (λ c κs. omega arith) (λ c κs. omega arith) same-length returns)

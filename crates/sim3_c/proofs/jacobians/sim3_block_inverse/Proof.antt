@@ -1,8 +1,9 @@
+-- Written by tools/proofs from Proof.template: edit that one. Digest 173af3a259cace0f.
 -- `sim3_c::jacobians::sim3_block_inverse` meets its contract: the lists are read, the engine is asked, and its answer is written or the refusal handed on. Assumes nothing.
 use borrow.Author.Needs.{needs}
 use mathlib.Core.Path.{refl}
 use Rattle.jacobian.specs.Jac.{jacTold}
-use Rattle.sim3_c.specs.Layout.{blockTold}
+use Rattle.sim3_c.specs.Lists.{blockTold}
 use Rattle.sim3_c.specs.Calls.{status, written, blockInverseCall}
 use Rattle.sim3_c.proofs.jacobians.sim3_block_inverse.Statement.{statement}
 use Rattle.sim3_c.proofs.jacobians.sim3_block_inverse.Tie as tie
@@ -13,11 +14,40 @@ returns c = rw (← (c .before .before .block-from .ensures), c .enum-told .give
 
 returns-2 : tie.Need-returns-2
 unfolding status written blockInverseCall blockTold jacTold
-returns-2 c = rw (← (c .before .before .before .before .before .before .before .before .before .before .before .block-from .ensures), c .before .before .before .before .before .before .before .before .before .b .given .1, ← (c .before .before .before .before .before .before .before .inverse .ensures), c .before .before .before .before .before .i .given .1) (c .before .before .put-block .ensures)
+returns-2 c =
+    let c1 = c .before .before .before .before .before in
+    let c2 = c1 .before .before .before .before .before in
+    rw (
+      ← (c2 .before .block-from .ensures),
+      c1 .before .before .before .before .b .given .1,
+      ← (c1 .before .before .inverse .ensures),
+      c1 .i .given .1,
+    ) (c .before .before .put-block .ensures)
 
 returns-3 : tie.Need-returns-3
 unfolding status written blockInverseCall blockTold jacTold
-returns-3 c = rw (← (c .before .before .before .before .before .before .before .block-from .ensures), c .before .before .before .before .before .b .given .1, ← (c .before .before .before .inverse .ensures), c .before .n .given .1) (refl, refl)
+returns-3 c =
+    let c1 = c .before .before .before .before .before in
+    rw (
+      ← (c1 .before .before .block-from .ensures),
+      c1 .b .given .1,
+      ← (c .before .before .before .inverse .ensures),
+      c .before .n .given .1,
+    ) (refl, refl)
 
 pub sim3-block-inverse-spec : {M : Type 1} → statement M
-sim3-block-inverse-spec = tie.close (tie.spec (λ c κs. search needs) (λ c. search needs) (λ c. search needs) returns (λ c κs. search needs) (λ c. search needs) (λ c κs. search needs) (λ c. search needs) (λ c. search needs) (λ c. search needs) returns-2 returns-3)
+sim3-block-inverse-spec =
+    tie.close
+    (tie.spec
+    (λ c κs. search needs)
+    (λ c. search needs)
+    (λ c. search needs)
+    returns
+    (λ c κs. search needs)
+    (λ c. search needs)
+    (λ c κs. search needs)
+    (λ c. search needs)
+    (λ c. search needs)
+    (λ c. search needs)
+    returns-2
+    returns-3)

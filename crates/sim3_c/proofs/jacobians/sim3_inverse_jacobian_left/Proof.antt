@@ -1,7 +1,8 @@
+-- Written by tools/proofs from Proof.template: edit that one. Digest 2de7e44ebffcccd0.
 -- `sim3_c::jacobians::sim3_inverse_jacobian_left` meets its contract: the lists are read, the engine is asked, and its answer is written or the refusal handed on. Assumes nothing.
 use borrow.Author.Needs.{needs}
 use mathlib.Core.Path.{refl}
-use Rattle.sim3_c.specs.Layout.{poseTold}
+use Rattle.sim3_c.specs.Lists.{poseTold}
 use Rattle.sim3_c.specs.Calls.{status, written, inverseJacobianLeftCall}
 use Rattle.sim3_c.proofs.jacobians.sim3_inverse_jacobian_left.Statement.{statement}
 use Rattle.sim3_c.proofs.jacobians.sim3_inverse_jacobian_left.Tie as tie
@@ -12,7 +13,22 @@ returns c = rw (← (c .before .before .pose-from .ensures), c .enum-told .given
 
 returns-2 : tie.Need-returns-2
 unfolding status written inverseJacobianLeftCall poseTold
-returns-2 c = rw (← (c .before .before .before .before .before .before .before .before .pose-from .ensures), c .before .before .before .before .before .before .a .given .1) (rw (c .before .before .before .inverse-jacobian-left .ensures) at (c .before .before .put-block .ensures))
+returns-2 c =
+    let c1 = c .before .before .before .before .before in
+    rw (
+      ← (c1 .before .before .before .pose-from .ensures),
+      c1 .before .a .given .1,
+    ) (rw (c .before .before .before .inverse-jacobian-left .ensures) at (c .before .before .put-block .ensures))
 
 pub sim3-inverse-jacobian-left-spec : {M : Type 1} → statement M
-sim3-inverse-jacobian-left-spec = tie.close (tie.spec (λ c κs. search needs) (λ c. search needs) (λ c. search needs) returns (λ c κs. search needs) (λ c κs. search needs) (λ c. search needs) returns-2)
+sim3-inverse-jacobian-left-spec =
+    tie.close
+    (tie.spec
+    (λ c κs. search needs)
+    (λ c. search needs)
+    (λ c. search needs)
+    returns
+    (λ c κs. search needs)
+    (λ c κs. search needs)
+    (λ c. search needs)
+    returns-2)

@@ -1,7 +1,8 @@
+-- Written by tools/proofs from Proof.template: edit that one. Digest ab6e950b890818db.
 -- `sim3_c::pairs::sim3_block_pair` meets its contract: the lists are read, the engine is asked, and its answer is written or the refusal handed on. Assumes nothing.
 use borrow.Author.Needs.{needs}
 use mathlib.Core.Path.{refl}
-use Rattle.sim3_c.specs.Layout.{matTold, tangentTold, valuesTold}
+use Rattle.sim3_c.specs.Lists.{matTold, tangentTold, valuesTold}
 use Rattle.sim3_c.specs.Calls.{status, written, blockPairCall}
 use Rattle.sim3_c.proofs.pairs.sim3_block_pair.Statement.{statement}
 use Rattle.sim3_c.proofs.pairs.sim3_block_pair.Tie as tie
@@ -12,19 +13,84 @@ returns c = rw (← (c .before .before .tangent-from .ensures), c .enum-told .gi
 
 returns-2 : tie.Need-returns-2
 unfolding status written blockPairCall tangentTold valuesTold
-returns-2 c = rw (← (c .before .before .before .before .before .before .tangent-from .ensures), c .before .before .before .before .t .given .1, ← (c .before .before .values-from .ensures), c .enum-told2 .given .1) (refl, refl)
+returns-2 c =
+    let c1 = c .before .before .before .before .before in
+    rw (
+      ← (c1 .before .tangent-from .ensures),
+      c .before .before .before .before .t .given .1,
+      ← (c .before .before .values-from .ensures),
+      c .enum-told2 .given .1,
+    ) (refl, refl)
 
 returns-3 : tie.Need-returns-3
 unfolding status written blockPairCall matTold tangentTold valuesTold
-returns-3 c = rw (← (c .before .before .before .before .before .before .before .before .before .before .tangent-from .ensures), c .before .before .before .before .before .before .before .before .t .given .1, ← (c .before .before .before .before .before .before .values-from .ensures), c .before .before .before .before .v .given .1, ← (c .before .before .mat-from .ensures), c .enum-told3 .given .1) (refl, refl)
+returns-3 c =
+    let c1 = c .before .before .before .before .before in
+    let c2 = c1 .before .before .before .before .before in
+    rw (
+      ← (c2 .tangent-from .ensures),
+      c1 .before .before .before .t .given .1,
+      ← (c1 .before .values-from .ensures),
+      c .before .before .before .before .v .given .1,
+      ← (c .before .before .mat-from .ensures),
+      c .enum-told3 .given .1,
+    ) (refl, refl)
 
 returns-4 : tie.Need-returns-4
 unfolding status written blockPairCall matTold tangentTold valuesTold
-returns-4 c = rw (← (c .before .before .before .before .before .before .before .before .before .before .before .before .before .before .tangent-from .ensures), c .before .before .before .before .before .before .before .before .before .before .before .before .t .given .1, ← (c .before .before .before .before .before .before .before .before .before .before .values-from .ensures), c .before .before .before .before .before .before .before .before .v .given .1, ← (c .before .before .before .before .before .before .mat-from .ensures), c .before .before .before .before .j .given .1, ← (c .before .before .mat-from2 .ensures), c .enum-told4 .given .1) (refl, refl)
+returns-4 c =
+    let c1 = c .before .before .before .before .before in
+    let c2 = c1 .before .before .before .before .before in
+    rw (
+      ← (c2 .before .before .before .before .tangent-from .ensures),
+      c2 .before .before .t .given .1,
+      ← (c2 .values-from .ensures),
+      c1 .before .before .before .v .given .1,
+      ← (c1 .before .mat-from .ensures),
+      c .before .before .before .before .j .given .1,
+      ← (c .before .before .mat-from2 .ensures),
+      c .enum-told4 .given .1,
+    ) (refl, refl)
 
 returns-5 : tie.Need-returns-5
 unfolding status written blockPairCall matTold tangentTold valuesTold
-returns-5 c = rw (← (c .before .before .before .before .before .before .before .before .before .before .before .before .before .before .before .before .before .before .before .before .tangent-from .ensures), c .before .before .before .before .before .before .before .before .before .before .before .before .before .before .before .before .before .before .t .given .1, ← (c .before .before .before .before .before .before .before .before .before .before .before .before .before .before .before .before .values-from .ensures), c .before .before .before .before .before .before .before .before .before .before .before .before .before .before .v .given .1, ← (c .before .before .before .before .before .before .before .before .before .before .before .before .mat-from .ensures), c .before .before .before .before .before .before .before .before .before .before .j .given .1, ← (c .before .before .before .before .before .before .before .before .mat-from2 .ensures), c .before .before .before .before .before .before .i .given .1) (rw (c .before .before .before .block-pair .ensures) at (c .before .before .put-block-pair .ensures))
+returns-5 c =
+    let c1 = c .before .before .before .before .before in
+    let c2 = c1 .before .before .before .before .before in
+    let c3 = c2 .before .before .before .before .before in
+    let c4 = c3 .before .before .before .before .before in
+    rw (
+      ← (c4 .tangent-from .ensures),
+      c3 .before .before .before .t .given .1,
+      ← (c3 .before .values-from .ensures),
+      c2 .before .before .before .before .v .given .1,
+      ← (c2 .before .before .mat-from .ensures),
+      c2 .j .given .1,
+      ← (c1 .before .before .before .mat-from2 .ensures),
+      c1 .before .i .given .1,
+    ) (rw (c .before .before .before .block-pair .ensures) at (c .before .before .put-block-pair .ensures))
 
 pub sim3-block-pair-spec : {M : Type 1} → statement M
-sim3-block-pair-spec = tie.close (tie.spec (λ c κs. search needs) (λ c. search needs) (λ c. search needs) returns (λ c κs. search needs) (λ c. search needs) (λ c. search needs) returns-2 (λ c κs. search needs) (λ c. search needs) (λ c. search needs) returns-3 (λ c κs. search needs) (λ c. search needs) (λ c. search needs) returns-4 (λ c κs. search needs) (λ c κs. search needs) (λ c. search needs) returns-5)
+sim3-block-pair-spec =
+    tie.close
+    (tie.spec
+    (λ c κs. search needs)
+    (λ c. search needs)
+    (λ c. search needs)
+    returns
+    (λ c κs. search needs)
+    (λ c. search needs)
+    (λ c. search needs)
+    returns-2
+    (λ c κs. search needs)
+    (λ c. search needs)
+    (λ c. search needs)
+    returns-3
+    (λ c κs. search needs)
+    (λ c. search needs)
+    (λ c. search needs)
+    returns-4
+    (λ c κs. search needs)
+    (λ c κs. search needs)
+    (λ c. search needs)
+    returns-5)

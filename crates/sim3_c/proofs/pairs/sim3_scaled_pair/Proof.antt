@@ -1,8 +1,9 @@
+-- Written by tools/proofs from Proof.template: edit that one. Digest 5fabcb2dc973e705.
 -- `sim3_c::pairs::sim3_scaled_pair` meets its contract: the lists are read, the engine is asked, and its answer is written or the refusal handed on. Assumes nothing.
 use borrow.Author.Needs.{needs}
 use mathlib.Core.Path.{refl}
 use Rattle.coeffs.specs.Entries.{pairTold}
-use Rattle.sim3_c.specs.Layout.{valuesTold}
+use Rattle.sim3_c.specs.Lists.{valuesTold}
 use Rattle.sim3_c.specs.Calls.{status, written, scaledPairCall}
 use Rattle.sim3_c.proofs.pairs.sim3_scaled_pair.Statement.{statement}
 use Rattle.sim3_c.proofs.pairs.sim3_scaled_pair.Tie as tie
@@ -13,11 +14,40 @@ returns c = rw (← (c .before .before .values-from .ensures), c .enum-told .giv
 
 returns-2 : tie.Need-returns-2
 unfolding status written scaledPairCall pairTold valuesTold
-returns-2 c = rw (← (c .before .before .before .before .before .before .before .before .before .before .before .values-from .ensures), c .before .before .before .before .before .before .before .before .before .v .given .1, ← (c .before .before .before .before .before .before .before .sim3-coeffs-scaled-pair .ensures), c .before .before .before .before .before .p .given .1) (c .before .before .put-scaled-pair .ensures)
+returns-2 c =
+    let c1 = c .before .before .before .before .before in
+    let c2 = c1 .before .before .before .before .before in
+    rw (
+      ← (c2 .before .values-from .ensures),
+      c1 .before .before .before .before .v .given .1,
+      ← (c1 .before .before .sim3-coeffs-scaled-pair .ensures),
+      c1 .p .given .1,
+    ) (c .before .before .put-scaled-pair .ensures)
 
 returns-3 : tie.Need-returns-3
 unfolding status written scaledPairCall pairTold valuesTold
-returns-3 c = rw (← (c .before .before .before .before .before .before .before .values-from .ensures), c .before .before .before .before .before .v .given .1, ← (c .before .before .before .sim3-coeffs-scaled-pair .ensures), c .before .n .given .1) (refl, refl)
+returns-3 c =
+    let c1 = c .before .before .before .before .before in
+    rw (
+      ← (c1 .before .before .values-from .ensures),
+      c1 .v .given .1,
+      ← (c .before .before .before .sim3-coeffs-scaled-pair .ensures),
+      c .before .n .given .1,
+    ) (refl, refl)
 
 pub sim3-scaled-pair-spec : {M : Type 1} → statement M
-sim3-scaled-pair-spec = tie.close (tie.spec (λ c κs. search needs) (λ c. search needs) (λ c. search needs) returns (λ c κs. search needs) (λ c. search needs) (λ c κs. search needs) (λ c. search needs) (λ c. search needs) (λ c. search needs) returns-2 returns-3)
+sim3-scaled-pair-spec =
+    tie.close
+    (tie.spec
+    (λ c κs. search needs)
+    (λ c. search needs)
+    (λ c. search needs)
+    returns
+    (λ c κs. search needs)
+    (λ c. search needs)
+    (λ c κs. search needs)
+    (λ c. search needs)
+    (λ c. search needs)
+    (λ c. search needs)
+    returns-2
+    returns-3)

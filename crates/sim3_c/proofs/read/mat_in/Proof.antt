@@ -1,6 +1,6 @@
 -- `sim3_c::read::mat_in` meets its contract: three columns, one behind another. Assumes nothing.
 use borrow.Author.Needs.{needs}
-use Rattle.sim3_c.specs.Layout.{matIn}
+use Rattle.layout.specs.Layout.{matIn}
 use Rattle.sim3_c.proofs.read.mat_in.Statement.{statement}
 use Rattle.sim3_c.proofs.read.mat_in.Tie as tie
 

@@ -1,7 +1,8 @@
 -- `sim3_c::read::pose_from` meets its contract: a list of the length that is due is read, and any other is told. Assumes nothing.
 use borrow.Author.Needs.{needs}
 use mathlib.Core.Path.{sym}
-use Rattle.sim3_c.specs.Layout.{poseFrom, poseTold}
+use Rattle.layout.specs.Layout.{poseIn, quatIn}
+use Rattle.sim3_c.specs.Lists.{poseFrom, poseTold}
 use Rattle.sim3_c.proofs.Lists.{sized-right, sized-wrong}
 use Rattle.sim3_c.proofs.read.pose_from.Statement.{statement}
 use Rattle.sim3_c.proofs.read.pose_from.Tie as tie
@@ -11,7 +12,7 @@ unfolding poseFrom poseTold
 returns c = sym (sized-wrong _ _ _ (c .if1 .taken))
 
 returns-2 : tie.Need-returns-2
-unfolding poseFrom poseTold
+unfolding poseIn quatIn poseFrom poseTold
 returns-2 c = rw (c .before .vec-in .ensures) (sym (sized-right _ _ _ (c .before .before .before .before .before .before .if1 .left)))
 
 pub pose-from-spec : {M : Type 1} → statement M

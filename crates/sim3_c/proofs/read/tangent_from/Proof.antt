@@ -1,7 +1,8 @@
 -- `sim3_c::read::tangent_from` meets its contract: a list of the length that is due is read, and any other is told. Assumes nothing.
 use borrow.Author.Needs.{needs}
 use mathlib.Core.Path.{sym}
-use Rattle.sim3_c.specs.Layout.{tangentFrom, tangentTold}
+use Rattle.layout.specs.Layout.{tangentIn}
+use Rattle.sim3_c.specs.Lists.{tangentFrom, tangentTold}
 use Rattle.sim3_c.proofs.Lists.{sized-right, sized-wrong}
 use Rattle.sim3_c.proofs.read.tangent_from.Statement.{statement}
 use Rattle.sim3_c.proofs.read.tangent_from.Tie as tie
@@ -11,7 +12,7 @@ unfolding tangentFrom tangentTold
 returns c = sym (sized-wrong _ _ _ (c .if1 .taken))
 
 returns-2 : tie.Need-returns-2
-unfolding tangentFrom tangentTold
+unfolding tangentIn tangentFrom tangentTold
 returns-2 c = rw (c .before .vec-in2 .ensures, c .before .before .vec-in .ensures) (sym (sized-right _ _ _ (c .before .before .before .if1 .left)))
 
 pub tangent-from-spec : {M : Type 1} → statement M

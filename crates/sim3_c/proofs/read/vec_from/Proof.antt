@@ -1,7 +1,7 @@
 -- `sim3_c::read::vec_from` meets its contract: a list of the length that is due is read, and any other is told. Assumes nothing.
 use borrow.Author.Needs.{needs}
 use mathlib.Core.Path.{sym}
-use Rattle.sim3_c.specs.Layout.{vecFrom, vecTold}
+use Rattle.sim3_c.specs.Lists.{vecFrom, vecTold}
 use Rattle.sim3_c.proofs.Lists.{sized-right, sized-wrong}
 use Rattle.sim3_c.proofs.read.vec_from.Statement.{statement}
 use Rattle.sim3_c.proofs.read.vec_from.Tie as tie

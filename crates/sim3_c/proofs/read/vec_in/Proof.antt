@@ -1,7 +1,8 @@
+-- Written by tools/proofs from Proof.template: edit that one. Digest b61a68dd43b9d383.
 -- `sim3_c::read::vec_in` meets its contract: three numbers from a place on. Assumes nothing.
 use borrow.Author.Needs.{needs}
 use mathlib.Core.Path.{refl}
-use Rattle.sim3_c.specs.Layout.{vecIn}
+use Rattle.layout.specs.Layout.{vecIn}
 use Rattle.sim3_c.proofs.read.vec_in.Statement.{statement}
 use Rattle.sim3_c.proofs.read.vec_in.Tie as tie
 
@@ -10,4 +11,15 @@ unfolding vecIn
 returns c = refl
 
 pub vec-in-spec : {M : Type 1} → statement M
-vec-in-spec = tie.close (tie.spec (λ c. search needs) (λ c. search needs) (λ c. search needs) (λ c. search needs) (λ c. search needs) (λ c. search needs) (λ c. search needs) (λ c. search needs) returns)
+vec-in-spec =
+    tie.close
+    (tie.spec
+    (λ c. search needs)
+    (λ c. search needs)
+    (λ c. search needs)
+    (λ c. search needs)
+    (λ c. search needs)
+    (λ c. search needs)
+    (λ c. search needs)
+    (λ c. search needs)
+    returns)

@@ -1,8 +1,8 @@
 -- `sim3_c::write::put_block` meets its contract: an `out` of the length that is due has the numbers written, and any other is left as it was. Assumes nothing.
 use borrow.Author.Needs.{needs}
 use mathlib.Core.Path.{_∙_}
-use Rattle.marks.specs.Layout.{blockNumbers}
-use Rattle.marks.proofs.Numbers.{block-count}
+use Rattle.layout.specs.Layout.{blockNumbers}
+use Rattle.layout.proofs.Numbers.{block-count}
 use Rattle.sim3_c.proofs.Lists.{fits, misfits}
 use Rattle.sim3_c.proofs.write.put_block.Statement.{statement}
 use Rattle.sim3_c.proofs.write.put_block.Tie as tie

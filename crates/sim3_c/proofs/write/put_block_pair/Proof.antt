@@ -1,8 +1,9 @@
+-- Written by tools/proofs from Proof.template: edit that one. Digest 2fa10aaf9d9e7ad9.
 -- `sim3_c::write::put_block_pair` meets its contract: an `out` of the length that is due has the numbers written, and any other is left as it was. Assumes nothing.
 use borrow.Author.Needs.{needs}
 use mathlib.Core.Path.{_∙_}
-use Rattle.marks.specs.Layout.{blockPairNumbers}
-use Rattle.marks.proofs.Numbers.{block-pair-count}
+use Rattle.layout.specs.Layout.{blockPairNumbers}
+use Rattle.layout.proofs.Numbers.{block-pair-count}
 use Rattle.sim3_c.proofs.Lists.{fits, misfits}
 use Rattle.sim3_c.proofs.Stores.{block-pair-stored}
 use Rattle.sim3_c.proofs.write.put_block_pair.Statement.{statement}
@@ -15,9 +16,28 @@ returns c =
 
 returns-2 : tie.Need-returns-2
 returns-2 c =
-    let a = c .before .before .before .before .before .before .before .before .before .before .before .before .before .before .before .before .before .before .args in
-    let f = fits (a .out .now) (blockPairNumbers (a .p)) 124 (c .before .before .before .before .before .before .before .before .before .before .before .before .before .before .before .before .if1 .left) (block-pair-count (a .p)) in
-    (f .0, rw (c .before .before .set-block4 .ensures, c .before .before .before .before .before .before .set-block3 .ensures, c .before .before .before .before .before .before .before .before .before .before .set-block2 .ensures, c .before .before .before .before .before .before .before .before .before .before .before .before .before .before .set-block .ensures) (block-pair-stored (a .p) (a .out .now)) ∙ f .1)
+    let c1 = c .before .before .before .before .before in
+    let c2 = c1 .before .before .before .before .before in
+    let c3 = c2 .before .before .before .before .before in
+    let a = c3 .before .before .before .args in
+    let f = fits (a .out .now) (blockPairNumbers (a .p)) 124 (c3 .before .if1 .left) (block-pair-count (a .p)) in (
+      f .0,
+      rw (
+        c .before .before .set-block4 .ensures,
+        c1 .before .set-block3 .ensures,
+        c2 .set-block2 .ensures,
+        c2 .before .before .before .before .set-block .ensures,
+      ) (block-pair-stored (a .p) (a .out .now)) ∙ f .1,
+    )
 
 pub put-block-pair-spec : {M : Type 1} → statement M
-put-block-pair-spec = tie.close (tie.spec returns (λ c κs. search needs) (λ c κs. search needs) (λ c κs. search needs) (λ c κs. search needs) (λ c. search needs) returns-2)
+put-block-pair-spec =
+    tie.close
+    (tie.spec
+    returns
+    (λ c κs. search needs)
+    (λ c κs. search needs)
+    (λ c κs. search needs)
+    (λ c κs. search needs)
+    (λ c. search needs)
+    returns-2)

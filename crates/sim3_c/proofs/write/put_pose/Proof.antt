@@ -2,8 +2,8 @@
 use borrow.Author.Needs.{needs}
 use mathlib.Core.Path.{_∙_}
 use lib.ListN.{length-set}
-use Rattle.marks.specs.Layout.{poseNumbers}
-use Rattle.marks.proofs.Numbers.{pose-count}
+use Rattle.layout.specs.Layout.{poseNumbers}
+use Rattle.layout.proofs.Numbers.{pose-count}
 use Rattle.sim3_c.proofs.Lists.{fits, misfits}
 use Rattle.sim3_c.proofs.Stores.{pose-stored}
 use Rattle.sim3_c.proofs.write.put_pose.Statement.{statement}

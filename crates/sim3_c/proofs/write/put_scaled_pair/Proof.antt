@@ -1,8 +1,8 @@
 -- `sim3_c::write::put_scaled_pair` meets its contract: an `out` of the length that is due has the numbers written, and any other is left as it was. Assumes nothing.
 use borrow.Author.Needs.{needs}
 use mathlib.Core.Path.{_∙_}
-use Rattle.marks.specs.Layout.{scaledPairNumbers}
-use Rattle.marks.proofs.Numbers.{scaled-pair-count}
+use Rattle.layout.specs.Layout.{scaledPairNumbers}
+use Rattle.layout.proofs.Numbers.{scaled-pair-count}
 use Rattle.sim3_c.proofs.Lists.{fits, misfits}
 use Rattle.sim3_c.proofs.Stores.{scaled-pair-stored}
 use Rattle.sim3_c.proofs.write.put_scaled_pair.Statement.{statement}

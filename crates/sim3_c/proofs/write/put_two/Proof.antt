@@ -1,9 +1,10 @@
 -- `sim3_c::write::put_two` meets its contract: an `out` of the length that is due has the numbers written, and any other is left as it was. Assumes nothing.
 use borrow.Author.Needs.{needs}
 use mathlib.Core.Path.{_∙_}
-use Rattle.sim3_c.specs.Layout.{twoNumbers}
+use Rattle.layout.specs.Layout.{twoNumbers}
+use Rattle.layout.proofs.Numbers.{two-count}
 use Rattle.sim3_c.proofs.Lists.{fits, misfits}
-use Rattle.sim3_c.proofs.Stores.{two-count, two-stored}
+use Rattle.sim3_c.proofs.Stores.{two-stored}
 use Rattle.sim3_c.proofs.write.put_two.Statement.{statement}
 use Rattle.sim3_c.proofs.write.put_two.Tie as tie
 

@@ -1,3 +1,4 @@
+-- Written by tools/proofs from Proof.template: edit that one. Digest 0754fa7b3c952faf.
 -- `sim3_c::write::set_block` meets its contract: the runs of its parts are its run. Assumes nothing.
 use borrow.Author.Needs.{needs}
 use lib.ListN.{length-set}
@@ -7,8 +8,33 @@ use Rattle.sim3_c.proofs.write.set_block.Tie as tie
 
 returns : tie.Need-returns
 returns c =
-    let a = c .before .before .before .before .before .before .before .before .before .before .before .before .before .before .before .before .before .args in
-    rw (c .before .before .set-three .ensures, c .before .before .before .before .before .before .set-mat3 .ensures, c .before .before .before .before .before .before .before .before .before .before .set-mat2 .ensures, c .before .before .before .before .before .before .before .before .before .before .before .before .before .before .set-mat .ensures) (block-stored (a .j) (a .out .now) (a .at))
+    let c1 = c .before .before .before .before .before in
+    let c2 = c1 .before .before .before .before .before in
+    let c3 = c2 .before .before .before .before .before in
+    let a = c3 .before .before .args in
+    rw (
+      c .before .before .set-three .ensures,
+      c1 .before .set-mat3 .ensures,
+      c2 .set-mat2 .ensures,
+      c2 .before .before .before .before .set-mat .ensures,
+    ) (block-stored (a .j) (a .out .now) (a .at))
+
+same-length : tie.Need-same-length
+same-length c = simp length-set (search needs)
 
 pub set-block-spec : {M : Type 1} → statement M
-set-block-spec = tie.close (tie.spec (λ c κs. search needs) (λ c. search needs) (λ c κs. search needs) (λ c. search needs) (λ c κs. search needs) (λ c. search needs) (λ c κs. search needs) (λ c. search needs) (λ c. search needs) (λ c. search needs) (λ c. simp length-set (search needs)) returns)
+set-block-spec =
+    tie.close
+    (tie.spec
+    (λ c κs. search needs)
+    (λ c. search needs)
+    (λ c κs. search needs)
+    (λ c. search needs)
+    (λ c κs. search needs)
+    (λ c. search needs)
+    (λ c κs. search needs)
+    (λ c. search needs)
+    (λ c. search needs)
+    (λ c. search needs)
+    same-length
+    returns)

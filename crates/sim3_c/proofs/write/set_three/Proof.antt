@@ -1,3 +1,4 @@
+-- Written by tools/proofs from Proof.template: edit that one. Digest 858bcce15e75a12c.
 -- `sim3_c::write::set_three` meets its contract: three stores are the run of the vector. Assumes nothing.
 use borrow.Author.Needs.{needs}
 use native.Mathlib.Omega.{arith}
@@ -11,5 +12,23 @@ returns c =
     let a = c .args in
     three-stored (a .v) (a .out .now) (a .at)
 
+slice-write-out-2 : tie.Need-slice-write-out-2
+slice-write-out-2 c = simp length-set (omega arith)
+
+slice-write-out-3 : tie.Need-slice-write-out-3
+slice-write-out-3 c = simp length-set (omega arith)
+
 pub set-three-spec : {M : Type 1} → statement M
-set-three-spec = tie.close (tie.spec (λ c. search needs) (λ c. search needs) (λ c. search needs) (λ c. search needs) (λ c. simp length-set (omega arith)) (λ c. search needs) (λ c. search needs) (λ c. simp length-set (omega arith)) (λ c. search needs) returns)
+set-three-spec =
+    tie.close
+    (tie.spec
+    (λ c. search needs)
+    (λ c. search needs)
+    (λ c. search needs)
+    (λ c. search needs)
+    slice-write-out-2
+    (λ c. search needs)
+    (λ c. search needs)
+    slice-write-out-3
+    (λ c. search needs)
+    returns)

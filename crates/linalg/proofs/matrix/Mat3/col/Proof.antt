@@ -1,8 +1,7 @@
 -- `linalg::matrix::Mat3::col` meets its contract: its three entries are the column, and where one is refused so is the column. Assumes nothing.
-use mathlib.Core.Path.{_≡_, refl, sym, ap, _∙_}
+use mathlib.Core.Path.{refl, sym, ap, _∙_}
 use borrow.Author.Needs.{needs}
-use Rattle.linalg.specs.Answer.{answers, refuses}
-use Rattle.linalg.specs.Matrix.{entryTold, vecTold, vecComponent, matGet, matCol}
+use Rattle.linalg.specs.Matrix.{entryTold, vecTold, vecComponent}
 use Rattle.linalg.proofs.Thirds.{col-refused, col-answers}
 use Rattle.linalg.proofs.matrix.Mat3.col.Statement.{statement}
 use Rattle.linalg.proofs.matrix.Mat3.col.Tie as tie
@@ -30,9 +29,25 @@ unfolding entryTold vecTold
 returns-4 c =
     let a = c .before .before .before .before .before .before .before .before .before .before .before .before .args in
     sym (col-answers (a .self) (a .c) _ _ _
-    (sym (c .before .before .before .before .before .before .before .before .before .before .before .get .ensures) ∙ ap entryTold (c .before .before .before .before .before .before .before .before .before .x .given .1))
+    (sym (c .before .before .before .before .before .before .before .before .before .before .before .get .ensures)
+    ∙ ap entryTold (c .before .before .before .before .before .before .before .before .before .x .given .1))
     (sym (c .before .before .before .before .before .before .before .get2 .ensures) ∙ ap entryTold (c .before .before .before .before .before .y .given .1))
     (sym (c .before .before .before .get3 .ensures) ∙ ap entryTold (c .before .z .given .1)))
 
 pub col-spec : {M : Type 1} → statement M
-col-spec = tie.close (tie.spec (λ c κs. search needs) (λ c. search needs) (λ c. search needs) returns (λ c κs. search needs) (λ c. search needs) (λ c. search needs) returns-2 (λ c κs. search needs) (λ c. search needs) (λ c. search needs) returns-3 returns-4)
+col-spec =
+    tie.close
+    (tie.spec
+    (λ c κs. search needs)
+    (λ c. search needs)
+    (λ c. search needs)
+    returns
+    (λ c κs. search needs)
+    (λ c. search needs)
+    (λ c. search needs)
+    returns-2
+    (λ c κs. search needs)
+    (λ c. search needs)
+    (λ c. search needs)
+    returns-3
+    returns-4)

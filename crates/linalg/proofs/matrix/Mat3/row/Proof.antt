@@ -1,7 +1,6 @@
 -- `linalg::matrix::Mat3::row` meets its contract: its three entries are the row, and where one is refused so is the row. Assumes nothing.
-use mathlib.Core.Path.{_≡_, refl, sym, ap, _∙_}
+use mathlib.Core.Path.{sym, ap, _∙_}
 use borrow.Author.Needs.{needs}
-use Rattle.linalg.specs.Answer.{answers, refuses}
 use Rattle.linalg.specs.Matrix.{entryTold, vecTold, vecComponent, matGet, matCol}
 use Rattle.linalg.proofs.Thirds.{row-refused, row-answers}
 use Rattle.linalg.proofs.matrix.Mat3.row.Statement.{statement}
@@ -30,9 +29,25 @@ unfolding entryTold vecTold
 returns-4 c =
     let a = c .before .before .before .before .before .before .before .before .before .before .before .before .args in
     sym (row-answers (a .self) (a .r) _ _ _
-    (sym (c .before .before .before .before .before .before .before .before .before .before .before .get .ensures) ∙ ap entryTold (c .before .before .before .before .before .before .before .before .before .x .given .1))
+    (sym (c .before .before .before .before .before .before .before .before .before .before .before .get .ensures)
+    ∙ ap entryTold (c .before .before .before .before .before .before .before .before .before .x .given .1))
     (sym (c .before .before .before .before .before .before .before .get2 .ensures) ∙ ap entryTold (c .before .before .before .before .before .y .given .1))
     (sym (c .before .before .before .get3 .ensures) ∙ ap entryTold (c .before .z .given .1)))
 
 pub row-spec : {M : Type 1} → statement M
-row-spec = tie.close (tie.spec (λ c κs. search needs) (λ c. search needs) (λ c. search needs) returns (λ c κs. search needs) (λ c. search needs) (λ c. search needs) returns-2 (λ c κs. search needs) (λ c. search needs) (λ c. search needs) returns-3 returns-4)
+row-spec =
+    tie.close
+    (tie.spec
+    (λ c κs. search needs)
+    (λ c. search needs)
+    (λ c. search needs)
+    returns
+    (λ c κs. search needs)
+    (λ c. search needs)
+    (λ c. search needs)
+    returns-2
+    (λ c κs. search needs)
+    (λ c. search needs)
+    (λ c. search needs)
+    returns-3
+    returns-4)

@@ -1,0 +1,38 @@
+-- Written by tools/proofs from Proof.template: edit that one. Digest 9974bbba2f32f121.
+-- `replies::places::put_block` meets its contract: the runs of its parts are the run of the whole. Assumes nothing.
+use borrow.Author.Needs.{needs}
+use lib.Ieee.{binary64}
+use mathlib.Core.Path.{_∙_}
+use Rattle.replies.proofs.Numbers.{block-run}
+use Rattle.replies.proofs.places.put_block.Statement.{statement}
+use Rattle.replies.proofs.places.put_block.Tie as tie
+
+returns : tie.Need-returns
+returns c =
+    let c1 = c .before .before .before .before .before in
+    let c2 = c1 .before .before .before .before .before in
+    let c3 = c2 .before .before .before .before .before in
+    let c4 = c3 .before .before .before .before .before in
+    (rw (
+      c1 .before .put-vec .ensures,
+      c2 .put-mat3 .ensures,
+      c2 .before .before .before .before .put-mat2 .ensures,
+      c3 .before .before .before .put-mat .ensures,
+    ) at (c .before .before .put-number .ensures))
+    ∙ block-run binary64 (c4 .before .args .j) (c4 .before .args .out .now) (c4 .before .args .i)
+
+pub put-block-spec : {M : Type 1} → statement M
+put-block-spec =
+    tie.close
+    (tie.spec
+    (λ c κs. search needs)
+    (λ c. search needs)
+    (λ c κs. search needs)
+    (λ c. search needs)
+    (λ c κs. search needs)
+    (λ c. search needs)
+    (λ c κs. search needs)
+    (λ c. search needs)
+    (λ c κs. search needs)
+    (λ c. search needs)
+    returns)

@@ -1,0 +1,95 @@
+// The entries of the engine behind the marks, on doubles: how many bytes a record has behind its mark,
+// and what it is answered.
+ghost use mathlib.Core.Path.{_≡_};
+ghost use Prim.Native.Nat.{_+_, _≤_};
+ghost use lib.Ieee.{binary64};
+ghost use lib.ListN.{length};
+ghost use lib.Seq.{sets};
+ghost use Rattle.outcome.specs.Outcome.{longest, becameOf, writtenOf, stepTold, gaveOf, gaveBytes};
+ghost use Rattle.replies.specs.Table.{widthOf, answerOf, entryFound};
+use crate::entries::ac;
+use crate::entries::co;
+use crate::entries::ex;
+use crate::entries::inv;
+use crate::entries::ji;
+use crate::entries::mu;
+use crate::entries::pa;
+use layout::BLOCK;
+use layout::MAT;
+use layout::POSE;
+use layout::TANGENT;
+use layout::VALUES;
+use layout::VEC;
+use outcome::Entry;
+use outcome::Gave;
+use outcome::LONGEST;
+use outcome::Step;
+
+mod bytes; // the number at a place of a record or an answer
+mod entries; // what each entry answers
+mod places; // things of several numbers
+
+// How many bytes a number has.
+const NUMBER: usize = 8;
+
+// How many bytes a record has behind its mark.
+fn width(e: Entry) -> usize
+    ensures { λ r. ⌜ r ≡ widthOf binary64 e ⌝ }
+{
+    match e {
+        Entry::Ex => NUMBER * (TANGENT + VALUES),
+        Entry::Co => NUMBER * (2 + VALUES),
+        Entry::Pa => NUMBER * (TANGENT + VALUES + 2 * MAT),
+        Entry::Ac => NUMBER * (POSE + 1 + VEC),
+        Entry::Mu => NUMBER * (2 * POSE + 1),
+        Entry::In => NUMBER * (POSE + 1),
+        Entry::Ji => NUMBER * BLOCK,
+    }
+}
+
+// The answer to the bytes b behind a mark, written from the front of `out` on.
+fn give(e: Entry, b: &[u8], out: &mut [u8]) -> Gave
+    requires { ⌜ length (now b) ≡ widthOf binary64 e ⌝ }
+    requires { ⌜ longest ≤ 2 + length (now out) ⌝ }
+    ensures { λ r. ⌜ r ≡ gaveOf binary64 (answerOf binary64 e (now (b .entry))) ⌝ }
+    ensures { λ _. ⌜ now (out .exit) ≡ sets (now (out .entry)) 0 (gaveBytes binary64 (answerOf binary64 e (now (b .entry)))) ⌝ }
+{
+    match e {
+        Entry::Ex => ex(b, out),
+        Entry::Co => co(b, out),
+        Entry::Pa => pa(b, out),
+        Entry::Ac => ac(b, out),
+        Entry::Mu => mu(b, out),
+        Entry::In => inv(b, out),
+        Entry::Ji => ji(b, out),
+    }
+}
+
+// Answers the record at the head of s, whose mark asks for the entry e, at the front of `out`: the mark
+// again and the numbers, or NO and the refusal. Nothing is written where s is shorter than the record,
+// or `out` than the longest answer.
+pub fn reply(e: Entry, s: &[u8], out: &mut [u8]) -> Step
+    ensures { λ r. ⌜ stepTold r ≡ becameOf (entryFound binary64 e (now (s .entry))) (length (now (out .entry))) ⌝ }
+    ensures { λ _. ⌜ now (out .exit) ≡ sets (now (out .entry)) 0 (writtenOf (entryFound binary64 e (now (s .entry))) (length (now (out .entry)))) ⌝ }
+{
+    let end = 2 + width(e);
+    if s.len() < end {
+        return Step::Cut;
+    }
+    if out.len() < LONGEST {
+        return Step::Room;
+    }
+    match give(e, &s[2..end], &mut out[2..]) {
+        Gave::Wrote(n) => {
+            out[0] = s[0];
+            out[1] = s[1];
+            Step::Took(true, end, 2 + n)
+        }
+        Gave::Refused(number) => {
+            out[0] = b'N';
+            out[1] = b'O';
+            out[2] = number;
+            Step::Took(false, end, 3)
+        }
+    }
+}

@@ -1,0 +1,200 @@
+// Things of several numbers, from the i-th number of a list of bytes on: what is read, and what is
+// written, in the same order.
+ghost use mathlib.Core.Path.{_≡_};
+ghost use Prim.Native.Nat.{_+_, _*_, _≤_};
+ghost use lib.Ieee.{binary64};
+ghost use lib.ListN.{length};
+ghost use lib.Seq.{sets};
+ghost use Rattle.linalg.specs.Vector.{vecNumbers};
+ghost use Rattle.layout.specs.Layout.{vecIn, matIn, poseIn, tangentIn, valuesIn, blockIn};
+ghost use Rattle.layout.specs.Layout.{matNumbers, poseNumbers, blockNumbers, blockPairNumbers, scaledNumbers, scaledPairNumbers};
+ghost use Rattle.wire.specs.Wire.{width, numberAt, numbersBytes};
+use crate::bytes::number_at;
+use crate::bytes::put_number;
+use coeffs::sim3::ScaledPair;
+use coeffs::values::Values;
+use jacobian::jac::Sim3Jac;
+use jacobian::pair::BlockPair;
+use linalg::matrix::Mat3;
+use linalg::vector::Vec3;
+use series::sim3::Sim3Coeffs;
+use sim3::sim3::Sim3;
+use sim3::tangent::Sim3Tangent;
+use so3::quat::Quat;
+
+// ---- read
+pub(crate) fn vec_at(b: &[u8], i: usize) -> Vec3
+    requires { ⌜ (i + 3) * 8 ≤ length (now b) ⌝ }
+    ensures { λ r. ⌜ r ≡ vecIn (numberAt binary64 (now (b .entry))) i ⌝ }
+{
+    Vec3 {
+        x: number_at(b, i),
+        y: number_at(b, i + 1),
+        z: number_at(b, i + 2),
+    }
+}
+
+pub(crate) fn mat_at(b: &[u8], i: usize) -> Mat3
+    requires { ⌜ (i + 9) * 8 ≤ length (now b) ⌝ }
+    ensures { λ r. ⌜ r ≡ matIn (numberAt binary64 (now (b .entry))) i ⌝ }
+{
+    Mat3 {
+        c0: vec_at(b, i),
+        c1: vec_at(b, i + 3),
+        c2: vec_at(b, i + 6),
+    }
+}
+
+pub(crate) fn pose_at(b: &[u8], i: usize) -> Sim3
+    requires { ⌜ (i + 8) * 8 ≤ length (now b) ⌝ }
+    ensures { λ r. ⌜ r ≡ poseIn (numberAt binary64 (now (b .entry))) i ⌝ }
+{
+    let q = Quat {
+        w: number_at(b, i),
+        x: number_at(b, i + 1),
+        y: number_at(b, i + 2),
+        z: number_at(b, i + 3),
+    };
+    Sim3 {
+        q,
+        t: vec_at(b, i + 4),
+        sigma: number_at(b, i + 7),
+    }
+}
+
+pub(crate) fn tangent_at(b: &[u8], i: usize) -> Sim3Tangent
+    requires { ⌜ (i + 7) * 8 ≤ length (now b) ⌝ }
+    ensures { λ r. ⌜ r ≡ tangentIn (numberAt binary64 (now (b .entry))) i ⌝ }
+{
+    Sim3Tangent {
+        phi: vec_at(b, i),
+        rho: vec_at(b, i + 3),
+        sigma: number_at(b, i + 6),
+    }
+}
+
+pub(crate) fn values_at(b: &[u8], i: usize) -> Values
+    requires { ⌜ (i + 10) * 8 ≤ length (now b) ⌝ }
+    ensures { λ r. ⌜ r ≡ valuesIn (numberAt binary64 (now (b .entry))) i ⌝ }
+{
+    Values {
+        root: number_at(b, i),
+        sin_half: number_at(b, i + 1),
+        cos_half: number_at(b, i + 2),
+        sin: number_at(b, i + 3),
+        e: number_at(b, i + 4),
+        m: number_at(b, i + 5),
+        e0: number_at(b, i + 6),
+        m0: number_at(b, i + 7),
+        up: number_at(b, i + 8),
+        down: number_at(b, i + 9),
+    }
+}
+
+pub(crate) fn block_at(b: &[u8], i: usize) -> Sim3Jac
+    requires { ⌜ (i + 31) * 8 ≤ length (now b) ⌝ }
+    ensures { λ r. ⌜ r ≡ blockIn (numberAt binary64 (now (b .entry))) i ⌝ }
+{
+    Sim3Jac {
+        a: mat_at(b, i),
+        b: mat_at(b, i + 9),
+        c: mat_at(b, i + 18),
+        f: vec_at(b, i + 27),
+        e: number_at(b, i + 30),
+    }
+}
+
+// ---- written
+pub(crate) fn put_vec(out: &mut [u8], i: usize, v: Vec3)
+    requires { ⌜ (i + 3) * 8 ≤ length (now out) ⌝ }
+    ensures { λ _. ⌜ now (out .exit) ≡ sets (now (out .entry)) (i * width binary64) (numbersBytes binary64 (vecNumbers v)) ⌝ }
+{
+    put_number(out, i, v.x);
+    put_number(out, i + 1, v.y);
+    put_number(out, i + 2, v.z);
+}
+
+pub(crate) fn put_mat(out: &mut [u8], i: usize, m: Mat3)
+    requires { ⌜ (i + 9) * 8 ≤ length (now out) ⌝ }
+    ensures { λ _. ⌜ now (out .exit) ≡ sets (now (out .entry)) (i * width binary64) (numbersBytes binary64 (matNumbers m)) ⌝ }
+{
+    put_vec(out, i, m.c0);
+    put_vec(out, i + 3, m.c1);
+    put_vec(out, i + 6, m.c2);
+}
+
+pub(crate) fn put_pose(out: &mut [u8], i: usize, x: Sim3)
+    requires { ⌜ (i + 8) * 8 ≤ length (now out) ⌝ }
+    ensures { λ _. ⌜ now (out .exit) ≡ sets (now (out .entry)) (i * width binary64) (numbersBytes binary64 (poseNumbers x)) ⌝ }
+{
+    put_number(out, i, x.q.w);
+    put_number(out, i + 1, x.q.x);
+    put_number(out, i + 2, x.q.y);
+    put_number(out, i + 3, x.q.z);
+    put_vec(out, i + 4, x.t);
+    put_number(out, i + 7, x.sigma);
+}
+
+pub(crate) fn put_block(out: &mut [u8], i: usize, j: Sim3Jac)
+    requires { ⌜ (i + 31) * 8 ≤ length (now out) ⌝ }
+    ensures { λ _. ⌜ now (out .exit) ≡ sets (now (out .entry)) (i * width binary64) (numbersBytes binary64 (blockNumbers j)) ⌝ }
+{
+    put_mat(out, i, j.a);
+    put_mat(out, i + 9, j.b);
+    put_mat(out, i + 18, j.c);
+    put_vec(out, i + 27, j.f);
+    put_number(out, i + 30, j.e);
+}
+
+pub(crate) fn put_block_pair(out: &mut [u8], i: usize, p: BlockPair)
+    requires { ⌜ (i + 124) * 8 ≤ length (now out) ⌝ }
+    ensures { λ _. ⌜ now (out .exit) ≡ sets (now (out .entry)) (i * width binary64) (numbersBytes binary64 (blockPairNumbers p)) ⌝ }
+{
+    put_block(out, i, p.left);
+    put_block(out, i + 31, p.left_inv);
+    put_block(out, i + 62, p.right);
+    put_block(out, i + 93, p.right_inv);
+}
+
+// The nine coefficients, three at a time, and the flag as 1 or 0.
+fn put_scaled(out: &mut [u8], i: usize, c: Sim3Coeffs, scaled: bool)
+    requires { ⌜ (i + 10) * 8 ≤ length (now out) ⌝ }
+    ensures { λ _. ⌜ now (out .exit) ≡ sets (now (out .entry)) (i * width binary64) (numbersBytes binary64 (scaledNumbers (record { c = c; scaled = scaled }))) ⌝ }
+{
+    put_vec(
+        out,
+        i,
+        Vec3 {
+            x: c.v0,
+            y: c.v1,
+            z: c.v2,
+        },
+    );
+    put_vec(
+        out,
+        i + 3,
+        Vec3 {
+            x: c.w0,
+            y: c.w1,
+            z: c.w2,
+        },
+    );
+    put_vec(
+        out,
+        i + 6,
+        Vec3 {
+            x: c.dv1,
+            y: c.dv2,
+            z: c.chi_delta,
+        },
+    );
+    put_number(out, i + 9, ieee::pick(scaled, 1.0, 0.0));
+}
+
+pub(crate) fn put_scaled_pair(out: &mut [u8], i: usize, p: ScaledPair)
+    requires { ⌜ (i + 20) * 8 ≤ length (now out) ⌝ }
+    ensures { λ _. ⌜ now (out .exit) ≡ sets (now (out .entry)) (i * width binary64) (numbersBytes binary64 (scaledPairNumbers p)) ⌝ }
+{
+    put_scaled(out, i, p.pos.c, p.pos.scaled);
+    put_scaled(out, i + 10, p.neg.c, p.neg.scaled);
+}

@@ -1,0 +1,12 @@
+-- `series::recurrence::turn_v` meets its contract: operation by operation, as the definition has it. Assumes nothing.
+use mathlib.Core.Path.{refl}
+use Rattle.series.specs.Turns.{vTurn}
+use Rattle.series.proofs.recurrence.turn_v.Statement.{statement}
+use Rattle.series.proofs.recurrence.turn_v.Tie as tie
+
+returns : tie.Need-returns
+unfolding vTurn
+returns c = refl
+
+pub turn-v-spec : {M : Type 1} → statement M
+turn-v-spec = tie.close (tie.spec returns)

@@ -1,0 +1,47 @@
+-- `series::shortest::turns_v` meets its contract: turn by turn, as the definition has it. Assumes nothing.
+use borrow.Author.Needs.{needs}
+use Rattle.series.specs.Turns.{vTurns}
+use Rattle.series.proofs.shortest.turns_v.Statement.{statement}
+use Rattle.series.proofs.shortest.turns_v.Tie as tie
+
+returns : tie.Need-returns
+unfolding vTurns
+returns c =
+    simp (
+      c .turn-v7 .ensures,
+      c .before .recip-fact7 .ensures,
+      c .before .before .turn-v6 .ensures,
+      c .before .before .before .recip-fact6 .ensures,
+      c .before .before .before .before .turn-v5 .ensures,
+      c .before .before .before .before .before .recip-fact5 .ensures,
+      c .before .before .before .before .before .before .turn-v4 .ensures,
+      c .before .before .before .before .before .before .before .recip-fact4 .ensures,
+      c .before .before .before .before .before .before .before .before .turn-v3 .ensures,
+      c .before .before .before .before .before .before .before .before .before .recip-fact3 .ensures,
+      c .before .before .before .before .before .before .before .before .before .before .turn-v2 .ensures,
+      c .before .before .before .before .before .before .before .before .before .before .before .recip-fact2 .ensures,
+      c .before .before .before .before .before .before .before .before .before .before .before .before .turn-v .ensures,
+      c .before .before .before .before .before .before .before .before .before .before .before .before .before .none-v .ensures,
+      c .before .before .before .before .before .before .before .before .before .before .before .before .before .before .recip-fact .ensures,
+    )
+
+pub turns-v-spec : {M : Type 1} → statement M
+turns-v-spec =
+    tie.close
+    (tie.spec
+    (λ c κs. search needs)
+    (λ c κs. search needs)
+    (λ c κs. search needs)
+    (λ c κs. search needs)
+    (λ c κs. search needs)
+    (λ c κs. search needs)
+    (λ c κs. search needs)
+    (λ c κs. search needs)
+    (λ c κs. search needs)
+    (λ c κs. search needs)
+    (λ c κs. search needs)
+    (λ c κs. search needs)
+    (λ c κs. search needs)
+    (λ c κs. search needs)
+    (λ c κs. search needs)
+    returns)

@@ -1,0 +1,83 @@
+-- What is read of the lists of a call. A list of another length is refused.
+use Prim.Native.Nat.{ℕ}
+use mathlib.Core.Bool.{cond}
+use mathlib.Core.List.{List}
+use lib.Dec.{eqb}
+use lib.ListN.{getD, length}
+use lib.Ieee.{Float, nan}
+use Rattle.linalg.specs.Answer.{Answer, answers, refuses}
+use Rattle.linalg.specs.declared.vector.Vec3.{Vec3}
+use Rattle.linalg.specs.declared.matrix.Mat3.{Mat3}
+use Rattle.coeffs.specs.declared.values.Values.{Values}
+use Rattle.sim3.specs.declared.sim3.Sim3.{Sim3}
+use Rattle.sim3.specs.declared.tangent.Sim3Tangent.{Sim3Tangent}
+use Rattle.jacobian.specs.declared.jac.Sim3Jac.{Sim3Jac}
+use Rattle.layout.specs.Layout.{vecCount, matCount, poseCount, tangentCount, valuesCount, blockCount, vecIn, matIn, poseIn, tangentIn, valuesIn, blockIn}
+use Rattle.sim3_c.specs.declared.read.VecRead.{VecRead}
+use Rattle.sim3_c.specs.declared.read.VecRead.the-variants as vecs
+use Rattle.sim3_c.specs.declared.read.MatRead.{MatRead}
+use Rattle.sim3_c.specs.declared.read.MatRead.the-variants as mats
+use Rattle.sim3_c.specs.declared.read.PoseRead.{PoseRead}
+use Rattle.sim3_c.specs.declared.read.PoseRead.the-variants as poses
+use Rattle.sim3_c.specs.declared.read.TangentRead.{TangentRead}
+use Rattle.sim3_c.specs.declared.read.TangentRead.the-variants as tangents
+use Rattle.sim3_c.specs.declared.read.ValuesRead.{ValuesRead}
+use Rattle.sim3_c.specs.declared.read.ValuesRead.the-variants as tens
+use Rattle.sim3_c.specs.declared.read.BlockRead.{BlockRead}
+use Rattle.sim3_c.specs.declared.read.BlockRead.the-variants as jacs
+
+-- the refusal of a list whose length is not the one that is due
+abbrev pub wrongLength : ℕ
+wrongLength = 100
+
+-- what is read of a list of n numbers
+unfoldable pub sized : {A : Type 0} → List Float → ℕ → A → Answer A
+sized l n a = cond (eqb (length l) n) (answers a) (refuses wrongLength)
+
+-- the i-th number of a list
+abbrev pub numberIn : List Float → ℕ → Float
+numberIn l i = getD l i nan
+
+-- ---- whole lists, in the order of the job's records
+unfoldable pub vecFrom : List Float → Answer Vec3
+vecFrom l = sized l vecCount (vecIn (numberIn l) 0)
+
+unfoldable pub matFrom : List Float → Answer Mat3
+matFrom l = sized l matCount (matIn (numberIn l) 0)
+
+unfoldable pub poseFrom : List Float → Answer Sim3
+poseFrom l = sized l poseCount (poseIn (numberIn l) 0)
+
+unfoldable pub tangentFrom : List Float → Answer Sim3Tangent
+tangentFrom l = sized l tangentCount (tangentIn (numberIn l) 0)
+
+unfoldable pub valuesFrom : List Float → Answer Values
+valuesFrom l = sized l valuesCount (valuesIn (numberIn l) 0)
+
+unfoldable pub blockFrom : List Float → Answer Sim3Jac
+blockFrom l = sized l blockCount (blockIn (numberIn l) 0)
+
+-- ---- what each case of a reading says
+unfoldable pub vecTold : VecRead → Answer Vec3
+vecTold (vecs.Got v) = answers v
+vecTold vecs.Wrong = refuses wrongLength
+
+unfoldable pub matTold : MatRead → Answer Mat3
+matTold (mats.Got m) = answers m
+matTold mats.Wrong = refuses wrongLength
+
+unfoldable pub poseTold : PoseRead → Answer Sim3
+poseTold (poses.Got x) = answers x
+poseTold poses.Wrong = refuses wrongLength
+
+unfoldable pub tangentTold : TangentRead → Answer Sim3Tangent
+tangentTold (tangents.Got t) = answers t
+tangentTold tangents.Wrong = refuses wrongLength
+
+unfoldable pub valuesTold : ValuesRead → Answer Values
+valuesTold (tens.Got v) = answers v
+valuesTold tens.Wrong = refuses wrongLength
+
+unfoldable pub blockTold : BlockRead → Answer Sim3Jac
+blockTold (jacs.Got j) = answers j
+blockTold jacs.Wrong = refuses wrongLength
