@@ -1,14 +1,15 @@
 /* sim3.h: the proved Sim(3) engine for C. Link target/staticlib/libsim3_c.a, which `rt staticlib sim3_c` makes (x86-64).
  *
- * Lists. Every list is a pointer and the count of its numbers. A pointer is never null, points to that many doubles, and `out` overlaps no other list of the
- * call. That is all that is asked of a caller: every count and every number is taken, NaN and infinities included.
+ * Lists. Every list is a pointer and the count of its numbers. A pointer is never null, points to that many numbers of its type, and a list that is written
+ * overlaps no other list of the call. That is all that is asked of a caller: every count and every number is taken, NaN and infinities included.
  *
- * Answers. A call returns 0 and has written all of `out`, or the number of a refusal and has written nothing:
- *     1  z is below zero                        (sim3_scaled_pair, sim3_coeffs_armed, sim3_armed_pair)
+ * Answers. A call returns 0 and has written all of `out` (sim3_root: of its three lists), or the number of a refusal and has written nothing:
+ *     1  z is below zero                        (sim3_scaled_pair, sim3_coeffs_armed, sim3_armed_pair, sim3_root)
  *     2  e is +0 or -0                          (sim3_block_inverse)
  *     5  a list of points has a wrong length    (sim3_act_many, sim3_act_each: a multiple of 3, at most 65,535 numbers, `out` as long as `pts`)
+ *     8  z is a NaN or +infinity                (sim3_root)
  *   100  another list has a wrong length; the right one stands in brackets below. This number is the boundary's own: in Rattle no such list can be made
- * A wrong length of an input is refused before the numbers are looked at, and of `out` after.
+ * A wrong length of an input is refused before the numbers are looked at, and of what is written after.
  *
  * Orders.
  *     pose     [8]   quaternion w x y z, translation x y z, sigma
@@ -42,6 +43,7 @@ enum {
     SIM3_BELOW_ZERO = 1,
     SIM3_E_IS_ZERO = 2,
     SIM3_POINTS_LENGTH = 5,
+    SIM3_NOT_FINITE = 8,
     SIM3_LIST_LENGTH = 100
 };
 
@@ -109,6 +111,13 @@ uint32_t sim3_compose_jacobians_left(const double *x, size_t x_n, double up, dou
 /* Of X^-1; out [31]. Right: x [8], up = e^sigma of X. Left: x [8], down = e^-sigma of X. */
 uint32_t sim3_inverse_jacobian_right(const double *x, size_t x_n, double up, double *out, size_t out_n);
 uint32_t sim3_inverse_jacobian_left(const double *x, size_t x_n, double down, double *out, size_t out_n);
+
+/* ---- the square root with what is left, in whole numbers */
+
+/* For a finite z > 0, z = m 4^s with m whole, 2^104 <= m < 2^106: whole [2] holds r, the largest whole number whose square is at most m, and the remainder
+ * m - r^2; exponent [1] holds s; nearest [1] the double nearest to the square root of z: r 2^s where the remainder is at most r, else (r + 1) 2^s. A zero gives
+ * zeros, and nearest keeps its sign. Refusal 1 where z is below zero, -infinity too, and 8 where it is a NaN or +infinity. */
+uint32_t sim3_root(double z, uint64_t *whole, size_t whole_n, int64_t *exponent, size_t exponent_n, double *nearest, size_t nearest_n);
 
 #ifdef __cplusplus
 }

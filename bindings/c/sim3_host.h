@@ -22,9 +22,9 @@ static inline double sim3_host_norm_sq(const double *phi) {
 /* t = -|sigma|, but sigma itself where it is a zero, whose sign counts, or a NaN. */
 static inline double sim3_host_shrinking(double sigma) { return sigma < 0 || sigma > 0 ? -fabs(sigma) : sigma; }
 
-/* The ten values for a log scale and a squared angle. */
-static inline void sim3_host_values(double sigma, double z, double values[10]) {
-    const double r = sqrt(z), here = sim3_host_shrinking(sigma), there = sim3_host_shrinking(-sigma);
+/* The ten values for a log scale and a squared angle, whose root is taken by `root`: sqrt, or sim3_host_root of sim3_host_root.h. */
+static inline void sim3_host_values_by(double (*root)(double), double sigma, double z, double values[10]) {
+    const double r = root(z), here = sim3_host_shrinking(sigma), there = sim3_host_shrinking(-sigma);
     values[0] = r;
     values[1] = sin(0.5 * r);
     values[2] = cos(0.5 * r);
@@ -36,6 +36,9 @@ static inline void sim3_host_values(double sigma, double z, double values[10]) {
     values[8] = exp(sigma);
     values[9] = exp(-sigma);
 }
+
+/* The same with the machine's root. */
+static inline void sim3_host_values(double sigma, double z, double values[10]) { sim3_host_values_by(sqrt, sigma, z, values); }
 
 /* The ten values of a tangent. */
 static inline void sim3_host_tangent_values(const double tau[7], double values[10]) { sim3_host_values(tau[6], sim3_host_norm_sq(tau), values); }

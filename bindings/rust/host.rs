@@ -6,7 +6,7 @@
 //! of the tangent: up and down change places; e and e0, m and m0 change places where sigma is a
 //! zero; the rest stays. Its rotation Jacobians are the transposed ones.
 
-use crate::{Matrix, Pose, Tangent, Values, Vector};
+use crate::{Matrix, Pose, Refusal, Tangent, Values, Vector};
 
 /// z = |phi|², by the same sum as the engine's.
 pub fn norm_sq(phi: &Vector) -> f64 {
@@ -27,9 +27,21 @@ fn shrinking(sigma: f64) -> f64 {
     }
 }
 
-/// The ten values for a log scale and a squared angle.
-pub fn values(sigma: f64, z: f64) -> Values {
-    let r = z.sqrt();
+/// √z by the engine's own [`crate::root`], for a host that has none to rely on; it has the bits of
+/// `f64::sqrt`. What is refused has the root that IEEE 754 gives it: a NaN below zero; a NaN and
+/// +infinity are their own.
+pub fn root(z: f64) -> f64 {
+    match crate::root(z) {
+        Ok(found) => found.nearest,
+        Err(Refusal::NotFinite) => z,
+        Err(_) => f64::NAN,
+    }
+}
+
+/// The ten values for a log scale and a squared angle, whose root is taken by `root`: `f64::sqrt`, or
+/// [`root`].
+pub fn values_by(root: impl Fn(f64) -> f64, sigma: f64, z: f64) -> Values {
+    let r = root(z);
     let (here, there) = (shrinking(sigma), shrinking(-sigma));
     [
         r,
@@ -43,6 +55,11 @@ pub fn values(sigma: f64, z: f64) -> Values {
         sigma.exp(),
         (-sigma).exp(),
     ]
+}
+
+/// The same with the machine's root.
+pub fn values(sigma: f64, z: f64) -> Values {
+    values_by(f64::sqrt, sigma, z)
 }
 
 /// The ten values of a tangent.

@@ -144,10 +144,19 @@ extern "C" {
         out: *mut f64,
         out_n: usize,
     ) -> u32;
+    fn sim3_root(
+        z: f64,
+        whole: *mut u64,
+        whole_n: usize,
+        exponent: *mut i64,
+        exponent_n: usize,
+        nearest: *mut f64,
+        nearest_n: usize,
+    ) -> u32;
 }
 
 // LISTS, the reason why each call below is sound. The C functions ask of their caller that no pointer is
-// null, that each points to as many doubles as its count says, and that what is written overlaps no other
+// null, that each points to as many numbers as its count says, and that what is written overlaps no other
 // list. A pointer and a count here are one slice's own, which is never null and aligned, even when it is
 // empty; and what is written is borrowed mutably, so no other slice overlaps it. All else, every count and
 // every number, they are proved to take.
@@ -304,4 +313,19 @@ pub fn inverse_jacobian_right(x: &[f64], up: f64, out: &mut [f64]) -> u32 {
 pub fn inverse_jacobian_left(x: &[f64], down: f64, out: &mut [f64]) -> u32 {
     // SAFETY: LISTS.
     unsafe { sim3_inverse_jacobian_left(x.as_ptr(), x.len(), down, out.as_mut_ptr(), out.len()) }
+}
+
+pub fn root(z: f64, whole: &mut [u64], exponent: &mut [i64], nearest: &mut [f64]) -> u32 {
+    // SAFETY: LISTS.
+    unsafe {
+        sim3_root(
+            z,
+            whole.as_mut_ptr(),
+            whole.len(),
+            exponent.as_mut_ptr(),
+            exponent.len(),
+            nearest.as_mut_ptr(),
+            nearest.len(),
+        )
+    }
 }

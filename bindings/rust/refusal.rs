@@ -12,6 +12,8 @@ pub enum Refusal {
     EIsZero,
     /// 5: `pts` is no multiple of 3 or longer than 65,535, or `out` has another length.
     PointsLength { pts: usize, out: usize },
+    /// 8: z is a NaN or +infinity.
+    NotFinite,
 }
 
 impl Refusal {
@@ -21,6 +23,7 @@ impl Refusal {
             Refusal::BelowZero => 1,
             Refusal::EIsZero => 2,
             Refusal::PointsLength { .. } => 5,
+            Refusal::NotFinite => 8,
         }
     }
 }
@@ -46,6 +49,9 @@ impl fmt::Display for Refusal {
             }
             Refusal::PointsLength { pts, .. } => {
                 write!(f, "pts has {pts} numbers; at most 65535 (21845 points) are taken at once, so move it in pieces")
+            }
+            Refusal::NotFinite => {
+                write!(f, "z is a NaN or infinite; such a z has no root with what is left, so look at z first")
             }
         }
     }

@@ -15,8 +15,10 @@
 pub mod host;
 mod raw;
 mod refusal;
+mod square_root;
 
 pub use refusal::Refusal;
+pub use square_root::{root, Root};
 
 /// Quaternion w x y z, translation x y z, sigma.
 pub type Pose = [f64; 8];

@@ -1,9 +1,11 @@
-/* The engine from C: two runs of shots are joined by a similarity, a staff line's points are moved, Jacobian blocks are taken, and refusals are shown. Every
- * answer is compared with numbers known by hand; exit status 1 and a message where one is wrong. examples/c/run builds and runs it. */
+/* The engine from C: two runs of shots are joined by a similarity, a staff line's points are moved, Jacobian blocks are taken, a
+ * root is taken with what is left, and refusals are shown. Every answer is compared with numbers known by hand; exit status 1 and a message where one is wrong.
+ * examples/c/run builds and runs it. */
 #include <stdio.h>
 
 #include "sim3.h"
 #include "sim3_host.h"
+#include "sim3_host_root.h"
 #include "sim3_refusal.h"
 
 #define COUNT(list) (sizeof(list) / sizeof((list)[0]))
@@ -95,6 +97,22 @@ static void adjust(const double join[8]) {
     known("moved point by sigma", by + 18, (const double[]){10, 22, 30}, 3);
 }
 
+/* The cradle, whose host has no square root to cite: the root of 2 with what is left, and Exp with the engine's root of z. */
+static void root_left(void) {
+    const double turn[7] = {0, 0, QUARTER, 0, 0, 0, DOUBLE};
+    uint64_t whole[2];
+    int64_t exponent[1];
+    double nearest[1], values[10], turned[8];
+
+    asked("root", sim3_root(2, whole, 2, exponent, 1, nearest, 1));
+    sim3_host_values_by(sim3_host_root, turn[6], sim3_host_norm_sq(turn), values);
+    asked("exp by that root", sim3_exp(turn, 7, values, 10, turned, 8));
+
+    known("root of 2", (const double[]){(double)whole[0], (double)whole[1], (double)exponent[0], nearest[0]},
+          (const double[]){6369051672525772, 7192236498376048, -52, 1.4142135623730951}, 4);
+    known("exp by that root", turned, (const double[]){HALF_ROOT, 0, 0, HALF_ROOT, 0, 0, 0, DOUBLE}, 8);
+}
+
 /* A call that must be refused, with this number. */
 static void refused(const char *what, uint32_t number, uint32_t due) {
     printf("%s: refusal %u: %s\n", what, (unsigned)number, sim3_refusal_text(number));
@@ -107,11 +125,14 @@ static void refused(const char *what, uint32_t number, uint32_t due) {
 static void refusals(const double join[8]) {
     const double tau[7] = {0}, values[10] = {0}, block[31] = {0}, pts[7] = {0};
     double out[31];
+    uint64_t whole[2];
+    int64_t exponent[1];
 
     refused("exp with six numbers", sim3_exp(tau, 6, values, 10, out, 8), SIM3_LIST_LENGTH);
     refused("block_inverse with e = 0", sim3_block_inverse(block, 31, out, 31), SIM3_E_IS_ZERO);
     refused("scaled_pair with z = -1", sim3_scaled_pair(0, -1, values, 10, out, 20), SIM3_BELOW_ZERO);
     refused("act_many with seven numbers", sim3_act_many(join, 8, 2, pts, 7, out, 7), SIM3_POINTS_LENGTH);
+    refused("root of infinity", sim3_root(INFINITY, whole, 2, exponent, 1, out, 1), SIM3_NOT_FINITE);
 }
 
 int main(void) {
@@ -119,6 +140,7 @@ int main(void) {
     join_runs(join);
     move_line(join);
     adjust(join);
+    root_left();
     refusals(join);
     printf(wrong ? "example: WRONG, see above\n" : "example: every answer is the one known by hand\n");
     return wrong;

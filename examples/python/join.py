@@ -1,7 +1,8 @@
 #!/usr/bin/env python3
 """The engine from Python: two runs of shots are joined by a similarity, a staff line's points are
-moved, Jacobian blocks are taken, and refusals are shown. Every answer is compared with numbers known
-by hand; exit status 1 and a message where one is wrong. examples/python/run builds what it needs.
+moved, Jacobian blocks are taken, a root is taken with what is left, and refusals are shown. Every
+answer is compared with numbers known by hand; exit status 1 and a message where one is wrong.
+examples/python/run builds what it needs.
 """
 import array
 import math
@@ -72,6 +73,15 @@ def adjust(join):
     known("moved point by sigma", by_sigma, [10, 22, 30])
 
 
+def root_left():
+    """The cradle, whose host has no square root to cite: the root of 2 with what is left, and Exp with
+    the engine's root of z."""
+    turn = [0, 0, math.pi / 2, 0, 0, 0, DOUBLE]
+    turned = sim3.exp(turn, sim3.host.tangent_values(turn, root=sim3.nearest_root))
+    known("root of 2", sim3.root(2), [6369051672525772, 7192236498376048, -52, 1.4142135623730951])
+    known("exp by that root", turned, [HALF_ROOT, 0, 0, HALF_ROOT, 0, 0, 0, DOUBLE])
+
+
 def refused(number, function, *arguments):
     """A call that must be refused, with this number."""
     try:
@@ -88,10 +98,12 @@ def main():
     join = join_runs()
     move_line(join)
     adjust(join)
+    root_left()
     refused(100, sim3.exp, [0] * 6)
     refused(2, sim3.block_inverse, [0] * 31)
     refused(1, sim3.scaled_pair, 0, -1)
     refused(5, sim3.act_many, join, [0] * 7)
+    refused(8, sim3.root, math.inf)
     for message in wrong:
         print(f"WRONG: {message}")
     print("example: WRONG, see above" if wrong else "example: every answer is the one known by hand")

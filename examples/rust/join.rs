@@ -1,6 +1,7 @@
 //! The engine from Rust: two runs of shots are joined by a similarity, a staff line's points are
-//! moved, Jacobian blocks are taken, and refusals are shown. Every answer is compared with numbers
-//! known by hand; exit status 1 and a message where one is wrong. examples/rust/run builds and runs it.
+//! moved, Jacobian blocks are taken, a root is taken with what is left, and refusals are shown. Every
+//! answer is compared with numbers known by hand; exit status 1 and a message where one is wrong.
+//! examples/rust/run builds and runs it.
 
 use sim3::{host, Block, Pose, Refusal, Tangent};
 use std::f64::consts::{FRAC_1_SQRT_2 as HALF_ROOT, FRAC_PI_2, LN_2};
@@ -78,6 +79,19 @@ fn adjust(join: &Pose) -> bool {
     good.iter().all(|&x| x)
 }
 
+/// The cradle, whose host has no square root to cite: the root of 2 with what is left, and Exp with the
+/// engine's root of z.
+fn root_left() -> Result<bool, Refusal> {
+    let two = sim3::root(2.0)?;
+    let turn = [0.0, 0.0, FRAC_PI_2, 0.0, 0.0, 0.0, LN_2];
+    let z = host::norm_sq(&host::phi(&turn));
+    let turned = sim3::exp(&turn, &host::values_by(host::root, turn[6], z));
+    let found = [two.root as f64, two.remainder as f64, two.exponent as f64, two.nearest];
+    let due = [6369051672525772.0, 7192236498376048.0, -52.0, 1.4142135623730951];
+    let pose = [HALF_ROOT, 0.0, 0.0, HALF_ROOT, 0.0, 0.0, 0.0, LN_2];
+    Ok(known("root of 2", &found, &due) & known("exp by that root", &turned, &pose))
+}
+
 /// Shows a call that must be refused with this number.
 fn refused<T>(what: &str, number: u32, answer: Result<T, Refusal>) -> bool {
     let found = match answer {
@@ -108,6 +122,7 @@ fn refusals(join: &Pose) -> bool {
         ),
         refused("block_inverse with e = 0", 2, sim3::block_inverse(&[0.0; 31])),
         refused("scaled_pair with z = -1", 1, sim3::scaled_pair(0.0, -1.0, &[0.0; 10])),
+        refused("root of infinity", 8, sim3::root(f64::INFINITY)),
     ];
     good.iter().all(|&x| x)
 }
@@ -118,8 +133,12 @@ fn main() -> ExitCode {
         println!("staff line: WRONG: {refusal}");
         false
     });
+    let rooted = root_left().unwrap_or_else(|refusal| {
+        println!("root of 2: WRONG: {refusal}");
+        false
+    });
     let (adjusted, shown) = (adjust(&join), refusals(&join));
-    let good = joined && moved && adjusted && shown;
+    let good = joined && moved && adjusted && rooted && shown;
     println!(
         "example: {}",
         if good { "every answer is the one known by hand" } else { "WRONG, see above" }

@@ -1,11 +1,14 @@
 """What the bindings declare of the C functions against include/sim3.h: names, arguments in order, and their types."""
+import ctypes
 import re
 
 from .common import ROOT, same
 from sim3 import raw
 
 TYPES = {"const double *": "in", "double *": "out", "size_t": "count", "double": "number",
-         "*const f64": "in", "*mut f64": "out", "usize": "count", "f64": "number"}
+         "*const f64": "in", "*mut f64": "out", "usize": "count", "f64": "number",
+         "uint64_t *": "whole out", "int64_t *": "signed out", "*mut u64": "whole out", "*mut i64": "signed out"}
+WRITTEN = {ctypes.c_uint64: "whole out", ctypes.c_int64: "signed out", ctypes.c_double: "out"}
 
 
 def of_header():
@@ -36,6 +39,9 @@ def of_python():
             place = "in" if made.gives else "out"
             arguments += [(argument, "number")] if kind == raw.NUMBER else [(argument, place), (argument + "_n", "count")]
         found[name] = arguments + ([("out", "out"), ("out_n", "count")] if made.gives else [])
+    found["root"] = [("z", "number")]
+    for argument, (kind, _) in raw.ROOT_WRITES.items():
+        found["root"] += [(argument, WRITTEN[kind]), (argument + "_n", "count")]
     return found
 
 

@@ -8,7 +8,7 @@ A list is any sequence of numbers, array('d') or another buffer of doubles, in t
 include/sim3.h states: pose 8, tangent 7, ten values, matrix 9 (column by column), block 31. Answers
 are array('d'). The host's values (values, up, down, ds, jl, jl_inv) may be left out: sim3.host then
 computes them. Every number is taken, NaN and infinities too. What is not answered raises Refusal,
-whose `number` is 1, 2, 5 or 100; what holds no numbers raises TypeError.
+whose `number` is 1, 2, 5, 8 or 100; what holds no numbers raises TypeError.
 
 bindings/build makes the shared library that this package loads at the first call.
 """
@@ -18,8 +18,9 @@ from . import host, raw
 from .numbers import lent, number, over
 from .raw import LibraryMissing
 from .refusals import Refusal, explained, wrong_length
+from .square_root import Root, nearest_root, root
 
-__all__ = ["LibraryMissing", "Refusal", "host", *raw.FUNCTIONS]
+__all__ = ["LibraryMissing", "Refusal", "Root", "host", "nearest_root", "root", *raw.FUNCTIONS]
 
 
 # ---- asking the C functions

@@ -38,9 +38,9 @@ def shrinking(sigma):
     return -abs(sigma) if sigma != 0 and sigma == sigma else sigma
 
 
-def values(sigma, z):
+def values(sigma, z, root=root):
     """The ten function values for a log scale and a squared angle: root, sin_half, cos_half, sin,
-    e, m, e0, m0, up, down."""
+    e, m, e0, m0, up, down. `root` takes the root: math's, or sim3.nearest_root."""
     r = root(z)
     here, there = shrinking(sigma), shrinking(-sigma)
     return [r, sine(0.5 * r), cosine(0.5 * r), sine(r),
@@ -49,9 +49,9 @@ def values(sigma, z):
             exponential(sigma), exponential(-sigma)]
 
 
-def tangent_values(tau):
+def tangent_values(tau, root=root):
     """The ten values of a tangent."""
-    return values(tau[6], norm_sq(tau[:3]))
+    return values(tau[6], norm_sq(tau[:3]), root)
 
 
 def up(x):

@@ -60,6 +60,9 @@ FUNCTIONS = {
     "inverse_jacobian_left": function("x:pose down:number", "block"),
 }
 
+# sim3_root stands apart from the table: after z it writes three lists, each of its own type and count.
+ROOT_WRITES = {"whole": (ctypes.c_uint64, 2), "exponent": (ctypes.c_int64, 1), "nearest": (ctypes.c_double, 1)}
+
 
 class LibraryMissing(OSError):
     """The shared library is not there or is none of this engine; the text says what to do."""
@@ -81,7 +84,8 @@ def library():
                              "or SIM3_LIBRARY names another place")
     try:
         loaded = ctypes.CDLL(str(path.resolve()))
-        return {name: declared(loaded["sim3_" + name], made) for name, made in FUNCTIONS.items()}
+        found = {name: declared(loaded["sim3_" + name], made) for name, made in FUNCTIONS.items()}
+        return {**found, "root": declared_root(loaded["sim3_root"])}
     except (OSError, AttributeError) as error:
         raise LibraryMissing(f"sim3: {path} is no library of this engine: {error}; "
                              "remove it and run bindings/build") from None
@@ -97,9 +101,17 @@ def declared(symbol, made):
     return symbol
 
 
+def declared_root(symbol):
+    """sim3_root with the types of its arguments."""
+    lists = [word for kind, _ in ROOT_WRITES.values() for word in (ctypes.POINTER(kind), ctypes.c_size_t)]
+    symbol.argtypes = [ctypes.c_double, *lists]
+    symbol.restype = ctypes.c_uint32
+    return symbol
+
+
 def call(name, *arguments):
-    """What a C function returns: 0, or the number of a refusal. A list is a ctypes array of doubles,
-    and `out` must share no bytes with another."""
+    """What a C function returns: 0, or the number of a refusal. A list is a ctypes array of its type,
+    and one that is written must share no bytes with another."""
     words = []
     for argument in arguments:
         words += (argument, len(argument)) if isinstance(argument, ctypes.Array) else (argument,)

@@ -6,7 +6,7 @@ LIST_LENGTH = 100  # the number of sim3.h for a list of a wrong length, the boun
 
 
 class Refusal(ValueError):
-    """A refusal of the engine. `number` is its number in include/sim3.h: 1, 2, 5 or 100."""
+    """A refusal of the engine. `number` is its number in include/sim3.h: 1, 2, 5, 8 or 100."""
 
     def __init__(self, number, text):
         super().__init__(number, text)
@@ -46,5 +46,8 @@ def explained(number, name, given):
                                 "inverse, so leave it out or look at e first")
     if number == 5:
         return refusal(5, name, points_text(len(given["pts"])))
+    if number == 8:
+        return refusal(8, name, f"z is {given['z']!r}; such a z has no root with what is left, so look "
+                                "at z first")
     return refusal(number, name, "the library refused what this package takes for right; they do not "
                                  "belong together, so run bindings/build")

@@ -12,3 +12,7 @@ pub mod Square
 pub mod Table
 pub mod Nan
 mod Limits
+pub mod Values
+pub mod Patterns
+pub mod Neighbours
+pub mod Spacing

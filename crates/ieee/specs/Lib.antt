@@ -1,4 +1,5 @@
 pub mod Numbers
+pub mod Patterns
 pub mod Signs
 pub mod Finite
 pub mod Table

@@ -25,10 +25,10 @@ unfolding sized
 sized-wrong l n a h = simp (ne-eqb _ _ h)
 
 -- a run of as many stores as the list has places leaves the run alone
-sets-all : (out l : List Float) → length out ≡ length l → sets out 0 l ≡ l
-sets-all out l h =
+pub sets-all : {A : Type 0} (out l : List A) → length out ≡ length l → sets out 0 l ≡ l
+sets-all {A} out l h =
     let d : drop (length l) out ≡ [] = ap (λ (k : ℕ). drop k out) (sym h) ∙ drop-length out in
-    sets-front l out (omega arith) ∙ ap (λ (k : List Float). l ++ k) d ∙ append-nil l
+    sets-front l out (omega arith) ∙ ap (λ (k : List A). l ++ k) d ∙ append-nil l
 
 -- ---- points that are refused leave `out` alone
 alone : {A : Type 0} (a : A) (t : Bool) (l out : List Float) (n : ℕ) → cond t (answers a) (refuses 5) ≡ refuses n → cond t l out ≡ out

@@ -1,14 +1,17 @@
 -- What each exported function answers: 0 and the numbers in `out`, or the number of a refusal and `out` as it was. A list whose length is not the one that is due is refused by the boundary's own number; lists of points by the scope's 5.
 use Prim.Native.Nat.{ℕ}
-use mathlib.Core.Bool.{cond}
+use mathlib.Core.Bool.{Bool, cond, _&&_}
 use mathlib.Core.List.{List, [], _∷_, _++_}
 use lib.Dec.{eqb}
+use lib.IntN.{ℤ}
 use lib.ListN.{length}
 use lib.IntN.{pos}
 use lib.Ieee.{Float, binary64, ofInt}
 use Rattle.ieee.specs.Numbers.{f0, f1}
 use Rattle.linalg.specs.Answer.{Answer, answers, refuses, andThen}
 use Rattle.linalg.specs.declared.vector.Vec3.{Vec3}
+use Rattle.root.specs.declared.RootParts.{RootParts}
+use Rattle.root.specs.Root.{rootOf}
 use Rattle.coeffs.specs.Entries.{pairAnswer, armedAnswer, armedPairAnswer}
 use Rattle.coeffs.specs.declared.sim3.Armed.{Armed}
 use Rattle.coeffs.specs.declared.sim3.ArmedPair.{ArmedPair}
@@ -22,11 +25,11 @@ use Rattle.layout.specs.Layout.{poseNumbers, blockNumbers, blockPairNumbers, sc
 use Rattle.sim3_c.specs.Lists.{wrongLength, vecFrom, matFrom, poseFrom, tangentFrom, valuesFrom, blockFrom}
 
 -- ---- what is returned, and what `out` then holds
-unfoldable pub status : Answer (List Float) → ℕ
+unfoldable pub status : {A : Type 0} → Answer A → ℕ
 status (answers l) = 0
 status (refuses n) = n
 
-unfoldable pub written : Answer (List Float) → List Float → List Float
+unfoldable pub written : {A : Type 0} → Answer A → A → A
 written (answers l) out = l
 written (refuses n) out = out
 
@@ -114,3 +117,26 @@ inverseJacobianRightCall x up out = andThen (poseFrom x) (λ a. fitting out (blo
 
 unfoldable pub inverseJacobianLeftCall : List Float → Float → List Float → Answer (List Float)
 inverseJacobianLeftCall x down out = andThen (poseFrom x) (λ a. fitting out (blockNumbers (inverseJacobianLeft binary64 a down)))
+
+-- ---- the square root with what is left: three lists, since not every remainder is a double
+pub record RootLists : Type 0 where
+  pub whole : List ℕ
+  pub exponent : List ℤ
+  pub nearest : List Float
+
+abbrev pub rootLists : List ℕ → List ℤ → List Float → RootLists
+rootLists whole exponent nearest = record { whole = whole; exponent = exponent; nearest = nearest }
+
+-- r and the remainder; s; the double
+abbrev pub rootNumbers : RootParts → RootLists
+rootNumbers p = rootLists (p .root ∷ p .remainder ∷ []) (p .exponent ∷ []) (p .nearest ∷ [])
+
+-- whether the lists have just these lengths
+unfoldable pub rootFits : RootLists → Bool
+rootFits out = eqb (length (out .whole)) 2 && eqb (length (out .exponent)) 1 && eqb (length (out .nearest)) 1
+
+unfoldable pub rootCall : Float → RootLists → Answer RootLists
+rootCall z out = andThen (rootOf z) (λ p. cond (rootFits out) (answers (rootNumbers p)) (refuses wrongLength))
+
+abbrev pub rootWritten : Float → RootLists → RootLists
+rootWritten z out = written (rootCall z out) out

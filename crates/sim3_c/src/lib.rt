@@ -1,5 +1,5 @@
 // The engine for callers in C, Rust and Python: exported functions over numbers and lists of numbers,
-// each returning 0, or the number of a refusal, where `out` stays as it was. 1, 2 and 5 are the
+// each returning 0, or the number of a refusal, where `out` stays as it was. 1, 2, 5 and 8 are the
 // engine's; LIST_LENGTH is this boundary's own. include/sim3.h has the order of every number.
 mod read; // the things in a list's numbers
 mod write; // the numbers of a thing, to a list
@@ -8,6 +8,7 @@ pub mod points; // the action on lists of points
 pub mod pairs; // both signs, both sides
 pub mod arms; // the coefficients with their arms
 pub mod jacobians; // inverse, adjoint, and the Jacobians of the group's operations
+pub mod square_root; // the square root with what is left
 
 // A list has not the length that is due. No refusal of the engine has this number or one near it.
 const LIST_LENGTH: u32 = 100;
