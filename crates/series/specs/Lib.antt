@@ -1,3 +1,4 @@
 pub mod Recip
 pub mod Series
+pub mod Pass
 pub mod Turns
