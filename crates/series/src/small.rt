@@ -1,10 +1,12 @@
 // v0 and w0 of the closed arm at small sigma, at one sign and at both: how many terms they have, the
 // width of the numbers decides.
 ghost use mathlib.Core.Path.{_≡_};
-ghost use Prim.Native.Nat.{_+_, _≤_};
+ghost use Prim.Native.Nat.{_+_};
 ghost use lib.Ieee.{binary64};
 ghost use Rattle.series.specs.Series.{gSeries, gSeriesPair, w0Terms};
-ghost use Rattle.series.specs.Pass.{bothStopped};
+ghost use Rattle.series.specs.Recip.{recipFact};
+ghost use Rattle.series.specs.Turns.{gTerm};
+ghost use Rattle.series.specs.Small.{passed};
 use crate::generated_sim3::recip_fact;
 use crate::horner::g_series;
 use crate::horner::g_term;
@@ -28,19 +30,75 @@ pub fn g2(sigma: f64) -> f64
     g_series(sigma, 2, W0_TERMS)
 }
 
-// The sum of v0 at both signs, stopped after n of its 16 entries, the reciprocals 16 down to 1: what
-// each sign alone has then. `minus` is -sigma, and +0 where sigma is +0, which no sum sees: were it
-// the plain -sigma, the compiler would subtract sigma's products, and the signs would not be one vector.
-fn stopped(sigma: f64, n: usize) -> GPair
-    requires { ⌜ n ≤ w0Terms binary64 + 1 ⌝ }
-    ensures { λ r. ⌜ r ≡ bothStopped binary64 sigma 1 (w0Terms binary64 + 1) n ⌝ }
+// The sum of v0 at both signs after each of its 16 entries, the reciprocals 16 down to 1.
+pub struct Pass {
+    pub after1: GPair,
+    pub after2: GPair,
+    pub after3: GPair,
+    pub after4: GPair,
+    pub after5: GPair,
+    pub after6: GPair,
+    pub after7: GPair,
+    pub after8: GPair,
+    pub after9: GPair,
+    pub after10: GPair,
+    pub after11: GPair,
+    pub after12: GPair,
+    pub after13: GPair,
+    pub after14: GPair,
+    pub after15: GPair,
+    pub after16: GPair,
+}
+
+// One entry more, the reciprocal n.
+fn next(sigma: f64, minus: f64, n: usize, g: GPair) -> GPair
+    ensures { λ r. ⌜ r ≡ gTerm binary64 sigma minus (recipFact binary64 n) g ⌝ }
+{
+    g_term(sigma, minus, recip_fact(n), g)
+}
+
+// The pass for both signs: stopped after any of its entries it holds what each sign alone has then. It
+// is written out, and `minus` is -sigma but +0 for a zero, which no sum sees: so the compiler works
+// both signs as one vector, with constant reciprocals.
+fn passes(sigma: f64) -> Pass
+    ensures { λ r. ⌜ r ≡ passed binary64 sigma ⌝ }
 {
     let minus = -sigma + 0.0;
-    let mut g = GPair { pos: 0.0, neg: 0.0 };
-    for i in 0..n {
-        g = g_term(sigma, minus, recip_fact(W0_TERMS + 1 - i), g);
+    let none = GPair { pos: 0.0, neg: 0.0 };
+    let s1 = next(sigma, minus, 16, none);
+    let s2 = next(sigma, minus, 15, s1);
+    let s3 = next(sigma, minus, 14, s2);
+    let s4 = next(sigma, minus, 13, s3);
+    let s5 = next(sigma, minus, 12, s4);
+    let s6 = next(sigma, minus, 11, s5);
+    let s7 = next(sigma, minus, 10, s6);
+    let s8 = next(sigma, minus, 9, s7);
+    let s9 = next(sigma, minus, 8, s8);
+    let s10 = next(sigma, minus, 7, s9);
+    let s11 = next(sigma, minus, 6, s10);
+    let s12 = next(sigma, minus, 5, s11);
+    let s13 = next(sigma, minus, 4, s12);
+    let s14 = next(sigma, minus, 3, s13);
+    let s15 = next(sigma, minus, 2, s14);
+    let s16 = next(sigma, minus, 1, s15);
+    Pass {
+        after1: s1,
+        after2: s2,
+        after3: s3,
+        after4: s4,
+        after5: s5,
+        after6: s6,
+        after7: s7,
+        after8: s8,
+        after9: s9,
+        after10: s10,
+        after11: s11,
+        after12: s12,
+        after13: s13,
+        after14: s14,
+        after15: s15,
+        after16: s16,
     }
-    g
 }
 
 // v0 and w0 of the closed arm at small sigma, at both signs, in one pass over the reciprocals: all of
@@ -48,7 +106,8 @@ fn stopped(sigma: f64, n: usize) -> GPair
 pub fn horner_small(sigma: f64) -> Horner
     ensures { λ r. ⌜ r ≡ record { v0 = gSeriesPair binary64 sigma 1 (w0Terms binary64 + 1); w0 = gSeriesPair binary64 sigma 2 (w0Terms binary64) } ⌝ }
 {
-    let w0 = stopped(sigma, W0_TERMS);
-    let v0 = g_term(sigma, -sigma + 0.0, recip_fact(1), w0);
+    let p = passes(sigma);
+    let v0 = p.after16;
+    let w0 = p.after15;
     Horner { v0, w0 }
 }
