@@ -197,8 +197,9 @@ fn ends_of(sigma: f64, x: Exps, y: Exps, small: bool) -> Ends
     ensures { λ r. ⌜ r ≡ closedEnds binary64 sigma x y small ⌝ }
 {
     if small {
-        let v = series::small::g1_pair(sigma);
-        let w = series::small::g2_pair(sigma);
+        let h = series::small::horner_small(sigma);
+        let v = h.v0;
+        let w = h.w0;
         return Ends {
             v0: x.g * v.pos,
             w0: x.g * w.pos,

@@ -2,5 +2,6 @@
 pub mod Recip
 pub mod Mirror
 pub mod Terms
+pub mod Stopped
 pub mod Sum
 pub mod Solo

@@ -1,3 +1,5 @@
 pub mod Recip
 pub mod Series
+pub mod Pass
+pub mod Small
 pub mod Turns

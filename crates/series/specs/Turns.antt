@@ -139,13 +139,6 @@ pairFull f sigma z k =
       neg = seriesCoeffs f sigma z (gSeries f (neg sigma) 1 k) (gSeries f (neg sigma) 2 k) (pairSums f sigma z k .neg);
     }
 
--- ---- Horner's sums at both signs: a term in front, with the reciprocal r; and two, with those of index n and n + 1
+-- ---- Horner's sums at both signs: a term in front, with the reciprocal r
 unfoldable pub gTerm : Format → Float → Float → Float → GPair → GPair
 gTerm f sigma minus r g = record { pos = add f r (mul f sigma (g .pos)); neg = add f r (mul f minus (g .neg)) }
-
-unfoldable pub gTwo : Format → Float → ℕ → GPair → GPair
-gTwo f sigma n g = gTerm f sigma (neg sigma) (recipFact f n) (gTerm f sigma (neg sigma) (recipFact f (n + 1)) g)
-
--- a term in front by a product with sigma at both signs, with the term s at -sigma
-unfoldable pub gTurn : Format → Float → Float → Float → GPair → GPair
-gTurn f sigma r s g = record { pos = add f r (mul f sigma (g .pos)); neg = add f s (mul f sigma (g .neg)) }

@@ -50,6 +50,12 @@ pub struct GPair {
     pub neg: f64,
 }
 
+// v0 and w0, each at sigma and at -sigma.
+pub struct Horner {
+    pub v0: GPair,
+    pub w0: GPair,
+}
+
 // The coefficients, or refusal 1 or 4.
 pub enum SeriesAnswer {
     Coeffs(Sim3Coeffs),

@@ -4,11 +4,14 @@ ghost use mathlib.Core.Path.{_≡_};
 ghost use Prim.Native.Nat.{_+_};
 ghost use lib.Ieee.{binary64};
 ghost use Rattle.series.specs.Series.{gSeries, gSeriesPair, w0Terms};
+ghost use Rattle.series.specs.Recip.{recipFact};
+ghost use Rattle.series.specs.Turns.{gTerm};
+ghost use Rattle.series.specs.Small.{passed};
 use crate::generated_sim3::recip_fact;
 use crate::horner::g_series;
 use crate::horner::g_term;
-use crate::horner::g_two;
 use crate::sim3::GPair;
+use crate::sim3::Horner;
 
 // The terms of w0; v0 has one more.
 const W0_TERMS: usize = 15;
@@ -27,25 +30,84 @@ pub fn g2(sigma: f64) -> f64
     g_series(sigma, 2, W0_TERMS)
 }
 
-// v0 of the closed arm at small sigma, 16 terms: the first, and sigma times the 15 of `g2_pair`.
-pub fn g1_pair(sigma: f64) -> GPair
-    ensures { λ r. ⌜ r ≡ gSeriesPair binary64 sigma 1 (w0Terms binary64 + 1) ⌝ }
-{
-    let g = g2_pair(sigma);
-    g_term(sigma, -sigma, recip_fact(1), g)
+// The sum of v0 at both signs after each of its 16 entries, the reciprocals 16 down to 1.
+pub struct Pass {
+    pub after1: GPair,
+    pub after2: GPair,
+    pub after3: GPair,
+    pub after4: GPair,
+    pub after5: GPair,
+    pub after6: GPair,
+    pub after7: GPair,
+    pub after8: GPair,
+    pub after9: GPair,
+    pub after10: GPair,
+    pub after11: GPair,
+    pub after12: GPair,
+    pub after13: GPair,
+    pub after14: GPair,
+    pub after15: GPair,
+    pub after16: GPair,
 }
 
-// w0 of the closed arm at small sigma: 15 terms, of the reciprocals 16 to 2.
-pub fn g2_pair(sigma: f64) -> GPair
-    ensures { λ r. ⌜ r ≡ gSeriesPair binary64 sigma 2 (w0Terms binary64) ⌝ }
+// One entry more, the reciprocal n.
+fn next(sigma: f64, minus: f64, n: usize, g: GPair) -> GPair
+    ensures { λ r. ⌜ r ≡ gTerm binary64 sigma minus (recipFact binary64 n) g ⌝ }
 {
+    g_term(sigma, minus, recip_fact(n), g)
+}
+
+// The pass for both signs: stopped after any of its entries it holds what each sign alone has then. It
+// is written out, and `minus` is -sigma but +0 for a zero, which no sum sees: so the compiler works
+// both signs as one vector, with constant reciprocals.
+fn passes(sigma: f64) -> Pass
+    ensures { λ r. ⌜ r ≡ passed binary64 sigma ⌝ }
+{
+    let minus = -sigma + 0.0;
     let none = GPair { pos: 0.0, neg: 0.0 };
-    let last = g_term(sigma, -sigma, recip_fact(16), none);
-    let a = g_two(sigma, 14, last);
-    let b = g_two(sigma, 12, a);
-    let c = g_two(sigma, 10, b);
-    let d = g_two(sigma, 8, c);
-    let e = g_two(sigma, 6, d);
-    let h = g_two(sigma, 4, e);
-    g_two(sigma, 2, h)
+    let s1 = next(sigma, minus, 16, none);
+    let s2 = next(sigma, minus, 15, s1);
+    let s3 = next(sigma, minus, 14, s2);
+    let s4 = next(sigma, minus, 13, s3);
+    let s5 = next(sigma, minus, 12, s4);
+    let s6 = next(sigma, minus, 11, s5);
+    let s7 = next(sigma, minus, 10, s6);
+    let s8 = next(sigma, minus, 9, s7);
+    let s9 = next(sigma, minus, 8, s8);
+    let s10 = next(sigma, minus, 7, s9);
+    let s11 = next(sigma, minus, 6, s10);
+    let s12 = next(sigma, minus, 5, s11);
+    let s13 = next(sigma, minus, 4, s12);
+    let s14 = next(sigma, minus, 3, s13);
+    let s15 = next(sigma, minus, 2, s14);
+    let s16 = next(sigma, minus, 1, s15);
+    Pass {
+        after1: s1,
+        after2: s2,
+        after3: s3,
+        after4: s4,
+        after5: s5,
+        after6: s6,
+        after7: s7,
+        after8: s8,
+        after9: s9,
+        after10: s10,
+        after11: s11,
+        after12: s12,
+        after13: s13,
+        after14: s14,
+        after15: s15,
+        after16: s16,
+    }
+}
+
+// v0 and w0 of the closed arm at small sigma, at both signs, in one pass over the reciprocals: all of
+// v0's entries but the last are w0's.
+pub fn horner_small(sigma: f64) -> Horner
+    ensures { λ r. ⌜ r ≡ record { v0 = gSeriesPair binary64 sigma 1 (w0Terms binary64 + 1); w0 = gSeriesPair binary64 sigma 2 (w0Terms binary64) } ⌝ }
+{
+    let p = passes(sigma);
+    let v0 = p.after16;
+    let w0 = p.after15;
+    Horner { v0, w0 }
 }

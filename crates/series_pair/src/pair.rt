@@ -6,6 +6,7 @@ ghost use mathlib.Core.Bool.{true, false};
 ghost use Prim.Native.Nat.{_+_, _≤_};
 ghost use lib.Ieee.{binary64, neg};
 ghost use Rattle.series.specs.Series.{gSeriesPair, seriesFull, seriesPairTold, seriesPairAnswer};
+ghost use Rattle.series.specs.Pass.{bothStopped};
 ghost use Rattle.series.specs.Turns.{sumsGainMirrored, sumsLastMirrored, pairTurn, pairTurns, pairSums};
 use series::generated_sim3::recip_fact;
 use series::recurrence;
@@ -15,6 +16,7 @@ use series::recurrence::Tail;
 use series::recurrence::TurnsPair;
 use series::sim3::CoeffsPair;
 use series::sim3::GPair;
+use series::sim3::Horner;
 use series::sim3::SeriesPairAnswer;
 
 // The series at k terms, at sigma and at -sigma; refusal 1 for z below zero, then 4 for k above 64.
@@ -173,24 +175,26 @@ fn last_mirrored(odd: bool, s: Sums, t: Tail) -> Sums
     }
 }
 
-// v0 and w0 of a series, at sigma and at -sigma.
-pub struct Horner {
-    pub v0: GPair,
-    pub w0: GPair,
-}
-
 // The sums over i < k of sigma^i/(i + 1)! and of sigma^i/(i + 2)!, by Horner from the last term, at
 // both signs in one pass over the reciprocals.
 fn horner_at(sigma: f64, k: usize) -> Horner
     requires { ⌜ k ≤ 64 ⌝ }
     ensures { λ r. ⌜ r ≡ record { v0 = gSeriesPair binary64 sigma 1 k; w0 = gSeriesPair binary64 sigma 2 k } ⌝ }
 {
+    horner_stopped(sigma, k, k)
+}
+
+// That pass, stopped after n entries: it holds the partial sums that each sign alone has then.
+fn horner_stopped(sigma: f64, k: usize, n: usize) -> Horner
+    requires { ⌜ (n ≤ k) × (k ≤ 64) ⌝ }
+    ensures { λ r. ⌜ r ≡ record { v0 = bothStopped binary64 sigma 1 k n; w0 = bothStopped binary64 sigma 2 k n } ⌝ }
+{
     let minus = -sigma;
     let mut v = 0.0;
     let mut v_neg = 0.0;
     let mut w = 0.0;
     let mut w_neg = 0.0;
-    for i in 0..k {
+    for i in 0..n {
         let r1 = recip_fact(k - i);
         let r2 = recip_fact(k - i + 1);
         v = r1 + sigma * v;
