@@ -40,6 +40,11 @@ armed-length f p =
     rw (armed-bytes f p, length-append (itemsBytes f (armItems (p .pos))) (itemsBytes f (armItems (p .neg)) ++ told f p), length-append (itemsBytes f (armItems (p .neg))) (told f p))
     (rw (arm-length f (p .pos), arm-length f (p .neg), told-length f p) (omega arith))
 
+-- the arms are finite by nature
+pub armed-finite : (p : ArmedPair) → allFinite (armedItems p) ≡ allFinite (numbers (scaledPairNumbers (armedScaled p)))
+unfolding armedItems armItems allFinite
+armed-finite p = refl
+
 -- ---- the two bytes of one sign
 pub byte-is : (b : Bool) → boolByte b ≡ cond b 1 0
 byte-is true = refl

@@ -1,4 +1,4 @@
--- Written by tools/proofs from Proof.template: edit that one. Digest 333259e17d62941f.
+-- Written by tools/proofs from Proof.template: edit that one. Digest 07e95c1aea6859b5.
 -- `replies::entries::ar` meets its contract: the engine is asked at the numbers read, and its answer is written or its refusal told. Assumes nothing.
 use borrow.Author.Needs.{needs}
 use lib.Ieee.{binary64}
@@ -17,13 +17,13 @@ returns c =
     let c1 = c .before .before .before .before .before in
     let c2 = c1 .before .before .before .before .before in
     rw (
-      ← (c2 .number-at .ensures),
-      ← (c1 .before .before .before .before .number-at2 .ensures),
-      ← (c1 .before .before .before .values-at .ensures),
-      ← (c1 .before .before .sim3-coeffs-armed-pair .ensures),
-      c1 .p .given .1,
+      ← (c2 .before .number-at .ensures),
+      ← (c2 .number-at2 .ensures),
+      ← (c1 .before .before .before .before .values-at .ensures),
+      ← (c1 .before .before .before .sim3-coeffs-armed-pair .ensures),
+      c1 .before .p .given .1,
     )
-    (wrote-items binary64 _ _ (c2 .before .before .before .args .out .now) _ (armed-length binary64 _) (c .before .before .put-armed-pair .ensures))
+    (wrote-items binary64 _ _ _ _ (c2 .before .before .before .before .args .out .now) _ (armed-length binary64 _) (c .gave .ensures) (c .before .before .before .answer-armed-pair .ensures))
 
 returns-2 : tie.Need-returns-2
 unfolding arOf armedPairTold gaveOf gaveBytes
@@ -50,6 +50,7 @@ ar-spec =
     (λ c κs. search needs)
     (λ c. search needs)
     (λ c. search needs)
+    (λ c κs. search needs)
     (λ c. search needs)
     (λ c. search needs)
     returns
