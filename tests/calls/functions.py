@@ -8,7 +8,7 @@ from collections import namedtuple
 
 # The doubles of each kind.
 WIDTHS = {
-    "num": 1, "flag": 1, "vec": 3, "quat": 4, "four": 4, "coeffs4": 4, "tangent": 7, "seven": 7, "pose": 8,
+    "num": 1, "flag": 1, "byte": 1, "vec": 3, "quat": 4, "four": 4, "coeffs4": 4, "tangent": 7, "seven": 7, "pose": 8,
     "mat": 9, "coeffs": 9, "values": 10, "block": 31, "square": 49,
 }
 WHOLE = ("count", "index")
@@ -78,7 +78,7 @@ ROWS = [
     (67, "sim3_coeffs_scaled", COEFFS_IN, "coeffs:r.c flag:r.scaled", COEFFS + "sim3_coeffs_scaled(sigma, z, v)", COEFFS + "ScaledAnswer::Coeffs"),
     (68, "sim3_coeffs_scaled_pair", COEFFS_IN, "coeffs:r.pos.c flag:r.pos.scaled coeffs:r.neg.c flag:r.neg.scaled",
      COEFFS + "sim3_coeffs_scaled_pair(sigma, z, v)", COEFFS + "PairAnswer::Coeffs"),
-    (69, "sim3_coeffs_armed", COEFFS_IN, "num:(r.arm as f64) flag:r.ends coeffs:r.s.c flag:r.s.scaled", COEFFS + "sim3_coeffs_armed(sigma, z, v)", COEFFS + "ArmedAnswer::Coeffs"),
+    (69, "sim3_coeffs_armed", COEFFS_IN, "byte:r.arm flag:r.ends coeffs:r.s.c flag:r.s.scaled", COEFFS + "sim3_coeffs_armed(sigma, z, v)", COEFFS + "ArmedAnswer::Coeffs"),
     (70, "Sim3Tangent zero", "", "tangent", "Sim3Tangent::zero()"),
     (71, "Sim3Tangent add", "a:tangent b:tangent", "tangent", "a.add(b)"),
     (72, "Sim3Tangent sub", "a:tangent b:tangent", "tangent", "a.sub(b)"),

@@ -76,6 +76,8 @@ def stored(kind, width, at, value):
     """The statement that stores a value of a kind in out, which has a width, from a place on."""
     if kind == "flag":
         return f"out[{at}] = ieee::pick({value}, 1.0, 0.0);"
+    if kind == "byte":
+        return f"out[{at}] = {value} as f64;"
     return f"out[{at}] = {value};" if kind == "num" else f"put_{kind}_{width}(out, {at}, {value});"
 
 
