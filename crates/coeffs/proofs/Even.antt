@@ -5,10 +5,10 @@ use mathlib.Core.Bool.{Bool, true, false}
 use lib.Dec.{ltb}
 use lib.Ieee.{Float, Format, neg, mul, lt}
 use Rattle.ieee.specs.Numbers.{f0}
-use Rattle.linalg.specs.Answer.{answers, refuses, andThen}
+use Rattle.linalg.specs.Answer.{Answer, answers, refuses, andThen}
 use Rattle.linalg.specs.Vector.{vecNormSq}
 use Rattle.linalg.specs.declared.vector.Vec3.{Vec3}
-use Rattle.linalg.proofs.Answers.{both-as}
+use Rattle.linalg.proofs.Answers.{never, answers-is, both-as}
 use Rattle.circle.specs.Kernel.{notBelowZero, circleSincABD}
 use Rattle.circle.specs.declared.kernel.SincABD.{SincABD}
 use Rattle.series.specs.Series.{seriesFull}
@@ -109,7 +109,32 @@ armed-pair-refuses f sigma z v n r =
     let arm = coeffsArm f (coeffsDelta f sigma z) in
     armed-pair-told f sigma z v ∙ ap (λ a. andThen a (λ p. answers (told-both arm (armEnds f sigma arm) p))) r
 
+armed-pair-answer-is : (f : Format) (sigma z : Float) (v : Values) → armedPairAnswer f sigma z v ≡ notBelowZero z (coeffsArmedPair f sigma z v)
+unfolding armedPairAnswer besideArmed armedAnswer coeffsArmedPair
+armed-pair-answer-is f sigma z v = both-as (lt z f0) 1 (coeffsArmed f sigma z v) (coeffsArmed f (neg sigma) z (mirrored sigma v)) (λ p n. record { pos = p; neg = n })
+
+-- what the armed pair answers is the pair's answer with more told
+untold : (arm : ℕ) (ends : Bool) (r : Answer ScaledPair) (p : ArmedPair) → andThen r (λ q. answers (told-both arm ends q)) ≡ answers p → r ≡ answers (record { pos = p .pos .s; neg = p .neg .s })
+untold arm ends (answers q) p e = let h = answers-is (told-both arm ends q) p e in ap (λ (x : ArmedPair). answers (record { pos = x .pos .s; neg = x .neg .s })) h
+untold arm ends (refuses n) p e = never p n (sym e)
+
+unasked : (arm : ℕ) (ends : Bool) (r : Answer ScaledPair) (n : ℕ) → andThen r (λ q. answers (told-both arm ends q)) ≡ refuses n → r ≡ refuses n
+unasked arm ends (answers q) n e = never (told-both arm ends q) n e
+unasked arm ends (refuses k) n e = let h : k ≡ n = cc in ap (λ (m : ℕ). refuses m) h
+
+pub armed-answers : (f : Format) (sigma z : Float) (v : Values) (p : ArmedPair) → armedPairAnswer f sigma z v ≡ answers p → pairAnswer f sigma z v ≡ answers (record { pos = p .pos .s; neg = p .neg .s })
+armed-answers f sigma z v p r = untold _ _ (pairAnswer f sigma z v) p (sym (armed-pair-told f sigma z v) ∙ r)
+
+pub armed-refused : (f : Format) (sigma z : Float) (v : Values) (n : ℕ) → armedPairAnswer f sigma z v ≡ refuses n → pairAnswer f sigma z v ≡ refuses n
+armed-refused f sigma z v n r = unasked _ _ (pairAnswer f sigma z v) n (sym (armed-pair-told f sigma z v) ∙ r)
+
 -- ---- at |φ|²
+pub angle-armed-answers : (f : Format) (phi : Vec3) (sigma : Float) (v : Values) (p : ArmedPair) → armedPairAnswer f sigma (vecNormSq f phi) v ≡ answers p → p ≡ coeffsArmedPair f sigma (vecNormSq f phi) v
+angle-armed-answers f phi sigma v p r = angle-answers f phi _ p (sym (armed-pair-answer-is f sigma (vecNormSq f phi) v) ∙ r)
+
+pub angle-armed-refuses : {B : Type 0} (f : Format) (phi : Vec3) (sigma : Float) (v : Values) (n : ℕ) → armedPairAnswer f sigma (vecNormSq f phi) v ≡ refuses n → B
+angle-armed-refuses f phi sigma v n r = angle-refuses f phi n _ (sym (armed-pair-answer-is f sigma (vecNormSq f phi) v) ∙ r)
+
 pub angle-pair-answers : (f : Format) (phi : Vec3) (sigma : Float) (v : Values) (p : ScaledPair) → pairAnswer f sigma (vecNormSq f phi) v ≡ answers p → p ≡ coeffsPair f sigma (vecNormSq f phi) v
 angle-pair-answers f phi sigma v p r = angle-answers f phi _ p (sym (pair-answer-is f sigma (vecNormSq f phi) v) ∙ r)
 

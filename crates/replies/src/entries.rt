@@ -23,7 +23,7 @@ use crate::places::tangent_at;
 use crate::places::values_at;
 use crate::places::vec_at;
 use coeffs::sim3::ArmedPairAnswer;
-use coeffs::sim3::PairAnswer;
+use coeffs::sim3::ScaledPair;
 use jacobian::jac::JacAnswer;
 use layout::BLOCK;
 use layout::BLOCK_PAIR;
@@ -56,19 +56,22 @@ pub(crate) fn ex(b: &[u8], out: &mut [u8]) -> Gave
     gave(finite, NUMBER * POSE)
 }
 
-// The scaled pair of coefficients; refusal 1 for z < 0.
+// The scaled pair of coefficients; refusal 1 for z < 0. The entry is the one that tells the arms too,
+// so that the program has the pair once.
 pub(crate) fn co(b: &[u8], out: &mut [u8]) -> Gave
     requires { ⌜ length (now b) ≡ widthOf binary64 Entry.Co ⌝ }
     requires { ⌜ longest ≤ 2 + length (now out) ⌝ }
     ensures { λ r. ⌜ r ≡ gaveOf binary64 (coOf binary64 (now (b .entry))) ⌝ }
     ensures { λ _. ⌜ now (out .exit) ≡ sets (now (out .entry)) 0 (gaveBytes binary64 (coOf binary64 (now (b .entry)))) ⌝ }
 {
-    match coeffs::sim3::sim3_coeffs_scaled_pair(number_at(b, 0), number_at(b, 1), values_at(b, 2)) {
-        PairAnswer::Coeffs(p) => {
-            let finite = answer_scaled_pair(out, 0, p);
+    match coeffs::sim3::sim3_coeffs_armed_pair(number_at(b, 0), number_at(b, 1), values_at(b, 2)) {
+        ArmedPairAnswer::Coeffs(p) => {
+            let pos = p.pos.s;
+            let neg = p.neg.s;
+            let finite = answer_scaled_pair(out, 0, ScaledPair { pos, neg });
             gave(finite, NUMBER * SCALED_PAIR)
         }
-        PairAnswer::Refused(number) => Gave::Refused(number),
+        ArmedPairAnswer::Refused(number) => Gave::Refused(number),
     }
 }
 

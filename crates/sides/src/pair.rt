@@ -3,8 +3,8 @@ ghost use mathlib.Core.Path.{_≡_};
 ghost use lib.Ieee.{binary64};
 ghost use Rattle.sides.specs.Pair.{blockPair};
 use crate::blocks::jl_and_inverse_at;
-use coeffs::sim3::PairAnswer;
-use coeffs::sim3::sim3_coeffs_scaled_pair;
+use coeffs::sim3::ArmedPairAnswer;
+use coeffs::sim3::sim3_coeffs_armed_pair;
 use coeffs::values::Values;
 use jacobian::jac::Sim3Jac;
 use linalg::matrix::Mat3;
@@ -31,18 +31,19 @@ fn no_blocks() -> BlockPair {
 // The left block and inverse of tau, and those of -tau on the mirrored values and the transposed
 // matrices, which are the right ones: as the end of the Rust's log_inverses assembles them, with
 // J_l(phi) and its inverse given. |phi|^2 is the same at -phi, and never below zero: nothing is
-// refused. The coefficients are read where the entry has put them, without a copy.
+// refused. The coefficients are read where the entry has put them, without a copy;
+// the entry is the one that tells the arms too, so that a program has the pair once.
 pub fn block_pair(tau: Sim3Tangent, v: Values, jl_phi: Mat3, jl_inv: Mat3) -> BlockPair
     ensures { λ r. ⌜ r ≡ blockPair binary64 tau v «jl_phi» «jl_inv» ⌝ }
 {
     let phi = tau.phi;
     let rho = tau.rho;
     let z = phi.norm_sq();
-    let PairAnswer::Coeffs(p) = sim3_coeffs_scaled_pair(tau.sigma, z, v) else {
+    let ArmedPairAnswer::Coeffs(p) = sim3_coeffs_armed_pair(tau.sigma, z, v) else {
         return no_blocks();
     };
-    let pos = p.pos;
-    let neg = p.neg;
+    let pos = p.pos.s;
+    let neg = p.neg.s;
     let l = jl_and_inverse_at(phi, rho, z, pos, jl_phi, jl_inv, v.up, v.down);
     let jt = jl_phi.transpose();
     let it = jl_inv.transpose();

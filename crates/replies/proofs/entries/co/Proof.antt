@@ -1,9 +1,10 @@
--- Written by tools/proofs from Proof.template: edit that one. Digest b261356a15105860.
--- `replies::entries::co` meets its contract: the engine is asked at the numbers read, and its answer is written or its refusal told. Assumes nothing.
+-- Written by tools/proofs from Proof.template: edit that one. Digest d1961e87ecbbb594.
+-- `replies::entries::co` meets its contract: the engine is asked at the numbers read, and its answer without the arms is written or its refusal told.
 use borrow.Author.Needs.{needs}
 use lib.Ieee.{binary64}
-use mathlib.Core.Path.{refl}
-use Rattle.coeffs.specs.Entries.{pairTold}
+use mathlib.Core.Path.{refl, sym, ap, _∙_}
+use Rattle.coeffs.specs.Entries.{armedPairTold}
+use Rattle.coeffs.proofs.Even.{armed-answers, armed-refused}
 use Rattle.layout.proofs.Numbers.{scaled-pair-count}
 use Rattle.outcome.specs.Outcome.{gaveOf, gaveBytes}
 use Rattle.replies.specs.Table.{coOf}
@@ -12,31 +13,21 @@ use Rattle.replies.proofs.entries.co.Statement.{statement}
 use Rattle.replies.proofs.entries.co.Tie as tie
 
 returns : tie.Need-returns
-unfolding coOf pairTold
+unfolding coOf armedPairTold
 returns c =
     let c1 = c .before .before .before .before .before in
     let c2 = c1 .before .before .before .before .before in
-    rw (
-      ← (c2 .before .number-at .ensures),
-      ← (c2 .number-at2 .ensures),
-      ← (c1 .before .before .before .before .values-at .ensures),
-      ← (c1 .before .before .before .sim3-coeffs-scaled-pair .ensures),
-      c1 .before .p .given .1,
-    )
-    (wrote binary64 _ _ _ _ _ (c2 .before .before .before .before .args .out .now) _ (scaled-pair-count _) refl (c .gave .ensures) (c .before .before .before .answer-scaled-pair .ensures))
+    let c3 = c2 .before .before .before .before .before in
+    let told = armed-answers binary64 _ _ _ _ (sym (c2 .sim3-coeffs-armed-pair .ensures) ∙ ap armedPairTold (c1 .before .before .before .p .given .1)) in
+    rw (← (c2 .before .before .before .number-at .ensures), ← (c2 .before .before .number-at2 .ensures), ← (c2 .before .values-at .ensures), told)
+    (wrote binary64 _ _ _ _ _ (c3 .before .args .out .now) _ (scaled-pair-count _) refl (c .gave .ensures) (c .before .before .before .answer-scaled-pair .ensures))
 
 returns-2 : tie.Need-returns-2
-unfolding coOf pairTold gaveOf gaveBytes
+unfolding coOf armedPairTold gaveOf gaveBytes
 returns-2 c =
     let c1 = c .before .before .before .before .before in
-    rw (
-      ← (c1 .before .number-at .ensures),
-      ← (c1 .number-at2 .ensures),
-      ← (c .before .before .before .before .values-at .ensures),
-      ← (c .before .before .before .sim3-coeffs-scaled-pair .ensures),
-      c .before .number .given .1,
-    )
-    (refl, refl)
+    let told = armed-refused binary64 _ _ _ _ (sym (c .before .before .before .sim3-coeffs-armed-pair .ensures) ∙ ap armedPairTold (c .before .number .given .1)) in
+    rw (← (c1 .before .number-at .ensures), ← (c1 .number-at2 .ensures), ← (c .before .before .before .before .values-at .ensures), told) (refl, refl)
 
 pub co-spec : {M : Type 1} → statement M
 co-spec =

@@ -3,9 +3,9 @@ use borrow.Author.Needs.{needs}
 use mathlib.Core.Path.{sym, ap, _∙_}
 use lib.Ieee.{binary64}
 use Rattle.so3.proofs.Even.{norm-sq-even}
-use Rattle.coeffs.proofs.Even.{angle-pair-answers, angle-pair-refuses}
-use Rattle.coeffs.specs.Entries.{pairTold, pairAnswer}
-use Rattle.coeffs.specs.Group.{coeffsPair}
+use Rattle.coeffs.proofs.Even.{angle-armed-answers, angle-armed-refuses}
+use Rattle.coeffs.specs.Entries.{armedPairTold, armedPairAnswer}
+use Rattle.coeffs.specs.Group.{coeffsArmed, coeffsArmedPair}
 use Rattle.coeffs.specs.Values.{mirrored}
 use Rattle.sim3.specs.Tangent.{tangentNeg}
 use Rattle.sides.specs.Pair.{blockPair}
@@ -14,26 +14,26 @@ use Rattle.sides.proofs.pair.block_pair.Statement.{statement}
 use Rattle.sides.proofs.pair.block_pair.Tie as tie
 
 returns : tie.Need-returns
-unfolding pairTold
+unfolding armedPairTold
 returns c =
     let told = c .before in
     let z = told .before .before .before in
     let a = z .before .before .before .args in
-    let entry = told .before .before .sim3-coeffs-scaled-pair .ensures in
-    let at = ap (λ x. pairAnswer binary64 (a .tau .sigma) x (a .v)) (z .norm-sq .ensures) in
-    angle-pair-refuses binary64 (a .tau .phi) (a .tau .sigma) (a .v) _ (sym (entry ∙ at) ∙ ap pairTold (told .enum-told .given .1))
+    let entry = told .before .before .sim3-coeffs-armed-pair .ensures in
+    let at = ap (λ x. armedPairAnswer binary64 (a .tau .sigma) x (a .v)) (z .norm-sq .ensures) in
+    angle-armed-refuses binary64 (a .tau .phi) (a .tau .sigma) (a .v) _ (sym (entry ∙ at) ∙ ap armedPairTold (told .enum-told .given .1))
 
 returns-2 : tie.Need-returns-2
-unfolding blockPair jlAndInverse tangentNeg coeffsPair mirrored pairTold
+unfolding blockPair jlAndInverse tangentNeg coeffsArmedPair coeffsArmed mirrored armedPairTold
 returns-2 c =
     let right = c .before .before .before .before in
     let left = right .before .before .before .before .before in
     let p = left .before .before .before .before in
     let z = p .before .before .before in
     let a = z .before .before .before .args in
-    let entry = p .before .before .sim3-coeffs-scaled-pair .ensures in
-    let at = ap (λ x. pairAnswer binary64 (a .tau .sigma) x (a .v)) (z .norm-sq .ensures) in
-    let both = angle-pair-answers binary64 (a .tau .phi) (a .tau .sigma) (a .v) _ (sym (entry ∙ at) ∙ ap pairTold (p .p .given .1)) in
+    let entry = p .before .before .sim3-coeffs-armed-pair .ensures in
+    let at = ap (λ x. armedPairAnswer binary64 (a .tau .sigma) x (a .v)) (z .norm-sq .ensures) in
+    let both = angle-armed-answers binary64 (a .tau .phi) (a .tau .sigma) (a .v) _ (sym (entry ∙ at) ∙ ap armedPairTold (p .p .given .1)) in
     let n = right .before in
     let t = n .before .before in
     let other = right .jl-and-inverse-at2 .ensures in
