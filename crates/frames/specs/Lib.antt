@@ -1,0 +1,2 @@
+pub mod Pose
+pub mod Joins
