@@ -1,4 +1,5 @@
--- Poses with two frames: such a pose maps points of the frame `from` to points of the frame `to`. What starts from a pose keeps its frames, and the inverse exchanges them; what starts from none is given both.
+-- Poses with two frames: such a pose maps points of the frame `from` to points of the frame `to`.
+-- What starts from a pose keeps its frames, and the inverse exchanges them; what starts from none is given both.
 use Prim.Native.Nat.{ℕ}
 use lib.Ieee.{Float, Format}
 use Rattle.coeffs.specs.declared.values.Values.{Values}

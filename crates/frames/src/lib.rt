@@ -25,6 +25,12 @@ pub enum PoseAnswer {
     Refused(u8),
 }
 
+fn between(sim3: Sim3, from: u16, to: u16) -> Pose
+    ensures { λ r. ⌜ r ≡ framed sim3 from to ⌝ }
+{
+    Pose { sim3, from, to }
+}
+
 // x, where the frames a and b are one and the same.
 fn meet(a: u16, b: u16, x: Pose) -> PoseAnswer
     ensures { λ r. ⌜ poseTold r ≡ meets a b x ⌝ }
@@ -41,32 +47,20 @@ impl Pose {
     pub fn from_parts(q: Quat, t: Vec3, sigma: f64, from: u16, to: u16) -> Pose
         ensures { λ r. ⌜ r ≡ framed (pose q t sigma) from to ⌝ }
     {
-        Pose {
-            sim3: Sim3::from_parts(q, t, sigma),
-            from,
-            to,
-        }
+        between(Sim3::from_parts(q, t, sigma), from, to)
     }
 
     pub fn identity(from: u16, to: u16) -> Pose
         ensures { λ r. ⌜ r ≡ framedIdentity from to ⌝ }
     {
-        Pose {
-            sim3: Sim3::identity(),
-            from,
-            to,
-        }
+        between(Sim3::identity(), from, to)
     }
 
     // Exp tau, which starts from no pose.
     pub fn exp(tau: Sim3Tangent, v: Values, from: u16, to: u16) -> Pose
         ensures { λ r. ⌜ r ≡ framedExp binary64 tau v from to ⌝ }
     {
-        Pose {
-            sim3: Sim3::exp(tau, v),
-            from,
-            to,
-        }
+        between(Sim3::exp(tau, v), from, to)
     }
 
     // X Y, where X starts from the frame to which Y goes; up is e^sigma of X.
@@ -74,11 +68,7 @@ impl Pose {
         ensures { λ r. ⌜ poseTold r ≡ framedMul binary64 self other up ⌝ }
     {
         let x = self.sim3;
-        let joined = Pose {
-            sim3: x.mul(other.sim3, up),
-            from: other.from,
-            to: self.to,
-        };
+        let joined = between(x.mul(other.sim3, up), other.from, self.to);
         meet(self.from, other.to, joined)
     }
 
@@ -87,11 +77,7 @@ impl Pose {
         ensures { λ r. ⌜ r ≡ framedInverse binary64 self down ⌝ }
     {
         let x = self.sim3;
-        Pose {
-            sim3: x.inverse(down),
-            from: self.to,
-            to: self.from,
-        }
+        between(x.inverse(down), self.to, self.from)
     }
 
     // X Y^-1, where both start from one frame; ds is the exponential of the difference of the two
@@ -100,11 +86,7 @@ impl Pose {
         ensures { λ r. ⌜ poseTold r ≡ framedMulInv binary64 self other ds ⌝ }
     {
         let x = self.sim3;
-        let joined = Pose {
-            sim3: x.mul_inv(other.sim3, ds),
-            from: other.to,
-            to: self.to,
-        };
+        let joined = between(x.mul_inv(other.sim3, ds), other.to, self.to);
         meet(self.from, other.from, joined)
     }
 
@@ -113,11 +95,7 @@ impl Pose {
         ensures { λ r. ⌜ poseTold r ≡ framedInvMul binary64 self other down ⌝ }
     {
         let x = self.sim3;
-        let joined = Pose {
-            sim3: x.inv_mul(other.sim3, down),
-            from: self.from,
-            to: other.from,
-        };
+        let joined = between(x.inv_mul(other.sim3, down), self.from, other.from);
         meet(self.to, other.to, joined)
     }
 
@@ -126,11 +104,7 @@ impl Pose {
         ensures { λ r. ⌜ r ≡ framedRplus binary64 self up tau v ⌝ }
     {
         let x = self.sim3;
-        Pose {
-            sim3: x.rplus(up, tau, v),
-            from: self.from,
-            to: self.to,
-        }
+        between(x.rplus(up, tau, v), self.from, self.to)
     }
 
     // Exp(tau) X, which keeps the frames; v the values of tau.
@@ -138,11 +112,7 @@ impl Pose {
         ensures { λ r. ⌜ r ≡ framedLplus binary64 self tau v ⌝ }
     {
         let x = self.sim3;
-        Pose {
-            sim3: x.lplus(tau, v),
-            from: self.from,
-            to: self.to,
-        }
+        between(x.lplus(tau, v), self.from, self.to)
     }
 
     // The quaternion's Newton step; the frames stay.
@@ -150,11 +120,7 @@ impl Pose {
         ensures { λ r. ⌜ r ≡ framedRenormalized binary64 self ⌝ }
     {
         let x = self.sim3;
-        Pose {
-            sim3: x.renormalized(),
-            from: self.from,
-            to: self.to,
-        }
+        between(x.renormalized(), self.from, self.to)
     }
 }
 
