@@ -30,17 +30,24 @@ wordsBytes (n ∷ l) = wordBytes 8 n ++ wordsBytes l
 abbrev one : ℕ
 one = 0x3ff0000000000000
 
--- pose 1 0 0 0, 1 2 3, 0, up 1, point 4 5 6
-ac-numbers : List ℕ
-ac-numbers = one ∷ 0 ∷ 0 ∷ 0 ∷ one ∷ 0x4000000000000000 ∷ 0x4008000000000000 ∷ 0 ∷ one ∷ 0x4010000000000000 ∷ 0x4014000000000000 ∷ 0x4018000000000000 ∷ []
+-- pose 1 0 0 0, 1 2 3, 0
+eight : List ℕ
+eight = one ∷ 0 ∷ 0 ∷ 0 ∷ one ∷ 0x4000000000000000 ∷ 0x4008000000000000 ∷ 0 ∷ []
+
+-- up 1, point 4 5 6
+up-point : List ℕ
+up-point = one ∷ 0x4010000000000000 ∷ 0x4014000000000000 ∷ 0x4018000000000000 ∷ []
+
+frames : ℕ → ℕ → List ℕ
+frames from to = wordBytes 2 from ++ wordBytes 2 to
 
 ac-example :
-    entryReply binary64 Ac (0x41 ∷ 0x43 ∷ wordsBytes ac-numbers)
+    entryReply binary64 Ac (0x41 ∷ 0x43 ∷ (wordsBytes eight ++ (frames 0 0 ++ wordsBytes up-point)))
     ≡ record {
       kind = Answered;
       bytes = 0x41 ∷ 0x43 ∷ 0 ∷ 0 ∷ 0 ∷ 0 ∷ 0 ∷ 0 ∷ 0x14 ∷ 0x40 ∷ 0 ∷ 0 ∷ 0 ∷ 0 ∷ 0 ∷ 0 ∷ 0x1c ∷ 0x40 ∷ 0 ∷ 0 ∷ 0 ∷ 0 ∷ 0 ∷ 0 ∷ 0x22 ∷ 0x40 ∷ [];
     }
-unfolding wordsBytes ac-numbers entryReply replyOf answerOf acOf markBytes poseIn quatIn vecIn vecNumbers numberAt numberOf numberBytes itemBytes itemsBytes allFinite isFinite numbers wordOf wordBytes ofBits toBits add sub mul vecScale vecCross vecAdd so3Act poseAct
+unfolding wordsBytes eight up-point frames entryReply replyOf answerOf acOf markBytes poseIn quatIn vecIn vecNumbers numberAt numberOf numberBytes itemBytes itemsBytes allFinite isFinite numbers wordOf wordBytes ofBits toBits add sub mul vecScale vecCross vecAdd so3Act poseAct
 ac-example = refl
 
 -- σ = 0, z = -1, whatever the values are
