@@ -110,7 +110,8 @@ def choose_form(mark, total, separators):
     known = FORMS[mark]
     form = known.get(total)
     try:
-        check_frames(mark, total, separators)
+        if form is None:
+            check_frames(mark, total, separators)
         check_separators(separators, form or known[max(known)], total)
         if form is None:
             raise BadLine(f"{mark} has {count(total, 'number')}")
