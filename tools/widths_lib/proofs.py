@@ -78,9 +78,27 @@ def opening(block, names):
     return "\n".join(lines[:last] + [f"unfolding {opened}"] + lines[last:])
 
 
-def with_rules(sources, crate, text, names, used):
+def tests_a_field(sources, function):
+    """Whether a test of the function reads a field of a struct that it was given."""
+    given = "|".join(name for name, held in function.parameters if sources.floating(held))
+    if not given:
+        return False
+    read = re.findall(rf"let (\w+) = (?:{given})\.\w+;", function.text)
+    return bool(re.search(rf"\bif [^{{]*\b(?:(?:{given})\.\w+|{'|'.join(read) or given})\b", function.text))
+
+
+def turned_tests(block, rules):
+    """What the tests of a block say, turned by the rules before a `simp` uses it."""
+    said = list(dict.fromkeys(re.findall(r"c\d*(?: \.before)* \.if\d+ \.(?:taken|left)", block)))
+    for k, fact in enumerate(said):
+        block = block.replace(fact, f"t{k + 1}")
+    lets = "".join(f"    let t{k + 1} = simp ({rules}) at ({fact}) in\n" for k, fact in enumerate(said))
+    return re.sub(r"(?:(?<== )|^ *)simp", lambda m: ("\n" if not m.group(0).startswith(" ") else "") + lets + "    simp", block, count=1, flags=re.M) if said else block
+
+
+def with_rules(sources, crate, text, function, used):
     """Each `simp` with the rules of the structs; where a declaration has none, the structs open. Gives the imports of the rules too."""
-    sets = sources.below(crate)
+    sets, names = sources.below(crate), sources.named_in(function)
     rules = ", ".join(f"{c.replace('_', '-')}-singles" for c in sets)
     blocks, simps = text.split("\n\n"), False
     for k, block in enumerate(blocks):
@@ -90,6 +108,7 @@ def with_rules(sources, crate, text, names, used):
             simps = True
             block = re.sub(r"\bsimp(\s+)\(", lambda m: f"simp{m.group(1)}({rules}, ", block)
             block = re.sub(r"\bsimp (?!\()([\w-]+)", lambda m: f"simp ({rules}, {m.group(1)})", block)
+            block = turned_tests(block, rules) if tests_a_field(sources, function) else block
             given = set(re.findall(r"\(as(\w+) \((?:a|c\d*)\b", block))
             if given and rest_of_simp(block) and not any(sources.floating(held) for name in given for _, held in sources.types[name].fields):
                 block = opening(block, given)
@@ -111,11 +130,12 @@ def proof(sources, crate, function, text):
     else:
         text = arguments(sources, text, function, used)
         text = statements(sources, invariants(sources, text, function, used), used)
-        text, lines = with_rules(sources, crate, text, sources.named_in(function), used)
+        text, lines = with_rules(sources, crate, text, function, used)
     text = imports(sources, crate, width(text), walk)
     text = after_uses(text, as_lines(sources, crate, used) + lines, "use ")
     text = re.sub(r"\((\(as\w+ \([^()]*\)\))\)", r"\1", text)
-    text = text.replace(f"calls-{crate}·", f"calls-{twin(crate).replace('_', '-')}·")
+    name = twin(crate).replace("_", "-")
+    text = text.replace(f"calls-{crate}·{crate}·", f"calls-{name}·{name}·").replace(f"calls-{crate}·", f"calls-{name}·")
     return text.replace(f"`{crate}::", f"`{twin(crate)}::")
 
 

@@ -3,7 +3,6 @@ ghost use mathlib.Core.Path.{_≡_};
 ghost use lib.Ieee.{binary64};
 ghost use Rattle.ieee.specs.Numbers.{f0};
 ghost use Rattle.jacobian.specs.Jac.{jacIdentity, jacMul, jacTold, jacInverseAnswer, jacNeg, jacAdd, jacScale, jacApply, jacApplyTranspose};
-use coeffs::values::at_zero;
 use linalg::matrix::Mat3;
 use linalg::vector::Vec3;
 use sim3::tangent::Sim3Tangent;
@@ -68,7 +67,7 @@ impl Sim3Jac {
     {
         let e = self.e;
         let ci = self.c.inverse_adj().inv;
-        if at_zero(e) {
+        if (e <= 0.0) & (0.0 <= e) {
             return JacAnswer::Refused(2);
         }
         let ai = self.a.inverse_adj().inv;

@@ -1,4 +1,4 @@
-// Written by tools/widths from crates/jacobian/src/jac.rt: edit that one. Digest 1026767885ea9d78.
+// Written by tools/widths from crates/jacobian/src/jac.rt: edit that one. Digest 9b6f0e29ff4cf7a6.
 // A Sim(3) Jacobian: the matrix with the rows (a, 0, 0), (b, c, f), (0, 0, e).
 ghost use mathlib.Core.Path.{_≡_};
 ghost use lib.Ieee.{binary32};
@@ -8,7 +8,6 @@ ghost use Rattle.jacobian_f32.specs.Told.{jacTold};
 ghost use Rattle.linalg_f32.specs.As.{asVec3};
 ghost use Rattle.sim3_f32.specs.As.{asSim3Tangent};
 ghost use Rattle.jacobian_f32.specs.As.{asSim3Jac};
-use coeffs_f32::values::at_zero;
 use linalg_f32::matrix::Mat3;
 use linalg_f32::vector::Vec3;
 use sim3_f32::tangent::Sim3Tangent;
@@ -73,7 +72,7 @@ impl Sim3Jac {
     {
         let e = self.e;
         let ci = self.c.inverse_adj().inv;
-        if at_zero(e) {
+        if (e <= 0.0) & (0.0 <= e) {
             return JacAnswer::Refused(2);
         }
         let ai = self.a.inverse_adj().inv;

@@ -1,4 +1,4 @@
--- Written by tools/widths from crates/sim3/proofs/sim3/renormalize/Proof.antt: edit that one. Digest 2a9655e2aa788fff.
+-- Written by tools/widths from crates/sim3/proofs/sim3/renormalize/Proof.antt: edit that one. Digest 492fbbe5f93e17cb.
 -- `sim3_f32::sim3::renormalize` meets its contract: a walk of its code. The borrow is opened, the pose is copied out and passed to `renormalized`, what that returns is stored in its place, and the borrow is closed.
 -- Assumes nothing.
 use mathlib.Core.Path.{_≡_, refl}
@@ -140,4 +140,4 @@ renormalize-spec 𝓤 H 𝓜 𝓖 𝓡 =
     entered 𝓤 H (tripleOf 𝓤 H (𝓖 .A) f.signature (f.spec 𝓤 H (𝓖 .A) (𝓜 .mem) (𝓡 .run)))
     (tables 𝓤 H 𝓜 𝓡 code.env .C) (tables 𝓤 H 𝓜 𝓡 code.env .Λ) #renormalize code.function (code.unfolded 𝓤 H 𝓜 𝓡)
     (meets 𝓤 H (𝓖 .A) (givenOf 𝓤 H 𝓜 𝓖) (𝓜 .mem) (𝓡 .run) (tablesOf 𝓤 H 𝓜 (tables 𝓤 H 𝓜 𝓡 code.env))
-    (cited 𝓤 H (Step 𝓤 H (𝓖 .A) (𝓜 .mem) (𝓡 .run)) 𝓜 𝓡 code.env #renormalized step-def.routine code.calls-sim3-f32·sim3·Sim3·renormalized (step-thm.met 𝓤 H 𝓜 𝓖 𝓡)))
+    (cited 𝓤 H (Step 𝓤 H (𝓖 .A) (𝓜 .mem) (𝓡 .run)) 𝓜 𝓡 code.env #renormalized step-def.routine code.calls-sim3-f32·sim3-f32·Sim3·renormalized (step-thm.met 𝓤 H 𝓜 𝓖 𝓡)))

@@ -1,4 +1,4 @@
--- Written by tools/proofs, plain, opening jacTold jacInverseAnswer jacInverse ofBits. Digest 07a2c4a3d3fe288c.
+-- Written by tools/proofs, plain, opening jacTold jacInverseAnswer jacInverse ofBits. Digest 2630cbc62b06b024.
 use borrow.Author.Needs.{needs}
 use Rattle.jacobian.specs.Jac.{jacTold, jacInverseAnswer, jacInverse}
 use lib.Ieee.{ofBits}
@@ -7,7 +7,7 @@ use Rattle.jacobian.proofs.jac.Sim3Jac.inverse.Tie as tie
 
 returns : tie.Need-returns
 unfolding jacTold jacInverseAnswer jacInverse ofBits
-returns c = simp (c .if1 .taken, c .before .at-zero .ensures, c .before .before .before .inverse-adj .ensures)
+returns c = simp (c .if1 .taken, c .before .before .inverse-adj .ensures)
 
 returns-2 : tie.Need-returns-2
 unfolding jacTold jacInverseAnswer jacInverse ofBits
@@ -23,15 +23,13 @@ returns-2 c =
       c1 .mul .ensures,
       c1 .before .before .inverse-adj2 .ensures,
       c1 .before .before .before .if1 .left,
-      c1 .before .before .before .before .at-zero .ensures,
-      c2 .before .inverse-adj .ensures,
+      c2 .inverse-adj .ensures,
     )
 
 pub inverse-spec : {M : Type 1} → statement M
 inverse-spec =
     tie.close
     (tie.spec
-    (λ c κs. search needs)
     (λ c κs. search needs)
     returns
     (λ c κs. search needs)
