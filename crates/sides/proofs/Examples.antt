@@ -8,10 +8,9 @@ use lib.ListN.{length, getD}
 use lib.Ieee.{round, ofBits, toBits, isNan, neg, add, sub, mul, div, lt, le}
 use lib.Ieee.Fits.{and-l, and-r}
 use Rattle.ieee.specs.Table.{factorial, rounded, entries}
+use Rattle.tables.specs.Tables.{rowRule, rowTable, recipRule, recipFact}
 use Rattle.linalg.specs.Vector.{vecScale, vecDot, vecNormSq, vecCross, vecAdd}
-use Rattle.circle.specs.Tables.{rowRule, rowTable}
 use Rattle.circle.specs.Kernel.{hornerSum, rowSeries, rowShort, rowMember, circleExp}
-use Rattle.series.specs.Recip.{recipRule, recipFact}
 use Rattle.series.specs.Series.{seriesFirst, seriesNext, seriesLevel, levelTerms, seriesSum, seriesSums, gSeries, coeffsDelta, seriesChi, seriesCoeffs, seriesFull, coeffs4}
 use Rattle.coeffs.specs.Arm.{coeffsArm}
 use Rattle.coeffs.specs.Group.{coeffsScaled, coeffsUnscale, coeffsPlain, coeffsV}
