@@ -47,7 +47,7 @@ class Function:
 
 
 # a function's head: its indentation, name, parameters and result
-HEAD = re.compile(r"^( *)(?:pub )?(?:extern \"C\" )?fn (\w+)\(([^)]*)\)(?: -> ([^\n{]+))?", re.M)
+HEAD = re.compile(r"^( *)(?:pub(?:\(crate\))? )?(?:extern \"C\" )?fn (\w+)\(([^)]*)\)(?: -> ([^\n{]+))?", re.M)
 
 
 def functions(module, text):

@@ -1,0 +1,17 @@
+-- Written by tools/widths from crates/replies/proofs/finite/coeffs/Proof.antt: edit that one. Digest c9216276012268e6.
+-- `replies_f32::finite::coeffs` meets its contract: the product equals itself where it is a zero. Assumes nothing.
+use borrow.Author.Needs.{needs}
+use lib.Ieee.{binary32}
+use Rattle.ieee.proofs.Finite.{zero-told}
+use Rattle.replies_f32.proofs.finite.coeffs.Statement.{statement}
+use Rattle.replies_f32.proofs.finite.coeffs.Tie as tie
+
+returns : tie.Need-returns
+returns c = zero-told _ _ (c .coeffs-zero .ensures)
+
+pub coeffs-spec : {M : Type 1} → statement M
+coeffs-spec =
+    tie.close
+    (tie.spec
+    (λ c κs. search needs)
+    returns)
