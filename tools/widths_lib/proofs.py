@@ -110,7 +110,8 @@ def with_rules(sources, crate, text, function, used):
             block = re.sub(r"\bsimp (?!\()([\w-]+)", lambda m: f"simp ({rules}, {m.group(1)})", block)
             block = turned_tests(block, rules) if tests_a_field(sources, function) else block
             given = set(re.findall(r"\(as(\w+) \((?:a|c\d*)\b", block))
-            if given and rest_of_simp(block) and not any(sources.floating(held) for name in given for _, held in sources.types[name].fields):
+            flat = not any(sources.floating(held) for name in given for _, held in sources.types[name].fields)
+            if given and (rest_of_simp(block) and flat or re.search(r"\bap \(λ .*\(as", block)):
                 block = opening(block, given)
                 used |= given
         elif names and re.search(r"\b(refl|cc|rw|sym|ap)\b|∙", block):

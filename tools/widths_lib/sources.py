@@ -85,7 +85,7 @@ class Sources:
         for module, text in self.code(crate).items():
             if f"src/{module}.rt" in self.by_hand.get(crate, []):
                 continue
-            for found in re.finditer(r"(?ms)^(?:pub )?(struct|enum) (\w+) \{\n(.*?)^\}", text):
+            for found in re.finditer(r"(?ms)^(?:pub(?:\(crate\))? )?(struct|enum) (\w+) \{\n(.*?)^\}", text):
                 yield Type(crate, "" if module == "lib" else module, *found.groups())
 
     def read_specs(self, crate, module, text):

@@ -60,6 +60,16 @@ def told_line(sources, t, line, used):
     return line
 
 
+def importable(sources, crate):
+    """The names that the specs of a crate import or declare as types, each list with its module."""
+    for path in sorted((sources.top / "crates" / crate / "specs").glob("*.antt")):
+        text = path.read_text(encoding="utf-8")
+        for module, names in re.findall(r"(?m)^use (\S+?)\.\{(.*)\}$", text):
+            yield module, [name.strip() for name in names.split(",")]
+        for name, body in re.findall(r"(?ms)^pub (?:data|record) (\w+)(.*?)\n\n", text + "\n\n"):
+            yield f"Rattle.{crate}.specs.{path.stem}", [name, *re.findall(r"(?m)^  (\w+) :", body)]
+
+
 def told_file(sources, crate):
     """specs/Told.antt: what each case of an enum says, by the same equations."""
     told = {name: rest for name, rest in sources.told.items() if rest[0] == crate}
@@ -72,14 +82,10 @@ def told_file(sources, crate):
         lines = [told_line(sources, t, line, used) for line in body.rstrip("\n").split("\n")]
         bodies += ["", f"{keep} pub {name} : code{t.name}.{t.name} → {result}", *lines]
         names |= set(re.findall(r"\w+", " ".join([result, *lines])))
-    for path in sorted((sources.top / "crates" / crate / "specs").glob("*.antt")):
-        text = path.read_text(encoding="utf-8")
-        found = re.findall(r"(?m)^use (\S+?)\.\{(.*)\}$", text)
-        found += [(f"Rattle.{crate}.specs.{path.stem}", ", ".join([n, *re.findall(r"(?m)^  (\w+) :", rest)])) for n, rest in re.findall(r"(?ms)^pub (?:data|record) (\w+)(.*?)\n\n", text + "\n\n")]
-        for module, held in found:
-            got = [n.strip() for n in held.split(",") if n.strip() in names and (n.strip() not in told)]
-            names -= set(got)
-            heads += imports(sources, crate, f"use {module}.{{{', '.join(got)}}}").split("\n") if got else []
+    for module, held in importable(sources, crate):
+        got = [name for name in held if name in names and name not in told]
+        names -= set(got)
+        heads += imports(sources, crate, f"use {module}.{{{', '.join(got)}}}").split("\n") if got else []
     heads += as_lines(sources, crate, used)
     return f"-- What each answer of {twin(crate)} says.\n" + "\n".join(heads + bodies) + "\n"
 
@@ -90,7 +96,8 @@ def rules_file(sources, crate):
     if not structs:
         return None
     heads = [
-        f"-- The structs of {twin(crate)} field by field, as rules for `simp`: a number that the code reads of a struct is the number of the definitions' record. Assumes nothing.",
+        f"-- The structs of {twin(crate)} field by field, as rules for `simp`: a number that the code reads of a struct is the number of the definitions' record. "
+        "Assumes nothing.",
         "use mathlib.Core.Path.{_≡_, refl}",
     ]
     kinds = {KINDS[held] for t in structs for _, held in t.fields if held in KINDS}
@@ -103,7 +110,8 @@ def rules_file(sources, crate):
     for t in structs:
         for n, held in t.fields:
             names.append(f"{n.replace('_', '-')}-of-{t.name}")
-            bodies += ["", f"pub {names[-1]} : (a : {t.name}) → {read(sources, n, held, f'a .{quoted(n)}')} ≡ as{t.name} a .{quoted(n)}", f"unfolding as{t.name}", f"{names[-1]} a = refl"]
+            said = f"{read(sources, n, held, f'a .{quoted(n)}')} ≡ as{t.name} a .{quoted(n)}"
+            bodies += ["", f"pub {names[-1]} : (a : {t.name}) → {said}", f"unfolding as{t.name}", f"{names[-1]} a = refl"]
         names.append(f"made-{t.name}")
         given = " ".join(f"({quoted(n)} : {KINDS.get(held, held)})" for n, held in t.fields)
         made = "; ".join(f"{quoted(n)} = {quoted(n)}" for n, _ in t.fields)

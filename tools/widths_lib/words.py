@@ -38,27 +38,25 @@ IMPORT = re.compile(r"^(\s*(?:ghost )?use )Rattle·(\w+?)(·specs\.specs|·proof
 
 
 def imported(sources, crate, line, walk=False):
-    """An import of the crate at f64 as imports of its twin. Definitions and laws stay those of the f64 crate; what is about the code is the twin's."""
+    """An import of the crate at f64 as imports of its twin. Definitions and laws stay those of the f64 crate; what is about the code is the twin's, and so are
+    the definitions that tell what its types say. A walk by hand speaks of the code's own structs."""
     found = IMPORT.match(line)
     if not found or found.group(2) not in sources.twins:
         return [line]
     start, c, where, path, tail, names, end = found.groups()
+    tail = tail or ""
+    if "proofs" in where and (sources.top / "crates" / c / "proofs" / f"{path.split('.')[0]}.antt").exists():
+        return [f"{start}Rattle.{c}.proofs.{path}{tail}{end}"]
     if "proofs" in where:
-        if (sources.top / "crates" / c / "proofs" / (path.split(".")[0] + ".antt")).exists():
-            return [f"{start}Rattle.{c}.proofs.{path}{tail}{end}"]
         return [f"{start}Rattle.{twin(c)}.proofs.{place(c, path)}{tail}{end}"]
     if path.startswith("declared.") and walk:
-        return [f"{start}Rattle.{twin(c)}.specs.declared.{place(c, path[9:])}{tail or ''}{end}"]
-    told = [n.strip() for n in (names or "").split(",") if n.strip() in sources.told]
-    kept = [n.strip() for n in (names or "").split(",") if n.strip() not in sources.told]
-    lines = []
+        return [f"{start}Rattle.{twin(c)}.specs.declared.{place(c, path[9:])}{tail}{end}"]
     if names is None or path.startswith("declared."):
-        return [f"{start}Rattle.{c}.specs.{path}{tail or ''}{end}"]
-    if kept:
-        lines.append(f"{start}Rattle.{c}.specs.{path}.{{{', '.join(kept)}}}{end}")
-    if told:
-        lines.append(f"{start}{home(twin(crate), twin(c), 'specs')}.Told.{{{', '.join(told)}}}{end}")
-    return lines
+        return [f"{start}Rattle.{c}.specs.{path}{tail}{end}"]
+    names = [name.strip() for name in names.split(",")]
+    kept, told = [n for n in names if n not in sources.told], [n for n in names if n in sources.told]
+    lines = [f"{start}Rattle.{c}.specs.{path}.{{{', '.join(kept)}}}{end}"] if kept else []
+    return lines + ([f"{start}{home(twin(crate), twin(c), 'specs')}.Told.{{{', '.join(told)}}}{end}"] if told else [])
 
 
 def imports(sources, crate, text, walk=False):

@@ -1,4 +1,4 @@
-// Written by tools/widths from crates/sides/src/blocks.rt: edit that one. Digest a316c54641cae257.
+// Written by tools/widths from crates/sides/src/blocks.rt: edit that one. Digest 3bc5b2308088dbf0.
 // J_l of the exponential and its inverse by blocks, from the coefficients at (sigma, |phi|^2), the
 // rotation Jacobian of phi and its inverse.
 ghost use mathlib.Core.Path.{_≡_};
@@ -125,7 +125,7 @@ pub(crate) fn jl_and_inverse_at(
     up: f32,
     down: f32,
 ) -> JacAndInverse
-    ensures { λ r. ⌜ asSim3Jac r ≡ jlAndInverseFrom binary32 (asVec3 phi) (asVec3 rho) z s (asMat3 jl) «jl_inv» up down ⌝ }
+    ensures { λ r. ⌜ asJacAndInverse r ≡ jlAndInverseFrom binary32 (asVec3 phi) (asVec3 rho) z (asScaled s) (asMat3 jl) (asMat3 «jl_inv») up down ⌝ }
 {
     let c = s.c;
     let j = jl_blocks_with(phi, rho, coeffs_f32::sim3::unscale(c, up, s.scaled), jl);

@@ -1,4 +1,4 @@
--- Written by tools/widths from crates/sides/proofs/pair/block_pair/Proof.antt: edit that one. Digest e05e59faf42ea1d7.
+-- Written by tools/widths from crates/sides/proofs/pair/block_pair/Proof.antt: edit that one. Digest 332ce2cd91dbdadf.
 -- `sides_f32::pair::block_pair` meets its contract: |phi|² is not below zero, so the entry answers, and the sides are what their calls ensure. Assumes nothing.
 use borrow.Author.Needs.{needs}
 use mathlib.Core.Path.{sym, ap, _∙_}
@@ -40,7 +40,7 @@ returns c =
     angle-armed-refuses binary32 ((asSim3Tangent (a .tau)) .phi) ((asSim3Tangent (a .tau)) .sigma) (asValues (a .v)) _ (sym (entry ∙ at) ∙ ap armedPairTold (told .enum-told .given .1))
 
 returns-2 : tie.Need-returns-2
-unfolding blockPair jlAndInverse tangentNeg coeffsArmedPair coeffsArmed mirrored armedPairTold
+unfolding blockPair jlAndInverse tangentNeg coeffsArmedPair coeffsArmed mirrored armedPairTold asSim3Tangent asValues
 returns-2 c =
     let right = c .before .before .before .before in
     let left = right .before .before .before .before .before in
