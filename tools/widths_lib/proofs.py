@@ -4,6 +4,9 @@ import re
 from .sources import end_of
 from .words import after_uses, as_lines, home, imports, place, twin, width
 
+# what a proof by computing is made of, and the laws about a thing's numbers in a row: there the structs stand open
+OPENS = r"\b(?:refl|cc|rw|sym|ap)\b|∙"
+NUMBERS = r"-(?:zero|parts|run)\b"
 # a proof that walks the code by itself, statement by statement
 WALK = "ghost.Atoms"
 
@@ -97,8 +100,12 @@ def turned_tests(block, rules):
 
 
 def with_rules(sources, crate, text, function, used):
-    """Each `simp` with the rules of the structs; where a declaration has none, the structs open. Gives the imports of the rules too."""
-    sets, names = sources.below(crate), sources.named_in(function)
+    """Each `simp` with the rules of the structs; where a declaration has none, the structs open. Gives the imports of the rules too.
+
+    A function over numbers in a row that is given no struct reads one, hands it to the engine and writes the answer: what its calls ensure fits as it stands, closed."""
+    sets, names, opens = sources.below(crate), sources.named_in(function), OPENS
+    if "layout" in sources.rests_on[crate]:
+        names, opens = names if sources.given(function) else set(), f"{OPENS}|{NUMBERS}"
     rules = ", ".join(f"{c.replace('_', '-')}-singles" for c in sets)
     blocks, simps = text.split("\n\n"), False
     for k, block in enumerate(blocks):
@@ -114,7 +121,7 @@ def with_rules(sources, crate, text, function, used):
             if given and (rest_of_simp(block) and flat or re.search(r"\bap \(λ .*\(as", block)):
                 block = opening(block, given)
                 used |= given
-        elif names and re.search(r"\b(refl|cc|rw|sym|ap)\b|∙", block):
+        elif names and re.search(opens, block):
             block = opening(block, names)
             used |= names
         blocks[k] = block

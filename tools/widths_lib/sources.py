@@ -125,6 +125,10 @@ class Sources:
         words |= {held for word in list(words) if word in self.types for held in self.types[word].cases.values()}
         return self.nested(words)
 
+    def given(self, function):
+        """Whether a struct of floats is among a function's parameters."""
+        return any(self.floating(held) for _, held in function.parameters)
+
     def below(self, crate):
         """The twins that a crate rests on, and itself, as far as they declare structs of floats."""
         return [c for c in self.twins if (c == crate or c in self.rests_on[crate]) and any(self.floating(t.name) for t in self.declared(c))]

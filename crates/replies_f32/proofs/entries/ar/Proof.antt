@@ -1,4 +1,4 @@
--- Written by tools/widths from crates/replies/proofs/entries/ar/Proof.antt: edit that one. Digest 86f0b87b8b689bfa.
+-- Written by tools/widths from crates/replies/proofs/entries/ar/Proof.antt: edit that one. Digest de7e54f15007c3b5.
 -- `replies_f32::entries::ar` meets its contract: the engine is asked at the numbers read, and its answer is written or its refusal told. Assumes nothing.
 use borrow.Author.Needs.{needs}
 use lib.Ieee.{binary32}
@@ -10,11 +10,9 @@ use Rattle.replies.proofs.Arms.{armed-length}
 use Rattle.replies.proofs.Replies.{wrote-items}
 use Rattle.replies_f32.proofs.entries.ar.Statement.{statement}
 use Rattle.replies_f32.proofs.entries.ar.Tie as tie
-use Rattle.series_f32.specs.As.{asSim3Coeffs}
-use Rattle.coeffs_f32.specs.As.{asArmed, asArmedPair, asScaled}
 
 returns : tie.Need-returns
-unfolding arOf armedPairTold asArmed asArmedPair asScaled asSim3Coeffs
+unfolding arOf armedPairTold
 returns c =
     let c1 = c .before .before .before .before .before in
     let c2 = c1 .before .before .before .before .before in
@@ -28,7 +26,7 @@ returns c =
     (wrote-items binary32 _ _ _ _ (c2 .before .before .before .before .args .out .now) _ (armed-length binary32 _) (c .gave .ensures) (c .before .before .before .answer-armed-pair .ensures))
 
 returns-2 : tie.Need-returns-2
-unfolding arOf armedPairTold gaveOf gaveBytes asArmed asArmedPair asScaled asSim3Coeffs
+unfolding arOf armedPairTold gaveOf gaveBytes
 returns-2 c =
     let c1 = c .before .before .before .before .before in
     rw (

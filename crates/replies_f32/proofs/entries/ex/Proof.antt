@@ -1,4 +1,4 @@
--- Written by tools/widths from crates/replies/proofs/entries/ex/Proof.antt: edit that one. Digest 34ccc81d948b5db5.
+-- Written by tools/widths from crates/replies/proofs/entries/ex/Proof.antt: edit that one. Digest 16bc9f79ca1dd171.
 -- `replies_f32::entries::ex` meets its contract: the engine is asked at the numbers and frames read, and its answer written. Assumes nothing.
 use borrow.Author.Needs.{needs}
 use lib.Ieee.{binary32}
@@ -7,13 +7,9 @@ use Rattle.replies.proofs.Frames.{framed-length}
 use Rattle.replies.proofs.Replies.{wrote-items}
 use Rattle.replies_f32.proofs.entries.ex.Statement.{statement}
 use Rattle.replies_f32.proofs.entries.ex.Tie as tie
-use Rattle.linalg_f32.specs.As.{asVec3}
-use Rattle.so3_f32.specs.As.{asQuat}
-use Rattle.sim3_f32.specs.As.{asSim3}
-use Rattle.frames_f32.specs.As.{asPose}
 
 returns : tie.Need-returns
-unfolding exOf asPose asQuat asSim3 asVec3
+unfolding exOf
 returns c =
     let c1 = c .before .before .before .before .before in
     let c2 = c1 .before .before .before .before .before in

@@ -1,4 +1,4 @@
--- Written by tools/widths from crates/replies/proofs/entries/ji/Proof.antt: edit that one. Digest 212bde12efbc68cb.
+-- Written by tools/widths from crates/replies/proofs/entries/ji/Proof.antt: edit that one. Digest 05346b2c63efc064.
 -- `replies_f32::entries::ji` meets its contract: the engine is asked at the numbers read, and its answer is written or its refusal told. Assumes nothing.
 use borrow.Author.Needs.{needs}
 use lib.Ieee.{binary32}
@@ -10,11 +10,9 @@ use Rattle.replies.specs.Table.{jiOf}
 use Rattle.replies.proofs.Replies.{wrote}
 use Rattle.replies_f32.proofs.entries.ji.Statement.{statement}
 use Rattle.replies_f32.proofs.entries.ji.Tie as tie
-use Rattle.linalg_f32.specs.As.{asMat3, asVec3}
-use Rattle.jacobian_f32.specs.As.{asSim3Jac}
 
 returns : tie.Need-returns
-unfolding jiOf jacTold asMat3 asSim3Jac asVec3
+unfolding jiOf jacTold
 returns c =
     let c1 = c .before .before .before .before .before in
     let c2 = c1 .before .before .before .before .before in
@@ -26,7 +24,7 @@ returns c =
     (wrote binary32 _ _ _ _ _ (c2 .before .before .args .out .now) _ (block-count _) refl (c .gave .ensures) (c .before .before .before .answer-block .ensures))
 
 returns-2 : tie.Need-returns-2
-unfolding jiOf jacTold gaveOf gaveBytes asMat3 asSim3Jac asVec3
+unfolding jiOf jacTold gaveOf gaveBytes
 returns-2 c =
     rw (
       ← (c .before .before .before .before .block-at .ensures),

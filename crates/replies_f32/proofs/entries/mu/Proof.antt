@@ -1,4 +1,4 @@
--- Written by tools/widths from crates/replies/proofs/entries/mu/Proof.antt: edit that one. Digest 259ce5276c29d697.
+-- Written by tools/widths from crates/replies/proofs/entries/mu/Proof.antt: edit that one. Digest 814523afaeea3bf3.
 -- `replies_f32::entries::mu` meets its contract: the engine is asked at the numbers and frames read, and its answer is written or its refusal told. Assumes nothing.
 use borrow.Author.Needs.{needs}
 use Prim.Native.Nat.{_*_}
@@ -11,13 +11,9 @@ use Rattle.replies.proofs.Frames.{framed-length, rest-is}
 use Rattle.replies.proofs.Replies.{wrote-items}
 use Rattle.replies_f32.proofs.entries.mu.Statement.{statement}
 use Rattle.replies_f32.proofs.entries.mu.Tie as tie
-use Rattle.linalg_f32.specs.As.{asVec3}
-use Rattle.so3_f32.specs.As.{asQuat}
-use Rattle.sim3_f32.specs.As.{asSim3}
-use Rattle.frames_f32.specs.As.{asPose}
 
 returns : tie.Need-returns
-unfolding muOf poseTold asPose asQuat asSim3 asVec3
+unfolding muOf poseTold
 returns c =
     let c1 = c .before .before .before .before .before in
     let c2 = c1 .before .before .before .before .before in
@@ -34,7 +30,7 @@ returns c =
     (wrote-items binary32 _ _ _ _ (c3 .before .args .out .now) _ (framed-length binary32 _) (c .gave .ensures) (c .before .before .before .answer-framed .ensures))
 
 returns-2 : tie.Need-returns-2
-unfolding muOf poseTold gaveOf gaveBytes asPose asQuat asSim3 asVec3
+unfolding muOf poseTold gaveOf gaveBytes
 returns-2 c =
     let c1 = c .before .before .before .before .before in
     let c2 = c1 .before .before .before .before .before in

@@ -1,14 +1,15 @@
--- Written by tools/widths from crates/replies/proofs/finite/block_zero/Proof.antt: edit that one. Digest b6a50cea25fd92e5.
+-- Written by tools/widths from crates/replies/proofs/finite/block_zero/Proof.antt: edit that one. Digest b9bc3cbe1621d075.
 -- `replies_f32::finite::block_zero` meets its contract: the product begins with 0 and has each number for a factor. Assumes nothing.
 use borrow.Author.Needs.{needs}
 use lib.Ieee.{binary32}
 use Rattle.replies.proofs.AllFinite.{chain, block-zero}
 use Rattle.replies_f32.proofs.finite.block_zero.Statement.{statement}
 use Rattle.replies_f32.proofs.finite.block_zero.Tie as tie
+use Rattle.linalg_f32.specs.As.{asMat3, asVec3}
 use Rattle.jacobian_f32.specs.As.{asSim3Jac}
 
 returns : tie.Need-returns
-unfolding chain
+unfolding chain asMat3 asSim3Jac asVec3
 returns c =
     let c1 = c .before .before .before .before .before in
     let c2 = c1 .before .before .before .before .before in

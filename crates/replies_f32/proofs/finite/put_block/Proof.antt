@@ -1,4 +1,4 @@
--- Written by tools/widths from crates/replies/proofs/finite/put_block/Proof.antt: edit that one. Digest 459120c4f5e8778c.
+-- Written by tools/widths from crates/replies/proofs/finite/put_block/Proof.antt: edit that one. Digest 16acee1bd712a6d9.
 -- `replies_f32::finite::put_block` meets its contract: its parts are finite, and their runs are the run of the whole. Assumes nothing.
 use borrow.Author.Needs.{needs}
 use lib.Ieee.{binary32}
@@ -11,26 +11,31 @@ use Rattle.linalg_f32.specs.As.{asMat3, asVec3}
 use Rattle.jacobian_f32.specs.As.{asSim3Jac}
 
 put-mat-requires : tie.Need-put-mat-requires
+unfolding asMat3 asSim3Jac asVec3
 put-mat-requires c κs = (search needs, block-parts (asSim3Jac (c .before .before .args .j)) (c .before .before .pre .1) .0)
 
 put-mat-requires-2 : tie.Need-put-mat-requires-2
+unfolding asMat3 asSim3Jac asVec3
 put-mat-requires-2 c κs =
     let c1 = c .before .before .before .before .before in
     (search needs, block-parts (asSim3Jac (c1 .before .args .j)) (c1 .before .pre .1) .1)
 
 put-mat-requires-3 : tie.Need-put-mat-requires-3
+unfolding asMat3 asSim3Jac asVec3
 put-mat-requires-3 c κs =
     let c1 = c .before .before .before .before .before in
     let c2 = c1 .before .before .before .before .before in
     (search needs, block-parts (asSim3Jac (c2 .args .j)) (c2 .pre .1) .2)
 
 put-vec-requires : tie.Need-put-vec-requires
+unfolding asMat3 asSim3Jac asVec3
 put-vec-requires c κs =
     let c1 = c .before .before .before .before .before in
     let c2 = c1 .before .before .before .before .before in
     (search needs, block-parts (asSim3Jac (c2 .before .before .before .before .args .j)) (c2 .before .before .before .before .pre .1) .3)
 
 put-finite-requires : tie.Need-put-finite-requires
+unfolding asMat3 asSim3Jac asVec3
 put-finite-requires c κs =
     let c1 = c .before .before .before .before .before in
     let c2 = c1 .before .before .before .before .before in

@@ -1,4 +1,4 @@
--- Written by tools/widths from crates/replies/proofs/finite/put_mat/Proof.antt: edit that one. Digest 3a0b1375efe86808.
+-- Written by tools/widths from crates/replies/proofs/finite/put_mat/Proof.antt: edit that one. Digest 11ee7a83358bf252.
 -- `replies_f32::finite::put_mat` meets its contract: its parts are finite, and their runs are the run of the whole. Assumes nothing.
 use borrow.Author.Needs.{needs}
 use lib.Ieee.{binary32}
@@ -10,14 +10,17 @@ use Rattle.replies_f32.proofs.finite.put_mat.Tie as tie
 use Rattle.linalg_f32.specs.As.{asMat3, asVec3}
 
 put-vec-requires : tie.Need-put-vec-requires
+unfolding asMat3 asVec3
 put-vec-requires c κs = (search needs, mat-parts (asMat3 (c .before .before .args .m)) (c .before .before .pre .1) .0)
 
 put-vec-requires-2 : tie.Need-put-vec-requires-2
+unfolding asMat3 asVec3
 put-vec-requires-2 c κs =
     let c1 = c .before .before .before .before .before in
     (search needs, mat-parts (asMat3 (c1 .before .args .m)) (c1 .before .pre .1) .1)
 
 put-vec-requires-3 : tie.Need-put-vec-requires-3
+unfolding asMat3 asVec3
 put-vec-requires-3 c κs =
     let c1 = c .before .before .before .before .before in
     let c2 = c1 .before .before .before .before .before in

@@ -1,4 +1,4 @@
--- Written by tools/widths from crates/replies/proofs/finite/put_pose/Proof.antt: edit that one. Digest f3825a31cc334829.
+-- Written by tools/widths from crates/replies/proofs/finite/put_pose/Proof.antt: edit that one. Digest 473d8129044dd563.
 -- `replies_f32::finite::put_pose` meets its contract: its parts are finite, and their runs are the run of the whole. Assumes nothing.
 use borrow.Author.Needs.{needs}
 use lib.Ieee.{binary32}
@@ -12,26 +12,31 @@ use Rattle.so3_f32.specs.As.{asQuat}
 use Rattle.sim3_f32.specs.As.{asSim3}
 
 put-finite-requires : tie.Need-put-finite-requires
+unfolding asQuat asSim3 asVec3
 put-finite-requires c κs = (search needs, pose-parts (asSim3 (c .before .before .args .x)) (c .before .before .pre .1) .0)
 
 put-finite-requires-2 : tie.Need-put-finite-requires-2
+unfolding asQuat asSim3 asVec3
 put-finite-requires-2 c κs =
     let c1 = c .before .before .before .before .before in
     (search needs, pose-parts (asSim3 (c1 .before .args .x)) (c1 .before .pre .1) .1)
 
 put-finite-requires-3 : tie.Need-put-finite-requires-3
+unfolding asQuat asSim3 asVec3
 put-finite-requires-3 c κs =
     let c1 = c .before .before .before .before .before in
     let c2 = c1 .before .before .before .before .before in
     (search needs, pose-parts (asSim3 (c2 .args .x)) (c2 .pre .1) .2)
 
 put-finite-requires-4 : tie.Need-put-finite-requires-4
+unfolding asQuat asSim3 asVec3
 put-finite-requires-4 c κs =
     let c1 = c .before .before .before .before .before in
     let c2 = c1 .before .before .before .before .before in
     (search needs, pose-parts (asSim3 (c2 .before .before .before .before .args .x)) (c2 .before .before .before .before .pre .1) .3)
 
 put-finite-requires-5 : tie.Need-put-finite-requires-5
+unfolding asQuat asSim3 asVec3
 put-finite-requires-5 c κs =
     let c1 = c .before .before .before .before .before in
     let c2 = c1 .before .before .before .before .before in
@@ -40,6 +45,7 @@ put-finite-requires-5 c κs =
     (search needs, pose-parts (asSim3 (c4 .before .before .args .x)) (c4 .before .before .pre .1) .5)
 
 put-vec-requires : tie.Need-put-vec-requires
+unfolding asQuat asSim3 asVec3
 put-vec-requires c κs =
     let c1 = c .before .before .before .before .before in
     let c2 = c1 .before .before .before .before .before in

@@ -1,4 +1,4 @@
--- Written by tools/widths from crates/replies/proofs/finite/put_scaled/Proof.antt: edit that one. Digest 3263cfb2b80f34ed.
+-- Written by tools/widths from crates/replies/proofs/finite/put_scaled/Proof.antt: edit that one. Digest aa8a80f0d1b3b083.
 -- `replies_f32::finite::put_scaled` meets its contract: its parts are finite, and their runs are the run of the whole. Assumes nothing.
 use borrow.Author.Needs.{needs}
 use lib.Ieee.{binary32, ofBits}
@@ -11,14 +11,17 @@ use Rattle.linalg_f32.specs.As.{asVec3}
 use Rattle.series_f32.specs.As.{asSim3Coeffs}
 
 put-vec-requires : tie.Need-put-vec-requires
+unfolding asSim3Coeffs asVec3
 put-vec-requires c κs = (search needs, scaled-parts (record { c = (asSim3Coeffs (c .before .before .args .c)); scaled = c .before .before .args .scaled }) (c .before .before .pre .1) .0)
 
 put-vec-requires-2 : tie.Need-put-vec-requires-2
+unfolding asSim3Coeffs asVec3
 put-vec-requires-2 c κs =
     let c1 = c .before .before .before .before .before in
     (search needs, scaled-parts (record { c = (asSim3Coeffs (c1 .before .args .c)); scaled = c1 .before .args .scaled }) (c1 .before .pre .1) .1)
 
 put-vec-requires-3 : tie.Need-put-vec-requires-3
+unfolding asSim3Coeffs asVec3
 put-vec-requires-3 c κs =
     let c1 = c .before .before .before .before .before in
     let c2 = c1 .before .before .before .before .before in

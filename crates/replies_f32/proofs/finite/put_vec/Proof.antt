@@ -1,4 +1,4 @@
--- Written by tools/widths from crates/replies/proofs/finite/put_vec/Proof.antt: edit that one. Digest 62fa4d66a5b47e34.
+-- Written by tools/widths from crates/replies/proofs/finite/put_vec/Proof.antt: edit that one. Digest a4a444fac5378b43.
 -- `replies_f32::finite::put_vec` meets its contract: its parts are finite, and their runs are the run of the whole. Assumes nothing.
 use borrow.Author.Needs.{needs}
 use lib.Ieee.{binary32}
@@ -10,14 +10,17 @@ use Rattle.replies_f32.proofs.finite.put_vec.Tie as tie
 use Rattle.linalg_f32.specs.As.{asVec3}
 
 put-finite-requires : tie.Need-put-finite-requires
+unfolding asVec3
 put-finite-requires c κs = (search needs, vec-parts (asVec3 (c .before .before .args .v)) (c .before .before .pre .1) .0)
 
 put-finite-requires-2 : tie.Need-put-finite-requires-2
+unfolding asVec3
 put-finite-requires-2 c κs =
     let c1 = c .before .before .before .before .before in
     (search needs, vec-parts (asVec3 (c1 .before .args .v)) (c1 .before .pre .1) .1)
 
 put-finite-requires-3 : tie.Need-put-finite-requires-3
+unfolding asVec3
 put-finite-requires-3 c κs =
     let c1 = c .before .before .before .before .before in
     let c2 = c1 .before .before .before .before .before in
