@@ -1,16 +1,16 @@
--- Written by tools/proofs from Proof.template: edit that one. Digest be381e52bf9a5302.
+-- Written by tools/proofs from Proof.template: edit that one. Digest 3a6619923b0ad7e9.
 -- `replies_f32::bytes::put_finite` meets its contract: the four stores are the run of the bytes of its bits. Assumes nothing.
 use borrow.Author.Needs.{needs}
 use native.Mathlib.Omega.{arith}
 use lib.ListN.{length-set}
 use Rattle.ieee.proofs.Finite.{finite-no-nan}
-use Rattle.wire.specs.Wire.{numberBytes}
+use Rattle.wire.specs.Wire.{numberBytes, countBytes}
 use Rattle.wire.proofs.Places.{single-stored}
 use Rattle.replies_f32.proofs.bytes.put_finite.Statement.{statement}
 use Rattle.replies_f32.proofs.bytes.put_finite.Tie as tie
 
 returns : tie.Need-returns
-unfolding numberBytes
+unfolding numberBytes countBytes
 returns c = single-stored (c .before .before .args .x) (c .count-to-le-bytes .result) (c .before .before .args .out .now) _ (c .count-to-le-bytes .ensures)
 
 float-to-bits-count-to-le-bytes : tie.Need-float-to-bits-count-to-le-bytes
