@@ -86,17 +86,18 @@ def tests_a_field(sources, function):
     given = "|".join(name for name, held in function.parameters if sources.floating(held))
     if not given:
         return False
-    read = re.findall(rf"let (\w+) = (?:{given})\.\w+;", function.text)
-    return bool(re.search(rf"\bif [^{{]*\b(?:(?:{given})\.\w+|{'|'.join(read) or given})\b", function.text))
+    read = [rf"(?:{given})\.\w+", *re.findall(rf"let (\w+) = (?:{given})\.\w+;", function.text)]
+    return bool(re.search(rf"\bif [^{{]*\b(?:{'|'.join(read)})\b", function.text))
 
 
 def turned_tests(block, rules):
-    """What the tests of a block say, turned by the rules before a `simp` uses it."""
+    """What the tests of a block say, turned by the rules before its `simp` uses it."""
     said = list(dict.fromkeys(re.findall(r"c\d*(?: \.before)* \.if\d+ \.(?:taken|left)", block)))
+    lets = ""
     for k, fact in enumerate(said):
         block = block.replace(fact, f"t{k + 1}")
-    lets = "".join(f"    let t{k + 1} = simp ({rules}) at ({fact}) in\n" for k, fact in enumerate(said))
-    return re.sub(r"(?:(?<== )|^ *)simp", lambda m: ("\n" if not m.group(0).startswith(" ") else "") + lets + "    simp", block, count=1, flags=re.M) if said else block
+        lets += f"    let t{k + 1} = simp ({rules}) at ({fact}) in\n"
+    return re.sub(r"(?m)(?:(= )|^ *)simp", lambda m: f"{'=' + chr(10) if m.group(1) else ''}{lets}    simp", block, count=1) if said else block
 
 
 def with_rules(sources, crate, text, function, used):

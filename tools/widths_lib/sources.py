@@ -29,7 +29,7 @@ class Type:
 
 
 class Function:
-    """A function of the code: its module, the type that it is a method of, its parameters as (name, type), its result's type, its whole text and its body."""
+    """A function of the code: its module, the type that it is a method of, its parameters as (name, type), its result's type and its text."""
 
     def __init__(self, module, owner, name, parameters, result, text):
         self.module, self.owner, self.name, self.text = module, owner, name, text
@@ -68,8 +68,10 @@ class Sources:
         self.rests_on = {name: words.split() for name, words in listed.items()}
         self.twins = [name for name in listed if name + "_f32" in listed]
         self.types = {}
-        for crate in self.twins:
-            self.types.update({t.name: t for t in self.declared(crate)})
+        for t in (t for crate in self.twins for t in self.declared(crate)):
+            if t.name in self.types:
+                raise ValueError(f"{self.types[t.name].crate} and {t.crate} both declare {t.name}: types are known by their names")
+            self.types[t.name] = t
         self.told, self.gives = {}, {}
         for crate in self.twins:
             for path in sorted((top / "crates" / crate / "specs").glob("*.antt")):

@@ -4,7 +4,7 @@ import re
 from .sources import quoted
 from .words import as_lines, home, imports, place, twin
 
-KINDS = {"f64": "Float", "bool": "Bool", "u8": "ℕ", "u16": "ℕ", "u64": "ℕ", "usize": "ℕ"}
+KINDS = {"f64": "Float", "bool": "Bool", **dict.fromkeys(("u8", "u16", "u32", "u64", "usize"), "ℕ")}
 
 
 def module_of(t):

@@ -11,7 +11,7 @@ use tables::single::recip_fact;
 // The fewest terms that an arm of the coefficients takes.
 pub const TERMS: usize = 4;
 
-// The levels to TERMS for v alone, written out: a loop costs them a fourth of their time.
+// The levels to TERMS for v alone, written out, as at f64.
 pub fn turns_v(sigma: f32, z: f32) -> TurnsV
     ensures { λ r. ⌜ asTurnsV r ≡ vTurns binary32 sigma z 5 ⌝ }
 {

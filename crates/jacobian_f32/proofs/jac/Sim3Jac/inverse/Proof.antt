@@ -1,4 +1,4 @@
--- Written by tools/widths from crates/jacobian/proofs/jac/Sim3Jac/inverse/Proof.antt: edit that one. Digest afae6c0adc743c8e.
+-- Written by tools/widths from crates/jacobian/proofs/jac/Sim3Jac/inverse/Proof.antt: edit that one. Digest a2a64f957cf0a1da.
 use borrow.Author.Needs.{needs}
 use Rattle.jacobian.specs.Jac.{jacInverseAnswer, jacInverse}
 use Rattle.jacobian_f32.specs.Told.{jacTold}
