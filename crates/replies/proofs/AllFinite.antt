@@ -25,15 +25,37 @@ abbrev fine : List Float → Bool
 fine l = allFinite (numbers l)
 
 -- ---- products
--- 0 times two numbers, and such a product of two with one of two
-abbrev two : Float → Float → Bool
-two x y = isFinite x && isFinite y
+-- z times numbers, one after another
+unfoldable pub chain : Format → Float → List Float → Float
+chain f z [] = z
+chain f z (x ∷ l) = chain f (mul f z x) l
 
-pair : (f : Format) (x y : Float) → ZeroIf (two x y) (mul f (mul f (ofBits f 0) x) y)
-pair f x y = zero-times f (isFinite x) _ y (zero-times f true _ x (zero-starts f))
+chain-zero : (f : Format) (b : Bool) (z : Float) (l : List Float) → ZeroIf b z → ZeroIf (b && fine l) (chain f z l)
+unfolding chain allFinite numbers
+chain-zero f b z [] h = rw (and-true b) h
+chain-zero f b z (x ∷ l) h = rw (← (and-assoc b (isFinite x) (fine l))) (chain-zero f (b && isFinite x) (mul f z x) l (zero-times f b z x h))
 
-pairs : (f : Format) (x y z w : Float) → ZeroIf (two x y && two z w) (mul f (mul f (mul f (ofBits f 0) x) y) (mul f (mul f (ofBits f 0) z) w))
-pairs f x y z w = zero-joins f (two x y) (two z w) _ _ (pair f x y) (pair f z w)
+-- 0 times numbers
+abbrev zeros : Format → List Float → Float
+zeros f l = chain f (ofBits f 0) l
+
+begun : (f : Format) (l : List Float) → ZeroIf (fine l) (zeros f l)
+begun f l = chain-zero f true (ofBits f 0) l (zero-starts f)
+
+-- such a product by another, of the numbers behind
+joined : (f : Format) (k l : List Float) (z w : Float) → ZeroIf (fine k) z → ZeroIf (fine l) w → ZeroIf (fine (k ++ l)) (mul f z w)
+joined f k l z w p q = rw (finite-append k l) (zero-joins f (fine k) (fine l) z w p q)
+
+-- the numbers at even and at odd places
+evens : List Float → List Float
+evens [] = []
+evens (x ∷ []) = x ∷ []
+evens (x ∷ y ∷ l) = x ∷ evens l
+
+odds : List Float → List Float
+odds [] = []
+odds (x ∷ []) = []
+odds (x ∷ y ∷ l) = y ∷ odds l
 
 swap : (a b c d : Bool) → (a && b) && (c && d) ≡ (a && c) && (b && d)
 swap false b c d = refl
@@ -41,51 +63,18 @@ swap true false false d = refl
 swap true false true d = refl
 swap true true c d = refl
 
--- eight numbers, each second one apart
-eight :
-    (a b c d e f g h : Bool) → ((a && c) && (e && g)) && ((b && d) && (f && h)) ≡ a && (b && (c && (d && (e && (f && (g && h))))))
-eight a b c d e f g h = rw (swap (a && c) (e && g) (b && d) (f && h), swap a c b d, swap e g f h) (simp and-assoc)
+apart : (l : List Float) → fine (evens l) && fine (odds l) ≡ fine l
+unfolding evens odds allFinite numbers
+apart [] = refl
+apart (x ∷ []) = and-true (isFinite x && true)
+apart (x ∷ y ∷ l) = swap (isFinite x) (fine (evens l)) (isFinite y) (fine (odds l)) ∙ rw (apart l) (and-assoc (isFinite x) (isFinite y) (fine l))
 
-eight-zero :
-    (f : Format) (x0 x1 x2 x3 x4 x5 x6 x7 : Float) →
-    ZeroIf
-    (fine (x0 ∷ x1 ∷ x2 ∷ x3 ∷ x4 ∷ x5 ∷ x6 ∷ x7 ∷ []))
-    (mul f
-    (mul f (mul f (mul f (ofBits f 0) x0) x2) (mul f (mul f (ofBits f 0) x4) x6))
-    (mul f (mul f (mul f (ofBits f 0) x1) x3) (mul f (mul f (ofBits f 0) x5) x7)))
-unfolding allFinite numbers
-eight-zero f x0 x1 x2 x3 x4 x5 x6 x7 =
-    rw (
-      and-true (isFinite x7),
-      ← (eight (isFinite x0) (isFinite x1) (isFinite x2) (isFinite x3) (isFinite x4) (isFinite x5) (isFinite x6) (isFinite x7)),
-    )
-    (zero-joins f (two x0 x2 && two x4 x6) (two x1 x3 && two x5 x7) _ _ (pairs f x0 x2 x4 x6) (pairs f x1 x3 x5 x7))
+woven : (f : Format) (l : List Float) (z w : Float) → ZeroIf (fine (evens l)) z → ZeroIf (fine (odds l)) w → ZeroIf (fine l) (mul f z w)
+woven f l z w p q = rw (← (apart l)) (zero-joins f (fine (evens l)) (fine (odds l)) z w p q)
 
-one : (x : Float) → fine (x ∷ []) ≡ isFinite x
-unfolding allFinite numbers
-one x = and-true (isFinite x)
-
--- one number behind others
-last : (f : Format) (l : List Float) (z x : Float) → ZeroIf (fine l) z → ZeroIf (fine (l ++ x ∷ [])) (mul f z x)
-last f l z x h = rw (finite-append l (x ∷ []), one x) (zero-times f (fine l) z x h)
-
-pub vec-zero : (f : Format) (v : Vec3) → ZeroIf (fine (vecNumbers v)) (mul f (mul f (mul f (ofBits f 0) (v .x)) (v .y)) (v .z))
-unfolding allFinite numbers vecNumbers
-vec-zero f v =
-    rw (and-true (isFinite (v .z)), ← (and-assoc (isFinite (v .x)) (isFinite (v .y)) (isFinite (v .z))))
-    (zero-times f (isFinite (v .x) && isFinite (v .y)) _ (v .z) (pair f (v .x) (v .y)))
-
-pub mat-zero :
-    (f : Format) (m : Mat3) →
-    ZeroIf
-    (fine (matNumbers m))
-    (mul f
-    (mul f
-    (mul f (mul f (mul f (ofBits f 0) (m .c0 .x)) (m .c0 .z)) (mul f (mul f (ofBits f 0) (m .c1 .y)) (m .c2 .x)))
-    (mul f (mul f (mul f (ofBits f 0) (m .c0 .y)) (m .c1 .x)) (mul f (mul f (ofBits f 0) (m .c1 .z)) (m .c2 .y))))
-    (m .c2 .z))
-unfolding matNumbers vecNumbers
-mat-zero f m = last f _ _ (m .c2 .z) (eight-zero f (m .c0 .x) (m .c0 .y) (m .c0 .z) (m .c1 .x) (m .c1 .y) (m .c1 .z) (m .c2 .x) (m .c2 .y))
+pub vec-zero : (f : Format) (v : Vec3) → ZeroIf (fine (vecNumbers v)) (mul f (mul f (ofBits f 0) (v .x)) (mul f (mul f (ofBits f 0) (v .y)) (v .z)))
+unfolding chain vecNumbers
+vec-zero f v = let k = v .x ∷ [] in let l = v .y ∷ v .z ∷ [] in joined f k l _ _ (begun f k) (begun f l)
 
 pub pose-zero :
     (f : Format) (x : Sim3) →
@@ -94,35 +83,50 @@ pub pose-zero :
     (mul f
     (mul f (mul f (mul f (ofBits f 0) (x .q .w)) (x .q .y)) (mul f (mul f (ofBits f 0) (x .t .x)) (x .t .z)))
     (mul f (mul f (mul f (ofBits f 0) (x .q .x)) (x .q .z)) (mul f (mul f (ofBits f 0) (x .t .y)) (x .sigma))))
-unfolding poseNumbers quatNumbers vecNumbers
-pose-zero f x = eight-zero f (x .q .w) (x .q .x) (x .q .y) (x .q .z) (x .t .x) (x .t .y) (x .t .z) (x .sigma)
+unfolding chain evens odds poseNumbers quatNumbers vecNumbers
+pose-zero f x =
+    let two : (a b c d : Float) → ZeroIf (fine (a ∷ b ∷ c ∷ d ∷ [])) (mul f (zeros f (a ∷ b ∷ [])) (zeros f (c ∷ d ∷ []))) =
+    λ a b c d. joined f (a ∷ b ∷ []) (c ∷ d ∷ []) _ _ (begun f (a ∷ b ∷ [])) (begun f (c ∷ d ∷ [])) in
+    woven f (poseNumbers x) _ _ (two (x .q .w) (x .q .y) (x .t .x) (x .t .z)) (two (x .q .x) (x .q .z) (x .t .y) (x .sigma))
 
 pub coeffs-zero :
     (f : Format) (k : Sim3Coeffs) →
     ZeroIf
     (fine (coeffsNumbers k))
     (mul f
-    (mul f
-    (mul f (mul f (mul f (ofBits f 0) (k .v0)) (k .v2)) (mul f (mul f (ofBits f 0) (k .w1)) (k .dv1)))
-    (mul f (mul f (mul f (ofBits f 0) (k .v1)) (k .w0)) (mul f (mul f (ofBits f 0) (k .w2)) (k .dv2))))
-    (k .«chi_delta»))
-unfolding coeffsNumbers
-coeffs-zero f k = last f _ _ (k .«chi_delta») (eight-zero f (k .v0) (k .v1) (k .v2) (k .w0) (k .w1) (k .w2) (k .dv1) (k .dv2))
+    (mul f (mul f (mul f (mul f (mul f (ofBits f 0) (k .v0)) (k .v2)) (k .w1)) (k .dv1)) (k .«chi_delta»))
+    (mul f (mul f (mul f (mul f (ofBits f 0) (k .v1)) (k .w0)) (k .w2)) (k .dv2)))
+unfolding chain evens odds coeffsNumbers
+coeffs-zero f k = woven f (coeffsNumbers k) _ _ (begun f (evens (coeffsNumbers k))) (begun f (odds (coeffsNumbers k)))
 
-block-fine : (j : Sim3Jac) → fine (blockNumbers j) ≡ (((fine (matNumbers (j .a)) && fine (matNumbers (j .b))) && fine (matNumbers (j .c))) && fine (vecNumbers (j .f))) && isFinite (j .e)
-unfolding blockNumbers
-block-fine j = simp (finite-append, one, and-assoc)
+-- four such products by twos
+four : (f : Format) (a b c d : List Float) → ZeroIf (fine ((a ++ b) ++ (c ++ d))) (mul f (mul f (zeros f a) (zeros f b)) (mul f (zeros f c) (zeros f d)))
+four f a b c d = joined f (a ++ b) (c ++ d) _ _ (joined f a b _ _ (begun f a) (begun f b)) (joined f c d _ _ (begun f c) (begun f d))
 
 pub block-zero :
-    (f : Format) (j : Sim3Jac) (a b c v : Float) →
-    ZeroIf (fine (matNumbers (j .a))) a → ZeroIf (fine (matNumbers (j .b))) b → ZeroIf (fine (matNumbers (j .c))) c → ZeroIf (fine (vecNumbers (j .f))) v →
-    ZeroIf (fine (blockNumbers j)) (mul f (mul f (mul f (mul f a b) c) v) (j .e))
-block-zero f j a b c v p q r s =
-    let A = fine (matNumbers (j .a)) in
-    let B = fine (matNumbers (j .b)) in
-    let C = fine (matNumbers (j .c)) in
-    let F = fine (vecNumbers (j .f)) in
-    rw (block-fine j) (zero-times f ((A && B && C) && F) _ (j .e) (zero-joins f (A && B && C) F _ v (zero-joins f (A && B) C _ c (zero-joins f A B a b p q) r) s))
+    (f : Format) (j : Sim3Jac) →
+    let e0 = zeros f (j .a .c0 .x ∷ j .a .c0 .z ∷ j .a .c1 .y ∷ j .a .c2 .x ∷ []) in
+    let e1 = zeros f (j .a .c2 .z ∷ j .b .c0 .y ∷ j .b .c1 .x ∷ j .b .c1 .z ∷ []) in
+    let e2 = zeros f (j .b .c2 .y ∷ j .c .c0 .x ∷ j .c .c0 .z ∷ j .c .c1 .y ∷ []) in
+    let e3 = zeros f (j .c .c2 .x ∷ j .c .c2 .z ∷ j .f .y ∷ j .e ∷ []) in
+    let o0 = zeros f (j .a .c0 .y ∷ j .a .c1 .x ∷ j .a .c1 .z ∷ j .a .c2 .y ∷ []) in
+    let o1 = zeros f (j .b .c0 .x ∷ j .b .c0 .z ∷ j .b .c1 .y ∷ j .b .c2 .x ∷ []) in
+    let o2 = zeros f (j .b .c2 .z ∷ j .c .c0 .y ∷ j .c .c1 .x ∷ j .c .c1 .z ∷ []) in
+    let o3 = zeros f (j .c .c2 .y ∷ j .f .x ∷ j .f .z ∷ []) in
+    ZeroIf (fine (blockNumbers j)) (mul f (mul f (mul f e0 e1) (mul f e2 e3)) (mul f (mul f o0 o1) (mul f o2 o3)))
+unfolding evens odds blockNumbers matNumbers vecNumbers
+block-zero f j =
+    woven f (blockNumbers j) _ _
+    (four f
+    (j .a .c0 .x ∷ j .a .c0 .z ∷ j .a .c1 .y ∷ j .a .c2 .x ∷ [])
+    (j .a .c2 .z ∷ j .b .c0 .y ∷ j .b .c1 .x ∷ j .b .c1 .z ∷ [])
+    (j .b .c2 .y ∷ j .c .c0 .x ∷ j .c .c0 .z ∷ j .c .c1 .y ∷ [])
+    (j .c .c2 .x ∷ j .c .c2 .z ∷ j .f .y ∷ j .e ∷ []))
+    (four f
+    (j .a .c0 .y ∷ j .a .c1 .x ∷ j .a .c1 .z ∷ j .a .c2 .y ∷ [])
+    (j .b .c0 .x ∷ j .b .c0 .z ∷ j .b .c1 .y ∷ j .b .c2 .x ∷ [])
+    (j .b .c2 .z ∷ j .c .c0 .y ∷ j .c .c1 .x ∷ j .c .c1 .z ∷ [])
+    (j .c .c2 .y ∷ j .f .x ∷ j .f .z ∷ []))
 
 pub block-pair-fine :
     (p : BlockPair) →
@@ -137,16 +141,18 @@ unfolding isFinite
 flag-finite true = refl
 flag-finite false = refl
 
-scaled-fine : (s : Scaled) → fine (scaledNumbers s) ≡ fine (coeffsNumbers (s .c))
+one : (x : Float) → fine (x ∷ []) ≡ isFinite x
+unfolding allFinite numbers
+one x = and-true (isFinite x)
+
+pub scaled-fine : (s : Scaled) → fine (scaledNumbers s) ≡ fine (coeffsNumbers (s .c))
 unfolding scaledNumbers
 scaled-fine s = finite-append (coeffsNumbers (s .c)) _ ∙ rw (one (cond (s .scaled) f1 f0), flag-finite (s .scaled)) (and-true _)
 
-pub scaled-pair-zero :
-    (f : Format) (p : ScaledPair) (a b : Float) →
-    ZeroIf (fine (coeffsNumbers (p .pos .c))) a → ZeroIf (fine (coeffsNumbers (p .neg .c))) b → ZeroIf (fine (scaledPairNumbers p)) (mul f a b)
+-- both signs, told one by one
+pub scaled-pair-fine : (p : ScaledPair) (a b : Bool) → a ≡ fine (scaledNumbers (p .pos)) → b ≡ fine (scaledNumbers (p .neg)) → a && b ≡ fine (scaledPairNumbers p)
 unfolding scaledPairNumbers
-scaled-pair-zero f p a b h k =
-    rw (finite-append (scaledNumbers (p .pos)) (scaledNumbers (p .neg)), scaled-fine (p .pos), scaled-fine (p .neg)) (zero-joins f (fine (coeffsNumbers (p .pos .c))) (fine (coeffsNumbers (p .neg .c))) a b h k)
+scaled-pair-fine p a b h k = rw (h, k) (sym (finite-append (scaledNumbers (p .pos)) (scaledNumbers (p .neg))))
 
 -- ---- the parts of what is finite
 both : (a b : Bool) → a && b ≡ true → (a ≡ true) × (b ≡ true)
@@ -213,7 +219,3 @@ scaled-parts s h =
     let b = split (s .c .w0 ∷ s .c .w1 ∷ s .c .w2 ∷ []) _ (a .1) in
     let d = split (s .c .dv1 ∷ s .c .dv2 ∷ s .c .«chi_delta» ∷ []) _ (b .1) in
     (a .0, b .0, d .0, flag-finite (s .scaled))
-
-pub scaled-pair-parts : (p : ScaledPair) → fine (scaledPairNumbers p) ≡ true → (fine (scaledNumbers (p .pos)) ≡ true) × (fine (scaledNumbers (p .neg)) ≡ true)
-unfolding scaledPairNumbers
-scaled-pair-parts p h = split (scaledNumbers (p .pos)) (scaledNumbers (p .neg)) h

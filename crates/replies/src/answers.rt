@@ -6,15 +6,15 @@ ghost use lib.Ieee.{binary64};
 ghost use lib.ListN.{length};
 ghost use lib.Seq.{sets};
 ghost use Rattle.linalg.specs.Vector.{vecNumbers};
-ghost use Rattle.layout.specs.Layout.{poseNumbers, blockNumbers, blockPairNumbers, scaledPairNumbers};
+ghost use Rattle.layout.specs.Layout.{poseNumbers, blockNumbers, blockPairNumbers, scaledNumbers, scaledPairNumbers, armedScaled};
 ghost use Rattle.wire.specs.Wire.{width, numbersBytes, itemsBytes, allFinite, numbers};
 ghost use Rattle.replies.specs.Table.{armedItems};
 use crate::finite;
 use crate::places;
 use coeffs::sim3::ArmedPair;
-use coeffs::sim3::ScaledPair;
 use jacobian::jac::Sim3Jac;
 use linalg::vector::Vec3;
+use series::sim3::Sim3Coeffs;
 use sides::pair::BlockPair;
 use sim3::sim3::Sim3;
 
@@ -69,17 +69,29 @@ pub(crate) fn answer_block_pair(out: &mut [u8], i: usize, p: BlockPair) -> bool
     a & b & c & d
 }
 
-pub(crate) fn answer_scaled_pair(out: &mut [u8], i: usize, p: ScaledPair) -> bool
-    requires { ⌜ (i + 20) * 8 ≤ length (now out) ⌝ }
-    ensures { λ r. ⌜ r ≡ allFinite (numbers (scaledPairNumbers p)) ⌝ }
-    ensures { λ _. ⌜ now (out .exit) ≡ sets (now (out .entry)) (i * width binary64) (numbersBytes binary64 (scaledPairNumbers p)) ⌝ }
+// The coefficients of one sign, and the flag, which is 1 or 0.
+pub(crate) fn answer_scaled(out: &mut [u8], i: usize, c: Sim3Coeffs, scaled: bool) -> bool
+    requires { ⌜ (i + 10) * 8 ≤ length (now out) ⌝ }
+    ensures { λ r. ⌜ r ≡ allFinite (numbers (scaledNumbers (record { c = c; scaled = scaled }))) ⌝ }
+    ensures { λ _. ⌜ now (out .exit) ≡ sets (now (out .entry)) (i * width binary64) (numbersBytes binary64 (scaledNumbers (record { c = c; scaled = scaled }))) ⌝ }
 {
-    if finite::scaled_pair(p) {
-        finite::put_scaled_pair(out, i, p);
+    if finite::coeffs(c) {
+        finite::put_scaled(out, i, c, scaled);
         return true;
     }
-    places::put_scaled_pair(out, i, p);
+    places::put_scaled(out, i, c, scaled);
     false
+}
+
+// The scaled pair of one whose arms are told.
+fn answer_scaled_pair(out: &mut [u8], p: ArmedPair) -> bool
+    requires { ⌜ 20 * 8 ≤ length (now out) ⌝ }
+    ensures { λ r. ⌜ r ≡ allFinite (numbers (scaledPairNumbers (armedScaled p))) ⌝ }
+    ensures { λ _. ⌜ now (out .exit) ≡ sets (now (out .entry)) 0 (numbersBytes binary64 (scaledPairNumbers (armedScaled p))) ⌝ }
+{
+    let a = answer_scaled(out, 0, p.pos.s.c, p.pos.s.scaled);
+    let b = answer_scaled(out, 10, p.neg.s.c, p.neg.s.scaled);
+    a & b
 }
 
 // The arms of both signs, and behind them the scaled pair.
@@ -88,11 +100,7 @@ pub(crate) fn answer_armed_pair(out: &mut [u8], p: ArmedPair) -> bool
     ensures { λ r. ⌜ r ≡ allFinite (armedItems p) ⌝ }
     ensures { λ _. ⌜ now (out .exit) ≡ sets (now (out .entry)) 0 (itemsBytes binary64 (armedItems p)) ⌝ }
 {
-    let pos = p.pos;
-    let neg = p.neg;
-    places::put_arm(out, 0, pos);
-    places::put_arm(out, 2, neg);
-    let a = pos.s;
-    let b = neg.s;
-    answer_scaled_pair(&mut out[4..], 0, ScaledPair { pos: a, neg: b })
+    places::put_arm(out, 0, p.pos);
+    places::put_arm(out, 2, p.neg);
+    answer_scaled_pair(&mut out[4..], p)
 }

@@ -13,7 +13,7 @@ use crate::answers::answer_armed_pair;
 use crate::answers::answer_block;
 use crate::answers::answer_block_pair;
 use crate::answers::answer_pose;
-use crate::answers::answer_scaled_pair;
+use crate::answers::answer_scaled;
 use crate::answers::answer_vec;
 use crate::bytes::number_at;
 use crate::places::block_at;
@@ -23,7 +23,6 @@ use crate::places::tangent_at;
 use crate::places::values_at;
 use crate::places::vec_at;
 use coeffs::sim3::ArmedPairAnswer;
-use coeffs::sim3::ScaledPair;
 use jacobian::jac::JacAnswer;
 use layout::BLOCK;
 use layout::BLOCK_PAIR;
@@ -57,7 +56,8 @@ pub(crate) fn ex(b: &[u8], out: &mut [u8]) -> Gave
 }
 
 // The scaled pair of coefficients; refusal 1 for z < 0. The entry is the one that tells the arms too,
-// so that the program has the pair once.
+// so that the program has the pair once. The signs are written one by one from where the entry left them:
+// a pair that is handed on is copied.
 pub(crate) fn co(b: &[u8], out: &mut [u8]) -> Gave
     requires { ⌜ length (now b) ≡ widthOf binary64 Entry.Co ⌝ }
     requires { ⌜ longest ≤ 2 + length (now out) ⌝ }
@@ -66,10 +66,9 @@ pub(crate) fn co(b: &[u8], out: &mut [u8]) -> Gave
 {
     match coeffs::sim3::sim3_coeffs_armed_pair(number_at(b, 0), number_at(b, 1), values_at(b, 2)) {
         ArmedPairAnswer::Coeffs(p) => {
-            let pos = p.pos.s;
-            let neg = p.neg.s;
-            let finite = answer_scaled_pair(out, 0, ScaledPair { pos, neg });
-            gave(finite, NUMBER * SCALED_PAIR)
+            let pos = answer_scaled(out, 0, p.pos.s.c, p.pos.s.scaled);
+            let neg = answer_scaled(out, 10, p.neg.s.c, p.neg.s.scaled);
+            gave(pos & neg, NUMBER * SCALED_PAIR)
         }
         ArmedPairAnswer::Refused(number) => Gave::Refused(number),
     }

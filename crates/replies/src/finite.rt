@@ -1,8 +1,9 @@
 // Whether every number of a thing is finite; and writing it where it is, which needs no test for a NaN.
 //
 // 0 times a finite number is a zero, and 0 times a NaN or an infinity is NaN, which every further factor
-// leaves: a product that begins with 0 is NaN exactly where a factor is not finite. The factors are taken
-// in twos, as they stand in memory.
+// leaves: a product that begins with 0 is NaN exactly where a factor is not finite. Several short products
+// wait less than a long one, and the numbers at even and at odd places stand in memory in twos: so their
+// products are formed apart, two by an instruction.
 ghost use mathlib.Core.Path.{_≡_};
 ghost use mathlib.Core.Bool.{true};
 ghost use Prim.Native.Nat.{_+_, _*_, _≤_};
@@ -11,10 +12,9 @@ ghost use lib.ListN.{length};
 ghost use lib.Seq.{sets};
 ghost use Rattle.ieee.specs.Finite.{ZeroIf};
 ghost use Rattle.linalg.specs.Vector.{vecNumbers};
-ghost use Rattle.layout.specs.Layout.{matNumbers, poseNumbers, blockNumbers, coeffsNumbers, scaledNumbers, scaledPairNumbers};
+ghost use Rattle.layout.specs.Layout.{matNumbers, poseNumbers, blockNumbers, coeffsNumbers, scaledNumbers};
 ghost use Rattle.wire.specs.Wire.{width, numbersBytes, allFinite, numbers};
 use crate::bytes::put_finite;
-use coeffs::sim3::ScaledPair;
 use jacobian::jac::Sim3Jac;
 use linalg::matrix::Mat3;
 use linalg::vector::Vec3;
@@ -25,17 +25,7 @@ use sim3::sim3::Sim3;
 fn vec_zero(v: Vec3) -> f64
     ensures { λ r. ⌜ ZeroIf (allFinite (numbers (vecNumbers v))) r ⌝ }
 {
-    0.0 * v.x * v.y * v.z
-}
-
-fn mat_zero(m: Mat3) -> f64
-    ensures { λ r. ⌜ ZeroIf (allFinite (numbers (matNumbers m))) r ⌝ }
-{
-    let a = 0.0 * m.c0.x * m.c0.z;
-    let b = 0.0 * m.c0.y * m.c1.x;
-    let c = 0.0 * m.c1.y * m.c2.x;
-    let d = 0.0 * m.c1.z * m.c2.y;
-    a * c * (b * d) * m.c2.z
+    0.0 * v.x * (0.0 * v.y * v.z)
 }
 
 fn pose_zero(x: Sim3) -> f64
@@ -51,17 +41,23 @@ fn pose_zero(x: Sim3) -> f64
 fn block_zero(j: Sim3Jac) -> f64
     ensures { λ r. ⌜ ZeroIf (allFinite (numbers (blockNumbers j))) r ⌝ }
 {
-    mat_zero(j.a) * mat_zero(j.b) * mat_zero(j.c) * vec_zero(j.f) * j.e
+    let e0 = 0.0 * j.a.c0.x * j.a.c0.z * j.a.c1.y * j.a.c2.x;
+    let e1 = 0.0 * j.a.c2.z * j.b.c0.y * j.b.c1.x * j.b.c1.z;
+    let e2 = 0.0 * j.b.c2.y * j.c.c0.x * j.c.c0.z * j.c.c1.y;
+    let e3 = 0.0 * j.c.c2.x * j.c.c2.z * j.f.y * j.e;
+    let o0 = 0.0 * j.a.c0.y * j.a.c1.x * j.a.c1.z * j.a.c2.y;
+    let o1 = 0.0 * j.b.c0.x * j.b.c0.z * j.b.c1.y * j.b.c2.x;
+    let o2 = 0.0 * j.b.c2.z * j.c.c0.y * j.c.c1.x * j.c.c1.z;
+    let o3 = 0.0 * j.c.c2.y * j.f.x * j.f.z;
+    e0 * e1 * (e2 * e3) * (o0 * o1 * (o2 * o3))
 }
 
 fn coeffs_zero(k: Sim3Coeffs) -> f64
     ensures { λ r. ⌜ ZeroIf (allFinite (numbers (coeffsNumbers k))) r ⌝ }
 {
-    let a = 0.0 * k.v0 * k.v2;
-    let b = 0.0 * k.v1 * k.w0;
-    let c = 0.0 * k.w1 * k.dv1;
-    let d = 0.0 * k.w2 * k.dv2;
-    a * c * (b * d) * k.chi_delta
+    let e = 0.0 * k.v0 * k.v2 * k.w1 * k.dv1 * k.chi_delta;
+    let o = 0.0 * k.v1 * k.w0 * k.w2 * k.dv2;
+    e * o
 }
 
 // ---- the tests: a NaN does not equal itself
@@ -86,11 +82,10 @@ pub(crate) fn block(j: Sim3Jac) -> bool
     z == z
 }
 
-// The flags are 1 or 0.
-pub(crate) fn scaled_pair(p: ScaledPair) -> bool
-    ensures { λ r. ⌜ r ≡ allFinite (numbers (scaledPairNumbers p)) ⌝ }
+pub(crate) fn coeffs(k: Sim3Coeffs) -> bool
+    ensures { λ r. ⌜ r ≡ allFinite (numbers (coeffsNumbers k)) ⌝ }
 {
-    let z = coeffs_zero(p.pos.c) * coeffs_zero(p.neg.c);
+    let z = coeffs_zero(k);
     z == z
 }
 
@@ -141,7 +136,7 @@ pub(crate) fn put_block(out: &mut [u8], i: usize, j: Sim3Jac)
 }
 
 // The nine coefficients, three at a time, and the flag as 1 or 0.
-fn put_scaled(out: &mut [u8], i: usize, c: Sim3Coeffs, scaled: bool)
+pub(crate) fn put_scaled(out: &mut [u8], i: usize, c: Sim3Coeffs, scaled: bool)
     requires { ⌜ (i + 10) * 8 ≤ length (now out) ⌝ }
     requires { ⌜ allFinite (numbers (scaledNumbers (record { c = c; scaled = scaled }))) ≡ true ⌝ }
     ensures { λ _. ⌜ now (out .exit) ≡ sets (now (out .entry)) (i * width binary64) (numbersBytes binary64 (scaledNumbers (record { c = c; scaled = scaled }))) ⌝ }
@@ -174,13 +169,4 @@ fn put_scaled(out: &mut [u8], i: usize, c: Sim3Coeffs, scaled: bool)
         },
     );
     put_finite(out, i + 9, ieee::pick(scaled, 1.0, 0.0));
-}
-
-pub(crate) fn put_scaled_pair(out: &mut [u8], i: usize, p: ScaledPair)
-    requires { ⌜ (i + 20) * 8 ≤ length (now out) ⌝ }
-    requires { ⌜ allFinite (numbers (scaledPairNumbers p)) ≡ true ⌝ }
-    ensures { λ _. ⌜ now (out .exit) ≡ sets (now (out .entry)) (i * width binary64) (numbersBytes binary64 (scaledPairNumbers p)) ⌝ }
-{
-    put_scaled(out, i, p.pos.c, p.pos.scaled);
-    put_scaled(out, i + 10, p.neg.c, p.neg.scaled);
 }

@@ -7,14 +7,13 @@ ghost use lib.ListN.{length};
 ghost use lib.Seq.{sets};
 ghost use Rattle.linalg.specs.Vector.{vecNumbers};
 ghost use Rattle.layout.specs.Layout.{vecIn, matIn, poseIn, tangentIn, valuesIn, blockIn};
-ghost use Rattle.layout.specs.Layout.{matNumbers, poseNumbers, blockNumbers, scaledNumbers, scaledPairNumbers};
+ghost use Rattle.layout.specs.Layout.{matNumbers, poseNumbers, blockNumbers, scaledNumbers};
 ghost use Rattle.wire.specs.Wire.{width, numberAt, numbersBytes, itemsBytes};
 ghost use Rattle.replies.specs.Table.{armItems};
 use crate::bytes::number_at;
 use crate::bytes::put_number;
 use crate::bytes::put_word;
 use coeffs::sim3::Armed;
-use coeffs::sim3::ScaledPair;
 use coeffs::values::Values;
 use jacobian::jac::Sim3Jac;
 use linalg::matrix::Mat3;
@@ -150,7 +149,7 @@ pub(crate) fn put_block(out: &mut [u8], i: usize, j: Sim3Jac)
 }
 
 // The nine coefficients, three at a time, and the flag as 1 or 0.
-fn put_scaled(out: &mut [u8], i: usize, c: Sim3Coeffs, scaled: bool)
+pub(crate) fn put_scaled(out: &mut [u8], i: usize, c: Sim3Coeffs, scaled: bool)
     requires { ⌜ (i + 10) * 8 ≤ length (now out) ⌝ }
     ensures { λ _. ⌜ now (out .exit) ≡ sets (now (out .entry)) (i * width binary64) (numbersBytes binary64 (scaledNumbers (record { c = c; scaled = scaled }))) ⌝ }
 {
@@ -182,14 +181,6 @@ fn put_scaled(out: &mut [u8], i: usize, c: Sim3Coeffs, scaled: bool)
         },
     );
     put_number(out, i + 9, ieee::pick(scaled, 1.0, 0.0));
-}
-
-pub(crate) fn put_scaled_pair(out: &mut [u8], i: usize, p: ScaledPair)
-    requires { ⌜ (i + 20) * 8 ≤ length (now out) ⌝ }
-    ensures { λ _. ⌜ now (out .exit) ≡ sets (now (out .entry)) (i * width binary64) (numbersBytes binary64 (scaledPairNumbers p)) ⌝ }
-{
-    put_scaled(out, i, p.pos.c, p.pos.scaled);
-    put_scaled(out, i + 10, p.neg.c, p.neg.scaled);
 }
 
 // The arm, and 1 or 0 for whether v0 and w0 of the closed arm come from series of their own.

@@ -1,31 +1,27 @@
--- Written by tools/proofs from Proof.template: edit that one. Digest 2360016739c51700.
--- `replies::answers::answer_scaled_pair` meets its contract: by its test, and by what writes the numbers. Assumes nothing.
+-- Written by tools/proofs from Proof.template: edit that one. Digest c290aa6bccdd9ca8.
+-- `replies::answers::answer_scaled_pair` meets its contract: it is finite where both signs are, and their runs are the run of the whole. Assumes nothing.
 use borrow.Author.Needs.{needs}
-use mathlib.Core.Path.{sym, _∙_}
+use lib.Ieee.{binary64}
+use mathlib.Core.Path.{_∙_}
+use Rattle.layout.specs.Layout.{armedScaled}
+use Rattle.replies.proofs.Numbers.{scaled-pair-run}
+use Rattle.replies.proofs.AllFinite.{scaled-pair-fine}
 use Rattle.replies.proofs.answers.answer_scaled_pair.Statement.{statement}
 use Rattle.replies.proofs.answers.answer_scaled_pair.Tie as tie
-
-put-scaled-pair-requires : tie.Need-put-scaled-pair-requires
-put-scaled-pair-requires c κs = (search needs, sym (c .before .before .scaled-pair .ensures) ∙ c .before .if1 .taken)
 
 returns : tie.Need-returns
 returns c =
     let c1 = c .before .before .before .before .before in
-    (sym (c .before .before .before .before .if1 .taken) ∙ c1 .scaled-pair .ensures, c .before .before .put-scaled-pair .ensures)
-
-returns-2 : tie.Need-returns-2
-returns-2 c =
-    let c1 = c .before .before .before .before .before in
-    (sym (c .before .before .before .before .if1 .left) ∙ c1 .scaled-pair .ensures, c .before .before .put-scaled-pair2 .ensures)
+    let p = armedScaled (c1 .before .before .before .before .args .p) in
+    let fine = scaled-pair-fine p _ _ (c1 .before .answer-scaled .ensures .0) (c .before .before .answer-scaled2 .ensures .0) in
+    let run = (rw (c1 .before .answer-scaled .ensures .1) at (c .before .before .answer-scaled2 .ensures .1)) ∙ scaled-pair-run binary64 p (c1 .before .before .before .before .args .out .now) 0 in
+    (fine, run)
 
 pub answer-scaled-pair-spec : {M : Type 1} → statement M
 answer-scaled-pair-spec =
     tie.close
     (tie.spec
     (λ c κs. search needs)
-    put-scaled-pair-requires
-    (λ c. search needs)
-    returns
     (λ c κs. search needs)
     (λ c. search needs)
-    returns-2)
+    returns)
