@@ -3,7 +3,7 @@
  * Lists. Every list is a pointer and the count of its numbers. A pointer is never null, points to that many numbers of its type, and a list that is written
  * overlaps no other list of the call. That is all that is asked of a caller: every count and every number is taken, NaN and infinities included.
  *
- * Answers. A call returns 0 and has written all of `out` (and of `out_frames`; sim3_root: of its three lists), or the number of a refusal and has written nothing:
+ * Answers. A call returns 0 and has written all of `out` and `out_frames` (sim3_root: of its three lists), or the number of a refusal and has written nothing:
  *     1  z is below zero                        (sim3_scaled_pair, sim3_coeffs_armed, sim3_armed_pair, sim3_root)
  *     2  e is +0 or -0                          (sim3_block_inverse)
  *     5  a list of points has a wrong length    (sim3_act_many, sim3_act_each: a multiple of 3, at most 65,535 numbers, `out` as long as `pts`)
@@ -29,9 +29,9 @@
  *     stays; and its rotation Jacobians are the transposed ones. The paired functions mirror by themselves: hand in the tangent's own.
  * Right means X Exp(tau), left Exp(tau) X. Jacobians are by tau, in the order phi, rho, sigma.
  *
- * Frames. A pose maps points of its frame `from` to points of its frame `to`. What numbers frames have is the caller's matter; that poses are joined the right way
- * round is the engine's: where frames do not meet, the call is refused by 9. Frames change no number. The action, the Jacobians and sim3_renormalize read none, and
- * take the eight numbers alone.
+ * Frames. A pose maps points of its frame `from` to points of its frame `to`. What numbers frames have is the caller's matter; that poses are joined the right
+ * way round is the engine's: where frames do not meet, the call is refused by 9. Frames change no number. The action, the Jacobians and sim3_renormalize read
+ * none, and take the eight numbers alone.
  */
 #ifndef SIM3_H
 #define SIM3_H
@@ -74,7 +74,8 @@ uint32_t sim3_inverse(const double *x, size_t x_n, const uint16_t *x_frames, siz
 uint32_t sim3_mul_inv(const double *x, size_t x_n, const uint16_t *x_frames, size_t x_frames_n, const double *y, size_t y_n, const uint16_t *y_frames,
                       size_t y_frames_n, double ds, double *out, size_t out_n, uint16_t *out_frames, size_t out_frames_n);
 
-/* Y^-1 X. x [8], x_frames [2], y [8], y_frames [2], down = e^-sigma of Y; out [8], out_frames [2]: from of X, from of Y. Refusal 9 where to of X is not to of Y. */
+/* Y^-1 X. x [8], x_frames [2], y [8], y_frames [2], down = e^-sigma of Y; out [8], out_frames [2]: from of X, from of Y. Refusal 9 where to of X is not to
+ * of Y. */
 uint32_t sim3_inv_mul(const double *x, size_t x_n, const uint16_t *x_frames, size_t x_frames_n, const double *y, size_t y_n, const uint16_t *y_frames,
                       size_t y_frames_n, double down, double *out, size_t out_n, uint16_t *out_frames, size_t out_frames_n);
 

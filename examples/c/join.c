@@ -1,6 +1,6 @@
 /* The engine from C: two runs of shots are joined by a similarity, which frames keep from being done the wrong way round; a staff line's points are moved,
- * Jacobian blocks are taken, a root is taken with what is left, and refusals are shown. Every answer is compared with numbers known by hand; exit status 1 and a message where one is wrong.
- * examples/c/run builds and runs it. */
+ * Jacobian blocks are taken, a root is taken with what is left, and refusals are shown. Every answer is compared with numbers known by hand; exit status 1
+ * and a message where one is wrong. examples/c/run builds and runs it. */
 #include <stdio.h>
 
 #include "sim3.h"

@@ -15,7 +15,8 @@ sys.path.insert(0, str(pathlib.Path(__file__).resolve().parents[2] / "bindings" 
 import sim3
 
 HALF_ROOT, DOUBLE = math.sqrt(0.5), math.log(2)
-FIRST, SECOND, SHOT, NEXT = 1, 2, 10, 11  # frames: the two runs, a shot that stands in both, and one of the second's
+FIRST, SECOND = 1, 2  # frames: the two runs,
+SHOT, NEXT = 10, 11  # a shot that stands in both, and one of the second's
 wrong = []
 
 

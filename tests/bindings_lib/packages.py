@@ -179,18 +179,18 @@ def wrong_lists():
 
 
 def wrong_poses():
-    """A pose without frames where frames are read, and what is no frame."""
+    """A pose without frames where frames are read, and what is no frame; renormalize reads none."""
     for name in filter(gives_pose, raw.FUNCTIONS):
         good, function = arguments(name, random.Random(3)), getattr(sim3, name)
-        for argument, pose in [(a, x) for a, x in good.items() if isinstance(x, sim3.Pose)]:
+        poses = {argument: x for argument, x in good.items() if isinstance(x, sim3.Pose)}
+        for argument, pose in poses.items():
             for wrong in (pose.numbers, tuple(pose), None, 7):
                 fails(TypeError, [f"sim3.{name}: {argument} is {type(wrong).__name__}", "expected a sim3.Pose"], function, **{**good, argument: wrong})
-        places = [("from_", {**good, "from_": 0}), ("to", good)] if name == "exp" else []
-        for place, given in places:
-            wrong_frames(f"sim3.exp: {place}", lambda x: function(**{**given, place: x}))
-        if "x" in good and name != "renormalize":
-            wrong_frames(f"sim3.{name}: x.from_", lambda x: function(**{**good, "x": good["x"]._replace(from_=x)}))
-            wrong_frames(f"sim3.{name}: x.to", lambda x: function(**{**good, "x": good["x"]._replace(to=x)}))
+        for place in ("from_", "to"):
+            if name == "exp":
+                wrong_frames(f"sim3.exp: {place}", lambda x: function(**{**good, place: x}))
+            for argument, pose in poses.items() if name != "renormalize" else ():
+                wrong_frames(f"sim3.{name}: {argument}.{place}", lambda x: function(**{**good, argument: pose._replace(**{place: x})}))
 
 
 def wrong_frames(where, call):
@@ -251,5 +251,5 @@ def build_without_tools():
         assert done.returncode == 2 and "'archives'" in done.stderr, f"with a wrong word: {done}"
 
 
-TESTS = [same_as_bare_calls, parts_of_answers, forms_of_a_list, nothing_lent_is_changed, refused_lists_are_let_go, buffers_are_not_copied, wrong_lists, wrong_poses, wrong_numbers,
-         refusals_in_words, other_library, build_without_tools]
+TESTS = [same_as_bare_calls, parts_of_answers, forms_of_a_list, nothing_lent_is_changed, refused_lists_are_let_go, buffers_are_not_copied, wrong_lists,
+         wrong_poses, wrong_numbers, refusals_in_words, other_library, build_without_tools]

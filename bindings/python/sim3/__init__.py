@@ -70,7 +70,8 @@ def ask(name, *arguments):
 def read_pose(name, argument, x):
     """The two lists of a pose, by their names in C."""
     x = expected(f"sim3.{name}: {argument}", x)
-    return {argument: read(name, argument, x.numbers), argument + "_frames": frames(f"sim3.{name}: {argument}.", x.from_, x.to)}
+    return {argument: read(name, argument, x.numbers),
+            argument + "_frames": frames(f"sim3.{name}: {argument}.", x.from_, x.to)}
 
 
 def ask_pose(name, given):

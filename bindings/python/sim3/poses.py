@@ -5,6 +5,7 @@ from array import array
 from typing import NamedTuple, Sequence
 
 MOST_FRAME = 65_535
+EXPECTED = f"expected a frame, a whole number from 0 to {MOST_FRAME:,}"
 
 
 class Pose(NamedTuple):
@@ -21,9 +22,9 @@ def frame(where, x):
     try:
         found = operator.index(x)
     except TypeError:
-        raise TypeError(f"{where} is {type(x).__name__}; expected a frame, a whole number from 0 to {MOST_FRAME:,}") from None
+        raise TypeError(f"{where} is {type(x).__name__}; {EXPECTED}") from None
     if not 0 <= found <= MOST_FRAME:
-        raise OverflowError(f"{where} is {found:,}; expected a frame, a whole number from 0 to {MOST_FRAME:,}")
+        raise OverflowError(f"{where} is {found:,}; {EXPECTED}")
     return found
 
 
@@ -40,7 +41,8 @@ def numbers_of(x):
 def expected(where, x):
     """A Pose, or TypeError."""
     if not isinstance(x, Pose):
-        raise TypeError(f"{where} is {type(x).__name__}; expected a sim3.Pose, whose fields are numbers, from_ and to")
+        raise TypeError(f"{where} is {type(x).__name__}; expected a sim3.Pose, "
+                        "whose fields are numbers, from_ and to")
     return x
 
 

@@ -10,7 +10,7 @@ from typing import NamedTuple, Tuple
 
 NUMBER, POINTS, FRAMES = "number", "points", "frames"
 
-# How many numbers a list of each kind has, and what they are: doubles, and 16-bit numbers where they are frames.
+# How many numbers a list of each kind has, and what they are: doubles, and 16-bit numbers for frames.
 KINDS = {
     "pose": (8, "quaternion w x y z, translation x y z, sigma"),
     FRAMES: (2, "from, to"),
@@ -103,7 +103,8 @@ def words(kind):
 def declared(symbol, made):
     """A C function with the types of its arguments."""
     written = ["out", FRAMES] if FRAMES in made.gives else ["out"] if made.gives else []
-    symbol.argtypes = [word for kind in [*(kind for _, kind in made.takes), *written] for word in words(kind)]
+    kinds = [*(kind for _, kind in made.takes), *written]
+    symbol.argtypes = [word for kind in kinds for word in words(kind)]
     symbol.restype = ctypes.c_uint32
     return symbol
 

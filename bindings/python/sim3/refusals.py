@@ -36,17 +36,19 @@ def points_text(found):
            "taken at once, so move it in pieces"
 
 
-# What must be one and the same, and what to do: by the function, the place of each pose's frame (0 from, 1 to) and words.
+# By the function: which frame of x, and which of y, must be one and the same (0 from, 1 to), and words.
 MEETINGS = {
-    "mul": (0, "x starts from frame", 1, "y goes to frame", "X Y", "hand the poses in the other way round, or an inverse"),
-    "mul_inv": (0, "x starts from frame", 0, "y from frame", "X Y^-1", "hand in two poses that start from it"),
+    "mul": (0, "x starts from frame", 1, "y goes to frame", "X Y",
+            "hand the poses in the other way round, or an inverse"),
+    "mul_inv": (0, "x starts from frame", 0, "y from frame", "X Y^-1",
+                "hand in two poses that start from it"),
     "inv_mul": (1, "x goes to frame", 1, "y to frame", "Y^-1 X", "hand in two poses that go to it"),
 }
 
 
 def frames_text(name, x_frames, y_frames):
-    x, starts, y, goes, joined, remedy = MEETINGS[name]
-    return f"{starts} {x_frames[x]}, and {goes} {y_frames[y]}; {joined} wants one frame there, so {remedy}"
+    i, of_x, j, of_y, joined, remedy = MEETINGS[name]
+    return f"{of_x} {x_frames[i]}, and {of_y} {y_frames[j]}; {joined} wants one frame there, so {remedy}"
 
 
 def explained(number, name, given):
