@@ -32,7 +32,7 @@ fn feed(bytes: &[u8], out: &mut Vec<u8>, counts: &mut Counts) -> (usize, bool) {
         out.extend_from_slice(letters);
         match (mark.answer)(Reader(numbers), Writer(out)) {
             Ok(()) => {
-                debug_assert!(out.len() == before + 2 + mark.bytes_before + mark.bytes_out);
+                debug_assert!(out.len() == before + mark.size());
                 counts.answer(mark.numbers(&out[before..]));
             }
             Err(number) => {

@@ -16,7 +16,7 @@ sys.path.insert(0, str(TOOL.parent))
 
 from jobs_lib import doubles
 from jobs_lib.cli import main as tool_main
-from jobs_lib.layout import ANSWER, END, JOB
+from jobs_lib.layout import ANSWER, END, FRAME, JOB
 from jobs_lib.records import walk
 
 ONE, NAN, MINUS = 0x3FF0000000000000, doubles.NAN, 1 << 63
@@ -79,13 +79,14 @@ def holds(text, *parts):
 
 
 def records(table, seed, count):
-    """Records of every mark in turn, with ordinary and odd numbers."""
-    source, out = random.Random(seed), b""
+    """Records of every mark in turn, with ordinary and odd numbers and any frames."""
+    source, frames, out = random.Random(seed), random.Random(-1 - seed), b""
     for number in range(count):
         layout = table[list(JOB)[number % len(JOB)]]
-        numbers = [source.choice(list(names)) if names else
+        numbers = [frames.choice([0, 65535, frames.randrange(65536)]) if code == FRAME else
+                   source.choice(list(names)) if names else
                    source.choice(ODD) if source.random() < 0.3 else source.gauss(0, 10)
-                   for names in layout.names]
+                   for names, code in zip(layout.names, layout.codes)]
         out += layout.mark.encode() + layout.numbers.pack(*numbers)
     return out
 
@@ -107,6 +108,9 @@ def not_finite(data):
 def ended(data, refused=0):
     """Answers with the ZZ that fits them."""
     return data + end(sum(1 for _ in walk(data, ANSWER)), refused, not_finite(data))
+
+
+EX_SIZE = ANSWER[b"EX"].size  # the first record of the answers below
 
 
 def answers():

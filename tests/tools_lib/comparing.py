@@ -1,8 +1,8 @@
 """`jobs diff`."""
 import struct
 
-from .common import (MINUS, NAN, ONE, WORK, answers, answers_with, end, ended, file, holds, jobs, records,
-                     same)
+from .common import (EX_SIZE, MINUS, NAN, ONE, WORK, answers, answers_with, end, ended, file, holds, jobs,
+                     records, same)
 from jobs_lib.layout import ANSWER, END, JOB
 
 
@@ -74,8 +74,30 @@ def arms():
     holds(between("arm(-)", 1, 9), "1 (6 terms)  ->  9 (a number that no arm has)  another arm\n")
 
 
+def frames():
+    """Frames are compared by number, are named, and are no part of the largest distance."""
+    def between(mark, field, old, new):
+        return diff(answers_with(mark, field, old), answers_with(mark, field, new), 1)
+
+    for mark, number, name in [("EX", 1, "pose"), ("MU", 5, "product"), ("IN", 6, "inverse")]:
+        for field in (f"{name}.frames.from", f"{name}.frames.to"):
+            text = between(mark, field, 3, 65283)
+            holds(text, f"record {number}  {mark}  {field}  3  ->  65283  another frame\n", f"different: 1 record ({mark} 1), 1 number\n")
+            assert "largest distance" not in text, text
+    text = diff(answers_with("MU", "product.frames.from", 7), ended(answers()[:-END.size].replace(b"NO\1", b"NO\x09"), 1), 1)
+    holds(text, "1 (squared angle z below zero)  ->  9 (frames do not meet: the left pose's from is not the right pose's to)  another refusal\n")
+
+
+def older_files():
+    """Answers of the older format, in which poses have no frames, are named as such, on either side."""
+    old, whole = file("before", b"MU" + bytes(64) + end(1)), file("now", answers())
+    for words, name in (((old, whole), "OLD"), ((whole, old), "NEW")):
+        out, messages = jobs("diff", *words, status=2)
+        same((out, messages[:messages.index("?") + 1]), (b"", f"jobs: {name} {old}: answers of the older format?"), "the message")
+
+
 def refusals():
-    refused = ended(b"NO\2" + answers()[66:-END.size], 2)
+    refused = ended(b"NO\2" + answers()[EX_SIZE:-END.size], 2)
     text = diff(answers(), refused, 1)
     holds(text, "record 1  EX  ->  NO 2 (e is +0 or -0", "end  ZZ  answered  2  ->  1  -1\n")
     other = ended(answers()[:-END.size - 1] + b"\2", 1)
@@ -88,7 +110,7 @@ def missing_and_short_ends():
     whole = answers()
     for part, message in [(whole[:-END.size], "ZZ and its counts are missing"),
                           (whole[:-1], "ZZ is short, 17"), (whole[:-4], "ZZ is short, 14"),
-                          (whole[:100], "the file ends inside a record: CO takes 162 bytes, 34")]:
+                          (whole[:100], "the file ends inside a record: CO takes 162 bytes, 30")]:
         for old, new, name in [(whole, part, "NEW"), (part, whole, "OLD"), (part, part, "OLD")]:
             holds(diff(old, new, 1).splitlines()[0], name, message)
     holds(diff(whole, whole[:100], 1), "records 2 to 9  in OLD", "1 record, no ZZ")
@@ -96,8 +118,8 @@ def missing_and_short_ends():
 
 def unreadable_files():
     whole = answers()
-    text = diff(whole, whole[:66] + b"QQ" + whole[66:], 2)
-    holds(text.splitlines()[0], "NEW", "byte 66: unknown mark 51 51 ('QQ')")
+    text = diff(whole, whole[:EX_SIZE] + b"QQ" + whole[EX_SIZE:], 2)
+    holds(text.splitlines()[0], "NEW", "byte 70: unknown mark 51 51 ('QQ')")
     holds(text, "records 2 to 9  in OLD", "not compared")
     old, job = file("old", whole), file("job", records(JOB, 1, 8))
     holds(jobs("diff", old, job, status=2)[1], f"NEW {job} is not an answer file", "expected")
@@ -115,5 +137,5 @@ def limited_output():
     holds(text, f"{every - 3:,} more differences not printed", "161 records (EX 20, CO 20", "AR 20, ZZ 1)")
 
 
-TESTS = [equal_files, unusable_answers, one_changed_bit, zeros_nans_flags, arms, refusals, missing_and_short_ends,
+TESTS = [equal_files, unusable_answers, one_changed_bit, zeros_nans_flags, arms, frames, older_files, refusals, missing_and_short_ends,
          unreadable_files, limited_output]

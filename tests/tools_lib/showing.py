@@ -3,23 +3,26 @@ import collections
 import hashlib
 import struct
 
-from .common import ROOT, answers, end, ended, holds, jobs, not_finite, records, same
-from jobs_lib.layout import ANSWER, END, JOB
+from .common import EX_SIZE, ROOT, answers, end, ended, file, holds, jobs, not_finite, records, same
+from jobs_lib.layout import ANSWER, END, JOB, OLDER_ANSWER, OLDER_JOB
 from jobs_lib.records import scan, walk
 
 
 def layout_of_the_scope():
     """Lengths of the records, and where some numbers stand, apart from the tool's own table."""
-    sizes = {"EX": (136, 64), "CO": (96, 160), "PA": (280, 992), "AC": (96, 24), "MU": (136, 64),
-             "IN": (72, 64), "JI": (248, 248), "AR": (96, 164)}
+    sizes = {"EX": (140, 68), "CO": (96, 160), "PA": (280, 992), "AC": (100, 24), "MU": (144, 68),
+             "IN": (76, 68), "JI": (248, 248), "AR": (96, 164)}
     for layout in JOB.values():
         out = ANSWER[layout.mark.encode()]
         same((layout.size - 2, out.size - 2), sizes[layout.mark], f"bytes of {layout.mark}")
     same((END.size, END.fields), (18, ["begun", "answered", "refused", "unusable"]), "ZZ")
     for table, mark, field, number in [
             (JOB, b"EX", "sigma", 6), (JOB, b"EX", "values.cos_half", 9), (JOB, b"CO", "values.M0", 9),
-            (JOB, b"PA", "J[1][0]", 18), (JOB, b"PA", "Jinv[0][2]", 32), (JOB, b"AC", "up", 8),
-            (JOB, b"MU", "right.t.x", 12), (JOB, b"JI", "block.e", 30),
+            (JOB, b"PA", "J[1][0]", 18), (JOB, b"PA", "Jinv[0][2]", 32), (JOB, b"AC", "up", 10),
+            (JOB, b"MU", "right.t.x", 14), (JOB, b"JI", "block.e", 30), (JOB, b"EX", "frames.from", 17),
+            (JOB, b"AC", "pose.frames.to", 9), (JOB, b"MU", "left.frames.from", 8), (JOB, b"MU", "right.frames.to", 19),
+            (JOB, b"MU", "up", 20), (JOB, b"IN", "pose.frames.from", 8), (JOB, b"IN", "down", 10),
+            (ANSWER, b"EX", "pose.frames.from", 8), (ANSWER, b"MU", "product.frames.to", 9), (ANSWER, b"IN", "inverse.frames.from", 8),
             (ANSWER, b"CO", "coeffs(+).scaled", 9), (ANSWER, b"CO", "coeffs(-).dv2", 17),
             (ANSWER, b"PA", "left.b[1][2]", 16), (ANSWER, b"PA", "right_inv.f[0]", 120),
             (JOB, b"AR", "z", 1), (JOB, b"AR", "values.down", 11), (ANSWER, b"AR", "arm(+)", 0),
@@ -131,6 +134,82 @@ def arms_as_text():
           "       6  00 00 00 00 00 00 00 00  coeffs(+).v0 = 0.0\n")
 
 
+def frames_as_text():
+    """Frames stand behind their pose as whole numbers, and no frame is a NaN or an infinity."""
+    numbers = (1, 0, 0, 0, 1, 2, 3, 0)
+    data = b"MU" + struct.pack("<8d2H8d2Hd", *numbers, 3, 1, *numbers, 65535, 258, 1)
+    text = "1.0 0.0 0.0 0.0; {0}.t 1.0 2.0 3.0; {0}.sigma 0.0; {0}.frames "
+    same(jobs("show", "--in", data=data)[0].decode(),
+         f"MU left.q {text.format('left')}3 1; right.q {text.format('right')}65535 258; up 1.0\n", "a product")
+    holds(jobs("show", "--in", "--hex", data=data)[0].decode(),
+          "      58  00 00 00 00 00 00 00 00  left.sigma = 0.0\n"
+          "      66  03 00                    left.frames.from = 3\n"
+          "      68  01 00                    left.frames.to = 1\n"
+          "      70  00 00 00 00 00 00 f0 3f  right.q.w = 1.0\n",
+          "     134  ff ff                    right.frames.from = 65535\n"
+          "     136  02 01                    right.frames.to = 258\n"
+          "     138  00 00 00 00 00 00 f0 3f  up = 1.0\n")
+    data = b"".join(mark + struct.pack("<8d2H", *numbers, 0x7FF0, 0xFFFF) for mark in (b"EX", b"MU", b"IN")) + b"NO\x09" + end(4, 1)
+    shown = jobs("show", data=data)[0].decode()
+    holds(shown, *(f"{name}.sigma 0.0; {name}.frames 32752 65535\n" for name in ("pose", "product", "inverse")),
+          "NO refusal 9  # frames do not meet: the left pose's from is not the right pose's to\n", "answered 3; refused 1; unusable 0\n")
+
+
+def older_files():
+    """A job or answers of the older format, without frames, is named as such; a cut file and one without poses are not."""
+    def show(data, *options):
+        return jobs("show", *options, data=data, status=1)[1]
+
+    for mark, about in [(b"EX", 138), (b"AC", 98), (b"MU", 138), (b"IN", 74)]:
+        layout = OLDER_JOB[mark]
+        same(layout.size, about, f"bytes of an older {mark.decode()}")
+        record = mark + bytes(layout.size - 2)
+        for data in (record, 3 * record, records(JOB, 1, 2)[142:] + record, b"CO" + bytes(96) + record):
+            holds(show(data), "byte ", "jobs: a job of the older format? Its poses have no frames; expected from and to", "frames 3 7")
+        assert "older format" not in show(record[:-1]) + show(record + b"Q") + show(2 * record[:-2]), f"a cut {mark.decode()}"
+    whole = b"".join(layout.mark.encode() + bytes(layout.size - 2) for layout in OLDER_ANSWER.values()) + end(9, 1)
+    for data in (whole, b"NO\1" + b"IN" + bytes(64) + end(2, 1), b"EX" + bytes(64) + end(1)):
+        holds(show(data) + show(data, "--out"), "jobs: answers of the older format? Their poses have no frames")
+    assert "older format" not in show(whole[:-17]) + show(end(0)[:9], "--out"), "cut answers"
+    job, told = file("job", b"AR" + bytes(96)), file("told", whole)
+    holds(jobs("arms", job, told, status=2)[1], f"jobs: {told}: answers of the older format?")
+    holds(jobs("arms", file("before", b"IN" + bytes(72)), told, status=2)[1], "before: a job of the older format?")
+
+
+def stored_frames():
+    """The stored runs: frames by the rules of a product and an inverse, 9 exactly where they do not meet, 7 before 9, and the AC record of the scope."""
+    seen = collections.Counter()
+    for path in sorted((ROOT / "tests" / "runs").glob("*.in")):
+        job, told = path.read_bytes(), path.with_suffix(".out").read_bytes()
+        for (at, asked), (told_at, answer) in zip(walk(job, JOB), walk(told, ANSWER)):
+            if asked.mark not in ("EX", "MU", "IN"):
+                continue
+            given = dict(zip(asked.fields, asked.numbers.unpack_from(job, at + 2)))
+            begin, to = (given[name] for name in {"EX": ("frames.from", "frames.to"), "MU": ("right.frames.from", "left.frames.to"),
+                                                  "IN": ("pose.frames.to", "pose.frames.from")}[asked.mark])
+            due = asked.mark.encode()
+            if asked.mark == "MU" and given["left.frames.from"] != given["right.frames.to"]:
+                apart = given["left.frames.from"] ^ given["right.frames.to"]
+                seen["first byte" if apart < 256 else "second byte" if not apart & 255 else "both bytes"] += 1
+                seen["wrong order"] += given["left.frames.to"] == given["right.frames.from"]
+                due = b"NO\x09"
+            same(told[told_at:told_at + len(due)], due, f"{path.name}: the record at byte {at}")
+            if due != b"NO\x09":
+                same(struct.unpack_from("<2H", told, told_at + 66), (begin, to), f"{path.name}: frames of the record at byte {at}")
+                seen[asked.mark] += 1
+    for case in ("EX", "MU", "IN", "first byte", "second byte", "both bytes", "wrong order"):
+        assert seen[case] >= 3, f"{seen[case]} stored records with {case}; expected 3 or more"
+
+
+def stored_scope_record():
+    """The AC record that the scope prints: four zero bytes behind its pose, and the output that it had without them."""
+    job, told = ((ROOT / "tests" / "runs" / f"one_ac.{end}").read_bytes() for end in ("in", "out"))
+    before = b"AC" + struct.pack("<12d", 1, 0, 0, 0, 1, 2, 3, 0, 1, 4, 5, 6)
+    same(job, before[:66] + bytes(4) + before[66:], "one_ac.in")
+    same(told.hex(" ", -2), "4143 0000 0000 0000 1440 0000 0000 0000 1c40 0000 0000 0000 2240 "
+                            "5a5a 0100 0000 0100 0000 0000 0000 0000 0000", "one_ac.out")
+
+
 def single_records():
     """--record and --hex: the records asked for, no ZZ, and their bytes."""
     text = jobs("show", "--hex", "--record", "9", data=answers())[0].decode()
@@ -153,9 +232,9 @@ def guesses():
         data = mark + bytes(ANSWER[mark].size - 2) + end(1)
         holds(jobs("show", data=data)[0].decode(), ANSWER[mark].groups[0].name, "ZZ begun 1")
         holds(jobs("show", data=data[:-1], status=1)[0].decode(), ANSWER[mark].groups[0].name)
-    for length in (67, 100, 200, 300, 1000, 1500):
+    for length in (71, 100, 200, 300, 1000, 1500):
         holds(jobs("show", data=answers()[:length], status=1)[0].decode(), "EX pose.q")
-    holds(jobs("show", data=answers()[:66] + b"QQ" + end(1), status=1)[0].decode(), "EX pose.q")
+    holds(jobs("show", data=answers()[:EX_SIZE] + b"QQ" + end(1), status=1)[0].decode(), "EX pose.q")
     same(jobs("show", data=end(0))[0], b"ZZ begun 0; answered 0; refused 0; unusable 0\n", "no records")
     same(jobs("show", data=b"")[0], b"", "an empty job file")
 
@@ -164,10 +243,10 @@ def damaged_jobs():
     """Where a job file is damaged the byte is named, and its bytes are shown all the same."""
     good = records(JOB, 4, 2)
     for bad, message in [
-            (b"QQ123", "byte 236: unknown mark 51 51 ('QQ')"),
-            (b"A", "byte 236: the file ends inside a mark, after 41"),
+            (b"QQ123", "byte 240: unknown mark 51 51 ('QQ')"),
+            (b"A", "byte 240: the file ends inside a mark, after 41"),
             (b"AC" + bytes(9),
-             "byte 236: the file ends inside a record: AC takes 98 bytes, 11 are there")]:
+             "byte 240: the file ends inside a record: AC takes 102 bytes, 11 are there")]:
         text, messages = jobs("show", data=good + bad, status=1)
         holds(messages, message, "--out reads it")
         same(jobs("make", data=text)[0], good + bad, "the bytes made again")
@@ -180,8 +259,8 @@ def damaged_answers():
     for data, message in [
             (whole[:last], f"byte {last}: ZZ and its counts are missing"),
             (whole[:-1], f"byte {last}: ZZ is short, 17 of 18 bytes"),
-            (whole[:100], "byte 66: the file ends inside a record: CO takes 162 bytes, 34 are"),
-            (whole[:66] + b"QQ" + whole[66:], "byte 66: unknown mark 51 51 ('QQ')"),
+            (whole[:100], "byte 70: the file ends inside a record: CO takes 162 bytes, 30 are"),
+            (whole[:EX_SIZE] + b"QQ" + whole[EX_SIZE:], "byte 70: unknown mark 51 51 ('QQ')"),
             (whole + b"AC", f"byte {len(whole)}: 2 bytes after ZZ"),
             (whole + whole, f"byte {len(whole)}: {len(whole):,} bytes after ZZ"),
             (whole[:last] + end(9, 1, 5), "ZZ does not fit the records, which are 9 begun, 2 answered, "
@@ -191,4 +270,4 @@ def damaged_answers():
 
 
 TESTS = [layout_of_the_scope, back_by_make, stored_runs, answers_as_text, unusable_answers, stored_counts,
-         stored_records, arms_as_text, single_records, guesses, damaged_jobs, damaged_answers]
+         stored_records, arms_as_text, frames_as_text, older_files, stored_frames, stored_scope_record, single_records, guesses, damaged_jobs, damaged_answers]

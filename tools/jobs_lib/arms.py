@@ -5,7 +5,7 @@ from array import array
 from .doubles import from_bits
 from .layout import ANSWER, ARMS, BY_SERIES, JOB, MOST_RECORDS
 from .plane import picture
-from .records import guess, load, scan, walk
+from .records import guess, load, older, scan, walk
 from .terminal import Failure, Lines, Progress, count
 
 # Where the arms 2 to 5 begin, in sigma sigma + z, and below which sigma sigma the closed arm takes
@@ -107,11 +107,14 @@ def problems(job, asked, told, found):
 def load_both(job_path, answer_path):
     """Both files and their scans; a file of the other kind is named."""
     job, answers = load(job_path), load(answer_path)
-    for path, data, table_of, what in ((job_path, job, JOB, "a job file"),
-                                       (answer_path, answers, ANSWER, "an answer file")):
-        if len(data) and guess(data) is not table_of and scan(data, table_of, "").damages:
+    asked, told = scan(job, JOB, "reading"), scan(answers, ANSWER, "reading")
+    for path, data, found, table_of, what in ((job_path, job, asked, JOB, "a job file"),
+                                              (answer_path, answers, told, ANSWER, "an answer file")):
+        if found.damages and older(data):
+            raise Failure(f"jobs: {path}: {older(data)}")
+        if found.damages and len(data) and guess(data) is not table_of:
             raise Failure(f"jobs: {path} is not {what}; expected JOBS, then ANSWERS")
-    return job, answers, scan(job, JOB, "reading"), scan(answers, ANSWER, "reading")
+    return job, answers, asked, told
 
 
 def write(path, text, inputs):

@@ -28,7 +28,9 @@ MAKE = """\
 Lines of text to a job file on standard output. A line is a mark and its numbers, separated by
 blanks or commas; `;` may stand between groups and a group's name before it. `#` starts a comment.
 A number is a decimal (1.5, -2e-3, -0), a hexadecimal (0x1.8p3), inf, -inf, nan, or 16 digits of
-bits (bits:3ff0000000000000). The line `bytes 51 51` puts bytes as they are.
+bits (bits:3ff0000000000000). A frame is a whole number from 0 to 65535; a pose's two, from and to,
+stand behind its eight numbers, under their group's name or `frames`. The line `bytes 51 51` puts
+bytes as they are.
 
 Numbers in brackets may be left out; they are then computed by Python's math.
 {forms}
@@ -36,8 +38,8 @@ Numbers in brackets may be left out; they are then computed by Python's math.
 Where a line is bad, all bad lines are named and nothing is written; the exit status is 2.
 
 example:
-  echo 'EX 0.1 0.2 0.3  1 2 3  0.5' | tools/jobs make > jobs.bin
-  echo 'AC pose.q 1 0 0 0; pose.t 1 2 3; pose.sigma 0; point 4 5 6' | tools/jobs make > jobs.bin
+  echo 'EX 0.1 0.2 0.3  1 2 3  0.5  frames 3 7' | tools/jobs make > jobs.bin
+  echo 'AC pose.q 1 0 0 0; pose.t 1 2 3; pose.sigma 0; frames 3 7; point 4 5 6' | tools/jobs make > jobs.bin
 """
 
 SHOW = """\
@@ -57,8 +59,8 @@ example:
 
 DIFF = """\
 Compares two answer files record by record. Each difference is a line with the record's number (from
-1), its mark, the field, both values and their distance in units in the last place. A NaN equals
-every NaN; zeros of different sign differ. A file that does not end in ZZ is named first. At the end
+1), its mark, the field, both values and their distance in units in the last place; frames differ or
+are equal. A NaN equals every NaN; zeros of different sign differ. A file that does not end in ZZ is named first. At the end
 stands which answers are not usable, since they hold a NaN or an infinity.
 
 Exit status: 0 equal and whole, 1 different or not whole, 2 not to be read.

@@ -1,7 +1,7 @@
 """`jobs diff`: two answer files record by record."""
 from .doubles import from_bits, is_nan, text, ulps
-from .layout import ANSWER, END, JOB
-from .records import counts_text, guess, load, scan, walk
+from .layout import ANSWER, END, FRAME, JOB
+from .records import counts_text, guess, load, older, scan, walk
 from .terminal import Failure, Lines, Progress, count
 
 EQUAL, DIFFERENT, UNREADABLE = 0, 1, 2
@@ -28,6 +28,8 @@ def distance(layout, i, old, new):
     """How far apart two numbers are, in words."""
     if i in layout.flags:
         return "another flag"
+    if layout.codes[i] == FRAME:
+        return "another frame"
     if layout.codes[i] != "d":
         return f"another {layout.kind(i)}" if layout.names[i] else f"{new - old:+,}"
     steps = ulps(old, new)
@@ -142,6 +144,8 @@ def compare_ends(names, old, new, scans, report):
 
 def say_damages(name, data, found, out):
     """What keeps a file from being a whole answer."""
+    if found.damages and older(data):
+        raise Failure(f"jobs: {name}: {older(data)}")
     if unreadable(found) and guess(data) is JOB:
         raise Failure(f"jobs: {name} is not an answer file; expected two (jobs show reads any file)")
     for damage in found.damages:

@@ -7,6 +7,7 @@ from math import isfinite
 from typing import NamedTuple, Optional, Tuple
 
 MOST_RECORDS = 1_000_000  # the job program answers no more
+FRAME = "H"  # the code of a frame number, a whole number of 16 bits
 SCALED, SERIES = ".scaled", "series("  # how the name of a field that is 1 or 0 ends or begins
 
 REFUSALS = {
@@ -17,6 +18,8 @@ REFUSALS = {
     5: "point list of a wrong length",
     6: "unknown mark",
     7: "input ends inside a mark or record",
+    8: "root of a NaN or of +inf",
+    9: "frames do not meet: the left pose's from is not the right pose's to",
 }
 ARMS = {1: "6 terms", 2: "11 terms", 3: "14 terms", 4: "19 terms", 5: "closed"}
 BY_SERIES = {0: "", 1: "v0, w0 by series"}
@@ -28,7 +31,7 @@ class Group(NamedTuple):
     name: str
     parts: Tuple[str, ...]  # what each number adds to the name: ".x", "[1][2]", nothing
     about: str
-    code: str = "d"  # struct's letter: d a double, B a byte, I a 32-bit count
+    code: str = "d"  # struct's letter: d a double, B a byte, H a frame, I a 32-bit count
     names: Optional[dict] = None  # what its numbers stand for, where each has a name
 
 
@@ -89,9 +92,13 @@ ROTATION_JACOBIANS = (Group("J", MATRIX, "rotation Jacobian of phi"),
                       Group("Jinv", MATRIX, "its inverse"))
 
 
+def frames(name):
+    return Group(name, (".from", ".to"), "frame numbers, 2 bytes each", FRAME)
+
+
 def pose(name):
     return (Group(name + ".q", WXYZ, "quaternion"), Group(name + ".t", XYZ, "translation"),
-            Group(name + ".sigma", ONE, "log scale"))
+            Group(name + ".sigma", ONE, "log scale"), frames(name + ".frames"))
 
 
 def block(name):
@@ -121,7 +128,7 @@ def table(*layouts):
 
 
 JOB = table(
-    Layout("EX", "exponential of a tangent", *TANGENT, VALUES),
+    Layout("EX", "exponential of a tangent", *TANGENT, VALUES, frames("frames")),
     Layout("CO", "coefficients of both signs", SIGMA, ANGLE, VALUES),
     Layout("PA", "block pair", *TANGENT, VALUES, *ROTATION_JACOBIANS),
     Layout("AC", "action of a pose on a point", *pose("pose"), UP, POINT),
@@ -143,6 +150,15 @@ ANSWER = table(
     Layout("AR", "the arms and the coefficients", *arm("+", "at sigma"), *arm("-", "at -sigma"), *PAIR),
     Layout("NO", "a refusal", Group("refusal", ONE, "its number", "B", REFUSALS)),
 )
+
+
+def without_frames(layouts):
+    """A table of the older format, in which poses had no frames."""
+    return table(*(Layout(layout.mark, layout.about, *(g for g in layout.groups if g.code != FRAME))
+                   for layout in layouts.values()))
+
+
+OLDER_JOB, OLDER_ANSWER = without_frames(JOB), without_frames(ANSWER)
 
 # The counts behind the last record of an answer file.
 END = Layout("ZZ", "the end",

@@ -6,12 +6,15 @@ import sys
 
 from .doubles import BadNumber, read, shown
 from .host import computed
-from .layout import JOB, MOST_RECORDS
+from .layout import FRAME, JOB, MOST_RECORDS
 from .records import load, name_of
 from .terminal import Failure, Progress, count, say
 
 PLAIN = re.compile(r"[-+.0-9eE ]*")  # decimals and nothing else
 BYTE = re.compile(r"[0-9a-fA-F]{2}")
+WHOLE = re.compile(r"[0-9]{1,5}")
+MOST_FRAME = 65_535
+FRAMES = "frames"  # stands for any pose's frames
 MOST_MESSAGES = 20
 
 # Groups that a line may leave out, those that go together in one bracket.
@@ -32,6 +35,8 @@ class Form:
         sizes = [len(g.parts) for g in groups]
         self.count = sum(sizes)
         self.starts = dict(zip(itertools.accumulate([0, *sizes]), groups))
+        codes = "".join(g.code * len(g.parts) for g in groups)
+        self.frames = [i for i, code in enumerate(codes) if code == FRAME]
 
     def text(self):
         return f"{self.count} ({groups_text(self.groups)})"
@@ -54,7 +59,9 @@ def forms(layout):
 
 
 FORMS = {layout.mark: forms(layout) for layout in JOB.values()}
-SEPARATORS = {layout.mark: {";", *(g.name for g in layout.groups)} for layout in JOB.values()}
+SEPARATORS = {layout.mark: {";", *(g.name for g in layout.groups),
+                            *(FRAMES for g in layout.groups if g.code == FRAME)}
+              for layout in JOB.values()}
 
 
 def split(words, mark):
@@ -68,6 +75,22 @@ def split(words, mark):
     return numbers, separators
 
 
+def names(word, group):
+    """Whether a word is a group's name; `frames` is that of every pose's."""
+    return word == group.name or word == FRAMES and group.code == FRAME
+
+
+def check_frames(mark, total, separators):
+    """A line that has all but its frames, as every line of the older format."""
+    without = [form.count - len(form.frames) for form in FORMS[mark].values() if form.frames]
+    if total in without and not any(word.endswith(FRAMES) for _, word in separators):
+        poses = [g.name for g in JOB[mark.encode()].groups if g.code == FRAME]
+        where = "behind sigma or the values" if mark == "EX" else "behind each pose's eight numbers"
+        raise BadLine(f"{mark} has {count(total, 'number')}, and {' and '.join(poses)} "
+                      f"{'is' if len(poses) == 1 else 'are'} missing (a job of the older format?): "
+                      f"put from and to {where}, as {FRAMES} 3 7")
+
+
 def check_separators(separators, form, total):
     """A `;` must stand between two groups or at the end, a name before its own group."""
     for place, word in separators:
@@ -77,7 +100,7 @@ def check_separators(separators, form, total):
                 inside = form.starts[max(start for start in form.starts if start < place)]
                 raise BadLine(f"';' after {count(place, 'number')} is inside {inside.name}, "
                               f"which takes {len(inside.parts)}")
-        elif place == total or group is None or group.name != word:
+        elif place == total or group is None or not names(word, group):
             here = group.name if group and place < total else "no group"
             raise BadLine(f"{word} after {count(place, 'number')}, where {here} begins")
 
@@ -87,6 +110,8 @@ def choose_form(mark, total, separators):
     known = FORMS[mark]
     form = known.get(total)
     try:
+        if form is None:
+            check_frames(mark, total, separators)
         check_separators(separators, form or known[max(known)], total)
         if form is None:
             raise BadLine(f"{mark} has {count(total, 'number')}")
@@ -95,8 +120,23 @@ def choose_form(mark, total, separators):
     return form
 
 
-def read_all(words):
-    """The numbers of a line. Most lines hold plain decimals, which are read at once."""
+def read_frame(word):
+    if not WHOLE.fullmatch(word) or int(word) > MOST_FRAME:
+        raise BadLine(f"{shown(word)} is no frame; expected a whole number from 0 to {MOST_FRAME}")
+    return int(word)
+
+
+def read_all(words, form):
+    """The numbers of a line: doubles, and whole numbers where frames stand."""
+    frames = [(i, read_frame(words[i])) for i in form.frames]
+    numbers = read_doubles(words)
+    for i, frame in frames:
+        numbers[i] = frame
+    return numbers
+
+
+def read_doubles(words):
+    """Words as doubles. Most lines hold plain decimals, which are read at once."""
     if PLAIN.fullmatch(" ".join(words)):
         try:
             numbers = [float(word) for word in words]
@@ -143,7 +183,7 @@ def record(line):
     texts, separators = split(words[1:], mark)
     form = choose_form(mark, len(texts), separators)
     layout = JOB[mark.encode()]
-    return mark.encode() + layout.numbers.pack(*complete(layout, form, read_all(texts)))
+    return mark.encode() + layout.numbers.pack(*complete(layout, form, read_all(texts, form)))
 
 
 def job(name, lines):

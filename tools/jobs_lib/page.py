@@ -16,7 +16,7 @@ def group_line(at, group):
     if group.parts == MATRIX:
         parts[4:-1] = [".."]
     what = f"{group.about}: {' '.join(parts)}" if len(parts) > 1 else group.about
-    return f"  {at:4}  {group.name:13}  {what}"
+    return f"  {at:4}  {group.name:14}  {what}"
 
 
 def layout_text(direction, layout):

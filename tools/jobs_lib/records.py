@@ -5,7 +5,7 @@ import stat
 import sys
 from typing import NamedTuple
 
-from .layout import ANSWER, END, JOB
+from .layout import ANSWER, END, JOB, OLDER_ANSWER, OLDER_JOB
 from .terminal import Failure, Progress, count
 
 STDIN = "(standard input)"
@@ -148,3 +148,23 @@ def guess(data):
     if data[-END.size:][:2] == ZZ and (job == answer or max(job, answer)[0] < 2):
         return ANSWER
     return JOB if job >= answer else ANSWER
+
+
+def whole_without_frames(data, table, before):
+    """Whether a file is whole by the table `before`, with a record that `table` gives frames."""
+    end, longer = 0, False
+    for at, layout in walk(data, before):
+        end = at + layout.size
+        longer = longer or table[layout.mark.encode()].size > layout.size
+    return longer and (end == len(data) if table is JOB else data[end:end + 2] == ZZ)
+
+
+def older(data):
+    """What to say of a damaged file that is whole by the older format, else nothing."""
+    if whole_without_frames(data, JOB, OLDER_JOB):
+        return "a job of the older format? Its poses have no frames; expected from and to behind each " \
+               "pose's eight numbers and behind EX's values (jobs make takes them as frames 3 7)"
+    if whole_without_frames(data, ANSWER, OLDER_ANSWER):
+        return "answers of the older format? Their poses have no frames; expected answers to a job " \
+               "whose poses have them"
+    return ""

@@ -4,7 +4,7 @@ from math import isfinite
 
 from .doubles import NAN, text
 from .layout import ANSWER, END, JOB, MOST_RECORDS
-from .records import guess, hexadecimal, load, name_of, scan, walk
+from .records import guess, hexadecimal, load, name_of, older, scan, walk
 from .terminal import Failure, Lines, Progress, count, say
 
 MOST_RAW = 32  # bytes that are shown of what begins with no mark
@@ -105,10 +105,13 @@ def print_end(data, table, found, lines_of):
     out.flush()
 
 
-def say_damages(name, found, read_as, guessed):
+def say_damages(name, data, found, read_as, guessed):
     for damage in found.damages:
         say(f"{name}: byte {damage.at}: {damage.text}")
-    if found.damages and guessed:
+    before = older(data) if found.damages else ""
+    if before:
+        say(f"jobs: {before}")
+    elif found.damages and guessed:
         say("jobs: it was read as " + ("a job file; --out reads it as an answer file"
                                        if read_as is JOB else
                                        "an answer file; --in reads it as a job file"))
@@ -133,5 +136,5 @@ def show(path, table, wanted, as_bytes, unusable=False):
         raise Failure(f"jobs: no record {wanted.stop - 1:,} in {name}; it has {found.records:,}")
     else:
         print_records(data, read_as, wanted, lines_of)
-    say_damages(name, found, read_as, guessed=table is None)
+    say_damages(name, data, found, read_as, guessed=table is None)
     return 1 if found.damages else 0

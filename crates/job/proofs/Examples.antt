@@ -1,4 +1,4 @@
--- The whole output for one AC record, each other way in which a job stops, and how long a record of each mark is, computed from the definition. Assumes nothing.
+-- The whole output for one AC record, for a product whose frames do not meet, each other way in which a job stops, and how long a record of each mark is, computed from the definition. Assumes nothing.
 use Prim.Native.Nat.{ℕ, _+_, _-_}
 use mathlib.Core.Path.{_≡_, refl}
 use mathlib.Core.Bool.{Bool, true, false, _&&_}
@@ -11,9 +11,10 @@ use Rattle.linalg.specs.Vector.{vecScale, vecCross, vecAdd, vecNumbers}
 use Rattle.so3.specs.So3.{so3Act}
 use Rattle.sim3.specs.Pose.{poseAct}
 use Rattle.layout.specs.Layout.{vecIn, quatIn, poseIn}
-use Rattle.wire.specs.Wire.{wordOf, wordBytes, numberOf, numberAt, numberBytes, itemBytes, itemsBytes, allFinite, numbers, countBytes}
+use Rattle.wire.specs.Wire.{wordOf, wordAt, wordBytes, numberOf, numberAt, numberBytes, itemBytes, itemsBytes, allFinite, numbers, countBytes}
 use Rattle.outcome.specs.Outcome.{markBytes, noBytes, replyOf, Found, took, ended, unknown, cut, recordFound}
-use Rattle.replies.specs.Table.{acOf, answerOf, entryReply}
+use Rattle.frames.specs.Joins.{framedMul}
+use Rattle.replies.specs.Table.{framedIn, acOf, muOf, answerOf, entryReply}
 use Rattle.marks.specs.Marks.{markKnown, markOf, foundAt, foundOf}
 use Rattle.job.specs.Counts.{countsMore}
 use Rattle.job.specs.Job.{trailer, jobOn, jobFrom, jobOf, jobLimit}
@@ -32,7 +33,11 @@ one = double 0xf0 0x3f
 counts : ℕ → ℕ → ℕ → ℕ → List ℕ
 counts a b c d = 0x5a ∷ 0x5a ∷ a ∷ 0 ∷ 0 ∷ 0 ∷ b ∷ 0 ∷ 0 ∷ 0 ∷ c ∷ 0 ∷ 0 ∷ 0 ∷ d ∷ 0 ∷ 0 ∷ 0 ∷ []
 
--- pose 1 0 0 0, 1 2 3, 0, up 1, point 4 5 6
+-- two frames below 256
+frames : ℕ → ℕ → List ℕ
+frames from to = from ∷ 0 ∷ to ∷ 0 ∷ []
+
+-- pose 1 0 0 0, 1 2 3, 0, frames 0 0, up 1, point 4 5 6
 record-in : List ℕ
 record-in =
     0x41
@@ -40,10 +45,10 @@ record-in =
     ∷ (one
     ++ (zero
     ++ (zero
-    ++ (zero ++ (one ++ (double 0x00 0x40 ++ (double 0x08 0x40 ++ (zero ++ (one ++ (double 0x10 0x40 ++ (double 0x14 0x40 ++ double 0x18 0x40)))))))))))
+    ++ (zero ++ (one ++ (double 0x00 0x40 ++ (double 0x08 0x40 ++ (zero ++ (frames 0 0 ++ (one ++ (double 0x10 0x40 ++ (double 0x14 0x40 ++ double 0x18 0x40))))))))))))
 
 answered : jobOf jobLimit record-in ≡ 0x41 ∷ 0x43 ∷ (double 0x14 0x40 ++ (double 0x1c 0x40 ++ (double 0x22 0x40 ++ counts 1 1 0 0)))
-unfolding ofBits toBits add sub mul vecScale vecCross vecAdd so3Act poseAct vecIn quatIn poseIn vecNumbers wordOf wordBytes numberOf numberAt numberBytes itemBytes itemsBytes allFinite isFinite numbers countBytes markKnown markOf markBytes replyOf acOf answerOf entryReply countsMore recordFound foundAt foundOf trailer jobOn jobFrom double zero one counts record-in
+unfolding ofBits toBits add sub mul vecScale vecCross vecAdd so3Act poseAct vecIn quatIn poseIn vecNumbers wordOf wordBytes numberOf numberAt numberBytes itemBytes itemsBytes allFinite isFinite numbers countBytes markKnown markOf markBytes replyOf acOf answerOf entryReply countsMore recordFound foundAt foundOf trailer jobOn jobFrom double zero one counts frames record-in
 answered = refl
 
 -- the same with an infinite point: it is answered, and counted last
@@ -54,10 +59,10 @@ unfinite-in =
     ∷ (one
     ++ (zero
     ++ (zero
-    ++ (zero ++ (zero ++ (zero ++ (zero ++ (zero ++ (one ++ (zero ++ (zero ++ double 0xf0 0x7f)))))))))))
+    ++ (zero ++ (zero ++ (zero ++ (zero ++ (zero ++ (frames 0 0 ++ (one ++ (zero ++ (zero ++ double 0xf0 0x7f))))))))))))
 
 unfinite : jobOf jobLimit unfinite-in ≡ 0x41 ∷ 0x43 ∷ (double 0xf8 0x7f ++ (double 0xf8 0x7f ++ (double 0xf8 0x7f ++ counts 1 0 0 1)))
-unfolding ofBits toBits add sub mul vecScale vecCross vecAdd so3Act poseAct vecIn quatIn poseIn vecNumbers wordOf wordBytes numberOf numberAt numberBytes itemBytes itemsBytes allFinite isFinite numbers countBytes markKnown markOf markBytes replyOf acOf answerOf entryReply countsMore recordFound foundAt foundOf trailer jobOn jobFrom double zero one counts unfinite-in
+unfolding ofBits toBits add sub mul vecScale vecCross vecAdd so3Act poseAct vecIn quatIn poseIn vecNumbers wordOf wordBytes numberOf numberAt numberBytes itemBytes itemsBytes allFinite isFinite numbers countBytes markKnown markOf markBytes replyOf acOf answerOf entryReply countsMore recordFound foundAt foundOf trailer jobOn jobFrom double zero one counts frames unfinite-in
 unfinite = refl
 
 -- nothing at all
@@ -79,6 +84,18 @@ cut-short = refl
 unlisted : jobOf jobLimit (0x51 ∷ 0x51 ∷ []) ≡ 0x4e ∷ 0x4f ∷ 6 ∷ counts 1 0 1 0
 unfolding wordBytes countBytes markKnown markOf markBytes noBytes countsMore recordFound foundAt foundOf trailer jobOn jobFrom counts
 unlisted = refl
+
+-- a product of poses from 3 to 5 and from 3 to 7: whole it is refused, since 3 is not 7; and cut by its last byte it is a cut record
+mu-in : ℕ → List ℕ
+mu-in n = 0x4d ∷ 0x55 ∷ (replicate 64 0 ++ (frames 3 5 ++ (replicate 64 0 ++ (frames 3 7 ++ replicate n 0))))
+
+apart : jobOf jobLimit (mu-in 8) ≡ 0x4e ∷ 0x4f ∷ 9 ∷ counts 1 0 1 0
+unfolding wordOf wordAt wordBytes countBytes markKnown markOf markBytes noBytes replyOf framedIn framedMul muOf answerOf entryReply countsMore recordFound foundAt foundOf trailer jobOn jobFrom counts frames mu-in
+apart = refl
+
+apart-cut : jobOf jobLimit (mu-in 7) ≡ 0x4e ∷ 0x4f ∷ 7 ∷ counts 1 0 1 0
+unfolding wordBytes countBytes markKnown markOf markBytes noBytes countsMore recordFound foundAt foundOf trailer jobOn jobFrom counts frames mu-in
+apart-cut = refl
 
 -- at the limit no mark is looked at
 at-limit : jobOf 0 (0x51 ∷ 0x51 ∷ []) ≡ counts 0 0 0 0
@@ -106,12 +123,12 @@ isCut cut = true
 
 table : List Row
 table =
-    record { first = 0x45; second = 0x58; bytes = 136 }
+    record { first = 0x45; second = 0x58; bytes = 140 }
     ∷ record { first = 0x43; second = 0x4f; bytes = 96 }
     ∷ record { first = 0x50; second = 0x41; bytes = 280 }
-    ∷ record { first = 0x41; second = 0x43; bytes = 96 }
-    ∷ record { first = 0x4d; second = 0x55; bytes = 136 }
-    ∷ record { first = 0x49; second = 0x4e; bytes = 72 }
+    ∷ record { first = 0x41; second = 0x43; bytes = 100 }
+    ∷ record { first = 0x4d; second = 0x55; bytes = 144 }
+    ∷ record { first = 0x49; second = 0x4e; bytes = 76 }
     ∷ record { first = 0x4a; second = 0x49; bytes = 248 }
     ∷ record { first = 0x41; second = 0x52; bytes = 96 }
     ∷ []

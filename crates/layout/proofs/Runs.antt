@@ -30,3 +30,7 @@ sets-part l b a k h s =
     ∙ ap (λ (x : List ℕ). take a l ++ x) (append-assoc b (drop (length b) (take k d)) (drop k d) ∙ ap (λ (x : List ℕ). b ++ x) (back ∙ drop-drop (length b) a l))
     ∙ sym (append-assoc (take a l) b (drop (a + length b) l))
     ∙ sym (sets-eq b l a (omega arith))
+
+-- what is stored behind a, at the place where a ends
+pub run-behind : (a b l : List ℕ) (i j : ℕ) → i + length a ≡ j → sets (sets l i a) j b ≡ sets l i (a ++ b)
+run-behind a b l i j e = sym (sets-split a b l i ∙ ap (λ (k : ℕ). sets (sets l i a) k b) e)

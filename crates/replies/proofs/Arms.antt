@@ -12,7 +12,7 @@ use Rattle.coeffs.specs.declared.sim3.Armed.{Armed}
 use Rattle.coeffs.specs.declared.sim3.ArmedPair.{ArmedPair}
 use Rattle.layout.specs.Layout.{scaledPairNumbers, armedScaled}
 use Rattle.layout.proofs.Numbers.{scaled-pair-count}
-use Rattle.layout.proofs.Runs.{sets-split, sets-part}
+use Rattle.layout.proofs.Runs.{run-behind, sets-part}
 use Rattle.wire.specs.Wire.{word, width, wordBytes, numbersBytes, itemBytes, itemsBytes, allFinite, numbers}
 use Rattle.wire.proofs.Bytes.{numbers-length, items-append, items-numbers}
 use Rattle.replies.specs.Table.{armItems, armedItems}
@@ -56,9 +56,6 @@ unfolding armItems itemsBytes itemBytes wordBytes
 arm-run f a l at = let e : at + 1 ≡ suc at = omega arith in rw e refl
 
 -- ---- the arms, and behind them the numbers, in the part of the list that is lent for them
-run-behind : (a b l : List ℕ) (i j : ℕ) → i + length a ≡ j → sets (sets l i a) j b ≡ sets l i (a ++ b)
-run-behind a b l i j e = sym (sets-split a b l i ∙ ap (λ (k : ℕ). sets (sets l i a) k b) e)
-
 armed-split :
     (f : Format) (p : ArmedPair) (l : List ℕ) →
     sets (sets (sets l 0 (itemsBytes f (armItems (p .pos)))) 2 (itemsBytes f (armItems (p .neg)))) 4 (told f p) ≡ sets l 0 (itemsBytes f (armedItems p))

@@ -1,4 +1,4 @@
--- Worked records: the scope's AC record, its examples of the refusals 1 and 2, and the arms at a NaN, by computing. Assumes nothing.
+-- Worked records: the scope's AC record, a product and its frames, the scope's examples of the refusals 1 and 2, and the arms at a NaN, by computing. Assumes nothing.
 use Prim.Native.Nat.{ℕ}
 use mathlib.Core.Path.{_≡_, refl}
 use mathlib.Core.Bool.{true, false}
@@ -13,14 +13,16 @@ use Rattle.coeffs.specs.Group.{coeffsArmed}
 use Rattle.coeffs.specs.Entries.{beside, scaledAnswer, pairAnswer, besideArmed, armedAnswer, armedPairAnswer}
 use Rattle.coeffs.specs.declared.values.Values.{Values}
 use Rattle.so3.specs.So3.{so3Act}
-use Rattle.sim3.specs.Pose.{poseAct}
+use Rattle.so3.specs.Quat.{quatMul}
+use Rattle.sim3.specs.Pose.{poseAct, poseMul}
+use Rattle.frames.specs.Joins.{framedMul}
 use Rattle.jacobian.specs.Jac.{jacInverseAnswer}
-use Rattle.layout.specs.Layout.{vecIn, quatIn, poseIn, blockIn}
-use Rattle.wire.specs.Wire.{wordOf, wordBytes, numberOf, numberAt, numberBytes, itemBytes, itemsBytes, allFinite, numbers}
+use Rattle.layout.specs.Layout.{vecIn, quatIn, poseIn, blockIn, quatNumbers, poseNumbers}
+use Rattle.wire.specs.Wire.{wordOf, wordAt, wordBytes, numberOf, numberAt, numberBytes, itemBytes, itemsBytes, allFinite, numbers}
 use Rattle.outcome.specs.declared.Kind.the-variants.{Answered, Refused}
-use Rattle.outcome.specs.declared.Entry.the-variants.{Co, Ac, Ji, Ar}
+use Rattle.outcome.specs.declared.Entry.the-variants.{Co, Ac, Mu, Ji, Ar}
 use Rattle.outcome.specs.Outcome.{markBytes, noBytes, replyOf}
-use Rattle.replies.specs.Table.{coOf, acOf, jiOf, arOf, answerOf, entryReply}
+use Rattle.replies.specs.Table.{framedIn, framedItems, coOf, acOf, muOf, jiOf, arOf, answerOf, entryReply}
 
 -- the bytes of numbers that are given by their bits
 unfoldable wordsBytes : List ℕ → List ℕ
@@ -30,18 +32,40 @@ wordsBytes (n ∷ l) = wordBytes 8 n ++ wordsBytes l
 abbrev one : ℕ
 one = 0x3ff0000000000000
 
--- pose 1 0 0 0, 1 2 3, 0, up 1, point 4 5 6
-ac-numbers : List ℕ
-ac-numbers = one ∷ 0 ∷ 0 ∷ 0 ∷ one ∷ 0x4000000000000000 ∷ 0x4008000000000000 ∷ 0 ∷ one ∷ 0x4010000000000000 ∷ 0x4014000000000000 ∷ 0x4018000000000000 ∷ []
+-- pose 1 0 0 0, 1 2 3, 0
+eight : List ℕ
+eight = one ∷ 0 ∷ 0 ∷ 0 ∷ one ∷ 0x4000000000000000 ∷ 0x4008000000000000 ∷ 0 ∷ []
+
+-- up 1, point 4 5 6
+up-point : List ℕ
+up-point = one ∷ 0x4010000000000000 ∷ 0x4014000000000000 ∷ 0x4018000000000000 ∷ []
+
+frames : ℕ → ℕ → List ℕ
+frames from to = wordBytes 2 from ++ wordBytes 2 to
 
 ac-example :
-    entryReply binary64 Ac (0x41 ∷ 0x43 ∷ wordsBytes ac-numbers)
+    entryReply binary64 Ac (0x41 ∷ 0x43 ∷ (wordsBytes eight ++ (frames 0 0 ++ wordsBytes up-point)))
     ≡ record {
       kind = Answered;
       bytes = 0x41 ∷ 0x43 ∷ 0 ∷ 0 ∷ 0 ∷ 0 ∷ 0 ∷ 0 ∷ 0x14 ∷ 0x40 ∷ 0 ∷ 0 ∷ 0 ∷ 0 ∷ 0 ∷ 0 ∷ 0x1c ∷ 0x40 ∷ 0 ∷ 0 ∷ 0 ∷ 0 ∷ 0 ∷ 0 ∷ 0x22 ∷ 0x40 ∷ [];
     }
-unfolding wordsBytes ac-numbers entryReply replyOf answerOf acOf markBytes poseIn quatIn vecIn vecNumbers numberAt numberOf numberBytes itemBytes itemsBytes allFinite isFinite numbers wordOf wordBytes ofBits toBits add sub mul vecScale vecCross vecAdd so3Act poseAct
+unfolding wordsBytes eight up-point frames entryReply replyOf answerOf acOf markBytes poseIn quatIn vecIn vecNumbers numberAt numberOf numberBytes itemBytes itemsBytes allFinite isFinite numbers wordOf wordBytes ofBits toBits add sub mul vecScale vecCross vecAdd so3Act poseAct
 ac-example = refl
+
+-- that pose from 5 to 7 times itself from 3 to 5, up 1: t is doubled, and the product goes from 3 to 7
+mu-example :
+    entryReply binary64 Mu (0x4d ∷ 0x55 ∷ (wordsBytes eight ++ (frames 5 7 ++ (wordsBytes eight ++ (frames 3 5 ++ wordsBytes (one ∷ []))))))
+    ≡ record {
+      kind = Answered;
+      bytes = 0x4d ∷ 0x55 ∷ (wordsBytes (one ∷ 0 ∷ 0 ∷ 0 ∷ 0x4000000000000000 ∷ 0x4010000000000000 ∷ 0x4018000000000000 ∷ 0 ∷ []) ++ (3 ∷ 0 ∷ 7 ∷ 0 ∷ []));
+    }
+unfolding wordsBytes eight frames entryReply replyOf answerOf muOf framedIn framedItems framedMul markBytes poseIn quatIn vecIn poseNumbers quatNumbers vecNumbers numberAt numberOf numberBytes itemBytes itemsBytes allFinite isFinite numbers wordAt wordOf wordBytes ofBits toBits add sub mul vecScale vecCross vecAdd so3Act quatMul poseAct poseMul
+mu-example = refl
+
+-- and the other way round it is refused
+mu-apart : entryReply binary64 Mu (0x4d ∷ 0x55 ∷ (wordsBytes eight ++ (frames 3 5 ++ (wordsBytes eight ++ (frames 5 7 ++ wordsBytes (one ∷ [])))))) ≡ record { kind = Refused; bytes = noBytes 9 }
+unfolding wordsBytes eight frames entryReply replyOf answerOf muOf framedIn framedMul wordAt wordOf wordBytes
+mu-apart = refl
 
 -- σ = 0, z = -1, whatever the values are
 co-example : (values : List ℕ) → entryReply binary64 Co (0x43 ∷ 0x4f ∷ (wordsBytes (0 ∷ 0xbff0000000000000 ∷ []) ++ values)) ≡ record { kind = Refused; bytes = noBytes 1 }

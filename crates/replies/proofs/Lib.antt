@@ -1,6 +1,7 @@
 -- The laws of replies, and the runs of stores by which the code writes them.
 pub mod Numbers
 pub mod Arms
+pub mod Frames
 pub mod AllFinite
 pub mod Replies
 mod ArAsCo

@@ -11,8 +11,10 @@ use Rattle.linalg.specs.Answer.{Answer, answers, refuses, andThen}
 use Rattle.coeffs.specs.Entries.{pairAnswer, armedPairAnswer}
 use Rattle.coeffs.specs.declared.sim3.ArmedPair.{ArmedPair}
 use Rattle.jacobian.specs.Jac.{jacInverseAnswer}
+use Rattle.frames.specs.Joins.{framedMul}
+use Rattle.frames.specs.declared.Pose.{Pose}
 use Rattle.layout.specs.Layout.{blockPairCount, blockIn, valuesIn, blockNumbers, scaledPairNumbers}
-use Rattle.layout.proofs.Numbers.{vec-count, pose-count, block-count, block-pair-count, scaled-pair-count}
+use Rattle.layout.proofs.Numbers.{vec-count, block-count, block-pair-count, scaled-pair-count}
 use Rattle.wire.specs.Wire.{Item, width, numberAt, numbersBytes, itemsBytes, allFinite, numbers}
 use Rattle.wire.proofs.Bytes.{numbers-length, items-numbers}
 use Rattle.outcome.specs.declared.Entry.{Entry}
@@ -25,8 +27,9 @@ use Rattle.layout.proofs.Runs.{sets-part}
 use Rattle.outcome.specs.Outcome.{longest, noBytes, markBytes, Reply, kindOf, replyOf, gaveAs, gaveOf, gaveBytes, becameOf, writtenOf, stepTold}
 use Rattle.outcome.proofs.Never.{never}
 use Rattle.outcome.proofs.Record.{mark-length, no-length, marked, reply-whole}
-use Rattle.replies.specs.Table.{gives, numbersOf, widthOf, exOf, coOf, paOf, acOf, muOf, inOf, jiOf, armedItems, arOf, answerOf, entryReply, entryFound}
+use Rattle.replies.specs.Table.{gives, numbersOf, widthOf, framedWidth, framedIn, framedItems, exOf, coOf, paOf, acOf, muOf, inOf, jiOf, armedItems, arOf, answerOf, entryReply, entryFound}
 use Rattle.replies.proofs.Arms.{armed-length}
+use Rattle.replies.proofs.Frames.{framed-length}
 
 -- ---- an entry that wrote items of k bytes, and told whether they are finite
 pub wrote-items :
@@ -87,14 +90,24 @@ unfolding replyOf
 armed-most f a b (answers p) = rw (length-append (markBytes a b) (itemsBytes f (armedItems p)), mark-length a b, armed-length f p) (arms-most f)
 armed-most f a b (refuses k) = rw (no-length k) (omega arith)
 
+-- the pose and its frames
+poses-most : (f : Format) → 2 + framedWidth f ≤ longest
+poses-most binary32 = omega arith
+poses-most binary64 = omega arith
+
+framed-most : (f : Format) (a b : ℕ) (r : Answer Pose) → length (replyOf f a b (andThen r (λ x. answers (framedItems x))) .bytes) ≤ longest
+unfolding replyOf
+framed-most f a b (answers x) = rw (length-append (markBytes a b) (itemsBytes f (framedItems x)), mark-length a b, framed-length f x) (poses-most f)
+framed-most f a b (refuses k) = rw (no-length k) (omega arith)
+
 reply-most : (f : Format) (e : Entry) (a b : ℕ) (r : List ℕ) → length (replyOf f a b (answerOf f e r) .bytes) ≤ longest
 unfolding answerOf exOf coOf paOf acOf muOf inOf jiOf arOf
-reply-most f Ex a b r = gives-most f a b 8 _ (pose-count _) (omega arith)
+reply-most f Ex a b r = framed-most f a b (answers _)
 reply-most f Co a b r = from-most f a b 20 scaledPairNumbers scaled-pair-count (omega arith) (pairAnswer f (numberAt f r 0) (numberAt f r 1) (valuesIn (numberAt f r) 2))
 reply-most f Pa a b r = gives-most f a b 124 _ (block-pair-count _) (omega arith)
 reply-most f Ac a b r = gives-most f a b 3 _ (vec-count _) (omega arith)
-reply-most f Mu a b r = gives-most f a b 8 _ (pose-count _) (omega arith)
-reply-most f In a b r = gives-most f a b 8 _ (pose-count _) (omega arith)
+reply-most f Mu a b r = framed-most f a b (framedMul f (framedIn f r) (framedIn f (drop (framedWidth f) r)) (numberAt f (drop (2 * framedWidth f) r) 0))
+reply-most f In a b r = framed-most f a b (answers _)
 reply-most f Ji a b r = from-most f a b 31 blockNumbers block-count (omega arith) (jacInverseAnswer f (blockIn (numberAt f r) 0))
 reply-most f Ar a b r = armed-most f a b (armedPairAnswer f (numberAt f r 0) (numberAt f r 1) (valuesIn (numberAt f r) 2))
 

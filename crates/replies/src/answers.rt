@@ -8,11 +8,16 @@ ghost use lib.Seq.{sets};
 ghost use Rattle.linalg.specs.Vector.{vecNumbers};
 ghost use Rattle.layout.specs.Layout.{poseNumbers, blockNumbers, blockPairNumbers, scaledNumbers, scaledPairNumbers, armedScaled};
 ghost use Rattle.wire.specs.Wire.{width, numbersBytes, itemsBytes, allFinite, numbers};
-ghost use Rattle.replies.specs.Table.{armedItems};
+ghost use Rattle.replies.specs.Table.{armedItems, framedWidth, framedItems};
+use crate::FRAME;
+use crate::NUMBER;
+use crate::bytes::put_short;
 use crate::finite;
 use crate::places;
 use coeffs::sim3::ArmedPair;
+use frames::Pose;
 use jacobian::jac::Sim3Jac;
+use layout::POSE;
 use linalg::vector::Vec3;
 use series::sim3::Sim3Coeffs;
 use sides::pair::BlockPair;
@@ -42,6 +47,20 @@ pub(crate) fn answer_pose(out: &mut [u8], i: usize, x: Sim3) -> bool
     }
     places::put_pose(out, i, x);
     false
+}
+
+// A pose, and behind its numbers its frames, which are finite.
+pub(crate) fn answer_framed(out: &mut [u8], x: Pose) -> bool
+    requires { ⌜ framedWidth binary64 ≤ length (now out) ⌝ }
+    ensures { λ r. ⌜ r ≡ allFinite (framedItems x) ⌝ }
+    ensures { λ _. ⌜ now (out .exit) ≡ sets (now (out .entry)) 0 (itemsBytes binary64 (framedItems x)) ⌝ }
+{
+    let from = x.from;
+    let to = x.to;
+    let finite = answer_pose(out, 0, x.sim3);
+    put_short(out, NUMBER * POSE, from);
+    put_short(out, NUMBER * POSE + FRAME, to);
+    finite
 }
 
 pub(crate) fn answer_block(out: &mut [u8], i: usize, j: Sim3Jac) -> bool

@@ -1,5 +1,5 @@
 // The i-th number of a list of bytes: the one place where a number's bytes stand one by one. And the
-// whole number of one byte.
+// whole numbers of one byte and of two.
 ghost use mathlib.Core.Path.{_≡_};
 ghost use mathlib.Core.Bool.{true};
 ghost use Prim.Native.Nat.{_+_, _*_, _≤_};
@@ -7,7 +7,7 @@ ghost use lib.Ieee.{binary64};
 ghost use lib.ListN.{length};
 ghost use lib.Seq.{sets};
 ghost use Rattle.ieee.specs.Finite.{isFinite};
-ghost use Rattle.wire.specs.Wire.{word, width, numberAt, numberBytes, itemBytes};
+ghost use Rattle.wire.specs.Wire.{word, width, wordAt, numberAt, numberBytes, itemBytes};
 
 pub(crate) fn number_at(b: &[u8], i: usize) -> f64
     requires { ⌜ (i + 1) * 8 ≤ length (now b) ⌝ }
@@ -47,6 +47,22 @@ pub(crate) fn put_word(out: &mut [u8], at: usize, n: u8)
     ensures { λ _. ⌜ now (out .exit) ≡ sets (now (out .entry)) at (itemBytes binary64 (word 1 n)) ⌝ }
 {
     out[at] = n;
+}
+
+pub(crate) fn short_at(b: &[u8], at: usize) -> u16
+    requires { ⌜ at + 2 ≤ length (now b) ⌝ }
+    ensures { λ r. ⌜ r ≡ wordAt 2 (now (b .entry)) at ⌝ }
+{
+    wire::short_from_le_bytes([b[at], b[at + 1]])
+}
+
+pub(crate) fn put_short(out: &mut [u8], at: usize, n: u16)
+    requires { ⌜ at + 2 ≤ length (now out) ⌝ }
+    ensures { λ _. ⌜ now (out .exit) ≡ sets (now (out .entry)) at (itemBytes binary64 (word 2 n)) ⌝ }
+{
+    let d = wire::short_to_le_bytes(n);
+    out[at] = d[0];
+    out[at + 1] = d[1];
 }
 
 // Of a finite number the bits are taken as they are.

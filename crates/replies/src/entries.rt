@@ -8,30 +8,36 @@ ghost use lib.Seq.{sets};
 ghost use Rattle.outcome.specs.Outcome.{longest, gaveAs, gaveOf, gaveBytes};
 ghost use Rattle.outcome.specs.declared.Entry.{Entry};
 ghost use Rattle.replies.specs.Table.{widthOf, exOf, coOf, paOf, acOf, muOf, inOf, jiOf, arOf};
+use crate::FRAME;
+use crate::FRAMED;
 use crate::NUMBER;
 use crate::answers::answer_armed_pair;
 use crate::answers::answer_block;
 use crate::answers::answer_block_pair;
-use crate::answers::answer_pose;
+use crate::answers::answer_framed;
 use crate::answers::answer_scaled;
 use crate::answers::answer_vec;
 use crate::bytes::number_at;
+use crate::bytes::short_at;
 use crate::places::block_at;
+use crate::places::framed_at;
 use crate::places::mat_at;
 use crate::places::pose_at;
 use crate::places::tangent_at;
 use crate::places::values_at;
 use crate::places::vec_at;
 use coeffs::sim3::ArmedPairAnswer;
+use frames::Pose;
+use frames::PoseAnswer;
 use jacobian::jac::JacAnswer;
 use layout::BLOCK;
 use layout::BLOCK_PAIR;
-use layout::POSE;
 use layout::SCALED_PAIR;
+use layout::TANGENT;
+use layout::VALUES;
 use layout::VEC;
 use outcome::Gave;
 use sides::pair::block_pair;
-use sim3::sim3::Sim3;
 
 // What is told of an answer of n bytes, by whether it is finite.
 fn gave(finite: bool, n: usize) -> Gave
@@ -51,8 +57,11 @@ pub(crate) fn ex(b: &[u8], out: &mut [u8]) -> Gave
     ensures { λ r. ⌜ r ≡ gaveOf binary64 (exOf binary64 (now (b .entry))) ⌝ }
     ensures { λ _. ⌜ now (out .exit) ≡ sets (now (out .entry)) 0 (gaveBytes binary64 (exOf binary64 (now (b .entry)))) ⌝ }
 {
-    let finite = answer_pose(out, 0, Sim3::exp(tangent_at(b, 0), values_at(b, 7)));
-    gave(finite, NUMBER * POSE)
+    let end = NUMBER * (TANGENT + VALUES);
+    let from = short_at(b, end);
+    let to = short_at(b, end + FRAME);
+    let finite = answer_framed(out, Pose::exp(tangent_at(b, 0), values_at(b, 7), from, to));
+    gave(finite, FRAMED)
 }
 
 // The scaled pair of coefficients; refusal 1 for z < 0. The entry is the one that tells the arms too,
@@ -94,19 +103,31 @@ pub(crate) fn ac(b: &[u8], out: &mut [u8]) -> Gave
     ensures { λ r. ⌜ r ≡ gaveOf binary64 (acOf binary64 (now (b .entry))) ⌝ }
     ensures { λ _. ⌜ now (out .exit) ≡ sets (now (out .entry)) 0 (gaveBytes binary64 (acOf binary64 (now (b .entry)))) ⌝ }
 {
-    let finite = answer_vec(out, 0, pose_at(b, 0).act(number_at(b, 8), vec_at(b, 9)));
+    let rest = &b[FRAMED..];
+    let finite = answer_vec(
+        out,
+        0,
+        pose_at(b, 0).act(number_at(rest, 0), vec_at(rest, 1)),
+    );
     gave(finite, NUMBER * VEC)
 }
 
-// The product of two poses.
+// The product of two poses; refusal 9 where their frames do not meet.
 pub(crate) fn mu(b: &[u8], out: &mut [u8]) -> Gave
     requires { ⌜ length (now b) ≡ widthOf binary64 Entry.Mu ⌝ }
     requires { ⌜ longest ≤ 2 + length (now out) ⌝ }
     ensures { λ r. ⌜ r ≡ gaveOf binary64 (muOf binary64 (now (b .entry))) ⌝ }
     ensures { λ _. ⌜ now (out .exit) ≡ sets (now (out .entry)) 0 (gaveBytes binary64 (muOf binary64 (now (b .entry)))) ⌝ }
 {
-    let finite = answer_pose(out, 0, pose_at(b, 0).mul(pose_at(b, 8), number_at(b, 16)));
-    gave(finite, NUMBER * POSE)
+    let right = framed_at(&b[FRAMED..]);
+    let up = number_at(&b[2 * FRAMED..], 0);
+    match framed_at(b).mul(right, up) {
+        PoseAnswer::Pose(x) => {
+            let finite = answer_framed(out, x);
+            gave(finite, FRAMED)
+        }
+        PoseAnswer::Refused(number) => Gave::Refused(number),
+    }
 }
 
 // The inverse of a pose.
@@ -116,8 +137,9 @@ pub(crate) fn inv(b: &[u8], out: &mut [u8]) -> Gave
     ensures { λ r. ⌜ r ≡ gaveOf binary64 (inOf binary64 (now (b .entry))) ⌝ }
     ensures { λ _. ⌜ now (out .exit) ≡ sets (now (out .entry)) 0 (gaveBytes binary64 (inOf binary64 (now (b .entry)))) ⌝ }
 {
-    let finite = answer_pose(out, 0, pose_at(b, 0).inverse(number_at(b, 8)));
-    gave(finite, NUMBER * POSE)
+    let down = number_at(&b[FRAMED..], 0);
+    let finite = answer_framed(out, framed_at(b).inverse(down));
+    gave(finite, FRAMED)
 }
 
 // The inverse of a block; refusal 2 where e is a zero.

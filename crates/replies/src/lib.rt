@@ -33,20 +33,24 @@ mod entries; // what each entry answers
 mod finite; // answers that are finite
 mod places; // things of several numbers
 
-// How many bytes a number has.
+// How many bytes a number has, a frame, and a pose with both of its frames.
 const NUMBER: usize = 8;
+
+const FRAME: usize = 2;
+
+const FRAMED: usize = NUMBER * POSE + 2 * FRAME;
 
 // How many bytes a record has behind its mark.
 fn width(e: Entry) -> usize
     ensures { λ r. ⌜ r ≡ widthOf binary64 e ⌝ }
 {
     match e {
-        Entry::Ex => NUMBER * (TANGENT + VALUES),
+        Entry::Ex => NUMBER * (TANGENT + VALUES) + 2 * FRAME,
         Entry::Co => NUMBER * (2 + VALUES),
         Entry::Pa => NUMBER * (TANGENT + VALUES + 2 * MAT),
-        Entry::Ac => NUMBER * (POSE + 1 + VEC),
-        Entry::Mu => NUMBER * (2 * POSE + 1),
-        Entry::In => NUMBER * (POSE + 1),
+        Entry::Ac => FRAMED + NUMBER * (1 + VEC),
+        Entry::Mu => 2 * FRAMED + NUMBER,
+        Entry::In => FRAMED + NUMBER,
         Entry::Ji => NUMBER * BLOCK,
         Entry::Ar => NUMBER * (2 + VALUES),
     }

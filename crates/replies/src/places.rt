@@ -9,13 +9,18 @@ ghost use Rattle.linalg.specs.Vector.{vecNumbers};
 ghost use Rattle.layout.specs.Layout.{vecIn, matIn, poseIn, tangentIn, valuesIn, blockIn};
 ghost use Rattle.layout.specs.Layout.{matNumbers, poseNumbers, blockNumbers, scaledNumbers};
 ghost use Rattle.wire.specs.Wire.{width, numberAt, numbersBytes, itemsBytes};
-ghost use Rattle.replies.specs.Table.{armItems};
+ghost use Rattle.replies.specs.Table.{armItems, framedWidth, framedIn};
+use crate::FRAME;
+use crate::NUMBER;
 use crate::bytes::number_at;
 use crate::bytes::put_number;
 use crate::bytes::put_word;
+use crate::bytes::short_at;
 use coeffs::sim3::Armed;
 use coeffs::values::Values;
+use frames::Pose;
 use jacobian::jac::Sim3Jac;
+use layout::POSE;
 use linalg::matrix::Mat3;
 use linalg::vector::Vec3;
 use series::sim3::Sim3Coeffs;
@@ -61,6 +66,18 @@ pub(crate) fn pose_at(b: &[u8], i: usize) -> Sim3
         q,
         t: vec_at(b, i + 4),
         sigma: number_at(b, i + 7),
+    }
+}
+
+// A pose and the frames behind its numbers, at the front of the bytes.
+pub(crate) fn framed_at(b: &[u8]) -> Pose
+    requires { ⌜ framedWidth binary64 ≤ length (now b) ⌝ }
+    ensures { λ r. ⌜ r ≡ framedIn binary64 (now (b .entry)) ⌝ }
+{
+    Pose {
+        sim3: pose_at(b, 0),
+        from: short_at(b, NUMBER * POSE),
+        to: short_at(b, NUMBER * POSE + FRAME),
     }
 }
 

@@ -16,11 +16,11 @@ use Rattle.layout.proofs.Runs.{sets-front}
 use Rattle.sim3_c.specs.Lists.{wrongLength, sized}
 use Rattle.sim3_c.specs.Calls.{status, written, fitting}
 
-pub sized-right : {A : Type 0} (l : List Float) (n : ℕ) (a : A) → length l ≡ n → sized l n a ≡ answers a
+pub sized-right : {A B : Type 0} (l : List B) (n : ℕ) (a : A) → length l ≡ n → sized l n a ≡ answers a
 unfolding sized
 sized-right l n a h = simp (eq-eqb _ _ h)
 
-pub sized-wrong : {A : Type 0} (l : List Float) (n : ℕ) (a : A) → (length l ≡ n → ⊥) → sized l n a ≡ refuses wrongLength
+pub sized-wrong : {A B : Type 0} (l : List B) (n : ℕ) (a : A) → (length l ≡ n → ⊥) → sized l n a ≡ refuses wrongLength
 unfolding sized
 sized-wrong l n a h = simp (ne-eqb _ _ h)
 

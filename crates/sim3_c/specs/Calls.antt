@@ -15,14 +15,16 @@ use Rattle.root.specs.Root.{rootOf}
 use Rattle.coeffs.specs.Entries.{pairAnswer, armedAnswer, armedPairAnswer}
 use Rattle.coeffs.specs.declared.sim3.Armed.{Armed}
 use Rattle.coeffs.specs.declared.sim3.ArmedPair.{ArmedPair}
-use Rattle.sim3.specs.Pose.{poseMul, poseInverse, poseMulInv, poseInvMul, poseRenormalized}
-use Rattle.sim3.specs.Exp.{poseExp}
+use Rattle.sim3.specs.Pose.{poseRenormalized}
 use Rattle.sim3.specs.Points.{pointsAnswer, pointsOut, poseActMany, poseActEach}
+use Rattle.frames.specs.Pose.{framedExp, framedInverse}
+use Rattle.frames.specs.Joins.{framedMul, framedMulInv, framedInvMul}
+use Rattle.frames.specs.declared.Pose.{Pose}
 use Rattle.jacobian.specs.Jac.{jacInverseAnswer}
 use Rattle.sides.specs.Pair.{blockPair}
 use Rattle.sides.specs.Side.{poseAdjoint, actJacobiansRight, actJacobiansLeft, composeJacobiansRight, composeJacobiansLeft, inverseJacobianRight, inverseJacobianLeft}
-use Rattle.layout.specs.Layout.{poseNumbers, blockNumbers, blockPairNumbers, scaledNumbers, scaledPairNumbers, armedScaled, twoNumbers, actNumbers}
-use Rattle.sim3_c.specs.Lists.{wrongLength, vecFrom, matFrom, poseFrom, tangentFrom, valuesFrom, blockFrom}
+use Rattle.layout.specs.Layout.{poseCount, poseNumbers, blockNumbers, blockPairNumbers, scaledNumbers, scaledPairNumbers, armedScaled, twoNumbers, actNumbers}
+use Rattle.sim3_c.specs.Lists.{wrongLength, vecFrom, matFrom, poseFrom, tangentFrom, valuesFrom, blockFrom, PoseLists, poseLists, framesCount, framesFrom, framedFrom}
 
 -- ---- what is returned, and what `out` then holds
 unfoldable pub status : {A : Type 0} → Answer A → ℕ
@@ -37,23 +39,39 @@ written (refuses n) out = out
 unfoldable pub fitting : List Float → List Float → Answer (List Float)
 fitting out l = cond (eqb (length out) (length l)) (answers l) (refuses wrongLength)
 
--- ---- poses
-unfoldable pub expCall : List Float → List Float → List Float → Answer (List Float)
-expCall tau values out = andThen (tangentFrom tau) (λ t. andThen (valuesFrom values) (λ v. fitting out (poseNumbers (poseExp binary64 t v))))
+-- ---- poses with their frames
+abbrev pub framedNumbers : Pose → PoseLists
+framedNumbers x = poseLists (poseNumbers (x .sim3)) (x .from ∷ x .to ∷ [])
 
-unfoldable pub mulCall : List Float → List Float → Float → List Float → Answer (List Float)
-mulCall x y up out = andThen (poseFrom x) (λ a. andThen (poseFrom y) (λ b. fitting out (poseNumbers (poseMul binary64 a b up))))
+-- what the lists of the result hold after a call
+abbrev pub framedWritten : (PoseLists → Answer PoseLists) → PoseLists → PoseLists
+framedWritten call out = written (call out) out
 
-unfoldable pub inverseCall : List Float → Float → List Float → Answer (List Float)
-inverseCall x down out = andThen (poseFrom x) (λ a. fitting out (poseNumbers (poseInverse binary64 a down)))
+-- a pose for lists that have just the lengths of its numbers and of its frames
+unfoldable pub framedFitting : PoseLists → Pose → Answer PoseLists
+framedFitting out x = cond (eqb (length (out .numbers)) poseCount && eqb (length (out .frames)) framesCount) (answers (framedNumbers x)) (refuses wrongLength)
 
-unfoldable pub mulInvCall : List Float → List Float → Float → List Float → Answer (List Float)
-mulInvCall x y ds out = andThen (poseFrom x) (λ a. andThen (poseFrom y) (λ b. fitting out (poseNumbers (poseMulInv binary64 a b ds))))
+-- where the frames do not meet that is refused, whatever lengths the lists have
+unfoldable pub joinedFitting : PoseLists → Answer Pose → Answer PoseLists
+joinedFitting out a = andThen a (framedFitting out)
 
-unfoldable pub invMulCall : List Float → List Float → Float → List Float → Answer (List Float)
-invMulCall x y down out = andThen (poseFrom x) (λ a. andThen (poseFrom y) (λ b. fitting out (poseNumbers (poseInvMul binary64 a b down))))
+unfoldable pub expCall : List Float → List Float → List ℕ → PoseLists → Answer PoseLists
+expCall tau values frames out =
+    andThen (tangentFrom tau) (λ t. andThen (valuesFrom values) (λ v. andThen (framesFrom frames) (λ k. framedFitting out (framedExp binary64 t v (k .from) (k .to)))))
 
--- in place: the list is read and then written
+unfoldable pub mulCall : PoseLists → PoseLists → Float → PoseLists → Answer PoseLists
+mulCall x y up out = andThen (framedFrom x) (λ a. andThen (framedFrom y) (λ b. joinedFitting out (framedMul binary64 a b up)))
+
+unfoldable pub inverseCall : PoseLists → Float → PoseLists → Answer PoseLists
+inverseCall x down out = andThen (framedFrom x) (λ a. framedFitting out (framedInverse binary64 a down))
+
+unfoldable pub mulInvCall : PoseLists → PoseLists → Float → PoseLists → Answer PoseLists
+mulInvCall x y ds out = andThen (framedFrom x) (λ a. andThen (framedFrom y) (λ b. joinedFitting out (framedMulInv binary64 a b ds)))
+
+unfoldable pub invMulCall : PoseLists → PoseLists → Float → PoseLists → Answer PoseLists
+invMulCall x y down out = andThen (framedFrom x) (λ a. andThen (framedFrom y) (λ b. joinedFitting out (framedInvMul binary64 a b down)))
+
+-- ---- the rotation's Newton step, which reads no frame: in place, the list is read and then written
 unfoldable pub renormalizeCall : List Float → Answer (List Float)
 renormalizeCall x = andThen (poseFrom x) (λ a. fitting x (poseNumbers (poseRenormalized binary64 a)))
 

@@ -5,12 +5,14 @@ use mathlib.Core.List.{List}
 use lib.Dec.{eqb}
 use lib.ListN.{getD, length}
 use lib.Ieee.{Float, nan}
-use Rattle.linalg.specs.Answer.{Answer, answers, refuses}
+use Rattle.linalg.specs.Answer.{Answer, answers, refuses, andThen}
 use Rattle.linalg.specs.declared.vector.Vec3.{Vec3}
 use Rattle.linalg.specs.declared.matrix.Mat3.{Mat3}
 use Rattle.coeffs.specs.declared.values.Values.{Values}
 use Rattle.sim3.specs.declared.sim3.Sim3.{Sim3}
 use Rattle.sim3.specs.declared.tangent.Sim3Tangent.{Sim3Tangent}
+use Rattle.frames.specs.Pose.{framed}
+use Rattle.frames.specs.declared.Pose.{Pose}
 use Rattle.jacobian.specs.declared.jac.Sim3Jac.{Sim3Jac}
 use Rattle.layout.specs.Layout.{vecCount, matCount, poseCount, tangentCount, valuesCount, blockCount, vecIn, matIn, poseIn, tangentIn, valuesIn, blockIn}
 use Rattle.sim3_c.specs.declared.read.VecRead.{VecRead}
@@ -19,6 +21,11 @@ use Rattle.sim3_c.specs.declared.read.MatRead.{MatRead}
 use Rattle.sim3_c.specs.declared.read.MatRead.the-variants as mats
 use Rattle.sim3_c.specs.declared.read.PoseRead.{PoseRead}
 use Rattle.sim3_c.specs.declared.read.PoseRead.the-variants as poses
+use Rattle.sim3_c.specs.declared.read.Frames.{Frames}
+use Rattle.sim3_c.specs.declared.read.FramesRead.{FramesRead}
+use Rattle.sim3_c.specs.declared.read.FramesRead.the-variants as pairs
+use Rattle.sim3_c.specs.declared.read.FramedRead.{FramedRead}
+use Rattle.sim3_c.specs.declared.read.FramedRead.the-variants as framedPoses
 use Rattle.sim3_c.specs.declared.read.TangentRead.{TangentRead}
 use Rattle.sim3_c.specs.declared.read.TangentRead.the-variants as tangents
 use Rattle.sim3_c.specs.declared.read.ValuesRead.{ValuesRead}
@@ -30,8 +37,8 @@ use Rattle.sim3_c.specs.declared.read.BlockRead.the-variants as jacs
 abbrev pub wrongLength : ℕ
 wrongLength = 100
 
--- what is read of a list of n numbers
-unfoldable pub sized : {A : Type 0} → List Float → ℕ → A → Answer A
+-- what is read of a list that has n places
+unfoldable pub sized : {A B : Type 0} → List B → ℕ → A → Answer A
 sized l n a = cond (eqb (length l) n) (answers a) (refuses wrongLength)
 
 -- the i-th number of a list
@@ -57,6 +64,23 @@ valuesFrom l = sized l valuesCount (valuesIn (numberIn l) 0)
 unfoldable pub blockFrom : List Float → Answer Sim3Jac
 blockFrom l = sized l blockCount (blockIn (numberIn l) 0)
 
+-- ---- a pose with its frames stands in two lists: its eight numbers; from, then to
+pub record PoseLists : Type 0 where
+  pub numbers : List Float
+  pub frames : List ℕ
+
+abbrev pub poseLists : List Float → List ℕ → PoseLists
+poseLists numbers frames = record { numbers = numbers; frames = frames }
+
+abbrev pub framesCount : ℕ
+framesCount = 2
+
+unfoldable pub framesFrom : List ℕ → Answer Frames
+framesFrom l = sized l framesCount (record { from = getD l 0 0; to = getD l 1 0 })
+
+unfoldable pub framedFrom : PoseLists → Answer Pose
+framedFrom l = andThen (poseFrom (l .numbers)) (λ x. andThen (framesFrom (l .frames)) (λ k. answers (framed x (k .from) (k .to))))
+
 -- ---- what each case of a reading says
 unfoldable pub vecTold : VecRead → Answer Vec3
 vecTold (vecs.Got v) = answers v
@@ -69,6 +93,14 @@ matTold mats.Wrong = refuses wrongLength
 unfoldable pub poseTold : PoseRead → Answer Sim3
 poseTold (poses.Got x) = answers x
 poseTold poses.Wrong = refuses wrongLength
+
+unfoldable pub framesTold : FramesRead → Answer Frames
+framesTold (pairs.Got k) = answers k
+framesTold pairs.Wrong = refuses wrongLength
+
+unfoldable pub framedTold : FramedRead → Answer Pose
+framedTold (framedPoses.Got x) = answers x
+framedTold framedPoses.Wrong = refuses wrongLength
 
 unfoldable pub tangentTold : TangentRead → Answer Sim3Tangent
 tangentTold (tangents.Got t) = answers t

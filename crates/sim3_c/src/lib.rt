@@ -1,9 +1,9 @@
 // The engine for callers in C, Rust and Python: exported functions over numbers and lists of numbers,
-// each returning 0, or the number of a refusal, where `out` stays as it was. 1, 2, 5 and 8 are the
+// each returning 0, or the number of a refusal, where `out` stays as it was. 1, 2, 5, 8 and 9 are the
 // engine's; LIST_LENGTH is this boundary's own. include/sim3.h has the order of every number.
 mod read; // the things in a list's numbers
 mod write; // the numbers of a thing, to a list
-pub mod pose; // exponential, composition, inverse
+pub mod pose; // exponential, composition, inverse, with the frames
 pub mod points; // the action on lists of points
 pub mod pairs; // both signs, both sides
 pub mod arms; // the coefficients with their arms
@@ -12,3 +12,6 @@ pub mod square_root; // the square root with what is left
 
 // A list has not the length that is due. No refusal of the engine has this number or one near it.
 const LIST_LENGTH: u32 = 100;
+
+// A pose's frames: from, to.
+const FRAMES: usize = 2;

@@ -1,21 +1,42 @@
-// Poses: quaternion w x y z, t, sigma.
+// Poses: quaternion w x y z, t, sigma, and in a list beside these the frames: from, to. A pose that is
+// the result has its numbers and its frames written to two lists; both or none.
 ghost use mathlib.Core.Path.{_≡_};
-ghost use Rattle.sim3_c.specs.Calls.{status, written, expCall, mulCall, inverseCall, mulInvCall, invMulCall, renormalizeCall};
+ghost use Rattle.sim3_c.specs.Lists.{poseLists};
+ghost use Rattle.sim3_c.specs.Calls.{status, written, framedWritten, expCall, mulCall, inverseCall, mulInvCall, invMulCall, renormalizeCall};
 use crate::LIST_LENGTH;
+use crate::read::FramedRead;
+use crate::read::FramesRead;
 use crate::read::PoseRead;
 use crate::read::TangentRead;
 use crate::read::ValuesRead;
+use crate::read::framed_from;
+use crate::read::frames_from;
 use crate::read::pose_from;
 use crate::read::tangent_from;
 use crate::read::values_from;
+use crate::write::put_framed;
+use crate::write::put_joined;
 use crate::write::put_pose;
-use sim3::sim3::Sim3;
+use frames::Pose;
 
-// Exp of the tangent, with its ten function values.
+// Exp of the tangent, with its ten function values and the frames that it is given.
 #[no_mangle]
-pub extern "C" fn sim3_exp(tau: &[f64], values: &[f64], out: &mut [f64]) -> u32
-    ensures { λ r. ⌜ r ≡ status (expCall (now (tau .entry)) (now (values .entry)) (now (out .entry))) ⌝ }
-    ensures { λ _. ⌜ now (out .exit) ≡ written (expCall (now (tau .entry)) (now (values .entry)) (now (out .entry))) (now (out .entry)) ⌝ }
+pub extern "C" fn sim3_exp(
+    tau: &[f64],
+    values: &[f64],
+    frames: &[u16],
+    out: &mut [f64],
+    out_frames: &mut [u16],
+) -> u32
+    ensures { λ r. ⌜
+        r ≡ status (expCall (now (tau .entry)) (now (values .entry)) (now (frames .entry))
+        (poseLists (now (out .entry)) (now («out_frames» .entry))))
+        ⌝ }
+    ensures { λ _. ⌜
+        poseLists (now (out .exit)) (now («out_frames» .exit))
+        ≡ framedWritten (expCall (now (tau .entry)) (now (values .entry)) (now (frames .entry)))
+        (poseLists (now (out .entry)) (now («out_frames» .entry)))
+        ⌝ }
 {
     let TangentRead::Got(t) = tangent_from(tau) else {
         return LIST_LENGTH;
@@ -23,67 +44,128 @@ pub extern "C" fn sim3_exp(tau: &[f64], values: &[f64], out: &mut [f64]) -> u32
     let ValuesRead::Got(v) = values_from(values) else {
         return LIST_LENGTH;
     };
-    put_pose(out, Sim3::exp(t, v))
+    let FramesRead::Got(k) = frames_from(frames) else {
+        return LIST_LENGTH;
+    };
+    put_framed(out, out_frames, Pose::exp(t, v, k.from, k.to))
 }
 
-// X Y; up is e^sigma of X.
+// X Y, where X starts from the frame to which Y goes; up is e^sigma of X.
 #[no_mangle]
-pub extern "C" fn sim3_mul(x: &[f64], y: &[f64], up: f64, out: &mut [f64]) -> u32
-    ensures { λ r. ⌜ r ≡ status (mulCall (now (x .entry)) (now (y .entry)) up (now (out .entry))) ⌝ }
-    ensures { λ _. ⌜ now (out .exit) ≡ written (mulCall (now (x .entry)) (now (y .entry)) up (now (out .entry))) (now (out .entry)) ⌝ }
+pub extern "C" fn sim3_mul(
+    x: &[f64],
+    x_frames: &[u16],
+    y: &[f64],
+    y_frames: &[u16],
+    up: f64,
+    out: &mut [f64],
+    out_frames: &mut [u16],
+) -> u32
+    ensures { λ r. ⌜
+        r ≡ status (mulCall (poseLists (now (x .entry)) (now («x_frames» .entry))) (poseLists (now (y .entry)) (now («y_frames» .entry))) up
+        (poseLists (now (out .entry)) (now («out_frames» .entry))))
+        ⌝ }
+    ensures { λ _. ⌜
+        poseLists (now (out .exit)) (now («out_frames» .exit))
+        ≡ framedWritten (mulCall (poseLists (now (x .entry)) (now («x_frames» .entry))) (poseLists (now (y .entry)) (now («y_frames» .entry))) up)
+        (poseLists (now (out .entry)) (now («out_frames» .entry)))
+        ⌝ }
 {
-    let PoseRead::Got(a) = pose_from(x) else {
+    let FramedRead::Got(a) = framed_from(x, x_frames) else {
         return LIST_LENGTH;
     };
-    let PoseRead::Got(b) = pose_from(y) else {
+    let FramedRead::Got(b) = framed_from(y, y_frames) else {
         return LIST_LENGTH;
     };
-    put_pose(out, a.mul(b, up))
+    put_joined(out, out_frames, a.mul(b, up))
 }
 
-// X^-1; down is e^-sigma of X.
+// X^-1, with the frames exchanged; down is e^-sigma of X.
 #[no_mangle]
-pub extern "C" fn sim3_inverse(x: &[f64], down: f64, out: &mut [f64]) -> u32
-    ensures { λ r. ⌜ r ≡ status (inverseCall (now (x .entry)) down (now (out .entry))) ⌝ }
-    ensures { λ _. ⌜ now (out .exit) ≡ written (inverseCall (now (x .entry)) down (now (out .entry))) (now (out .entry)) ⌝ }
+pub extern "C" fn sim3_inverse(
+    x: &[f64],
+    x_frames: &[u16],
+    down: f64,
+    out: &mut [f64],
+    out_frames: &mut [u16],
+) -> u32
+    ensures { λ r. ⌜
+        r ≡ status (inverseCall (poseLists (now (x .entry)) (now («x_frames» .entry))) down
+        (poseLists (now (out .entry)) (now («out_frames» .entry))))
+        ⌝ }
+    ensures { λ _. ⌜
+        poseLists (now (out .exit)) (now («out_frames» .exit))
+        ≡ framedWritten (inverseCall (poseLists (now (x .entry)) (now («x_frames» .entry))) down)
+        (poseLists (now (out .entry)) (now («out_frames» .entry)))
+        ⌝ }
 {
-    let PoseRead::Got(a) = pose_from(x) else {
+    let FramedRead::Got(a) = framed_from(x, x_frames) else {
         return LIST_LENGTH;
     };
-    put_pose(out, a.inverse(down))
+    put_framed(out, out_frames, a.inverse(down))
 }
 
-// X Y^-1; ds is e^(sigma of X - sigma of Y).
+// X Y^-1, where both start from one frame; ds is e^(sigma of X - sigma of Y).
 #[no_mangle]
-pub extern "C" fn sim3_mul_inv(x: &[f64], y: &[f64], ds: f64, out: &mut [f64]) -> u32
-    ensures { λ r. ⌜ r ≡ status (mulInvCall (now (x .entry)) (now (y .entry)) ds (now (out .entry))) ⌝ }
-    ensures { λ _. ⌜ now (out .exit) ≡ written (mulInvCall (now (x .entry)) (now (y .entry)) ds (now (out .entry))) (now (out .entry)) ⌝ }
+pub extern "C" fn sim3_mul_inv(
+    x: &[f64],
+    x_frames: &[u16],
+    y: &[f64],
+    y_frames: &[u16],
+    ds: f64,
+    out: &mut [f64],
+    out_frames: &mut [u16],
+) -> u32
+    ensures { λ r. ⌜
+        r ≡ status (mulInvCall (poseLists (now (x .entry)) (now («x_frames» .entry))) (poseLists (now (y .entry)) (now («y_frames» .entry))) ds
+        (poseLists (now (out .entry)) (now («out_frames» .entry))))
+        ⌝ }
+    ensures { λ _. ⌜
+        poseLists (now (out .exit)) (now («out_frames» .exit))
+        ≡ framedWritten (mulInvCall (poseLists (now (x .entry)) (now («x_frames» .entry))) (poseLists (now (y .entry)) (now («y_frames» .entry))) ds)
+        (poseLists (now (out .entry)) (now («out_frames» .entry)))
+        ⌝ }
 {
-    let PoseRead::Got(a) = pose_from(x) else {
+    let FramedRead::Got(a) = framed_from(x, x_frames) else {
         return LIST_LENGTH;
     };
-    let PoseRead::Got(b) = pose_from(y) else {
+    let FramedRead::Got(b) = framed_from(y, y_frames) else {
         return LIST_LENGTH;
     };
-    put_pose(out, a.mul_inv(b, ds))
+    put_joined(out, out_frames, a.mul_inv(b, ds))
 }
 
-// Y^-1 X; down is e^-sigma of Y.
+// Y^-1 X, where both go to one frame; down is e^-sigma of Y.
 #[no_mangle]
-pub extern "C" fn sim3_inv_mul(x: &[f64], y: &[f64], down: f64, out: &mut [f64]) -> u32
-    ensures { λ r. ⌜ r ≡ status (invMulCall (now (x .entry)) (now (y .entry)) down (now (out .entry))) ⌝ }
-    ensures { λ _. ⌜ now (out .exit) ≡ written (invMulCall (now (x .entry)) (now (y .entry)) down (now (out .entry))) (now (out .entry)) ⌝ }
+pub extern "C" fn sim3_inv_mul(
+    x: &[f64],
+    x_frames: &[u16],
+    y: &[f64],
+    y_frames: &[u16],
+    down: f64,
+    out: &mut [f64],
+    out_frames: &mut [u16],
+) -> u32
+    ensures { λ r. ⌜
+        r ≡ status (invMulCall (poseLists (now (x .entry)) (now («x_frames» .entry))) (poseLists (now (y .entry)) (now («y_frames» .entry))) down
+        (poseLists (now (out .entry)) (now («out_frames» .entry))))
+        ⌝ }
+    ensures { λ _. ⌜
+        poseLists (now (out .exit)) (now («out_frames» .exit))
+        ≡ framedWritten (invMulCall (poseLists (now (x .entry)) (now («x_frames» .entry))) (poseLists (now (y .entry)) (now («y_frames» .entry))) down)
+        (poseLists (now (out .entry)) (now («out_frames» .entry)))
+        ⌝ }
 {
-    let PoseRead::Got(a) = pose_from(x) else {
+    let FramedRead::Got(a) = framed_from(x, x_frames) else {
         return LIST_LENGTH;
     };
-    let PoseRead::Got(b) = pose_from(y) else {
+    let FramedRead::Got(b) = framed_from(y, y_frames) else {
         return LIST_LENGTH;
     };
-    put_pose(out, a.inv_mul(b, down))
+    put_joined(out, out_frames, a.inv_mul(b, down))
 }
 
-// A Newton step towards a unit quaternion, in place.
+// A Newton step towards a unit quaternion, in place. It reads no frame: X keeps those that it has.
 #[no_mangle]
 pub extern "C" fn sim3_renormalize(x: &mut [f64]) -> u32
     ensures { λ r. ⌜ r ≡ status (renormalizeCall (now (x .entry))) ⌝ }

@@ -4,8 +4,11 @@ ghost use mathlib.Core.Path.{_≡_};
 ghost use Prim.Native.Nat.{_+_, _≤_};
 ghost use lib.ListN.{length};
 ghost use Rattle.layout.specs.Layout.{vecIn, matIn};
-ghost use Rattle.sim3_c.specs.Lists.{numberIn, vecFrom, matFrom, poseFrom, tangentFrom, valuesFrom, blockFrom, vecTold, matTold, poseTold, tangentTold, valuesTold, blockTold};
+ghost use Rattle.sim3_c.specs.Lists.{numberIn, vecFrom, matFrom, poseFrom, tangentFrom, valuesFrom, blockFrom, poseLists, framesFrom, framedFrom};
+ghost use Rattle.sim3_c.specs.Lists.{vecTold, matTold, poseTold, framesTold, framedTold, tangentTold, valuesTold, blockTold};
+use crate::FRAMES;
 use coeffs::values::Values;
+use frames::Pose;
 use jacobian::jac::Sim3Jac;
 use layout::BLOCK;
 use layout::MAT;
@@ -31,6 +34,22 @@ pub enum MatRead {
 
 pub enum PoseRead {
     Got(Sim3),
+    Wrong,
+}
+
+// The frames of a pose, as they stand in a list.
+pub struct Frames {
+    pub from: u16,
+    pub to: u16,
+}
+
+pub enum FramesRead {
+    Got(Frames),
+    Wrong,
+}
+
+pub enum FramedRead {
+    Got(Pose),
     Wrong,
 }
 
@@ -106,6 +125,36 @@ pub(crate) fn pose_from(l: &[f64]) -> PoseRead
         q,
         t: vec_in(l, 4),
         sigma: l[7],
+    })
+}
+
+// From, to.
+pub(crate) fn frames_from(l: &[u16]) -> FramesRead
+    ensures { λ r. ⌜ framesTold r ≡ framesFrom (now (l .entry)) ⌝ }
+{
+    if l.len() != FRAMES {
+        return FramesRead::Wrong;
+    }
+    FramesRead::Got(Frames {
+        from: l[0],
+        to: l[1],
+    })
+}
+
+// A pose's numbers, and its frames from a list beside them.
+pub(crate) fn framed_from(l: &[f64], k: &[u16]) -> FramedRead
+    ensures { λ r. ⌜ framedTold r ≡ framedFrom (poseLists (now (l .entry)) (now (k .entry))) ⌝ }
+{
+    let PoseRead::Got(x) = pose_from(l) else {
+        return FramedRead::Wrong;
+    };
+    let FramesRead::Got(f) = frames_from(k) else {
+        return FramedRead::Wrong;
+    };
+    FramedRead::Got(Pose {
+        sim3: x,
+        from: f.from,
+        to: f.to,
     })
 }
 

@@ -6,11 +6,16 @@ ghost use lib.ListN.{length};
 ghost use lib.Seq.{sets};
 ghost use Rattle.linalg.specs.Vector.{vecNumbers};
 ghost use Rattle.layout.specs.Layout.{matNumbers, quatNumbers, poseNumbers, blockNumbers, blockPairNumbers, coeffsNumbers, scaledNumbers, scaledPairNumbers, twoNumbers, actNumbers};
-ghost use Rattle.sim3_c.specs.Calls.{status, written, fitting, armNumbers, armedNumbers, armedPairNumbers};
+ghost use Rattle.frames.specs.Joins.{poseTold};
+ghost use Rattle.sim3_c.specs.Lists.{poseLists};
+ghost use Rattle.sim3_c.specs.Calls.{status, written, fitting, framedWritten, framedFitting, joinedFitting, armNumbers, armedNumbers, armedPairNumbers};
+use crate::FRAMES;
 use crate::LIST_LENGTH;
 use coeffs::sim3::Armed;
 use coeffs::sim3::ArmedPair;
 use coeffs::sim3::ScaledPair;
+use frames::Pose;
+use frames::PoseAnswer;
 use jacobian::jac::Sim3Jac;
 use layout::ACT_JACOBIANS;
 use layout::BLOCK;
@@ -89,6 +94,15 @@ fn set_scaled(out: &mut [f64], at: usize, c: Sim3Coeffs, scaled: bool)
     out[at + 9] = ieee::pick(scaled, 1.0, 0.0);
 }
 
+fn set_pose(out: &mut [f64], x: Sim3)
+    requires { ⌜ 8 ≤ length (now out) ⌝ }
+    ensures { λ _. ⌜ now (out .exit) ≡ sets (now (out .entry)) 0 (poseNumbers x) ⌝ }
+{
+    set_quat(out, 0, x.q);
+    set_three(out, 4, x.t);
+    out[7] = x.sigma;
+}
+
 pub(crate) fn put_pose(out: &mut [f64], x: Sim3) -> u32
     ensures { λ r. ⌜ r ≡ status (fitting (now (out .entry)) (poseNumbers x)) ⌝ }
     ensures { λ _. ⌜ now (out .exit) ≡ written (fitting (now (out .entry)) (poseNumbers x)) (now (out .entry)) ⌝ }
@@ -96,10 +110,42 @@ pub(crate) fn put_pose(out: &mut [f64], x: Sim3) -> u32
     if out.len() != POSE {
         return LIST_LENGTH;
     }
-    set_quat(out, 0, x.q);
-    set_three(out, 4, x.t);
-    out[7] = x.sigma;
+    set_pose(out, x);
     0
+}
+
+// The numbers to one list and the frames, from and to, to another; both or none.
+pub(crate) fn put_framed(out: &mut [f64], out_frames: &mut [u16], x: Pose) -> u32
+    ensures { λ r. ⌜ r ≡ status (framedFitting (poseLists (now (out .entry)) (now («out_frames» .entry))) x) ⌝ }
+    ensures { λ _. ⌜
+        poseLists (now (out .exit)) (now («out_frames» .exit))
+        ≡ framedWritten (λ o. framedFitting o x) (poseLists (now (out .entry)) (now («out_frames» .entry)))
+        ⌝ }
+{
+    if out.len() != POSE {
+        return LIST_LENGTH;
+    }
+    if out_frames.len() != FRAMES {
+        return LIST_LENGTH;
+    }
+    set_pose(out, x.sim3);
+    out_frames[0] = x.from;
+    out_frames[1] = x.to;
+    0
+}
+
+// The pose where the frames met, else the refusal.
+pub(crate) fn put_joined(out: &mut [f64], out_frames: &mut [u16], a: PoseAnswer) -> u32
+    ensures { λ r. ⌜ r ≡ status (joinedFitting (poseLists (now (out .entry)) (now («out_frames» .entry))) (poseTold a)) ⌝ }
+    ensures { λ _. ⌜
+        poseLists (now (out .exit)) (now («out_frames» .exit))
+        ≡ framedWritten (λ o. joinedFitting o (poseTold a)) (poseLists (now (out .entry)) (now («out_frames» .entry)))
+        ⌝ }
+{
+    match a {
+        PoseAnswer::Pose(x) => put_framed(out, out_frames, x),
+        PoseAnswer::Refused(n) => n as u32,
+    }
 }
 
 // At sigma, then at -sigma.

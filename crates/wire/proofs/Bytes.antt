@@ -84,6 +84,10 @@ pub word-eight :
 unfolding wordOf
 word-eight b h = ap wordOf (bytes-all b 8 h) ∙ omega arith
 
+pub word-two : (b : List ℕ) → length b ≡ 2 → wordOf b ≡ getD b 0 0 + 256 * getD b 1 0
+unfolding wordOf
+word-two b h = ap wordOf (bytes-all b 2 h) ∙ omega arith
+
 pub bytes-eight :
     (n : ℕ) →
     n % 256

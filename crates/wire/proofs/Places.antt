@@ -6,8 +6,8 @@ use native.Mathlib.Numerals.{towards-suc}
 use lib.ListN.{length, getD, set}
 use lib.Seq.{sets}
 use lib.Ieee.{Float, binary64}
-use Rattle.wire.specs.Wire.{numberOf, numberAt, numberBytes, countBytes}
-use Rattle.wire.proofs.Bytes.{bytes-at, bytes-all, number-length, count-length}
+use Rattle.wire.specs.Wire.{wordOf, wordBytes, wordAt, numberOf, numberAt, numberBytes, countBytes}
+use Rattle.wire.proofs.Bytes.{bytes-at, bytes-all, word-length, number-length, count-length}
 
 -- the i-th double, whose bytes begin at `at`
 pub double-read :
@@ -27,7 +27,15 @@ pub double-read :
 unfolding numberAt
 double-read b i at e h = rw (← e, bytes-at b at 8 h) (simp towards-suc)
 
--- ---- four and eight stores
+-- the number of the two bytes that begin at `at`
+pub short-read : (b : List ℕ) (at : ℕ) → at + 2 ≤ length b → wordOf (getD b at 0 ∷ getD b (at + 1) 0 ∷ []) ≡ wordAt 2 b at
+unfolding wordAt
+short-read b at h = rw (bytes-at b at 2 h) (simp towards-suc)
+
+-- ---- two, four and eight stores
+abbrev pub twoStores : List ℕ → ℕ → List ℕ → List ℕ
+twoStores l at d = set (set l at (getD d 0 0)) (at + 1) (getD d 1 0)
+
 abbrev pub fourStores : List ℕ → ℕ → List ℕ → List ℕ
 fourStores l at d = set (set (set (set l at (getD d 0 0)) (at + 1) (getD d 1 0)) (at + 2) (getD d 2 0)) (at + 3) (getD d 3 0)
 
@@ -39,6 +47,9 @@ four-are d l at h = sym (ap (sets l at) (bytes-all d 4 h) ∙ sym (simp towards-
 
 eight-are : (d l : List ℕ) (at : ℕ) → length d ≡ 8 → eightStores l at d ≡ sets l at d
 eight-are d l at h = sym (ap (sets l at) (bytes-all d 8 h) ∙ sym (simp towards-suc))
+
+pub short-stored : (n : ℕ) (d l : List ℕ) (at : ℕ) → d ≡ wordBytes 2 n → twoStores l at d ≡ sets l at (wordBytes 2 n)
+short-stored n d l at e = sym (ap (sets l at) (sym e ∙ bytes-all d 2 (ap length e ∙ word-length 2 n)) ∙ sym (simp towards-suc))
 
 pub count-stored : (n : ℕ) (d l : List ℕ) (at : ℕ) → d ≡ countBytes n → fourStores l at d ≡ sets l at (countBytes n)
 count-stored n d l at e = four-are d l at (ap length e ∙ count-length n) ∙ ap (sets l at) e

@@ -16,6 +16,10 @@ unfoldable pub wordBytes : ℕ → ℕ → List ℕ
 wordBytes zero n = []
 wordBytes (suc k) n = n % 256 ∷ wordBytes k (n / 256)
 
+-- the number that k bytes make, from a place on
+unfoldable pub wordAt : ℕ → List ℕ → ℕ → ℕ
+wordAt k b at = wordOf (take k (drop at b))
+
 -- how many bytes a number of the format has
 abbrev pub width : Format → ℕ
 width binary32 = 4

@@ -1,9 +1,9 @@
-// Doubles and counts as little-endian bytes. The functions go between a value and an array of its
+// Doubles, counts and numbers of 16 bits as little-endian bytes. The functions go between a value and an array of its
 // bytes, so that each is total; where in a list the bytes stand is the business of the crates above.
 ghost use mathlib.Core.Path.{_≡_};
-ghost use Prim.Native.Nat.{_<_};
+ghost use Prim.Native.Nat.{_+_, _*_, _<_};
 ghost use lib.Ieee.{binary64};
-ghost use Rattle.wire.specs.Wire.{wordBytes, numberOf, numberBytes, countBytes};
+ghost use Rattle.wire.specs.Wire.{wordOf, wordBytes, numberOf, numberBytes, countBytes};
 
 fn wide(x: u8) -> u64
     ensures { λ r. ⌜ (r ≡ x) × (r < 256) ⌝ }
@@ -67,4 +67,24 @@ pub fn count_to_le_bytes(n: u32) -> [u8; 4]
         (n / 0x1_0000 % 256) as u8,
         (n / 0x100_0000 % 256) as u8,
     ]
+}
+
+fn joined(low: u8, high: u8) -> u16
+    ensures { λ r. ⌜ r ≡ low + 256 * high ⌝ }
+{
+    (low as u16) + 256 * (high as u16)
+}
+
+// The whole number whose two bytes, the least first, are `b`.
+pub fn short_from_le_bytes(b: [u8; 2]) -> u16
+    ensures { λ r. ⌜ r ≡ wordOf b ⌝ }
+{
+    joined(b[0], b[1])
+}
+
+// The two bytes of `n`, the least first.
+pub fn short_to_le_bytes(n: u16) -> [u8; 2]
+    ensures { λ r. ⌜ r ≡ wordBytes 2 n ⌝ }
+{
+    [(n % 256) as u8, (n / 0x100 % 256) as u8]
 }

@@ -1,5 +1,6 @@
 //! How a job file ends: cleanly, or damaged in every way.
 
+use super::frames::part;
 use super::records::MARKS;
 use super::Source;
 use helicoid::judge::marks::mark;
@@ -59,7 +60,7 @@ pub fn ends() -> Vec<End> {
     all
 }
 
-/// Writes an end. A cut record's numbers would earn refusal 1 or 2 if they were whole.
+/// Writes an end. A cut record of CO, AR, JI or MU would earn refusal 1, 2 or 9 if it were whole.
 pub fn end(end: End, source: &mut Source, out: &mut Vec<u8>) {
     match end {
         End::Clean => {}
@@ -67,8 +68,13 @@ pub fn end(end: End, source: &mut Source, out: &mut Vec<u8>) {
         End::Cut(letters, bytes) => {
             let start = out.len();
             source.job_record(letters, out);
-            if matches!(letters, b"CO" | b"AR") {
-                out[start + 10..start + 18].copy_from_slice(&(-1.0f64).to_le_bytes());
+            match letters {
+                b"CO" | b"AR" => {
+                    out[start + 10..start + 18].copy_from_slice(&(-1f64).to_le_bytes())
+                }
+                b"JI" => out[start + 242..].fill(0),
+                b"MU" => part(&mut out[start..]),
+                _ => {}
             }
             out.truncate(start + 2 + bytes);
         }

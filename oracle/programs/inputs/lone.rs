@@ -1,6 +1,7 @@
 //! Records whose answer holds one number alone that is not finite: the first, the last, or any
 //! that can stand alone.
 
+use super::frames::{meet, put_frames};
 use super::records::put;
 use super::{Mood, Source};
 use helicoid::judge::layout::{Reader, Writer};
@@ -36,6 +37,9 @@ impl Source {
                 out.extend_from_slice(letters);
                 self.nearly_lone(letters, out);
             }
+            if letters == b"MU" {
+                meet(&mut out[start..]);
+            }
             if not_finite(&out[start..]) == 1 {
                 return;
             }
@@ -53,6 +57,7 @@ impl Source {
                 put(out, &[[0.0; 3], rho].concat());
                 put(out, &[sigma]);
                 put(out, &Values::of_host(sigma, 0.0).to_array());
+                put_frames(out, self.frames());
             }
             b"CO" | b"AR" => {
                 let sigma = self.rng.between(0.5, 3.0);
@@ -102,8 +107,13 @@ impl Source {
             _ => t[place] = self.lost(),
         }
         put(out, &[q[0], q[1], q[2], q[3], t[0], t[1], t[2], sigma]);
+        put_frames(out, self.frames());
         match letters {
-            b"MU" => put(out, &self.numbers::<9>(Mood::Ordinary)),
+            b"MU" => {
+                put(out, &self.numbers::<8>(Mood::Ordinary));
+                put_frames(out, self.frames());
+                put(out, &self.numbers::<1>(Mood::Ordinary));
+            }
             b"AC" => put(out, &self.numbers::<4>(Mood::Ordinary)),
             _ => put(out, &[4.0]),
         }
@@ -117,8 +127,10 @@ impl Source {
         if self.rng.one_in(2) {
             (left[0], left[7], right[7]) = (1.0, f64::MAX, self.lost().max(f64::MAX));
         }
-        put(out, &left);
-        put(out, &right);
+        for pose in [left, right] {
+            put(out, &pose);
+            put_frames(out, self.frames());
+        }
         put(out, &[1.0]);
     }
 }

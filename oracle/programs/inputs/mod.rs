@@ -1,8 +1,9 @@
 //! Adversarial inputs: single numbers, log scales and angles at every limit, function values that
-//! belong to them or to nothing, poses and blocks.
+//! belong to them or to nothing, poses with their frames, and blocks.
 
 mod angles;
 mod ends;
+mod frames;
 mod lone;
 mod numbers;
 mod poses;
@@ -18,10 +19,11 @@ pub use rng::Rng;
 /// A source of inputs; the same seed gives the same inputs.
 pub struct Source {
     pub rng: Rng,
+    frames: Rng,
 }
 
 impl Source {
     pub fn new(seed: u64) -> Self {
-        Self { rng: Rng::new(seed) }
+        Self { rng: Rng::new(seed), frames: Rng::new(!seed) }
     }
 }

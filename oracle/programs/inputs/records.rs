@@ -1,5 +1,6 @@
 //! Whole records: of the job program's marks, and of the library's functions.
 
+use super::frames::put_frames;
 use super::values::host_jacobians;
 use super::{Mood, Source};
 use crate::library::{Entry, Part};
@@ -34,6 +35,8 @@ impl Source {
                     let (jl, inverse) = self.rotation_jacobians(phi_of(&tangent));
                     put(out, &jl);
                     put(out, &inverse);
+                } else {
+                    put_frames(out, self.frames());
                 }
             }
             b"CO" | b"AR" => {
@@ -47,12 +50,17 @@ impl Source {
         }
     }
 
-    /// The numbers of a record that begins with a pose.
+    /// What stands in a record that begins with a pose.
     fn pose_record(&mut self, mark: &[u8; 2], out: &mut Vec<u8>) {
         let (pose, mood) = (self.pose(), self.mood());
         put(out, &pose);
         if mark == b"MU" {
+            let [left, right] = self.product_frames();
+            put_frames(out, left);
             put(out, &self.pose());
+            put_frames(out, right);
+        } else {
+            put_frames(out, self.frames());
         }
         let arg = if mark == b"IN" { -pose[7] } else { pose[7] };
         put(out, &[self.exponential(arg)]);
@@ -87,6 +95,8 @@ impl Source {
             let (jl, inverse) = host_jacobians(phi);
             put(out, &jl);
             put(out, &inverse);
+        } else if mark == b"EX" {
+            put_frames(out, self.frames());
         }
     }
 
@@ -95,10 +105,12 @@ impl Source {
             put(out, &self.numbers::<31>(Mood::Ordinary));
             return;
         }
-        for _ in 0..if mark == b"MU" { 2 } else { 1 } {
+        let frames = self.meeting_frames();
+        for frames in &frames[..if mark == b"MU" { 2 } else { 1 }] {
             put(out, &self.unit_quat(1.0));
             put(out, &self.numbers::<3>(Mood::Ordinary));
             put(out, &[sigma]);
+            put_frames(out, *frames);
         }
         put(out, &[if mark == b"IN" { (-sigma).exp() } else { sigma.exp() }]);
         if mark == b"AC" {

@@ -1,10 +1,11 @@
--- Written by tools/proofs from Proof.template: edit that one. Digest c3cea3133084250e.
+-- Written by tools/proofs from Proof.template: edit that one. Digest 7f0e3ebec053ce73.
 -- `replies::entries::ac` meets its contract: the engine is asked at the numbers read, and its answer written. Assumes nothing.
 use borrow.Author.Needs.{needs}
 use lib.Ieee.{binary64}
 use mathlib.Core.Path.{refl}
 use Rattle.layout.proofs.Numbers.{vec-count}
 use Rattle.replies.specs.Table.{acOf}
+use Rattle.replies.proofs.Frames.{rest-is}
 use Rattle.replies.proofs.Replies.{wrote}
 use Rattle.replies.proofs.entries.ac.Statement.{statement}
 use Rattle.replies.proofs.entries.ac.Tie as tie
@@ -14,18 +15,22 @@ unfolding acOf
 returns c =
     let c1 = c .before .before .before .before .before in
     let c2 = c1 .before .before .before .before .before in
-    wrote binary64 _ _ _ _ _ (c2 .before .args .out .now) _ (vec-count _) refl (c .gave .ensures)
+    wrote binary64 _ _ _ _ _ (c2 .before .before .args .out .now) _ (vec-count _) refl (c .gave .ensures)
     (rw (
       c .before .before .before .before .act .ensures,
       c1 .before .before .pose-at .ensures,
       c1 .before .number-at .ensures,
       c1 .vec-at .ensures,
+      rest-is (c2 .before .before .args .b .now) 68,
     ) at (c .before .before .before .answer-vec .ensures))
 
 pub ac-spec : {M : Type 1} → statement M
 ac-spec =
     tie.close
     (tie.spec
+    (λ c. search needs)
+    (λ c. search needs)
+    (λ c. search needs)
     (λ c κs. search needs)
     (λ c κs. search needs)
     (λ c κs. search needs)

@@ -1,11 +1,10 @@
--- Written by tools/proofs from Proof.template: edit that one. Digest 5695474902437d35.
--- `replies::entries::ex` meets its contract: the engine is asked at the numbers read, and its answer written. Assumes nothing.
+-- Written by tools/proofs from Proof.template: edit that one. Digest 2a3bba3c8eaa005d.
+-- `replies::entries::ex` meets its contract: the engine is asked at the numbers and frames read, and its answer written. Assumes nothing.
 use borrow.Author.Needs.{needs}
 use lib.Ieee.{binary64}
-use mathlib.Core.Path.{refl}
-use Rattle.layout.proofs.Numbers.{pose-count}
 use Rattle.replies.specs.Table.{exOf}
-use Rattle.replies.proofs.Replies.{wrote}
+use Rattle.replies.proofs.Frames.{framed-length}
+use Rattle.replies.proofs.Replies.{wrote-items}
 use Rattle.replies.proofs.entries.ex.Statement.{statement}
 use Rattle.replies.proofs.entries.ex.Tie as tie
 
@@ -14,22 +13,28 @@ unfolding exOf
 returns c =
     let c1 = c .before .before .before .before .before in
     let c2 = c1 .before .before .before .before .before in
-    wrote binary64 _ _ _ _ _ (c2 .args .out .now) _ (pose-count _) refl (c .gave .ensures)
+    wrote-items binary64 _ _ _ _ (c2 .before .before .args .out .now) _ (framed-length binary64 _) (c .gave .ensures)
     (rw (
       c .before .before .before .before .exp .ensures,
       c1 .before .tangent-at .ensures,
       c1 .values-at .ensures,
-    ) at (c .before .before .before .answer-pose .ensures))
+      c1 .before .before .before .before .short-at .ensures,
+      c1 .before .before .before .short-at2 .ensures,
+    ) at (c .before .before .before .answer-framed .ensures))
 
 pub ex-spec : {M : Type 1} → statement M
 ex-spec =
     tie.close
     (tie.spec
-    (λ c κs. search needs)
-    (λ c κs. search needs)
-    (λ c κs. search needs)
+    (λ c. search needs)
+    (λ c. search needs)
     (λ c κs. search needs)
     (λ c. search needs)
+    (λ c κs. search needs)
+    (λ c κs. search needs)
+    (λ c κs. search needs)
+    (λ c κs. search needs)
+    (λ c κs. search needs)
     (λ c κs. search needs)
     (λ c. search needs)
     returns)

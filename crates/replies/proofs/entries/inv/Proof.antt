@@ -1,11 +1,10 @@
--- Written by tools/proofs from Proof.template: edit that one. Digest 79617b03f6fd673c.
--- `replies::entries::inv` meets its contract: the engine is asked at the numbers read, and its answer written. Assumes nothing.
+-- Written by tools/proofs from Proof.template: edit that one. Digest 2ce457950390af34.
+-- `replies::entries::inv` meets its contract: the engine is asked at the numbers and frames read, and its answer written. Assumes nothing.
 use borrow.Author.Needs.{needs}
 use lib.Ieee.{binary64}
-use mathlib.Core.Path.{refl}
-use Rattle.layout.proofs.Numbers.{pose-count}
 use Rattle.replies.specs.Table.{inOf}
-use Rattle.replies.proofs.Replies.{wrote}
+use Rattle.replies.proofs.Frames.{framed-length, rest-is}
+use Rattle.replies.proofs.Replies.{wrote-items}
 use Rattle.replies.proofs.entries.inv.Statement.{statement}
 use Rattle.replies.proofs.entries.inv.Tie as tie
 
@@ -14,22 +13,25 @@ unfolding inOf
 returns c =
     let c1 = c .before .before .before .before .before in
     let c2 = c1 .before .before .before .before .before in
-    wrote binary64 _ _ _ _ _ (c2 .args .out .now) _ (pose-count _) refl (c .gave .ensures)
+    wrote-items binary64 _ _ _ _ (c2 .before .args .out .now) _ (framed-length binary64 _) (c .gave .ensures)
     (rw (
       c .before .before .before .before .inverse .ensures,
-      c1 .before .pose-at .ensures,
-      c1 .number-at .ensures,
-    ) at (c .before .before .before .answer-pose .ensures))
+      c1 .framed-at .ensures,
+      c1 .before .before .number-at .ensures,
+      rest-is (c2 .before .args .b .now) 68,
+    ) at (c .before .before .before .answer-framed .ensures))
 
 pub inv-spec : {M : Type 1} → statement M
 inv-spec =
     tie.close
     (tie.spec
-    (λ c κs. search needs)
-    (λ c κs. search needs)
-    (λ c κs. search needs)
-    (λ c κs. search needs)
     (λ c. search needs)
+    (λ c. search needs)
+    (λ c. search needs)
+    (λ c κs. search needs)
+    (λ c κs. search needs)
+    (λ c κs. search needs)
+    (λ c κs. search needs)
     (λ c κs. search needs)
     (λ c. search needs)
     returns)

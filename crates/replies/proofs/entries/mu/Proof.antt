@@ -1,37 +1,68 @@
--- Written by tools/proofs from Proof.template: edit that one. Digest 2887e6a312145fd3.
--- `replies::entries::mu` meets its contract: the engine is asked at the numbers read, and its answer written. Assumes nothing.
+-- Written by tools/proofs from Proof.template: edit that one. Digest 45208fcb5c1eac78.
+-- `replies::entries::mu` meets its contract: the engine is asked at the numbers and frames read, and its answer is written or its refusal told. Assumes nothing.
 use borrow.Author.Needs.{needs}
 use lib.Ieee.{binary64}
 use mathlib.Core.Path.{refl}
-use Rattle.layout.proofs.Numbers.{pose-count}
+use Rattle.frames.specs.Joins.{poseTold}
+use Rattle.outcome.specs.Outcome.{gaveOf, gaveBytes}
 use Rattle.replies.specs.Table.{muOf}
-use Rattle.replies.proofs.Replies.{wrote}
+use Rattle.replies.proofs.Frames.{framed-length, rest-is}
+use Rattle.replies.proofs.Replies.{wrote-items}
 use Rattle.replies.proofs.entries.mu.Statement.{statement}
 use Rattle.replies.proofs.entries.mu.Tie as tie
 
 returns : tie.Need-returns
-unfolding muOf
+unfolding muOf poseTold
 returns c =
     let c1 = c .before .before .before .before .before in
     let c2 = c1 .before .before .before .before .before in
-    wrote binary64 _ _ _ _ _ (c2 .before .args .out .now) _ (pose-count _) refl (c .gave .ensures)
-    (rw (
-      c .before .before .before .before .mul .ensures,
-      c1 .before .before .pose-at .ensures,
-      c1 .before .pose-at2 .ensures,
-      c1 .number-at .ensures,
-    ) at (c .before .before .before .answer-pose .ensures))
+    let c3 = c2 .before .before .before .before .before in
+    rw (
+      ← (rest-is (c3 .before .args .b .now) 68),
+      ← (rest-is (c3 .before .args .b .now) 136),
+      ← (c2 .before .before .framed-at .ensures),
+      ← (c1 .before .before .before .before .framed-at2 .ensures),
+      ← (c2 .number-at .ensures),
+      ← (c1 .before .before .before .mul .ensures),
+      c1 .before .x .given .1,
+    )
+    (wrote-items binary64 _ _ _ _ (c3 .before .args .out .now) _ (framed-length binary64 _) (c .gave .ensures) (c .before .before .before .answer-framed .ensures))
+
+returns-2 : tie.Need-returns-2
+unfolding muOf poseTold gaveOf gaveBytes
+returns-2 c =
+    let c1 = c .before .before .before .before .before in
+    let c2 = c1 .before .before .before .before .before in
+    rw (
+      ← (rest-is (c2 .before .args .b .now) 68),
+      ← (rest-is (c2 .before .args .b .now) 136),
+      ← (c1 .before .before .framed-at .ensures),
+      ← (c .before .before .before .before .framed-at2 .ensures),
+      ← (c1 .number-at .ensures),
+      ← (c .before .before .before .mul .ensures),
+      c .before .number .given .1,
+    )
+    (refl, refl)
 
 pub mu-spec : {M : Type 1} → statement M
 mu-spec =
     tie.close
     (tie.spec
+    (λ c. search needs)
+    (λ c. search needs)
+    (λ c. search needs)
     (λ c κs. search needs)
-    (λ c κs. search needs)
+    (λ c. search needs)
+    (λ c. search needs)
+    (λ c. search needs)
+    (λ c. search needs)
     (λ c κs. search needs)
     (λ c κs. search needs)
     (λ c κs. search needs)
     (λ c. search needs)
     (λ c κs. search needs)
+    (λ c κs. search needs)
     (λ c. search needs)
-    returns)
+    (λ c. search needs)
+    returns
+    returns-2)

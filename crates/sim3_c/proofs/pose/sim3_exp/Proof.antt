@@ -1,8 +1,8 @@
--- Written by tools/proofs from Proof.template: edit that one. Digest 965c4a3743769410.
+-- Written by tools/proofs from Proof.template: edit that one. Digest e817e05f3860015b.
 -- `sim3_c::pose::sim3_exp` meets its contract: the lists are read, the engine is asked, and its answer is written or the refusal handed on. Assumes nothing.
 use borrow.Author.Needs.{needs}
 use mathlib.Core.Path.{refl}
-use Rattle.sim3_c.specs.Lists.{tangentTold, valuesTold}
+use Rattle.sim3_c.specs.Lists.{tangentTold, valuesTold, framesTold}
 use Rattle.sim3_c.specs.Calls.{status, written, expCall}
 use Rattle.sim3_c.proofs.pose.sim3_exp.Statement.{statement}
 use Rattle.sim3_c.proofs.pose.sim3_exp.Tie as tie
@@ -23,16 +23,33 @@ returns-2 c =
     ) (refl, refl)
 
 returns-3 : tie.Need-returns-3
-unfolding status written expCall tangentTold valuesTold
+unfolding status written expCall tangentTold valuesTold framesTold
 returns-3 c =
     let c1 = c .before .before .before .before .before in
     let c2 = c1 .before .before .before .before .before in
     rw (
-      ← (c2 .before .before .tangent-from .ensures),
-      c2 .t .given .1,
-      ← (c1 .before .before .before .values-from .ensures),
-      c1 .before .v .given .1,
-    ) (rw (c .before .before .before .exp .ensures) at (c .before .before .put-pose .ensures))
+      ← (c2 .tangent-from .ensures),
+      c1 .before .before .before .t .given .1,
+      ← (c1 .before .values-from .ensures),
+      c .before .before .before .before .v .given .1,
+      ← (c .before .before .frames-from .ensures),
+      c .enum-told3 .given .1,
+    ) (refl, refl)
+
+returns-4 : tie.Need-returns-4
+unfolding status written expCall tangentTold valuesTold framesTold
+returns-4 c =
+    let c1 = c .before .before .before .before .before in
+    let c2 = c1 .before .before .before .before .before in
+    let c3 = c2 .before .before .before .before .before in
+    rw (
+      ← (c3 .before .before .before .before .tangent-from .ensures),
+      c3 .before .before .t .given .1,
+      ← (c3 .values-from .ensures),
+      c2 .before .before .before .v .given .1,
+      ← (c2 .before .frames-from .ensures),
+      c1 .before .before .before .before .k .given .1,
+    ) (rw (c1 .exp .ensures) at (c .before .before .before .before .put-framed .ensures))
 
 pub sim3-exp-spec : {M : Type 1} → statement M
 sim3-exp-spec =
@@ -47,6 +64,11 @@ sim3-exp-spec =
     (λ c. search needs)
     returns-2
     (λ c κs. search needs)
+    (λ c. search needs)
+    (λ c. search needs)
+    returns-3
+    (λ c κs. search needs)
     (λ c κs. search needs)
     (λ c. search needs)
-    returns-3)
+    (λ c. search needs)
+    returns-4)

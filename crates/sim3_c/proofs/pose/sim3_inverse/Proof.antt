@@ -1,24 +1,25 @@
--- Written by tools/proofs from Proof.template: edit that one. Digest 5b382d21984cb70f.
+-- Written by tools/proofs from Proof.template: edit that one. Digest a2511fc537a4ecd0.
 -- `sim3_c::pose::sim3_inverse` meets its contract: the lists are read, the engine is asked, and its answer is written or the refusal handed on. Assumes nothing.
 use borrow.Author.Needs.{needs}
 use mathlib.Core.Path.{refl}
-use Rattle.sim3_c.specs.Lists.{poseTold}
+use Rattle.sim3_c.specs.Lists.{framedTold}
 use Rattle.sim3_c.specs.Calls.{status, written, inverseCall}
 use Rattle.sim3_c.proofs.pose.sim3_inverse.Statement.{statement}
 use Rattle.sim3_c.proofs.pose.sim3_inverse.Tie as tie
 
 returns : tie.Need-returns
-unfolding status written inverseCall poseTold
-returns c = rw (← (c .before .before .pose-from .ensures), c .enum-told .given .1) (refl, refl)
+unfolding status written inverseCall framedTold
+returns c = rw (← (c .before .before .framed-from .ensures), c .enum-told .given .1) (refl, refl)
 
 returns-2 : tie.Need-returns-2
-unfolding status written inverseCall poseTold
+unfolding status written inverseCall framedTold
 returns-2 c =
     let c1 = c .before .before .before .before .before in
+    let c2 = c1 .before .before .before .before .before in
     rw (
-      ← (c1 .before .before .before .pose-from .ensures),
-      c1 .before .a .given .1,
-    ) (rw (c .before .before .before .inverse .ensures) at (c .before .before .put-pose .ensures))
+      ← (c2 .before .framed-from .ensures),
+      c1 .before .before .before .before .a .given .1,
+    ) (rw (c1 .inverse .ensures) at (c .before .before .before .before .put-framed .ensures))
 
 pub sim3-inverse-spec : {M : Type 1} → statement M
 sim3-inverse-spec =
@@ -30,5 +31,6 @@ sim3-inverse-spec =
     returns
     (λ c κs. search needs)
     (λ c κs. search needs)
+    (λ c. search needs)
     (λ c. search needs)
     returns-2)

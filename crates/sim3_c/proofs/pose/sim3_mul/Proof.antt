@@ -1,38 +1,39 @@
--- Written by tools/proofs from Proof.template: edit that one. Digest f609755a528a47db.
+-- Written by tools/proofs from Proof.template: edit that one. Digest 97f67d25a333f0f7.
 -- `sim3_c::pose::sim3_mul` meets its contract: the lists are read, the engine is asked, and its answer is written or the refusal handed on. Assumes nothing.
 use borrow.Author.Needs.{needs}
 use mathlib.Core.Path.{refl}
-use Rattle.sim3_c.specs.Lists.{poseTold}
+use Rattle.sim3_c.specs.Lists.{framedTold}
 use Rattle.sim3_c.specs.Calls.{status, written, mulCall}
 use Rattle.sim3_c.proofs.pose.sim3_mul.Statement.{statement}
 use Rattle.sim3_c.proofs.pose.sim3_mul.Tie as tie
 
 returns : tie.Need-returns
-unfolding status written mulCall poseTold
-returns c = rw (← (c .before .before .pose-from .ensures), c .enum-told .given .1) (refl, refl)
+unfolding status written mulCall framedTold
+returns c = rw (← (c .before .before .framed-from .ensures), c .enum-told .given .1) (refl, refl)
 
 returns-2 : tie.Need-returns-2
-unfolding status written mulCall poseTold
+unfolding status written mulCall framedTold
 returns-2 c =
     let c1 = c .before .before .before .before .before in
     rw (
-      ← (c1 .before .pose-from .ensures),
+      ← (c1 .before .framed-from .ensures),
       c .before .before .before .before .a .given .1,
-      ← (c .before .before .pose-from2 .ensures),
+      ← (c .before .before .framed-from2 .ensures),
       c .enum-told2 .given .1,
     ) (refl, refl)
 
 returns-3 : tie.Need-returns-3
-unfolding status written mulCall poseTold
+unfolding status written mulCall framedTold
 returns-3 c =
     let c1 = c .before .before .before .before .before in
     let c2 = c1 .before .before .before .before .before in
+    let c3 = c2 .before .before .before .before .before in
     rw (
-      ← (c2 .before .before .pose-from .ensures),
-      c2 .a .given .1,
-      ← (c1 .before .before .before .pose-from2 .ensures),
-      c1 .before .b .given .1,
-    ) (rw (c .before .before .before .mul .ensures) at (c .before .before .put-pose .ensures))
+      ← (c3 .framed-from .ensures),
+      c2 .before .before .before .a .given .1,
+      ← (c2 .before .framed-from2 .ensures),
+      c1 .before .before .before .before .b .given .1,
+    ) (rw (c1 .mul .ensures) at (c .before .before .before .before .put-joined .ensures))
 
 pub sim3-mul-spec : {M : Type 1} → statement M
 sim3-mul-spec =
@@ -48,5 +49,6 @@ sim3-mul-spec =
     returns-2
     (λ c κs. search needs)
     (λ c κs. search needs)
+    (λ c. search needs)
     (λ c. search needs)
     returns-3)

@@ -1,6 +1,8 @@
 //! Numbers in bytes: 8-byte little-endian doubles, matrices column by column, a block as
-//! `a, b, c, f, e`, a pose as quaternion, translation, log scale.
+//! `a, b, c, f, e`, a pose as quaternion, translation, log scale. Frames are two 2-byte whole numbers,
+//! from and to, little endian too.
 
+use super::frames::Frames;
 use super::Values;
 use crate::sim3::access::{block, block_parts};
 use crate::{Quat, Sim3, Sim3Jac, Sim3Tangent, SO3};
@@ -66,6 +68,13 @@ impl Reader<'_> {
     pub fn pose(&mut self) -> Sim3<H> {
         let (q, t, sigma) = (self.quat(), self.vector(), self.scalar());
         Sim3::from_parts(SO3::from_quat_unchecked(q), t, sigma)
+    }
+
+    #[inline(always)]
+    pub fn frames(&mut self) -> Frames {
+        let ([a, b, c, d], rest) = self.0.split_first_chunk::<4>().expect("a whole record");
+        self.0 = rest;
+        Frames { from: u16::from_le_bytes([*a, *b]), to: u16::from_le_bytes([*c, *d]) }
     }
 
     #[inline(always)]
@@ -140,6 +149,11 @@ impl Writer<'_> {
         let (r, t, sigma) = x.parts();
         let (q, [x, y, z]) = (r.quat(), t.0);
         self.scalars(&[q.w, q.x, q.y, q.z, x, y, z, sigma]);
+    }
+
+    #[inline(always)]
+    pub fn frames(&mut self, f: Frames) {
+        self.raw([f.from.to_le_bytes(), f.to.to_le_bytes()].as_flattened());
     }
 
     #[inline(always)]

@@ -1,6 +1,7 @@
 //! The marks of the job program: what a record's numbers are and which published function answers
-//! them. A refusal is its number.
+//! them; the frames by their own rules. A refusal is its number.
 
+use super::frames::Frames;
 use super::layout::{Reader, Writer};
 use super::{arms, reads, Values};
 use crate::sim3::access::{jl_and_inverse_from, squared_angle};
@@ -8,33 +9,53 @@ use crate::{coefficients, Jac, LieGroup, Sim3, Sim3Tangent, Tangent};
 use helicoid_linalg::handed::{finish, H};
 use helicoid_linalg::{Mat3, Point};
 
-/// A mark: its letters, the bytes of its numbers in, the bytes that its answer has before its
-/// numbers, the bytes of these, and its answer.
+/// A mark: its letters, the bytes behind them in a record, and its answer: the bytes that it has
+/// before its numbers, the bytes of these, the bytes behind them, and what gives it.
 pub struct Mark {
     pub letters: [u8; 2],
     pub bytes_in: usize,
     pub bytes_before: usize,
     pub bytes_out: usize,
+    pub bytes_behind: usize,
     pub answer: fn(Reader<'_>, Writer<'_>) -> Result<(), u8>,
 }
 
-/// The paper's job table, and the requested marks behind it.
+/// The bytes of a pose's frames.
+const FRAMES: usize = 4;
+
+/// A mark whose answer is numbers alone.
+const fn plain(
+    letters: &[u8; 2],
+    bytes_in: usize,
+    bytes_out: usize,
+    answer: fn(Reader<'_>, Writer<'_>) -> Result<(), u8>,
+) -> Mark {
+    Mark { letters: *letters, bytes_in, bytes_before: 0, bytes_out, bytes_behind: 0, answer }
+}
+
+/// The paper's job table with the frames of its poses, and the requested marks behind it.
 pub const MARKS: [Mark; 8] = [
-    Mark { letters: *b"EX", bytes_in: 136, bytes_before: 0, bytes_out: 64, answer: ex },
-    Mark { letters: *b"CO", bytes_in: 96, bytes_before: 0, bytes_out: 160, answer: co },
-    Mark { letters: *b"PA", bytes_in: 280, bytes_before: 0, bytes_out: 992, answer: pa },
-    Mark { letters: *b"AC", bytes_in: 96, bytes_before: 0, bytes_out: 24, answer: ac },
-    Mark { letters: *b"MU", bytes_in: 136, bytes_before: 0, bytes_out: 64, answer: mu },
-    Mark { letters: *b"IN", bytes_in: 72, bytes_before: 0, bytes_out: 64, answer: inverse },
-    Mark { letters: *b"JI", bytes_in: 248, bytes_before: 0, bytes_out: 248, answer: ji },
-    Mark { letters: *b"AR", bytes_in: 96, bytes_before: 4, bytes_out: 160, answer: ar },
+    Mark { bytes_behind: FRAMES, ..plain(b"EX", 136 + FRAMES, 64, ex) },
+    plain(b"CO", 96, 160, co),
+    plain(b"PA", 280, 992, pa),
+    plain(b"AC", 96 + FRAMES, 24, ac),
+    Mark { bytes_behind: FRAMES, ..plain(b"MU", 136 + 2 * FRAMES, 64, mu) },
+    Mark { bytes_behind: FRAMES, ..plain(b"IN", 72 + FRAMES, 64, inverse) },
+    plain(b"JI", 248, 248, ji),
+    Mark { bytes_before: 4, ..plain(b"AR", 96, 160, ar) },
 ];
 
 impl Mark {
-    /// The numbers of a whole answer, its letters and the bytes before them left out.
+    /// The bytes of a whole answer, its letters included.
+    #[inline]
+    pub fn size(&self) -> usize {
+        2 + self.bytes_before + self.bytes_out + self.bytes_behind
+    }
+
+    /// The numbers of a whole answer: its letters and the bytes before and behind are left out.
     #[inline]
     pub fn numbers<'a>(&self, answer: &'a [u8]) -> &'a [u8] {
-        &answer[2 + self.bytes_before..]
+        &answer[2 + self.bytes_before..][..self.bytes_out]
     }
 }
 
@@ -44,13 +65,14 @@ pub fn mark(letters: [u8; 2]) -> Option<&'static Mark> {
     MARKS.iter().find(|m| m.letters == letters)
 }
 
-/// `Exp τ`.
+/// `Exp τ`, with the frames that it is given.
 fn ex(mut r: Reader<'_>, mut w: Writer<'_>) -> Result<(), u8> {
-    let (tau, v) = (r.tangent(), r.values());
+    let (tau, v, frames) = (r.tangent(), r.values(), r.frames());
     reads::exponential(tau.sigma.0, squared_angle(tau.phi).0, &v);
     let x = Sim3::exp(&tau);
     finish();
     w.pose(&x);
+    w.frames(frames);
     Ok(())
 }
 
@@ -113,9 +135,10 @@ fn pa_one(tau: &Sim3Tangent<H>, v: &Values, jacobians: (Mat3<H>, Mat3<H>), w: &m
     w.block(&inverse);
 }
 
-/// `X p`.
+/// `X p`; the frames say nothing here.
 fn ac(mut r: Reader<'_>, mut w: Writer<'_>) -> Result<(), u8> {
-    let (x, up, p): (Sim3<H>, f64, [H; 3]) = (r.pose(), r.number(), r.scalars());
+    let (x, _) = (r.pose(), r.frames());
+    let (up, p): (f64, [H; 3]) = (r.number(), r.scalars());
     reads::exponential_at(x.log_scale().0, up);
     let y = x * Point(p);
     finish();
@@ -123,23 +146,28 @@ fn ac(mut r: Reader<'_>, mut w: Writer<'_>) -> Result<(), u8> {
     Ok(())
 }
 
-/// `X Y`.
+/// `X Y`; frames that do not meet are refused.
 fn mu(mut r: Reader<'_>, mut w: Writer<'_>) -> Result<(), u8> {
-    let (x, y, up) = (r.pose(), r.pose(), r.number());
+    let (x, left) = (r.pose(), r.frames());
+    let (y, right) = (r.pose(), r.frames());
+    let up = r.number();
+    let frames = Frames::product(left, right)?;
     reads::exponential_at(x.log_scale().0, up);
     let xy = x * y;
     finish();
     w.pose(&xy);
+    w.frames(frames);
     Ok(())
 }
 
-/// `X⁻¹`.
+/// `X⁻¹`, its frames exchanged.
 fn inverse(mut r: Reader<'_>, mut w: Writer<'_>) -> Result<(), u8> {
-    let (x, down) = (r.pose(), r.number());
+    let (x, frames, down) = (r.pose(), r.frames(), r.number());
     reads::exponential_at(-x.log_scale().0, down);
     let y = x.inverse();
     finish();
     w.pose(&y);
+    w.frames(frames.inverse());
     Ok(())
 }
 

@@ -3,6 +3,7 @@
 
 pub mod arms;
 pub mod counts;
+pub mod frames;
 pub mod layout;
 pub mod marks;
 pub mod reads;

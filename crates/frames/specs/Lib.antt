@@ -1,0 +1,3 @@
+pub mod Pose
+pub mod Joins
+pub mod Laws
