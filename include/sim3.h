@@ -3,16 +3,18 @@
  * Lists. Every list is a pointer and the count of its numbers. A pointer is never null, points to that many numbers of its type, and a list that is written
  * overlaps no other list of the call. That is all that is asked of a caller: every count and every number is taken, NaN and infinities included.
  *
- * Answers. A call returns 0 and has written all of `out` (sim3_root: of its three lists), or the number of a refusal and has written nothing:
+ * Answers. A call returns 0 and has written all of `out` and `out_frames` (sim3_root: of its three lists), or the number of a refusal and has written nothing:
  *     1  z is below zero                        (sim3_scaled_pair, sim3_coeffs_armed, sim3_armed_pair, sim3_root)
  *     2  e is +0 or -0                          (sim3_block_inverse)
  *     5  a list of points has a wrong length    (sim3_act_many, sim3_act_each: a multiple of 3, at most 65,535 numbers, `out` as long as `pts`)
  *     8  z is a NaN or +infinity                (sim3_root)
+ *     9  the frames do not meet                 (sim3_mul, sim3_mul_inv, sim3_inv_mul)
  *   100  another list has a wrong length; the right one stands in brackets below. This number is the boundary's own: in Rattle no such list can be made
  * A wrong length of an input is refused before the numbers are looked at, and of what is written after.
  *
  * Orders.
  *     pose     [8]   quaternion w x y z, translation x y z, sigma
+ *     frames   [2]   from, to: frame numbers of the pose that stands before them, of 16 bits
  *     tangent  [7]   phi x y z, rho x y z, sigma
  *     matrix   [9]   column by column
  *     block   [31]   a [9], b [9], c [9], f [3], e [1]: the 7 by 7 matrix with the rows (a 0 0), (b c f), (0 0 e)
@@ -26,6 +28,10 @@
  *     The values of the negative tangent are the mirrored ones: up and down change places, e and e0, m and m0 change places where sigma is a zero, the rest
  *     stays; and its rotation Jacobians are the transposed ones. The paired functions mirror by themselves: hand in the tangent's own.
  * Right means X Exp(tau), left Exp(tau) X. Jacobians are by tau, in the order phi, rho, sigma.
+ *
+ * Frames. A pose maps points of its frame `from` to points of its frame `to`. What numbers frames have is the caller's matter; that poses are joined the right
+ * way round is the engine's: where frames do not meet, the call is refused by 9. Frames change no number. The action, the Jacobians and sim3_renormalize read
+ * none, and take the eight numbers alone.
  */
 #ifndef SIM3_H
 #define SIM3_H
@@ -44,27 +50,36 @@ enum {
     SIM3_E_IS_ZERO = 2,
     SIM3_POINTS_LENGTH = 5,
     SIM3_NOT_FINITE = 8,
+    SIM3_FRAMES = 9,
     SIM3_LIST_LENGTH = 100
 };
 
 /* ---- poses */
 
-/* Exp(tau). tau [7], values [10]; out [8]. */
-uint32_t sim3_exp(const double *tau, size_t tau_n, const double *values, size_t values_n, double *out, size_t out_n);
+/* Exp(tau). tau [7], values [10], frames [2]; out [8], out_frames [2], which are those handed in. */
+uint32_t sim3_exp(const double *tau, size_t tau_n, const double *values, size_t values_n, const uint16_t *frames, size_t frames_n, double *out, size_t out_n,
+                  uint16_t *out_frames, size_t out_frames_n);
 
-/* X Y. x [8], y [8], up = e^sigma of X; out [8]. */
-uint32_t sim3_mul(const double *x, size_t x_n, const double *y, size_t y_n, double up, double *out, size_t out_n);
+/* X Y, first Y and then X. x [8], x_frames [2], y [8], y_frames [2], up = e^sigma of X; out [8], out_frames [2]: from of Y, to of X. Refusal 9 where from of X is
+ * not to of Y. */
+uint32_t sim3_mul(const double *x, size_t x_n, const uint16_t *x_frames, size_t x_frames_n, const double *y, size_t y_n, const uint16_t *y_frames,
+                  size_t y_frames_n, double up, double *out, size_t out_n, uint16_t *out_frames, size_t out_frames_n);
 
-/* X^-1. x [8], down = e^-sigma of X; out [8]. */
-uint32_t sim3_inverse(const double *x, size_t x_n, double down, double *out, size_t out_n);
+/* X^-1. x [8], x_frames [2], down = e^-sigma of X; out [8], out_frames [2]: those of X exchanged. */
+uint32_t sim3_inverse(const double *x, size_t x_n, const uint16_t *x_frames, size_t x_frames_n, double down, double *out, size_t out_n, uint16_t *out_frames,
+                      size_t out_frames_n);
 
-/* X Y^-1. x [8], y [8], ds = e^(sigma of X - sigma of Y); out [8]. */
-uint32_t sim3_mul_inv(const double *x, size_t x_n, const double *y, size_t y_n, double ds, double *out, size_t out_n);
+/* X Y^-1. x [8], x_frames [2], y [8], y_frames [2], ds = e^(sigma of X - sigma of Y); out [8], out_frames [2]: to of Y, to of X. Refusal 9 where from of X is not
+ * from of Y. */
+uint32_t sim3_mul_inv(const double *x, size_t x_n, const uint16_t *x_frames, size_t x_frames_n, const double *y, size_t y_n, const uint16_t *y_frames,
+                      size_t y_frames_n, double ds, double *out, size_t out_n, uint16_t *out_frames, size_t out_frames_n);
 
-/* Y^-1 X. x [8], y [8], down = e^-sigma of Y; out [8]. */
-uint32_t sim3_inv_mul(const double *x, size_t x_n, const double *y, size_t y_n, double down, double *out, size_t out_n);
+/* Y^-1 X. x [8], x_frames [2], y [8], y_frames [2], down = e^-sigma of Y; out [8], out_frames [2]: from of X, from of Y. Refusal 9 where to of X is not to
+ * of Y. */
+uint32_t sim3_inv_mul(const double *x, size_t x_n, const uint16_t *x_frames, size_t x_frames_n, const double *y, size_t y_n, const uint16_t *y_frames,
+                      size_t y_frames_n, double down, double *out, size_t out_n, uint16_t *out_frames, size_t out_frames_n);
 
-/* One Newton step that brings the quaternion nearer to length 1, in place. x [8]. */
+/* One Newton step that brings the quaternion nearer to length 1, in place. x [8]; X keeps its frames, which are not read. */
 uint32_t sim3_renormalize(double *x, size_t x_n);
 
 /* ---- lists of points, three numbers each: every point moved to s R p + t. x [8], up = e^sigma of X. */

@@ -16,6 +16,9 @@ static inline const char *sim3_refusal_text(uint32_t number) {
         return "a list of points has a wrong length; hand in x y z of every point, at most 65,535 numbers, and an out as long as pts";
     case SIM3_NOT_FINITE:
         return "z is a NaN or infinite; such a z has no root with what is left, so look at z first";
+    case SIM3_FRAMES:
+        return "the frames do not meet; sim3_mul wants from of x to be to of y, sim3_mul_inv equal froms, sim3_inv_mul equal tos, so look which way round "
+               "the poses are handed in";
     case SIM3_LIST_LENGTH:
         return "a list has a wrong length; sim3.h states the right one of each argument in brackets";
     default:

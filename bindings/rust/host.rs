@@ -69,17 +69,17 @@ pub fn tangent_values(tau: &Tangent) -> Values {
 
 /// e^sigma of a pose.
 pub fn up(x: &Pose) -> f64 {
-    x[7].exp()
+    x.numbers[7].exp()
 }
 
 /// e^-sigma of a pose.
 pub fn down(x: &Pose) -> f64 {
-    (-x[7]).exp()
+    (-x.numbers[7]).exp()
 }
 
 /// e^(sigma of X - sigma of Y), which `mul_inv` reads.
 pub fn ds(x: &Pose, y: &Pose) -> f64 {
-    (x[7] - y[7]).exp()
+    (x.numbers[7] - y.numbers[7]).exp()
 }
 
 /// 1/(2i + 2)!

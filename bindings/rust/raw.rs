@@ -10,36 +10,68 @@ extern "C" {
         tau_n: usize,
         values: *const f64,
         values_n: usize,
+        frames: *const u16,
+        frames_n: usize,
         out: *mut f64,
         out_n: usize,
+        out_frames: *mut u16,
+        out_frames_n: usize,
     ) -> u32;
     fn sim3_mul(
         x: *const f64,
         x_n: usize,
+        x_frames: *const u16,
+        x_frames_n: usize,
         y: *const f64,
         y_n: usize,
+        y_frames: *const u16,
+        y_frames_n: usize,
         up: f64,
         out: *mut f64,
         out_n: usize,
+        out_frames: *mut u16,
+        out_frames_n: usize,
     ) -> u32;
-    fn sim3_inverse(x: *const f64, x_n: usize, down: f64, out: *mut f64, out_n: usize) -> u32;
+    fn sim3_inverse(
+        x: *const f64,
+        x_n: usize,
+        x_frames: *const u16,
+        x_frames_n: usize,
+        down: f64,
+        out: *mut f64,
+        out_n: usize,
+        out_frames: *mut u16,
+        out_frames_n: usize,
+    ) -> u32;
     fn sim3_mul_inv(
         x: *const f64,
         x_n: usize,
+        x_frames: *const u16,
+        x_frames_n: usize,
         y: *const f64,
         y_n: usize,
+        y_frames: *const u16,
+        y_frames_n: usize,
         ds: f64,
         out: *mut f64,
         out_n: usize,
+        out_frames: *mut u16,
+        out_frames_n: usize,
     ) -> u32;
     fn sim3_inv_mul(
         x: *const f64,
         x_n: usize,
+        x_frames: *const u16,
+        x_frames_n: usize,
         y: *const f64,
         y_n: usize,
+        y_frames: *const u16,
+        y_frames_n: usize,
         down: f64,
         out: *mut f64,
         out_n: usize,
+        out_frames: *mut u16,
+        out_frames_n: usize,
     ) -> u32;
     fn sim3_renormalize(x: *mut f64, x_n: usize) -> u32;
     fn sim3_act_many(
@@ -161,7 +193,13 @@ extern "C" {
 // empty; and what is written is borrowed mutably, so no other slice overlaps it. All else, every count and
 // every number, they are proved to take.
 
-pub fn exp(tau: &[f64], values: &[f64], out: &mut [f64]) -> u32 {
+pub fn exp(
+    tau: &[f64],
+    values: &[f64],
+    frames: &[u16],
+    out: &mut [f64],
+    out_frames: &mut [u16],
+) -> u32 {
     // SAFETY: LISTS.
     unsafe {
         sim3_exp(
@@ -169,33 +207,123 @@ pub fn exp(tau: &[f64], values: &[f64], out: &mut [f64]) -> u32 {
             tau.len(),
             values.as_ptr(),
             values.len(),
+            frames.as_ptr(),
+            frames.len(),
             out.as_mut_ptr(),
             out.len(),
+            out_frames.as_mut_ptr(),
+            out_frames.len(),
         )
     }
 }
 
-pub fn mul(x: &[f64], y: &[f64], up: f64, out: &mut [f64]) -> u32 {
-    // SAFETY: LISTS.
-    unsafe { sim3_mul(x.as_ptr(), x.len(), y.as_ptr(), y.len(), up, out.as_mut_ptr(), out.len()) }
-}
-
-pub fn inverse(x: &[f64], down: f64, out: &mut [f64]) -> u32 {
-    // SAFETY: LISTS.
-    unsafe { sim3_inverse(x.as_ptr(), x.len(), down, out.as_mut_ptr(), out.len()) }
-}
-
-pub fn mul_inv(x: &[f64], y: &[f64], ds: f64, out: &mut [f64]) -> u32 {
+pub fn mul(
+    x: &[f64],
+    x_frames: &[u16],
+    y: &[f64],
+    y_frames: &[u16],
+    up: f64,
+    out: &mut [f64],
+    out_frames: &mut [u16],
+) -> u32 {
     // SAFETY: LISTS.
     unsafe {
-        sim3_mul_inv(x.as_ptr(), x.len(), y.as_ptr(), y.len(), ds, out.as_mut_ptr(), out.len())
+        sim3_mul(
+            x.as_ptr(),
+            x.len(),
+            x_frames.as_ptr(),
+            x_frames.len(),
+            y.as_ptr(),
+            y.len(),
+            y_frames.as_ptr(),
+            y_frames.len(),
+            up,
+            out.as_mut_ptr(),
+            out.len(),
+            out_frames.as_mut_ptr(),
+            out_frames.len(),
+        )
     }
 }
 
-pub fn inv_mul(x: &[f64], y: &[f64], down: f64, out: &mut [f64]) -> u32 {
+pub fn inverse(
+    x: &[f64],
+    x_frames: &[u16],
+    down: f64,
+    out: &mut [f64],
+    out_frames: &mut [u16],
+) -> u32 {
     // SAFETY: LISTS.
     unsafe {
-        sim3_inv_mul(x.as_ptr(), x.len(), y.as_ptr(), y.len(), down, out.as_mut_ptr(), out.len())
+        sim3_inverse(
+            x.as_ptr(),
+            x.len(),
+            x_frames.as_ptr(),
+            x_frames.len(),
+            down,
+            out.as_mut_ptr(),
+            out.len(),
+            out_frames.as_mut_ptr(),
+            out_frames.len(),
+        )
+    }
+}
+
+pub fn mul_inv(
+    x: &[f64],
+    x_frames: &[u16],
+    y: &[f64],
+    y_frames: &[u16],
+    ds: f64,
+    out: &mut [f64],
+    out_frames: &mut [u16],
+) -> u32 {
+    // SAFETY: LISTS.
+    unsafe {
+        sim3_mul_inv(
+            x.as_ptr(),
+            x.len(),
+            x_frames.as_ptr(),
+            x_frames.len(),
+            y.as_ptr(),
+            y.len(),
+            y_frames.as_ptr(),
+            y_frames.len(),
+            ds,
+            out.as_mut_ptr(),
+            out.len(),
+            out_frames.as_mut_ptr(),
+            out_frames.len(),
+        )
+    }
+}
+
+pub fn inv_mul(
+    x: &[f64],
+    x_frames: &[u16],
+    y: &[f64],
+    y_frames: &[u16],
+    down: f64,
+    out: &mut [f64],
+    out_frames: &mut [u16],
+) -> u32 {
+    // SAFETY: LISTS.
+    unsafe {
+        sim3_inv_mul(
+            x.as_ptr(),
+            x.len(),
+            x_frames.as_ptr(),
+            x_frames.len(),
+            y.as_ptr(),
+            y.len(),
+            y_frames.as_ptr(),
+            y_frames.len(),
+            down,
+            out.as_mut_ptr(),
+            out.len(),
+            out_frames.as_mut_ptr(),
+            out_frames.len(),
+        )
     }
 }
 

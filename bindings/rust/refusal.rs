@@ -14,6 +14,17 @@ pub enum Refusal {
     PointsLength { pts: usize, out: usize },
     /// 8: z is a NaN or +infinity.
     NotFinite,
+    /// 9: the frames do not meet. `x` and `y` are the two that would have to be one: X's from and Y's
+    /// to in X Y, both froms in X Y⁻¹, both tos in Y⁻¹ X.
+    Frames { join: Join, x: u16, y: u16 },
+}
+
+/// The functions that join two poses.
+#[derive(Clone, Copy, Debug, PartialEq, Eq)]
+pub enum Join {
+    Mul,
+    MulInv,
+    InvMul,
 }
 
 impl Refusal {
@@ -24,6 +35,7 @@ impl Refusal {
             Refusal::EIsZero => 2,
             Refusal::PointsLength { .. } => 5,
             Refusal::NotFinite => 8,
+            Refusal::Frames { .. } => 9,
         }
     }
 }
@@ -52,6 +64,15 @@ impl fmt::Display for Refusal {
             }
             Refusal::NotFinite => {
                 write!(f, "z is a NaN or infinite; such a z has no root with what is left, so look at z first")
+            }
+            Refusal::Frames { join: Join::Mul, x, y } => {
+                write!(f, "x starts from frame {x}, and y goes to frame {y}; X Y wants one frame there, so hand the poses in the other way round, or an inverse")
+            }
+            Refusal::Frames { join: Join::MulInv, x, y } => {
+                write!(f, "x starts from frame {x}, and y from frame {y}; X Y^-1 wants one frame there, so hand in two poses that start from it")
+            }
+            Refusal::Frames { join: Join::InvMul, x, y } => {
+                write!(f, "x goes to frame {x}, and y to frame {y}; Y^-1 X wants one frame there, so hand in two poses that go to it")
             }
         }
     }

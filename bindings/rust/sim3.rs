@@ -8,7 +8,9 @@
 //!
 //! Arrays have their sizes in the types, in the orders that include/sim3.h states. The host's values
 //! (`values`, `up`, `down`, `ds`, `jl`, `jl_inv`) are the caller's; [`host`] computes them. Every
-//! number is taken, NaN and infinities too. What can be refused answers a [`Refusal`].
+//! number is taken, NaN and infinities too. A [`Pose`] holds its two frames beside its numbers: poses
+//! are joined only where the frames meet, and the action and the Jacobians read none. What can be
+//! refused answers a [`Refusal`].
 
 #![deny(unsafe_code)]
 
@@ -17,11 +19,18 @@ mod raw;
 mod refusal;
 mod square_root;
 
-pub use refusal::Refusal;
+pub use refusal::{Join, Refusal};
 pub use square_root::{root, Root};
 
-/// Quaternion w x y z, translation x y z, sigma.
-pub type Pose = [f64; 8];
+/// A pose, which maps points of the frame `from` to points of the frame `to`.
+#[derive(Clone, Copy, Debug, PartialEq)]
+pub struct Pose {
+    /// Quaternion w x y z, translation x y z, sigma.
+    pub numbers: [f64; 8],
+    pub from: u16,
+    pub to: u16,
+}
+
 /// phi x y z, rho x y z, sigma.
 pub type Tangent = [f64; 7];
 /// root, sin_half, cos_half, sin, e, m, e0, m0, up, down.
@@ -98,34 +107,77 @@ fn listed(refused: u32, pts: usize, out: usize) -> Result<(), Refusal> {
 
 // ---- poses
 
-/// Exp(tau).
-pub fn exp(tau: &Tangent, values: &Values) -> Pose {
-    sure(|out| raw::exp(tau, values, out))
+/// What a call says, and the pose that it wrote where it says 0.
+fn posed(call: impl FnOnce(&mut [f64], &mut [u16]) -> u32) -> (u32, Pose) {
+    let (mut numbers, mut frames) = ([0.0; 8], [0; 2]);
+    let told = call(&mut numbers, &mut frames);
+    (told, Pose { numbers, from: frames[0], to: frames[1] })
 }
 
-/// X Y; `up` is e^sigma of X.
-pub fn mul(x: &Pose, y: &Pose, up: f64) -> Pose {
-    sure(|out| raw::mul(x, y, up, out))
+/// The pose of a call that refuses nothing.
+fn sure_pose((told, pose): (u32, Pose)) -> Pose {
+    match told {
+        0 => pose,
+        refused => foreign(refused),
+    }
 }
 
-/// X⁻¹; `down` is e^-sigma of X.
+/// Two poses joined; `x` and `y` are the frames that must be one.
+fn joined((told, pose): (u32, Pose), join: Join, x: u16, y: u16) -> Result<Pose, Refusal> {
+    match told {
+        0 => Ok(pose),
+        9 => Err(Refusal::Frames { join, x, y }),
+        refused => foreign(refused),
+    }
+}
+
+impl Pose {
+    /// From, to: as the C functions take them.
+    fn frames(&self) -> [u16; 2] {
+        [self.from, self.to]
+    }
+}
+
+/// Exp(tau), with the frames that it is given.
+pub fn exp(tau: &Tangent, values: &Values, from: u16, to: u16) -> Pose {
+    sure_pose(posed(|out, frames| raw::exp(tau, values, &[from, to], out, frames)))
+}
+
+/// X Y, from where Y starts to where X goes; refused where X does not start from the frame to which Y
+/// goes. `up` is e^sigma of X.
+pub fn mul(x: &Pose, y: &Pose, up: f64) -> Result<Pose, Refusal> {
+    let told = posed(|out, frames| {
+        raw::mul(&x.numbers, &x.frames(), &y.numbers, &y.frames(), up, out, frames)
+    });
+    joined(told, Join::Mul, x.from, y.to)
+}
+
+/// X⁻¹, back from X's to to its from; `down` is e^-sigma of X.
 pub fn inverse(x: &Pose, down: f64) -> Pose {
-    sure(|out| raw::inverse(x, down, out))
+    sure_pose(posed(|out, frames| raw::inverse(&x.numbers, &x.frames(), down, out, frames)))
 }
 
-/// X Y⁻¹; `ds` is e^(sigma of X - sigma of Y).
-pub fn mul_inv(x: &Pose, y: &Pose, ds: f64) -> Pose {
-    sure(|out| raw::mul_inv(x, y, ds, out))
+/// X Y⁻¹, from where Y goes to where X goes; refused where they start from two frames. `ds` is
+/// e^(sigma of X - sigma of Y).
+pub fn mul_inv(x: &Pose, y: &Pose, ds: f64) -> Result<Pose, Refusal> {
+    let told = posed(|out, frames| {
+        raw::mul_inv(&x.numbers, &x.frames(), &y.numbers, &y.frames(), ds, out, frames)
+    });
+    joined(told, Join::MulInv, x.from, y.from)
 }
 
-/// Y⁻¹ X; `down` is e^-sigma of Y.
-pub fn inv_mul(x: &Pose, y: &Pose, down: f64) -> Pose {
-    sure(|out| raw::inv_mul(x, y, down, out))
+/// Y⁻¹ X, from where X starts to where Y starts; refused where they go to two frames. `down` is
+/// e^-sigma of Y.
+pub fn inv_mul(x: &Pose, y: &Pose, down: f64) -> Result<Pose, Refusal> {
+    let told = posed(|out, frames| {
+        raw::inv_mul(&x.numbers, &x.frames(), &y.numbers, &y.frames(), down, out, frames)
+    });
+    joined(told, Join::InvMul, x.to, y.to)
 }
 
-/// One Newton step that brings the quaternion nearer to length 1, in place.
+/// One Newton step that brings the quaternion nearer to length 1, in place; the frames stay.
 pub fn renormalize(x: &mut Pose) {
-    sure::<0>(|_| raw::renormalize(x));
+    sure::<0>(|_| raw::renormalize(&mut x.numbers));
 }
 
 // ---- lists of points, flat: x y z of every point, at most 65,535 numbers, `out` as long as `pts`.
@@ -134,13 +186,13 @@ pub fn renormalize(x: &mut Pose) {
 /// Every point moved by the matrix s R, formed once: the bits of helicoid's act_many. `up` is e^sigma
 /// of X. A refusal leaves `out` as it was.
 pub fn act_many(x: &Pose, up: f64, pts: &[f64], out: &mut [f64]) -> Result<(), Refusal> {
-    listed(raw::act_many(x, up, pts, out), pts.len(), out.len())
+    listed(raw::act_many(&x.numbers, up, pts, out), pts.len(), out.len())
 }
 
 /// Every point moved by itself: the bits of the job's mark AC. `up` is e^sigma of X. A refusal leaves
 /// `out` as it was.
 pub fn act_each(x: &Pose, up: f64, pts: &[f64], out: &mut [f64]) -> Result<(), Refusal> {
-    listed(raw::act_each(x, up, pts, out), pts.len(), out.len())
+    listed(raw::act_each(&x.numbers, up, pts, out), pts.len(), out.len())
 }
 
 // ---- both signs, both sides, from one evaluation
@@ -207,7 +259,7 @@ pub fn block_inverse(j: &Block) -> Result<Block, Refusal> {
 
 /// Ad_X; `up` is e^sigma of X.
 pub fn adjoint(x: &Pose, up: f64) -> Block {
-    sure(|out| raw::adjoint(x, up, out))
+    sure(|out| raw::adjoint(&x.numbers, up, out))
 }
 
 fn act_jacobians(out: [f64; 30]) -> ActJacobians {
@@ -221,32 +273,32 @@ fn act_jacobians(out: [f64; 30]) -> ActJacobians {
 
 /// Of X p for X Exp(tau); `up` is e^sigma of X.
 pub fn act_jacobians_right(x: &Pose, up: f64, p: &Vector) -> ActJacobians {
-    act_jacobians(sure(|out| raw::act_jacobians_right(x, up, p, out)))
+    act_jacobians(sure(|out| raw::act_jacobians_right(&x.numbers, up, p, out)))
 }
 
 /// Of X p for Exp(tau) X; `up` is e^sigma of X.
 pub fn act_jacobians_left(x: &Pose, up: f64, p: &Vector) -> ActJacobians {
-    act_jacobians(sure(|out| raw::act_jacobians_left(x, up, p, out)))
+    act_jacobians(sure(|out| raw::act_jacobians_left(&x.numbers, up, p, out)))
 }
 
 /// Of X Y, right: by X and by Y, which read Y alone; `down` is e^-sigma of Y.
 pub fn compose_jacobians_right(y: &Pose, down: f64) -> (Block, Block) {
-    let out: [f64; 62] = sure(|out| raw::compose_jacobians_right(y, down, out));
+    let out: [f64; 62] = sure(|out| raw::compose_jacobians_right(&y.numbers, down, out));
     (part(&out, 0), part(&out, 31))
 }
 
 /// Of X Y, left: by X and by Y, which read X alone; `up` is e^sigma of X.
 pub fn compose_jacobians_left(x: &Pose, up: f64) -> (Block, Block) {
-    let out: [f64; 62] = sure(|out| raw::compose_jacobians_left(x, up, out));
+    let out: [f64; 62] = sure(|out| raw::compose_jacobians_left(&x.numbers, up, out));
     (part(&out, 0), part(&out, 31))
 }
 
 /// Of X⁻¹, right; `up` is e^sigma of X.
 pub fn inverse_jacobian_right(x: &Pose, up: f64) -> Block {
-    sure(|out| raw::inverse_jacobian_right(x, up, out))
+    sure(|out| raw::inverse_jacobian_right(&x.numbers, up, out))
 }
 
 /// Of X⁻¹, left; `down` is e^-sigma of X.
 pub fn inverse_jacobian_left(x: &Pose, down: f64) -> Block {
-    sure(|out| raw::inverse_jacobian_left(x, down, out))
+    sure(|out| raw::inverse_jacobian_left(&x.numbers, down, out))
 }

@@ -1,6 +1,6 @@
-/* The engine from C: two runs of shots are joined by a similarity, a staff line's points are moved, Jacobian blocks are taken, a
- * root is taken with what is left, and refusals are shown. Every answer is compared with numbers known by hand; exit status 1 and a message where one is wrong.
- * examples/c/run builds and runs it. */
+/* The engine from C: two runs of shots are joined by a similarity, which frames keep from being done the wrong way round; a staff line's points are moved,
+ * Jacobian blocks are taken, a root is taken with what is left, and refusals are shown. Every answer is compared with numbers known by hand; exit status 1
+ * and a message where one is wrong. examples/c/run builds and runs it. */
 #include <stdio.h>
 
 #include "sim3.h"
@@ -13,6 +13,7 @@
 static const double QUARTER = 1.5707963267948966; /* half of pi */
 static const double DOUBLE = 0.6931471805599453;  /* logarithm of 2 */
 static const double HALF_ROOT = 0.7071067811865476; /* root of 1/2 */
+enum { FIRST = 1, SECOND = 2, SHOT = 10, NEXT = 11 }; /* frames: the two runs, a shot that stands in both, and one of the second's */
 static int wrong = 0;
 
 /* A call that must be answered. */
@@ -34,23 +35,47 @@ static void known(const char *what, const double *found, const double *due, size
         }
 }
 
-/* The camera hand: a shot stands in both runs, at x in the first and at y in the second. X Y^-1 takes the second run's places to the first's. */
+/* The same of a pose's frames. */
+static void known_frames(const char *what, const uint16_t found[2], uint16_t from, uint16_t to) {
+    printf("%s: from frame %u to frame %u\n", what, (unsigned)found[0], (unsigned)found[1]);
+    if (found[0] == from && found[1] == to) return;
+    printf("%s: WRONG: the frames are not %u and %u\n", what, (unsigned)from, (unsigned)to);
+    wrong = 1;
+}
+
+/* A call that must be refused, with this number. */
+static void refused(const char *what, uint32_t number, uint32_t due) {
+    printf("%s: refusal %u: %s\n", what, (unsigned)number, sim3_refusal_text(number));
+    if (number != due) {
+        printf("%s: WRONG: refusal %u is due\n", what, (unsigned)due);
+        wrong = 1;
+    }
+}
+
+/* The camera hand: a shot stands in both runs, at x in the first and at y in the second. X Y^-1 takes the second run's places to the first's. The frames of
+ * each pose are a list of their own: from, to. */
 static void join_runs(double join[8]) {
     const double turn[7] = {0, 0, QUARTER, 0, 0, 0, DOUBLE}; /* a quarter turn about z, and twice the size */
     const double shift[8] = {1, 0, 0, 0, 10, 22, 30, 0};
     const double y[8] = {1, 0, 0, 0, 1, 0, 0, 0}, next[8] = {1, 0, 0, 0, 2, 0, 0, 0};
+    const uint16_t in_first[2] = {SHOT, FIRST}, in_second[2] = {SHOT, SECOND}, within_first[2] = {FIRST, FIRST}, next_frames[2] = {NEXT, SECOND};
     double values[10], turned[8], x[8], placed[8], back[8];
+    uint16_t turned_frames[2], x_frames[2], join_frames[2], placed_frames[2], back_frames[2];
 
     sim3_host_tangent_values(turn, values);
-    asked("exp", sim3_exp(turn, 7, values, 10, turned, 8));
-    asked("mul", sim3_mul(shift, 8, turned, 8, sim3_host_up(shift), x, 8));
-    asked("join", sim3_mul_inv(x, 8, y, 8, sim3_host_ds(x, y), join, 8));
-    asked("next shot", sim3_mul(join, 8, next, 8, sim3_host_up(join), placed, 8));
-    asked("and back", sim3_inv_mul(placed, 8, join, 8, sim3_host_down(join), back, 8));
+    asked("exp", sim3_exp(turn, 7, values, 10, in_first, 2, turned, 8, turned_frames, 2));
+    asked("mul", sim3_mul(shift, 8, within_first, 2, turned, 8, turned_frames, 2, sim3_host_up(shift), x, 8, x_frames, 2));
+    asked("join", sim3_mul_inv(x, 8, x_frames, 2, y, 8, in_second, 2, sim3_host_ds(x, y), join, 8, join_frames, 2));
+    asked("next shot", sim3_mul(join, 8, join_frames, 2, next, 8, next_frames, 2, sim3_host_up(join), placed, 8, placed_frames, 2));
+    asked("and back", sim3_inv_mul(placed, 8, placed_frames, 2, join, 8, join_frames, 2, sim3_host_down(join), back, 8, back_frames, 2));
 
     known("join", join, (const double[]){HALF_ROOT, 0, 0, HALF_ROOT, 10, 20, 30, DOUBLE}, 8);
+    known_frames("join", join_frames, SECOND, FIRST);
     known("next shot", placed, (const double[]){HALF_ROOT, 0, 0, HALF_ROOT, 10, 24, 30, DOUBLE}, 8);
+    known_frames("next shot", placed_frames, NEXT, FIRST);
     known("and back", back, next, 8);
+    known_frames("and back", back_frames, NEXT, SECOND);
+    refused("mul the wrong way round", sim3_mul(next, 8, next_frames, 2, join, 8, join_frames, 2, sim3_host_up(next), placed, 8, placed_frames, 2), SIM3_FRAMES);
 }
 
 /* The page flattener: the points of a staff line, x y z of each. */
@@ -100,35 +125,30 @@ static void adjust(const double join[8]) {
 /* The cradle, whose host has no square root to cite: the root of 2 with what is left, and Exp with the engine's root of z. */
 static void root_left(void) {
     const double turn[7] = {0, 0, QUARTER, 0, 0, 0, DOUBLE};
+    const uint16_t frames[2] = {SHOT, FIRST};
     uint64_t whole[2];
     int64_t exponent[1];
     double nearest[1], values[10], turned[8];
+    uint16_t turned_frames[2];
 
     asked("root", sim3_root(2, whole, 2, exponent, 1, nearest, 1));
     sim3_host_values_by(sim3_host_root, turn[6], sim3_host_norm_sq(turn), values);
-    asked("exp by that root", sim3_exp(turn, 7, values, 10, turned, 8));
+    asked("exp by that root", sim3_exp(turn, 7, values, 10, frames, 2, turned, 8, turned_frames, 2));
 
     known("root of 2", (const double[]){(double)whole[0], (double)whole[1], (double)exponent[0], nearest[0]},
           (const double[]){6369051672525772, 7192236498376048, -52, 1.4142135623730951}, 4);
     known("exp by that root", turned, (const double[]){HALF_ROOT, 0, 0, HALF_ROOT, 0, 0, 0, DOUBLE}, 8);
 }
 
-/* A call that must be refused, with this number. */
-static void refused(const char *what, uint32_t number, uint32_t due) {
-    printf("%s: refusal %u: %s\n", what, (unsigned)number, sim3_refusal_text(number));
-    if (number != due) {
-        printf("%s: WRONG: refusal %u is due\n", what, (unsigned)due);
-        wrong = 1;
-    }
-}
-
 static void refusals(const double join[8]) {
     const double tau[7] = {0}, values[10] = {0}, block[31] = {0}, pts[7] = {0};
+    const uint16_t frames[2] = {SHOT, FIRST};
     double out[31];
+    uint16_t out_frames[2];
     uint64_t whole[2];
     int64_t exponent[1];
 
-    refused("exp with six numbers", sim3_exp(tau, 6, values, 10, out, 8), SIM3_LIST_LENGTH);
+    refused("exp with six numbers", sim3_exp(tau, 6, values, 10, frames, 2, out, 8, out_frames, 2), SIM3_LIST_LENGTH);
     refused("block_inverse with e = 0", sim3_block_inverse(block, 31, out, 31), SIM3_E_IS_ZERO);
     refused("scaled_pair with z = -1", sim3_scaled_pair(0, -1, values, 10, out, 20), SIM3_BELOW_ZERO);
     refused("act_many with seven numbers", sim3_act_many(join, 8, 2, pts, 7, out, 7), SIM3_POINTS_LENGTH);

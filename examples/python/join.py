@@ -1,8 +1,8 @@
 #!/usr/bin/env python3
-"""The engine from Python: two runs of shots are joined by a similarity, a staff line's points are
-moved, Jacobian blocks are taken, a root is taken with what is left, and refusals are shown. Every
-answer is compared with numbers known by hand; exit status 1 and a message where one is wrong.
-examples/python/run builds what it needs.
+"""The engine from Python: two runs of shots are joined by a similarity, which frames keep from being
+done the wrong way round; a staff line's points are moved, Jacobian blocks are taken, a root is taken
+with what is left, and refusals are shown. Every answer is compared with numbers known by hand; exit
+status 1 and a message where one is wrong. examples/python/run builds what it needs.
 """
 import array
 import math
@@ -15,6 +15,8 @@ sys.path.insert(0, str(pathlib.Path(__file__).resolve().parents[2] / "bindings" 
 import sim3
 
 HALF_ROOT, DOUBLE = math.sqrt(0.5), math.log(2)
+FIRST, SECOND = 1, 2  # frames: the two runs,
+SHOT, NEXT = 10, 11  # a shot that stands in both, and one of the second's
 wrong = []
 
 
@@ -28,18 +30,29 @@ def known(what, found, due):
             wrong.append(f"{what}: number {i} is {x!r} and not {y!r}")
 
 
+def known_pose(what, found, numbers, from_, to):
+    """The same of a pose and its frames."""
+    known(what, found.numbers, numbers)
+    print(f"{what}: from frame {found.from_} to frame {found.to}")
+    if (found.from_, found.to) != (from_, to):
+        wrong.append(f"{what}: frames {found.from_} and {found.to}, and not {from_} and {to}")
+
+
 def join_runs():
     """The camera hand: a shot stands in both runs, at x in the first and at y in the second. X Y^-1
     takes the second run's places to the first's."""
-    turned = sim3.exp([0, 0, math.pi / 2, 0, 0, 0, math.log(2)])  # a quarter turn about z, and twice the size
-    x = sim3.mul([1, 0, 0, 0, 10, 22, 30, 0], turned)
-    y = [1, 0, 0, 0, 1, 0, 0, 0]
+    turn = [0, 0, math.pi / 2, 0, 0, 0, math.log(2)]  # a quarter turn about z, and twice the size
+    shift = sim3.Pose([1, 0, 0, 0, 10, 22, 30, 0], from_=FIRST, to=FIRST)
+    x = sim3.mul(shift, sim3.exp(turn, from_=SHOT, to=FIRST))
+    y = sim3.Pose([1, 0, 0, 0, 1, 0, 0, 0], from_=SHOT, to=SECOND)
     join = sim3.mul_inv(x, y)
-    placed = sim3.mul(join, [1, 0, 0, 0, 2, 0, 0, 0])  # the second run's next shot
+    next_shot = sim3.Pose([1, 0, 0, 0, 2, 0, 0, 0], from_=NEXT, to=SECOND)
+    placed = sim3.mul(join, next_shot)
     back = sim3.inv_mul(placed, join)
-    known("join", join, [HALF_ROOT, 0, 0, HALF_ROOT, 10, 20, 30, DOUBLE])
-    known("next shot", placed, [HALF_ROOT, 0, 0, HALF_ROOT, 10, 24, 30, DOUBLE])
-    known("and back", back, [1, 0, 0, 0, 2, 0, 0, 0])
+    known_pose("join", join, [HALF_ROOT, 0, 0, HALF_ROOT, 10, 20, 30, DOUBLE], SECOND, FIRST)
+    known_pose("next shot", placed, [HALF_ROOT, 0, 0, HALF_ROOT, 10, 24, 30, DOUBLE], NEXT, FIRST)
+    known_pose("and back", back, [1, 0, 0, 0, 2, 0, 0, 0], NEXT, SECOND)
+    refused(9, sim3.mul, next_shot, join)  # the wrong way round
     return join
 
 
@@ -77,9 +90,9 @@ def root_left():
     """The cradle, whose host has no square root to cite: the root of 2 with what is left, and Exp with
     the engine's root of z."""
     turn = [0, 0, math.pi / 2, 0, 0, 0, DOUBLE]
-    turned = sim3.exp(turn, sim3.host.tangent_values(turn, root=sim3.nearest_root))
+    turned = sim3.exp(turn, SHOT, FIRST, sim3.host.tangent_values(turn, root=sim3.nearest_root))
     known("root of 2", sim3.root(2), [6369051672525772, 7192236498376048, -52, 1.4142135623730951])
-    known("exp by that root", turned, [HALF_ROOT, 0, 0, HALF_ROOT, 0, 0, 0, DOUBLE])
+    known("exp by that root", turned.numbers, [HALF_ROOT, 0, 0, HALF_ROOT, 0, 0, 0, DOUBLE])
 
 
 def refused(number, function, *arguments):
@@ -99,7 +112,7 @@ def main():
     move_line(join)
     adjust(join)
     root_left()
-    refused(100, sim3.exp, [0] * 6)
+    refused(100, sim3.exp, [0] * 6, SHOT, FIRST)
     refused(2, sim3.block_inverse, [0] * 31)
     refused(1, sim3.scaled_pair, 0, -1)
     refused(5, sim3.act_many, join, [0] * 7)

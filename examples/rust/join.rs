@@ -1,11 +1,17 @@
-//! The engine from Rust: two runs of shots are joined by a similarity, a staff line's points are
-//! moved, Jacobian blocks are taken, a root is taken with what is left, and refusals are shown. Every
-//! answer is compared with numbers known by hand; exit status 1 and a message where one is wrong.
-//! examples/rust/run builds and runs it.
+//! The engine from Rust: two runs of shots are joined by a similarity, which frames keep from being done
+//! the wrong way round; a staff line's points are moved, Jacobian blocks are taken, a root is taken with
+//! what is left, and refusals are shown. Every answer is compared with numbers known by hand; exit status
+//! 1 and a message where one is wrong. examples/rust/run builds and runs it.
 
 use sim3::{host, Block, Pose, Refusal, Tangent};
 use std::f64::consts::{FRAC_1_SQRT_2 as HALF_ROOT, FRAC_PI_2, LN_2};
 use std::process::ExitCode;
+
+// Frames: the two runs, a shot that stands in both, and one of the second's.
+const FIRST: u16 = 1;
+const SECOND: u16 = 2;
+const SHOT: u16 = 10;
+const NEXT: u16 = 11;
 
 /// Prints a list; whether it is the one known by hand.
 fn known(what: &str, found: &[f64], due: &[f64]) -> bool {
@@ -18,24 +24,41 @@ fn known(what: &str, found: &[f64], due: &[f64]) -> bool {
     good
 }
 
+/// The same of a pose and its frames.
+fn known_pose(what: &str, found: &Pose, due: &Pose) -> bool {
+    println!("{what}: from frame {} to frame {}", found.from, found.to);
+    let met = (found.from, found.to) == (due.from, due.to);
+    if !met {
+        println!("{what}: WRONG: the frames are not {} and {}", due.from, due.to);
+    }
+    known(what, &found.numbers, &due.numbers) && met
+}
+
 /// The camera hand: a shot stands in both runs, at x in the first and at y in the second. X Y⁻¹ takes
 /// the second run's places to the first's.
-fn join_runs() -> (Pose, bool) {
+fn join_runs() -> Result<(Pose, bool), Refusal> {
     let turn = [0.0, 0.0, FRAC_PI_2, 0.0, 0.0, 0.0, LN_2]; // a quarter turn about z, and twice the size
-    let turned = sim3::exp(&turn, &host::tangent_values(&turn));
+    let turned = sim3::exp(&turn, &host::tangent_values(&turn), SHOT, FIRST);
     let shift = [1.0, 0.0, 0.0, 0.0, 10.0, 22.0, 30.0, 0.0];
-    let x = sim3::mul(&shift, &turned, host::up(&shift));
+    let shift = Pose { numbers: shift, from: FIRST, to: FIRST };
+    let x = sim3::mul(&shift, &turned, host::up(&shift))?;
     let y = [1.0, 0.0, 0.0, 0.0, 1.0, 0.0, 0.0, 0.0];
-    let join = sim3::mul_inv(&x, &y, host::ds(&x, &y));
-    let next = [1.0, 0.0, 0.0, 0.0, 2.0, 0.0, 0.0, 0.0]; // the second run's next shot
-    let placed = sim3::mul(&join, &next, host::up(&join));
-    let back = sim3::inv_mul(&placed, &join, host::down(&join));
+    let y = Pose { numbers: y, from: SHOT, to: SECOND };
+    let join = sim3::mul_inv(&x, &y, host::ds(&x, &y))?;
+    let next = [1.0, 0.0, 0.0, 0.0, 2.0, 0.0, 0.0, 0.0];
+    let next = Pose { numbers: next, from: NEXT, to: SECOND };
+    let placed = sim3::mul(&join, &next, host::up(&join))?;
+    let back = sim3::inv_mul(&placed, &join, host::down(&join))?;
+    let numbers = [HALF_ROOT, 0.0, 0.0, HALF_ROOT, 10.0, 20.0, 30.0, LN_2];
+    let due = Pose { numbers, from: SECOND, to: FIRST };
+    let numbers = [HALF_ROOT, 0.0, 0.0, HALF_ROOT, 10.0, 24.0, 30.0, LN_2];
     let good = [
-        known("join", &join, &[HALF_ROOT, 0.0, 0.0, HALF_ROOT, 10.0, 20.0, 30.0, LN_2]),
-        known("next shot", &placed, &[HALF_ROOT, 0.0, 0.0, HALF_ROOT, 10.0, 24.0, 30.0, LN_2]),
-        known("and back", &back, &next),
+        known_pose("join", &join, &due),
+        known_pose("next shot", &placed, &Pose { numbers, from: NEXT, to: FIRST }),
+        known_pose("and back", &back, &next),
+        refused("mul the wrong way round", 9, sim3::mul(&next, &join, host::up(&next))),
     ];
-    (join, good.iter().all(|&x| x))
+    Ok((join, good.iter().all(|&x| x)))
 }
 
 /// The page flattener: the points of a staff line.
@@ -85,11 +108,11 @@ fn root_left() -> Result<bool, Refusal> {
     let two = sim3::root(2.0)?;
     let turn = [0.0, 0.0, FRAC_PI_2, 0.0, 0.0, 0.0, LN_2];
     let z = host::norm_sq(&host::phi(&turn));
-    let turned = sim3::exp(&turn, &host::values_by(host::root, turn[6], z));
+    let turned = sim3::exp(&turn, &host::values_by(host::root, turn[6], z), SHOT, FIRST);
     let found = [two.root as f64, two.remainder as f64, two.exponent as f64, two.nearest];
     let due = [6369051672525772.0, 7192236498376048.0, -52.0, 1.4142135623730951];
     let pose = [HALF_ROOT, 0.0, 0.0, HALF_ROOT, 0.0, 0.0, 0.0, LN_2];
-    Ok(known("root of 2", &found, &due) & known("exp by that root", &turned, &pose))
+    Ok(known("root of 2", &found, &due) & known("exp by that root", &turned.numbers, &pose))
 }
 
 /// Shows a call that must be refused with this number.
@@ -127,18 +150,18 @@ fn refusals(join: &Pose) -> bool {
     good.iter().all(|&x| x)
 }
 
+/// Everything in turn; whether every answer is the one known by hand.
+fn example() -> Result<bool, Refusal> {
+    let (join, joined) = join_runs()?;
+    let good = [joined, move_line(&join)?, adjust(&join), root_left()?, refusals(&join)];
+    Ok(good.iter().all(|&x| x))
+}
+
 fn main() -> ExitCode {
-    let (join, joined) = join_runs();
-    let moved = move_line(&join).unwrap_or_else(|refusal| {
-        println!("staff line: WRONG: {refusal}");
+    let good = example().unwrap_or_else(|refusal| {
+        println!("WRONG: {refusal}");
         false
     });
-    let rooted = root_left().unwrap_or_else(|refusal| {
-        println!("root of 2: WRONG: {refusal}");
-        false
-    });
-    let (adjusted, shown) = (adjust(&join), refusals(&join));
-    let good = joined && moved && adjusted && rooted && shown;
     println!(
         "example: {}",
         if good { "every answer is the one known by hand" } else { "WRONG, see above" }

@@ -15,6 +15,7 @@ from sim3 import raw
 NAN = 0x7FF8000000000000
 INFINITY, MAGNITUDE = 0x7FF0000000000000, 0x7FFFFFFFFFFFFFFF
 MARKED = 0x7FF4_5EED_0BAD_CAFE  # a NaN that no answer has, for what must not be written
+UNWRITTEN = (0xBAD0, 0xBAD1)  # frames that no test hands in
 
 
 class Skipped(Exception):
@@ -71,13 +72,22 @@ def bits(data):
 
 
 def size(kinds):
-    return sum(raw.KINDS[kind][0] for kind in kinds)
+    """How many doubles there are in `out`."""
+    return sum(raw.KINDS[kind][0] for kind in kinds if kind != raw.FRAMES)
 
 
-def cut(data, takes):
-    """The arguments of a function from the bytes of their numbers, in a row; points take all that is left."""
-    arguments, at = [], 0
+def frame_list(frames):
+    return (ctypes.c_uint16 * len(frames))(*frames)
+
+
+def cut(data, takes, frames=()):
+    """The arguments of a function from the bytes of their doubles, in a row, and from the frames of each pose, which are zeros, and so meet, where
+    none are given; points take all that is left."""
+    arguments, at, given = [], 0, iter(frames)
     for _, kind in takes:
+        if kind == raw.FRAMES:
+            arguments.append(frame_list(next(given, (0, 0))))
+            continue
         count = 1 if kind == raw.NUMBER else (len(data) - at) // 8 if kind == raw.POINTS else raw.KINDS[kind][0]
         piece = doubles(data[at:at + 8 * count])
         assert len(piece) == count, "too few numbers"
@@ -87,23 +97,34 @@ def cut(data, takes):
     return arguments
 
 
-def answered(name, data):
-    """What a C function returns for the numbers in some bytes, and the bytes that it wrote; `out` has the right length."""
+def outs(name, points=0):
+    """The lists that a function writes, of the right lengths, with numbers that no answer has."""
+    gives = raw.FUNCTIONS[name].gives
+    return [marked(points if raw.POINTS in gives else size(gives)), *([frame_list(UNWRITTEN)] if raw.FRAMES in gives else [])]
+
+
+def told(written):
+    """The bytes of what was written, frames as doubles behind the numbers."""
+    return bytes(written[0]) + b"".join(packed(frames) for frames in written[1:])
+
+
+def answered(name, data, frames=()):
+    """What a C function returns for the numbers in some bytes and these frames, and what it wrote."""
     made = raw.FUNCTIONS[name]
-    arguments = cut(data, made.takes)
+    arguments = cut(data, made.takes, frames)
     if not made.gives:  # in place
         return raw.call(name, *arguments), bytes(arguments[0])
-    count = len(arguments[-1]) if raw.POINTS in made.gives else size(made.gives)
-    out = marked(count)
-    return raw.call(name, *arguments, out), bytes(out)
+    written = outs(name, len(arguments[-1]) if raw.POINTS in made.gives else 0)
+    return raw.call(name, *arguments, *written), told(written)
 
 
-def compare(what, name, data, refusal, answer):
-    """Holds a C function's answer to a stored one: the refusal's number and `out` untouched, or all bits."""
-    status, out = answered(name, data)
+def compare(what, name, data, refusal, answer, frames=()):
+    """Holds a C function's answer to a stored one: the refusal's number and nothing written, or all bits, with the frames as doubles behind the numbers."""
+    status, out = answered(name, data, frames)
     same(status, refusal, f"{what}, sim3_{name}: status")
     if refusal:
-        before = data if not raw.FUNCTIONS[name].gives else struct.pack("<Q", MARKED) * (len(out) // 8)
+        points = len(out) // 8 if raw.POINTS in raw.FUNCTIONS[name].gives else 0
+        before = told(outs(name, points)) if raw.FUNCTIONS[name].gives else data
         same(out, before, f"{what}, sim3_{name}: refused, but a number was written")
         return
     found, due = bits(out), bits(answer)

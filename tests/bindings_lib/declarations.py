@@ -7,6 +7,7 @@ from sim3 import raw
 
 TYPES = {"const double *": "in", "double *": "out", "size_t": "count", "double": "number",
          "*const f64": "in", "*mut f64": "out", "usize": "count", "f64": "number",
+         "const uint16_t *": "frames in", "uint16_t *": "frames out", "*const u16": "frames in", "*mut u16": "frames out",
          "uint64_t *": "whole out", "int64_t *": "signed out", "*mut u64": "whole out", "*mut i64": "signed out"}
 WRITTEN = {ctypes.c_uint64: "whole out", ctypes.c_int64: "signed out", ctypes.c_double: "out"}
 
@@ -36,9 +37,10 @@ def of_python():
     for name, made in raw.FUNCTIONS.items():
         arguments = []
         for argument, kind in made.takes:
-            place = "in" if made.gives else "out"
+            place = "frames in" if kind == raw.FRAMES else "in" if made.gives else "out"
             arguments += [(argument, "number")] if kind == raw.NUMBER else [(argument, place), (argument + "_n", "count")]
-        found[name] = arguments + ([("out", "out"), ("out_n", "count")] if made.gives else [])
+        arguments += [("out", "out"), ("out_n", "count")] if made.gives else []
+        found[name] = arguments + ([("out_frames", "frames out"), ("out_frames_n", "count")] if raw.FRAMES in made.gives else [])
     found["root"] = [("z", "number")]
     for argument, (kind, _) in raw.ROOT_WRITES.items():
         found["root"] += [(argument, WRITTEN[kind]), (argument + "_n", "count")]

@@ -1,6 +1,6 @@
 //! Every function of bindings/rust for tests/bindings: reads records of 102 doubles from standard
 //! input, the arguments in the order of `Arguments`, calls each function once, and writes their
-//! numbers in the order of include/sim3.h.
+//! numbers in the order of include/sim3.h, a pose's frames as doubles behind its own. All frames are 0.
 
 use sim3::*;
 use std::io::{self, Read, Write};
@@ -30,8 +30,8 @@ fn read(mut from: &[f64]) -> Arguments {
     Arguments {
         tau: next(from),
         values: next(from),
-        x: next(from),
-        y: next(from),
+        x: Pose { numbers: next(from), from: 0, to: 0 },
+        y: Pose { numbers: next(from), from: 0, to: 0 },
         jl: next(from),
         jl_inv: next(from),
         j: next(from),
@@ -43,14 +43,20 @@ fn read(mut from: &[f64]) -> Arguments {
 
 fn poses(a: &Arguments, out: &mut Vec<f64>) -> Result<(), Refusal> {
     let [up, down, ds, ..] = a.numbers;
-    out.extend(exp(&a.tau, &a.values));
-    out.extend(mul(&a.x, &a.y, up));
-    out.extend(inverse(&a.x, down));
-    out.extend(mul_inv(&a.x, &a.y, ds));
-    out.extend(inv_mul(&a.x, &a.y, down));
+    let given = [
+        exp(&a.tau, &a.values, 0, 0),
+        mul(&a.x, &a.y, up)?,
+        inverse(&a.x, down),
+        mul_inv(&a.x, &a.y, ds)?,
+        inv_mul(&a.x, &a.y, down)?,
+    ];
+    for pose in given {
+        out.extend(pose.numbers);
+        out.extend([f64::from(pose.from), f64::from(pose.to)]);
+    }
     let mut near = a.x;
     renormalize(&mut near);
-    out.extend(near);
+    out.extend(near.numbers);
     let mut moved = [0.0; 12];
     act_many(&a.x, up, &a.pts, &mut moved)?;
     out.extend(moved);

@@ -13,8 +13,8 @@ fn main() -> io::Result<()> {
     let mut out = Vec::new();
     for record in numbers.chunks_exact(23) {
         let tau: Tangent = record[..7].try_into().unwrap();
-        let x: Pose = record[7..15].try_into().unwrap();
-        let y: Pose = record[15..].try_into().unwrap();
+        let x = Pose { numbers: record[7..15].try_into().unwrap(), from: 0, to: 0 };
+        let y = Pose { numbers: record[15..].try_into().unwrap(), from: 0, to: 0 };
         let (jl, jl_inv) = host::rotation_jacobians(&host::phi(&tau));
         out.extend(host::tangent_values(&tau));
         out.extend(jl);

@@ -3,6 +3,7 @@ import random
 import tempfile
 
 from .common import bits, compiler, packed, run, rust_program, same
+from .records import parted
 from jobs_lib.doubles import text
 from jobs_lib.layout import JOB
 from sim3 import host
@@ -50,12 +51,19 @@ def python_and_rust():
         compare("bindings/rust/host.rs", run([program], b"".join(map(packed, cases()))), 31)
 
 
+def line_of(mark, numbers):
+    """A line for tools/jobs, with frames behind each pose and behind EX's tangent."""
+    words, every = [text(x) for x in numbers], {"EX": 7, "IN": 8, "MU": 8}.get(mark)
+    groups = [words[i:i + every] for i in range(0, len(words), every)] if every else [words]
+    return " ".join([mark, *(" ".join([*group, "frames 3 3"] if every else group) for group in groups)])
+
+
 def made(mark, lines):
-    """The numbers of the records that tools/jobs make makes of lines, those given and those filled in."""
-    job = run(["tools/jobs", "make"], "".join(f"{mark} {' '.join(map(text, line))}\n" for line in lines).encode())
-    width = JOB[mark.encode()].size
-    same(len(job), width * len(lines), f"bytes of {len(lines)} records {mark}")
-    return [job[width * i + 2:width * (i + 1)] for i in range(len(lines))]
+    """The doubles of the records that tools/jobs make makes of lines, those given and those filled in."""
+    job = run(["tools/jobs", "make"], "".join(line_of(mark, line) + "\n" for line in lines).encode())
+    layout = JOB[mark.encode()]
+    same(len(job), layout.size * len(lines), f"bytes of {len(lines)} records {mark}")
+    return [parted(layout, job[at + 2:])[0] for at in range(0, len(job), layout.size)]
 
 
 def filled(mark, lines, expected):

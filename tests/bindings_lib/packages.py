@@ -11,37 +11,57 @@ import tempfile
 import sim3
 from .common import ROOT, answered, bits, doubles, packed, same
 from sim3 import host, numbers, raw
+from sim3.poses import numbers_of
+
+FRAME = 3  # the frame from which and to which every pose goes here; frames.py has others
+
+
+def sigma(x):
+    return numbers_of(x)[7]
+
 
 # What an argument is where it is left out, by the arguments that are there.
 LEFT_OUT = {
     "values": lambda a: host.tangent_values(a["tau"]) if "tau" in a else host.values(a["sigma"], a["z"]),
     "jl": lambda a: host.rotation_jacobians(a["tau"][:3])[0], "jl_inv": lambda a: host.rotation_jacobians(a["tau"][:3])[1],
-    "ds": lambda a: host.exponential(a["x"][7] - a["y"][7]), "up": lambda a: host.exponential(a["x"][7]),
-    "down": lambda a: host.exponential(-a["y" if "y" in a else "x"][7]),
+    "ds": lambda a: host.exponential(sigma(a["x"]) - sigma(a["y"])), "up": lambda a: host.exponential(sigma(a["x"])),
+    "down": lambda a: host.exponential(-sigma(a["y" if "y" in a else "x"])),
 }
+
+
+def gives_pose(name):
+    """Whether the package's function gives a Pose, and takes its poses as such."""
+    return raw.FRAMES in raw.FUNCTIONS[name].gives or name == "renormalize"
 
 
 def arguments(name, source):
     """Ordinary arguments by name."""
     found = {}
     for argument, kind in raw.FUNCTIONS[name].takes:
+        if kind == raw.FRAMES:
+            found.update({"from_": FRAME, "to": FRAME} if argument == "frames" else {})
+            continue
         count = 12 if kind == raw.POINTS else 1 if kind == raw.NUMBER else raw.KINDS[kind][0]
         some = [source.uniform(0.1, 1.5) for _ in range(count)]
-        found[argument] = some[0] if kind == raw.NUMBER else some
+        pose = kind == "pose" and gives_pose(name)
+        found[argument] = some[0] if kind == raw.NUMBER else sim3.Pose(some, FRAME, FRAME) if pose else some
     return found
 
 
 def flat(answer):
+    if isinstance(answer, sim3.Pose):
+        return bits(answer.numbers.tobytes() + packed(answer[1:]))
     parts = answer if isinstance(answer, tuple) else (answer,)
     return bits(b"".join(part.tobytes() for part in parts))
 
 
 def bare(name, given):
-    """The bits of the bare call's answer."""
-    data = b"".join(packed(x if isinstance(x, list) else [x]) for x in given.values())
-    status, out = answered(name, data)
+    """The bits of the bare call's answer, frames as doubles behind the numbers."""
+    lists = [numbers_of(given[argument]) for argument, kind in raw.FUNCTIONS[name].takes if kind != raw.FRAMES]
+    data = b"".join(packed(x if isinstance(x, list) else [x]) for x in lists)
+    status, out = answered(name, data, [(FRAME, FRAME)] * 2)
     same(status, 0, f"sim3_{name}")
-    return bits(out)
+    return bits(out + (packed([FRAME, FRAME]) if name == "renormalize" else b""))
 
 
 def same_as_bare_calls():
@@ -60,7 +80,10 @@ def parts_of_answers():
     """An answer of several lists is cut where the C function's lists begin."""
     for name, made in raw.FUNCTIONS.items():
         answer = getattr(sim3, name)(**arguments(name, random.Random(8)))
-        if len(made.gives) > 1:
+        if gives_pose(name):
+            assert isinstance(answer, sim3.Pose) and isinstance(answer.numbers, array.array), f"sim3.{name} answers {answer}"
+            same((len(answer.numbers), answer.from_, answer.to), (8, FRAME, FRAME), f"sim3.{name}")
+        elif len(made.gives) > 1:
             same([len(part) for part in answer], [raw.KINDS[kind][0] for kind in made.gives], f"lists of sim3.{name}")
         else:
             assert isinstance(answer, array.array), f"sim3.{name} answers {type(answer)}"
@@ -78,13 +101,21 @@ def forms_of_a_list():
                        ("ctypes", doubles(packed.tobytes()))]:
         same(sim3.act_many(x, form), due, f"sim3.act_many of {what}")
     same(sim3.act_many(x, []), array.array("d"), "no points")
+    same(sim3.act_many(sim3.Pose(x, 3, 7), points), due, "sim3.act_many of a Pose")
+
+
+def in_array(x):
+    """An argument with its list in an array."""
+    if isinstance(x, sim3.Pose):
+        return x._replace(numbers=array.array("d", x.numbers))
+    return array.array("d", x) if isinstance(x, list) else x
 
 
 def nothing_lent_is_changed():
     source = random.Random(9)
     for name in raw.FUNCTIONS:
-        given = {a: array.array("d", x) if isinstance(x, list) else x for a, x in arguments(name, source).items()}
-        before = {a: x[:] if isinstance(x, array.array) else x for a, x in given.items()}
+        given = {a: in_array(x) for a, x in arguments(name, source).items()}
+        before = {a: in_array(list(x)) if isinstance(x, array.array) else in_array(x) for a, x in given.items()}
         getattr(sim3, name)(**given)
         same(given, before, f"arguments after sim3.{name}")
 
@@ -98,6 +129,12 @@ def refused_lists_are_let_go():
         except sim3.Refusal:
             long.append(1.0)
         same(len(long), len(wrong) + 1, f"length after a refusal of sim3.{name}")
+    long = array.array("d", [1.0] * 8)
+    try:
+        sim3.mul(sim3.Pose(long, 1, 2), sim3.Pose(long, 3, 4))
+    except sim3.Refusal:
+        long.append(1.0)
+    same(len(long), 9, "length after a refusal of sim3.mul")
 
 
 def buffers_are_not_copied():
@@ -116,23 +153,51 @@ def fails(kind, parts, function, *given, **named):
     raise AssertionError(f"{function.__name__}{given}{named} answered {answer}")
 
 
+def with_list(good, argument, wrong):
+    """The arguments with another list in one's place."""
+    pose = good[argument]
+    return {**good, argument: pose._replace(numbers=wrong) if isinstance(pose, sim3.Pose) else wrong}
+
+
 def wrong_lists():
     """Each list of each function: a wrong length, none, a text, bytes, a number, a text among the numbers."""
     for name, made in raw.FUNCTIONS.items():
         for argument, kind in made.takes:
-            if kind == raw.NUMBER:
+            if kind in (raw.NUMBER, raw.FRAMES):
                 continue
             good, number = arguments(name, random.Random(3)), 5 if kind == raw.POINTS else 100
-            function, where = getattr(sim3, name), f"sim3.{name}: "
-            for wrong in ([*good[argument], 1.0], good[argument][1:], *([[]] if number == 100 else [[0] * 65_538])):
-                found = fails(sim3.Refusal, [where, f"refusal {number}", argument + " has"], function, **{**good, argument: wrong})
+            function, where, right = getattr(sim3, name), f"sim3.{name}: ", numbers_of(good[argument])
+            for wrong in ([*right, 1.0], right[1:], *([[]] if number == 100 else [[0] * 65_538])):
+                found = fails(sim3.Refusal, [where, f"refusal {number}", argument + " has"], function, **with_list(good, argument, wrong))
                 same(found.number, number, f"number of {found}")
-            for wrong in ("1234567", b"12345678" * 8, 7, {1: 2}, (x for x in good[argument]), [*good[argument][1:], "1"], [good[argument]],
-                          memoryview(array.array("d", good[argument] * 2))[::2]):
-                fails(TypeError, [where, argument, "expected"], function, **{**good, argument: wrong})
-            fails(OverflowError, [where, argument], function, **{**good, argument: [10 ** 400, *good[argument][1:]]})
+            for wrong in ("1234567", b"12345678" * 8, 7, {1: 2}, (x for x in right), [*right[1:], "1"], [right],
+                          memoryview(array.array("d", right * 2))[::2]):
+                fails(TypeError, [where, argument, "expected"], function, **with_list(good, argument, wrong))
+            fails(OverflowError, [where, argument], function, **with_list(good, argument, [10 ** 400, *right[1:]]))
             if argument not in LEFT_OUT:
-                fails(TypeError, [where, argument, "NoneType"], function, **{**good, argument: None})
+                fails(TypeError, [where, argument, "NoneType"], function, **with_list(good, argument, None))
+
+
+def wrong_poses():
+    """A pose without frames where frames are read, and what is no frame; renormalize reads none."""
+    for name in filter(gives_pose, raw.FUNCTIONS):
+        good, function = arguments(name, random.Random(3)), getattr(sim3, name)
+        poses = {argument: x for argument, x in good.items() if isinstance(x, sim3.Pose)}
+        for argument, pose in poses.items():
+            for wrong in (pose.numbers, tuple(pose), None, 7):
+                fails(TypeError, [f"sim3.{name}: {argument} is {type(wrong).__name__}", "expected a sim3.Pose"], function, **{**good, argument: wrong})
+        for place in ("from_", "to"):
+            if name == "exp":
+                wrong_frames(f"sim3.exp: {place}", lambda x: function(**{**good, place: x}))
+            for argument, pose in poses.items() if name != "renormalize" else ():
+                wrong_frames(f"sim3.{name}: {argument}.{place}", lambda x: function(**{**good, argument: pose._replace(**{place: x})}))
+
+
+def wrong_frames(where, call):
+    for wrong in ("3", 3.0, None, [3]):
+        fails(TypeError, [f"{where} is {type(wrong).__name__}", "whole number from 0 to 65,535"], call, wrong)
+    for wrong in (-1, 65_536, 10 ** 30):
+        fails(OverflowError, [f"{where} is {wrong:,}", "whole number from 0 to 65,535"], call, wrong)
 
 
 def wrong_numbers():
@@ -157,7 +222,7 @@ def loaded_from():
 
 def other_library():
     """A library that is missing, no library, or another one, is said with what to do."""
-    code = "import sys; sys.path.insert(0, 'bindings/python'); import sim3; sim3.renormalize([1] * 8)"
+    code = "import sys; sys.path.insert(0, 'bindings/python'); import sim3; sim3.renormalize(sim3.Pose([1] * 8, 0, 0))"
     for path, what in (("/no/such/library.so", "no shared library"), ("README.md", "invalid ELF"), (loaded_from(), "undefined symbol")):
         done = subprocess.run([sys.executable, "-B", "-c", code], cwd=ROOT, env={**os.environ, "SIM3_LIBRARY": path},
                               stderr=subprocess.PIPE, text=True)
@@ -186,5 +251,5 @@ def build_without_tools():
         assert done.returncode == 2 and "'archives'" in done.stderr, f"with a wrong word: {done}"
 
 
-TESTS = [same_as_bare_calls, parts_of_answers, forms_of_a_list, nothing_lent_is_changed, refused_lists_are_let_go, buffers_are_not_copied, wrong_lists, wrong_numbers,
-         refusals_in_words, other_library, build_without_tools]
+TESTS = [same_as_bare_calls, parts_of_answers, forms_of_a_list, nothing_lent_is_changed, refused_lists_are_let_go, buffers_are_not_copied, wrong_lists,
+         wrong_poses, wrong_numbers, refusals_in_words, other_library, build_without_tools]

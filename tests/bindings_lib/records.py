@@ -2,11 +2,11 @@
 import collections
 import struct
 
-from .common import ROOT, compare
+from .common import ROOT, compare, packed
 from jobs_lib.layout import ANSWER, JOB
 from jobs_lib.records import walk
 
-# The function that a mark calls; a record's numbers are its arguments in order. AR's four bytes are numbers here.
+# The function that a mark calls; a record's numbers are its arguments in order, and its frames those of the poses. AR's four bytes are numbers here.
 CALLS = {"EX": "exp", "CO": "scaled_pair", "PA": "block_pair", "AC": "act_each", "MU": "mul", "IN": "inverse", "JI": "block_inverse", "AR": "armed_pair"}
 LEAST = 50  # records of each mark, fewer would be lost files
 
@@ -19,22 +19,35 @@ def runs():
     yield "sim3_job/stdin", (own / "stdin").read_bytes(), (own / "stdout").read_bytes()
 
 
+def parted(layout, data):
+    """The bytes of a record's or an answer's doubles, and its frames, two for each pose."""
+    numbers, frames, at = b"", [], 0
+    for code in layout.codes:
+        piece, = struct.unpack_from("<" + code, data, at)
+        if code == "H":
+            frames.append(piece)
+        else:
+            numbers += data[at:at + 8] if code == "d" else packed([piece])
+        at += struct.calcsize("<" + code)
+    return numbers, list(zip(frames[::2], frames[1::2]))
+
+
 def stored_records():
     seen, refused = collections.Counter(), collections.Counter()
     for name, job, answers in runs():
         records, told_records = list(walk(job, JOB)), list(walk(answers, ANSWER))
         assert len(told_records) >= len(records), f"{name}: {len(told_records)} answers to {len(records)} records"
         for number, ((at, asked), (answer_at, answer)) in enumerate(zip(records, told_records), 1):
-            data = job[at + 2:at + asked.size]
-            told = answers[answer_at + 2:answer_at + answer.size]
-            refusal = told[0] if answer.mark == "NO" else 0
-            told = struct.pack("<4d", *told[:4]) + told[4:] if answer.mark == "AR" else told
-            compare(f"{name}, record {number} ({asked.mark})", CALLS[asked.mark], data, refusal, told)
+            data, frames = parted(asked, job[at + 2:at + asked.size])
+            numbers, frames_told = parted(answer, answers[answer_at + 2:answer_at + answer.size])
+            refusal = answers[answer_at + 2] if answer.mark == "NO" else 0
+            told = numbers + b"".join(map(packed, frames_told))
+            compare(f"{name}, record {number} ({asked.mark})", CALLS[asked.mark], data, refusal, told, frames)
             seen[asked.mark] += 1
             refused[refusal] += 1
     for mark in CALLS:
         assert seen[mark] >= LEAST, f"{seen[mark]} records of {mark} in the stored runs; expected {LEAST} or more"
-    for refusal in (1, 2):
+    for refusal in (1, 2, 9):
         assert refused[refusal], f"no record with refusal {refusal} in the stored runs"
 
 

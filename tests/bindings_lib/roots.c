@@ -28,10 +28,12 @@ static int values(void) {
     int wrong = 0;
     while (fread(tau, sizeof tau, 1, stdin) == 1) {
         const double z = sim3_host_norm_sq(tau);
+        const uint16_t frames[2] = {0, 0};
         double by_machine[10], by_root[10], x[8], y[8];
+        uint16_t told[2];
         sim3_host_values(tau[6], z, by_machine);
         sim3_host_values_by(sim3_host_root, tau[6], z, by_root);
-        const uint32_t refused = sim3_exp(tau, 7, by_machine, 10, x, 8) | sim3_exp(tau, 7, by_root, 10, y, 8);
+        const uint32_t refused = sim3_exp(tau, 7, by_machine, 10, frames, 2, x, 8, told, 2) | sim3_exp(tau, 7, by_root, 10, frames, 2, y, 8, told, 2);
         if (refused || memcmp(by_machine, by_root, sizeof by_root) || memcmp(x, y, sizeof y)) {
             printf("z = %a: other bits by sim3_host_root\n", z);
             wrong = 1;

@@ -19,7 +19,7 @@ fn parts(words: &[u64]) -> Vec<u64> {
 /// The bits of the ten values and of Exp by them.
 fn by(root: impl Fn(f64) -> f64, tau: &Tangent) -> Vec<u64> {
     let values = host::values_by(root, tau[6], host::norm_sq(&host::phi(tau)));
-    values.iter().chain(&exp(tau, &values)).map(|x| x.to_bits()).collect()
+    values.iter().chain(&exp(tau, &values, 0, 0).numbers).map(|x| x.to_bits()).collect()
 }
 
 /// How many tangents have other bits.

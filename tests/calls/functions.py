@@ -1,8 +1,9 @@
-"""The functions that tests/calls drives: judge-lib's table (oracle/README.md) with the port's function for each id, and six that the job's marks reach.
+"""The functions that tests/calls drives: judge-lib's table (oracle/README.md) with the port's function for each id, six that the job's marks reach, and those
+of poses with their frames.
 
 A row is: id, name, what goes in, what comes out, the call and, where it can refuse, the variant of its answer that holds the result.
 In: NAME:KIND, in the order of the record. Out: KIND, or KIND:EXPRESSION where the result r has several parts.
-`count` and `index` are 64-bit whole numbers and go beside the doubles; a `list` is the last input and the only output.
+`count`, `index` and `frame` are 64-bit whole numbers and go beside the doubles; a `list` is the last input and the only output.
 """
 from collections import namedtuple
 
@@ -11,7 +12,7 @@ WIDTHS = {
     "num": 1, "flag": 1, "byte": 1, "vec": 3, "quat": 4, "four": 4, "coeffs4": 4, "tangent": 7, "seven": 7, "pose": 8,
     "mat": 9, "coeffs": 9, "values": 10, "block": 31, "square": 49,
 }
-WHOLE = ("count", "index")
+WHOLE = ("count", "index", "frame")
 
 Part = namedtuple("Part", "name kind")
 Function = namedtuple("Function", "id name takes gives call answer")
@@ -27,6 +28,10 @@ COEFFS_IN = "sigma:num z:num v:values"
 SERIES_IN = "sigma:num z:num k:count"
 ACT_OUT = "mat:r.rot mat:r.trans vec:r.scale mat:r.point"
 TWO_OUT = "block:r.first block:r.second"
+POSE_OUT = "pose:r.sim3 byte:r.from byte:r.to"
+FRAMES = "from:frame to:frame"
+TWO_FRAMES = FRAMES + " other_from:frame other_to:frame"
+POSE, OTHER, JOINED = "framed(p, from, to)", "framed(o, other_from, other_to)", "frames::PoseAnswer::Pose"
 
 ROWS = [
     (1, "Vec3 scale", "v:vec s:num", "vec", "v.scale(s)"),
@@ -126,6 +131,17 @@ ROWS = [
     (203, "Sim3 act", "p:pose up:num v:vec", "vec", "p.act(up, v)"),
     (204, "block_pair", TANGENT_BOTH, "block:r.left block:r.left_inv block:r.right block:r.right_inv", "sides::pair::block_pair(tau, v, jl, inv)"),
     (205, "Sim3Jac inverse", "j:block", "block", "j.inverse()", "jacobian::jac::JacAnswer::Block"),
+    # Poses with their frames, whose numbers are those of the functions above; framed.py has their answers.
+    (210, "Pose from_parts", "p:pose " + FRAMES, POSE_OUT, "Pose::from_parts(p.q, p.t, p.sigma, frame(from), frame(to))"),
+    (211, "Pose identity", FRAMES, POSE_OUT, "Pose::identity(frame(from), frame(to))"),
+    (212, "Pose exp", "tau:tangent v:values " + FRAMES, POSE_OUT, "Pose::exp(tau, v, frame(from), frame(to))"),
+    (213, "Pose mul", "p:pose o:pose up:num " + TWO_FRAMES, POSE_OUT, f"{POSE}.mul({OTHER}, up)", JOINED),
+    (214, "Pose inverse", "p:pose down:num " + FRAMES, POSE_OUT, POSE + ".inverse(down)"),
+    (215, "Pose mul_inv", "p:pose o:pose ds:num " + TWO_FRAMES, POSE_OUT, f"{POSE}.mul_inv({OTHER}, ds)", JOINED),
+    (216, "Pose inv_mul", "p:pose o:pose down:num " + TWO_FRAMES, POSE_OUT, f"{POSE}.inv_mul({OTHER}, down)", JOINED),
+    (217, "Pose rplus", "p:pose up:num tau:tangent v:values " + FRAMES, POSE_OUT, POSE + ".rplus(up, tau, v)"),
+    (218, "Pose lplus", "p:pose tau:tangent v:values " + FRAMES, POSE_OUT, POSE + ".lplus(tau, v)"),
+    (219, "Pose renormalized", "p:pose " + FRAMES, POSE_OUT, POSE + ".renormalized()"),
 ]
 
 

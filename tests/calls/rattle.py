@@ -9,6 +9,7 @@ HEAD = """\
 ghost use Prim.Native.Nat.{_+_, _≤_};
 ghost use lib.ListN.{length};
 use coeffs::values::Values;
+use frames::Pose;
 use jacobian::jac::Sim3Jac;
 use linalg::matrix::Mat3;
 use linalg::vector::Vec3;
@@ -19,6 +20,10 @@ use sim3::tangent::Sim3Tangent;
 use so3::quat::Quat;
 
 fn code(n: u8) -> u32 { n as u32 }
+
+fn frame(n: usize) -> u16 { (n % 65536) as u16 }
+
+fn framed(sim3: Sim3, from: usize, to: usize) -> Pose { Pose { sim3, from: frame(from), to: frame(to) } }
 """
 
 # The types of the port: the fields, with their kinds, in the order in which they are laid out.

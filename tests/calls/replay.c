@@ -4,7 +4,7 @@
 // little-endian words; an answer is the byte 0 and the outputs, or a refusal's number alone. Every NaN is written
 // 7ff8000000000000. An id that is no function and a cut record end the program with a message and status 2. With the
 // word --tally it then writes to standard error a line for each function that was called: its id, its calls, and its
-// calls that were refused with 1, 2, 3, 4 and 5.
+// calls that were refused with 1, 2, 3, 4 and 5; 9, for frames that do not meet, is none of judge-lib's.
 //
 // tests/calls/build compiles it, with calls.h and table.h, which it makes from functions.py.
 #include "calls.h"
@@ -34,7 +34,7 @@ static size_t whole(const double *w) {
 
 #include "table.h"
 
-enum { BUFFER = 1 << 20, MOST_WORDS = 256, MOST_IN_LIST = 100000, MOST_NUMBERS = 256, REFUSALS = 5 };
+enum { BUFFER = 1 << 20, MOST_WORDS = 256, MOST_IN_LIST = 100000, MOST_NUMBERS = 256, REFUSALS = 5, FRAMES = 9 };
 
 static unsigned char input[BUFFER], output[BUFFER];
 static size_t held, used; // bytes in input and in output
@@ -60,8 +60,9 @@ static void stop(const char *what, unsigned long long number) {
 
 // Counts a call and adds its answer to the output.
 static void answer(unsigned char id, uint32_t status, const double *numbers, size_t n) {
-    if (status > REFUSALS) stop("the answer has the status %llu, which is no refusal", status);
-    calls[id]++, refused[id][status]++;
+    if (status > REFUSALS && status != FRAMES) stop("the answer has the status %llu, which is no refusal", status);
+    calls[id]++;
+    if (status <= REFUSALS) refused[id][status]++;
     if (status != 0) n = 0;
     if (BUFFER - used < 1 + 8 * n) flush();
     output[used++] = (unsigned char)status;

@@ -1,14 +1,17 @@
 """The proved Sim(3) engine for Python: poses with scale, lists of points, Jacobians.
 
     import sim3
-    x = sim3.exp([0, 0, 1.5707963267948966, 0, 0, 0, 0.6931471805599453])  # a quarter turn, doubled
-    line = sim3.act_many(x, [1, 0, 0, 2, 0, 0])                            # x y z of every point, flat
+    turn = [0, 0, 1.5707963267948966, 0, 0, 0, 0.6931471805599453]  # a quarter turn, doubled
+    x = sim3.exp(turn, from_=3, to=7)                                # from frame 3 to frame 7
+    line = sim3.act_many(x, [1, 0, 0, 2, 0, 0])                      # x y z of every point, flat
 
 A list is any sequence of numbers, array('d') or another buffer of doubles, in the orders that
 include/sim3.h states: pose 8, tangent 7, ten values, matrix 9 (column by column), block 31. Answers
-are array('d'). The host's values (values, up, down, ds, jl, jl_inv) may be left out: sim3.host then
-computes them. Every number is taken, NaN and infinities too. What is not answered raises Refusal,
-whose `number` is 1, 2, 5, 8 or 100; what holds no numbers raises TypeError.
+are array('d'). A pose is a Pose: its numbers and its frames, from_ and to. Poses are joined only where
+the frames meet. What reads no frame, the action and the Jacobians, also takes the eight numbers alone.
+The host's values (values, up, down, ds, jl, jl_inv) may be left out: sim3.host then computes them.
+Every number is taken, NaN and infinities too. What is not answered raises Refusal, whose `number` is
+1, 2, 5, 8, 9 or 100; what holds no numbers raises TypeError.
 
 bindings/build makes the shared library that this package loads at the first call.
 """
@@ -16,11 +19,12 @@ import array
 
 from . import host, raw
 from .numbers import lent, number, over
+from .poses import Pose, expected, frames, numbers_of, room
 from .raw import LibraryMissing
 from .refusals import Refusal, explained, wrong_length
 from .square_root import Root, nearest_root, root
 
-__all__ = ["LibraryMissing", "Refusal", "Root", "host", "nearest_root", "root", *raw.FUNCTIONS]
+__all__ = ["LibraryMissing", "Pose", "Refusal", "Root", "host", "nearest_root", "root", *raw.FUNCTIONS]
 
 
 # ---- asking the C functions
@@ -28,7 +32,7 @@ __all__ = ["LibraryMissing", "Refusal", "Root", "host", "nearest_root", "root", 
 def read(name, argument, x):
     """A list of one argument, which has the length of its kind."""
     kind = dict(raw.FUNCTIONS[name].takes)[argument]
-    found = lent(f"sim3.{name}: {argument}", x)
+    found = lent(f"sim3.{name}: {argument}", numbers_of(x) if kind == "pose" else x)
     count = len(found)
     if kind != raw.POINTS and count != raw.KINDS[kind][0]:
         del found  # so that who catches the refusal can change the length of x
@@ -63,6 +67,24 @@ def ask(name, *arguments):
     return parts(out, made.gives)
 
 
+def read_pose(name, argument, x):
+    """The two lists of a pose, by their names in C."""
+    x = expected(f"sim3.{name}: {argument}", x)
+    return {argument: read(name, argument, x.numbers),
+            argument + "_frames": frames(f"sim3.{name}: {argument}.", x.from_, x.to)}
+
+
+def ask_pose(name, given):
+    """The pose that a C function writes, or Refusal; `given` has its arguments by name, in their order."""
+    numbers, told = room()
+    refused = raw.call(name, *given.values(), over(numbers, len(numbers)), told)
+    if refused:
+        refusal = explained(refused, name, given)
+        given.clear()  # so that who catches it can change the length of a list
+        raise refusal
+    return Pose(numbers, *told)
+
+
 def or_host(given, function, *arguments):
     """A value of the caller's, or the host's where it was left out."""
     return function(*arguments) if given is None else given
@@ -70,43 +92,53 @@ def or_host(given, function, *arguments):
 
 # ---- poses
 
-def exp(tau, values=None):
-    """Exp(tau), a pose."""
+def exp(tau, from_, to, values=None):
+    """Exp(tau), a pose with these frames."""
     tau = read("exp", "tau", tau)
-    return ask("exp", tau, or_host(values, host.tangent_values, tau))
+    values = read("exp", "values", or_host(values, host.tangent_values, tau))
+    return ask_pose("exp", {"tau": tau, "values": values, "frames": frames("sim3.exp: ", from_, to)})
 
 
 def mul(x, y, up=None):
-    """X Y; up is e^sigma of X."""
-    x = read("mul", "x", x)
-    return ask("mul", x, y, or_host(up, host.up, x))
+    """X Y, from where Y starts to where X goes; up is e^sigma of X. Refusal 9 where X does not start from
+    the frame to which Y goes."""
+    given = {**read_pose("mul", "x", x), **read_pose("mul", "y", y)}
+    given["up"] = number("sim3.mul: up", or_host(up, host.up, given["x"]))
+    return ask_pose("mul", given)
 
 
 def inverse(x, down=None):
-    """X^-1; down is e^-sigma of X."""
-    x = read("inverse", "x", x)
-    return ask("inverse", x, or_host(down, host.down, x))
+    """X^-1, with the frames exchanged; down is e^-sigma of X."""
+    given = read_pose("inverse", "x", x)
+    given["down"] = number("sim3.inverse: down", or_host(down, host.down, given["x"]))
+    return ask_pose("inverse", given)
 
 
 def mul_inv(x, y, ds=None):
-    """X Y^-1; ds is e^(sigma of X - sigma of Y)."""
-    x, y = read("mul_inv", "x", x), read("mul_inv", "y", y)
-    return ask("mul_inv", x, y, or_host(ds, host.ds, x, y))
+    """X Y^-1, from where Y goes to where X goes; ds is e^(sigma of X - sigma of Y). Refusal 9 where they
+    start from two frames."""
+    given = {**read_pose("mul_inv", "x", x), **read_pose("mul_inv", "y", y)}
+    given["ds"] = number("sim3.mul_inv: ds", or_host(ds, host.ds, given["x"], given["y"]))
+    return ask_pose("mul_inv", given)
 
 
 def inv_mul(x, y, down=None):
-    """Y^-1 X; down is e^-sigma of Y."""
-    x, y = read("inv_mul", "x", x), read("inv_mul", "y", y)
-    return ask("inv_mul", x, y, or_host(down, host.down, y))
+    """Y^-1 X, from where X starts to where Y starts; down is e^-sigma of Y. Refusal 9 where they go to two
+    frames."""
+    given = {**read_pose("inv_mul", "x", x), **read_pose("inv_mul", "y", y)}
+    given["down"] = number("sim3.inv_mul: down", or_host(down, host.down, given["y"]))
+    return ask_pose("inv_mul", given)
 
 
 def renormalize(x):
-    """The pose after one Newton step that brings its quaternion nearer to length 1; x stays as it is."""
-    out = array.array("d", read("renormalize", "x", x))
+    """The pose after one Newton step that brings its quaternion nearer to length 1, with the frames of x,
+    which stays as it is."""
+    x = expected("sim3.renormalize: x", x)
+    out = array.array("d", read("renormalize", "x", x.numbers))
     refused = raw.call("renormalize", over(out, len(out)))
     if refused:
         raise explained(refused, "renormalize", {})
-    return out
+    return Pose(out, x.from_, x.to)
 
 
 # ---- lists of points, flat: x y z of every point, at most 65,535 numbers; up is e^sigma of X

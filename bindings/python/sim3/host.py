@@ -55,12 +55,12 @@ def tangent_values(tau, root=root):
 
 
 def up(x):
-    """e^sigma of a pose."""
+    """e^sigma of a pose's eight numbers."""
     return exponential(x[7])
 
 
 def down(x):
-    """e^-sigma of a pose."""
+    """e^-sigma of a pose's eight numbers."""
     return exponential(-x[7])
 
 

@@ -8,11 +8,12 @@ import os
 import pathlib
 from typing import NamedTuple, Tuple
 
-NUMBER, POINTS = "number", "points"
+NUMBER, POINTS, FRAMES = "number", "points", "frames"
 
-# How many doubles a list of each kind has, and what they are.
+# How many numbers a list of each kind has, and what they are: doubles, and 16-bit numbers for frames.
 KINDS = {
     "pose": (8, "quaternion w x y z, translation x y z, sigma"),
+    FRAMES: (2, "from, to"),
     "tangent": (7, "phi x y z, rho x y z, sigma"),
     "values": (10, "root sin_half cos_half sin e m e0 m0 up down"),
     "matrix": (9, "column by column"),
@@ -24,7 +25,8 @@ KINDS = {
 
 
 class Function(NamedTuple):
-    """The arguments before `out`, each a name and a kind, and the kinds that `out` holds in a row."""
+    """The arguments before `out`, each a name and a kind, and the kinds that `out` holds in a row; frames
+    go to `out_frames`, which follows it."""
 
     takes: Tuple[Tuple[str, str], ...]
     gives: Tuple[str, ...]
@@ -38,11 +40,11 @@ def function(takes, gives):
 
 # renormalize works in place, so it has no `out`. The functions of points write a list as long as theirs.
 FUNCTIONS = {
-    "exp": function("tau:tangent values:values", "pose"),
-    "mul": function("x:pose y:pose up:number", "pose"),
-    "inverse": function("x:pose down:number", "pose"),
-    "mul_inv": function("x:pose y:pose ds:number", "pose"),
-    "inv_mul": function("x:pose y:pose down:number", "pose"),
+    "exp": function("tau:tangent values:values frames:frames", "pose frames"),
+    "mul": function("x:pose x_frames:frames y:pose y_frames:frames up:number", "pose frames"),
+    "inverse": function("x:pose x_frames:frames down:number", "pose frames"),
+    "mul_inv": function("x:pose x_frames:frames y:pose y_frames:frames ds:number", "pose frames"),
+    "inv_mul": function("x:pose x_frames:frames y:pose y_frames:frames down:number", "pose frames"),
     "renormalize": function("x:pose", ""),
     "act_many": function("x:pose up:number pts:points", "points"),
     "act_each": function("x:pose up:number pts:points", "points"),
@@ -91,12 +93,18 @@ def library():
                              "remove it and run bindings/build") from None
 
 
+def words(kind):
+    """The C types of an argument: a list is a pointer and a count."""
+    if kind == NUMBER:
+        return [ctypes.c_double]
+    return [ctypes.POINTER(ctypes.c_uint16 if kind == FRAMES else ctypes.c_double), ctypes.c_size_t]
+
+
 def declared(symbol, made):
-    """A C function with the types of its arguments: a list is a pointer and a count."""
-    lists = [ctypes.POINTER(ctypes.c_double), ctypes.c_size_t]
-    symbol.argtypes = [kind for _, what in made.takes
-                       for kind in ([ctypes.c_double] if what == NUMBER else lists)]
-    symbol.argtypes = symbol.argtypes + (lists if made.gives else [])
+    """A C function with the types of its arguments."""
+    written = ["out", FRAMES] if FRAMES in made.gives else ["out"] if made.gives else []
+    kinds = [*(kind for _, kind in made.takes), *written]
+    symbol.argtypes = [word for kind in kinds for word in words(kind)]
     symbol.restype = ctypes.c_uint32
     return symbol
 

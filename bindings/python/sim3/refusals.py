@@ -6,7 +6,7 @@ LIST_LENGTH = 100  # the number of sim3.h for a list of a wrong length, the boun
 
 
 class Refusal(ValueError):
-    """A refusal of the engine. `number` is its number in include/sim3.h: 1, 2, 5, 8 or 100."""
+    """A refusal of the engine. `number` is its number in include/sim3.h: 1, 2, 5, 8, 9 or 100."""
 
     def __init__(self, number, text):
         super().__init__(number, text)
@@ -36,6 +36,21 @@ def points_text(found):
            "taken at once, so move it in pieces"
 
 
+# By the function: which frame of x, and which of y, must be one and the same (0 from, 1 to), and words.
+MEETINGS = {
+    "mul": (0, "x starts from frame", 1, "y goes to frame", "X Y",
+            "hand the poses in the other way round, or an inverse"),
+    "mul_inv": (0, "x starts from frame", 0, "y from frame", "X Y^-1",
+                "hand in two poses that start from it"),
+    "inv_mul": (1, "x goes to frame", 1, "y to frame", "Y^-1 X", "hand in two poses that go to it"),
+}
+
+
+def frames_text(name, x_frames, y_frames):
+    i, of_x, j, of_y, joined, remedy = MEETINGS[name]
+    return f"{of_x} {x_frames[i]}, and {of_y} {y_frames[j]}; {joined} wants one frame there, so {remedy}"
+
+
 def explained(number, name, given):
     """The exception for a number that a C function returned; `given` has its arguments by name."""
     if number == 1:
@@ -49,5 +64,7 @@ def explained(number, name, given):
     if number == 8:
         return refusal(8, name, f"z is {given['z']!r}; such a z has no root with what is left, so look "
                                 "at z first")
+    if number == 9:
+        return refusal(9, name, frames_text(name, given["x_frames"], given["y_frames"]))
     return refusal(number, name, "the library refused what this package takes for right; they do not "
                                  "belong together, so run bindings/build")
