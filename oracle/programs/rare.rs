@@ -2,12 +2,19 @@
 //! arm, and its whole row round apart. Only there can a short arm taken at the wrong place be seen.
 //!
 //! `rare SEED TRIES` prints, for each range, the angles found. `inputs/angles.rs` keeps a list.
+//! At the narrow width `rare-f32 0 MOST` tries every number in place of so many random ones, and
+//! prints the first MOST of each row, wherever they lie.
 
 use helicoid::coefficients::{CIRCLE_ROWS, CIRCLE_TERMS};
-use helicoid_linalg::float::{at_width, by_width, Float};
+use helicoid_linalg::float::{at_width, by_width, Float, SINGLE};
 use oracle::inputs::Rng;
 
 const SHORT_TERMS: usize = by_width(5, 3);
+
+const MOST_SHOWN: usize = 24;
+
+/// Beyond every short limit.
+const WHOLE: Float = 0.0625;
 
 /// The group of five takes its short arms below the first, `exp_coeffs` below the second; the
 /// members' own short limits.
@@ -38,24 +45,31 @@ fn horner(terms: &[Float], z: Float) -> Float {
     rest.iter().rev().fold(*last, |p, t| t + z * p)
 }
 
+/// Whether the short arm's terms and the whole row give different numbers.
+fn apart(row: usize, z: Float) -> bool {
+    let whole = &CIRCLE_ROWS[row][..CIRCLE_TERMS[row]];
+    horner(&whole[..SHORT_TERMS], z) != horner(whole, z)
+}
+
+fn say(name: &str, tries: u64, found: impl Iterator<Item = Float>) {
+    let found: Vec<_> = found.map(|z| format!("{:#x}", z.to_bits())).collect();
+    let shown = found.iter().take(MOST_SHOWN).cloned().collect::<Vec<_>>().join(", ");
+    println!("{name}: {} of {tries}: {shown}", found.len());
+}
+
 fn main() {
     let mut args = std::env::args().skip(1).map(|a| a.parse::<u64>().expect("a number"));
     let (seed, tries) = (args.next().expect("SEED"), args.next().expect("TRIES"));
+    if SINGLE {
+        for (row, name) in ["k", "cos", "a", "b", "d"].into_iter().enumerate() {
+            let all = (0..Float::to_bits(WHOLE)).map(Float::from_bits);
+            say(name, tries, all.filter(|z| apart(row, *z)).take(tries as usize));
+        }
+        return;
+    }
     let mut rng = Rng::new(seed);
     for (name, row, low, high) in RANGES {
-        let whole = &CIRCLE_ROWS[row][..CIRCLE_TERMS[row]];
         let low = low.max(0.5 * high);
-        let mut found = Vec::new();
-        for _ in 0..tries {
-            let z = rng.between(low, high);
-            if horner(&whole[..SHORT_TERMS], z) != horner(whole, z) {
-                found.push(format!("{:#x}", z.to_bits()));
-            }
-        }
-        println!(
-            "{name}: {} of {tries}: {}",
-            found.len(),
-            found.iter().take(12).cloned().collect::<Vec<_>>().join(", ")
-        );
+        say(name, tries, (0..tries).map(|_| rng.between(low, high)).filter(|z| apart(row, *z)));
     }
 }

@@ -49,9 +49,11 @@ const ANGLE_LIMITS: [Float; 10] = all_at_width(
     ],
 );
 
-/// Rare angles, found by `rare`: five terms and the whole row round apart. Below the five's limit
-/// in `k`, `cos θ/2`, `a`, `b`, `d`; from there to `exp_coeffs'` in `k` and `cos θ/2`; from there
-/// to the member's own limit in `a` and `b`; and from `exp_coeffs'` limit to its own in `k`.
+/// Rare angles, found by `rare`: the short arm's terms and the whole row round apart. At the wide
+/// width: below the five's limit in `k`, `cos θ/2`, `a`, `b`, `d`; from there to `exp_coeffs'` in `k`
+/// and `cos θ/2`; from there to the member's own limit in `a` and `b`; and from `exp_coeffs'` limit
+/// to its own in `k`. At the narrow one: the first in each row, in the same order. Of those one alone,
+/// in `k`, lies where a short arm is taken; the others are where one that reached too far would be seen.
 pub const RARE: [Float; 60] = all_at_width(
     [
         0x3f63_0004_059b_04a6,
@@ -115,7 +117,68 @@ pub const RARE: [Float; 60] = all_at_width(
         0x3f66_ef18_65df_2809,
         0x3f66_1d87_be70_4d0f,
     ],
-    [0x3a80_0000; 60],
+    [
+        0x3734_0001,
+        0x3c2f_4100,
+        0x3c2f_5f01,
+        0x3c2f_7d04,
+        0x3c2f_9b05,
+        0x3c2f_b908,
+        0x3c2f_d709,
+        0x3c2f_f50c,
+        0x3c30_130d,
+        0x3b5d_87ff,
+        0x3b5d_b801,
+        0x3b5d_e802,
+        0x3b5e_1804,
+        0x3b5e_4806,
+        0x3b5e_7808,
+        0x3b5e_a809,
+        0x3b5e_d80b,
+        0x3b5f_080d,
+        0x3b5f_6810,
+        0x3b5f_9812,
+        0x3b5f_c814,
+        0x3ad7_af08,
+        0x3ad9_1710,
+        0x3ada_7f1c,
+        0x3adb_e725,
+        0x3add_4f30,
+        0x3add_4f31,
+        0x3ade_b739,
+        0x3ade_b73a,
+        0x3ae0_1f45,
+        0x3ae0_1f46,
+        0x3ae1_874e,
+        0x3ae1_874f,
+        0x3ae2_ef5a,
+        0x3ae2_ef5b,
+        0x3ae4_5764,
+        0x3ae5_bf70,
+        0x3ae7_2779,
+        0x3ae7_277a,
+        0x3ae8_8f86,
+        0x3ae9_f78f,
+        0x3aeb_5f9b,
+        0x3b0f_80e9,
+        0x3b11_f6fb,
+        0x3b14_6d0c,
+        0x3b16_e31e,
+        0x3b19_592f,
+        0x3b1b_cf42,
+        0x3b1e_4553,
+        0x3b20_bb67,
+        0x3b23_3179,
+        0x3b25_a78d,
+        0x3b28_1da0,
+        0x3b2a_93b5,
+        0x3b8e_5994,
+        0x3b8e_f719,
+        0x3b8f_94a0,
+        0x3b90_3226,
+        0x3b90_cfad,
+        0x3b91_6d33,
+    ],
 );
 
 /// A log scale with which any angle is in the closed arm.
