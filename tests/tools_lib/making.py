@@ -2,7 +2,8 @@
 import struct
 
 from .common import ROOT, WORK, file, holds, jobs, records, same
-from jobs_lib import doubles, host
+from jobs_lib import host
+from jobs_lib.floats import DOUBLE, SINGLE
 from jobs_lib.layout import JOB
 
 
