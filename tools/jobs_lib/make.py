@@ -81,13 +81,14 @@ def names(word, group):
 
 
 def check_frames(mark, total, separators):
-    """A line that has all but its frames, as every line of the older format."""
+    """A line that has all but its frames, as every line of the older format, which had no singles."""
     without = [form.count - len(form.frames) for form in FORMS[mark].values() if form.frames]
     if total in without and not any(word.endswith(FRAMES) for _, word in separators):
         poses = [g.name for g in JOB[mark.encode()].groups if g.code == FRAME]
         where = "behind sigma or the values" if mark.upper() == "EX" else "behind each pose's eight numbers"
+        older = " (a job of the older format?)" if JOB[mark.encode()].width is DOUBLE else ""
         raise BadLine(f"{mark} has {count(total, 'number')}, and {' and '.join(poses)} "
-                      f"{'is' if len(poses) == 1 else 'are'} missing (a job of the older format?): "
+                      f"{'is' if len(poses) == 1 else 'are'} missing{older}: "
                       f"put from and to {where}, as {FRAMES} 3 7")
 
 
