@@ -2,6 +2,7 @@
 and from runs of the program. tests/tools compares them, and renews them with --renew.
 """
 import re
+import textwrap
 
 from .floats import SINGLE
 from .layout import ANSWER, END, JOB, MATRIX, REFUSALS
@@ -33,7 +34,8 @@ def layouts(direction, table):
 def short_text(direction, layout):
     """The bytes of one record in singles: where each of its groups begins."""
     places = ", ".join(f"{at} {group.name}" for at, group in layout.offsets())
-    return f"{layout.mark} {direction + ',':4} {layout.size:3} bytes: {places}"
+    title = f"{layout.mark} {direction + ',':4} {layout.size:3} bytes: "
+    return textwrap.fill(title + places, 120, subsequent_indent=" " * len(title))
 
 
 def in_singles():
