@@ -1,13 +1,12 @@
 //! The library's judge: for functions that no mark reaches, answers from the published Rust.
 //!
 //! Reads standard input, writes standard output. A record is one byte, the function's number in
-//! the table, and its inputs: 8-byte little-endian doubles, and whole numbers of 64 bits. At `f32` a
-//! function's number is 128 more and its numbers have 4 bytes. An answer is the byte 0 and the
-//! outputs, or a refusal's number alone. A byte that is no function and a record that is cut end
-//! the program with a message. `judge-lib --table` prints the table of README.md.
+//! the table, and its inputs, little endian: numbers of 8 bytes, or of 4 in the program that is built
+//! for `f32`, and whole numbers of 64 bits. An answer is the byte 0 and the outputs, or a refusal's
+//! number alone. A byte that is no function and a record that is cut end the program with a message.
+//! `judge-lib --table` prints the table of README.md.
 
-use oracle::library as double;
-use oracle_f32::library as single;
+use oracle::library::{answer, table};
 use std::io::{self, Read, Write};
 use std::process::ExitCode;
 
@@ -16,8 +15,7 @@ const BUFFER: usize = 1 << 20;
 /// Answers the whole records at the front of `bytes` and says how many bytes they were.
 fn feed(bytes: &[u8], out: &mut Vec<u8>) -> Result<usize, String> {
     let mut at = 0;
-    while let Some(id) = bytes.get(at) {
-        let answer = if *id < single::NARROW { double::answer } else { single::answer };
+    while at < bytes.len() {
         match answer(&bytes[at..], out)? {
             Some(taken) => at += taken,
             None => break,
@@ -25,6 +23,7 @@ fn feed(bytes: &[u8], out: &mut Vec<u8>) -> Result<usize, String> {
     }
     Ok(at)
 }
+
 fn run(input: &mut impl Read, output: &mut impl Write) -> Result<(), String> {
     let failed = |e: io::Error| e.to_string();
     let (mut buffer, mut out, mut held) = (vec![0; BUFFER], Vec::new(), 0);
@@ -53,7 +52,7 @@ fn run(input: &mut impl Read, output: &mut impl Write) -> Result<(), String> {
 
 fn main() -> ExitCode {
     if std::env::args().nth(1).as_deref() == Some("--table") {
-        print!("{}", double::table());
+        print!("{}", table());
         return ExitCode::SUCCESS;
     }
     match run(&mut io::stdin().lock(), &mut io::stdout().lock()) {

@@ -13,21 +13,8 @@ const MOST_RECORDS: u32 = 1_000_000;
 
 const BUFFER: usize = 1 << 16;
 
-/// What answers the bytes behind the mark in a place of the table.
-type Reply = fn(usize, &[u8], &mut Vec<u8>) -> Result<bool, u8>;
-
 /// The bit that small letters have and capital ones have not.
 const SMALL: u8 = 0x20;
-
-/// The mark's place in its table, the bytes behind it, and what answers them: the Rust at `f32`
-/// where the letters are small, else at `f64`.
-fn look_up(letters: [u8; 2]) -> Option<(usize, usize, Reply)> {
-    let (found, reply): (_, Reply) = match letters[0] & SMALL {
-        0 => (double::place(letters), double::reply),
-        _ => (single::place(letters), single::reply),
-    };
-    found.map(|(place, bytes)| (place, bytes, reply))
-}
 
 /// Answers the whole records at the front of `bytes`. Says how many bytes they were, and whether
 /// the program stops here.
@@ -37,18 +24,25 @@ fn feed(bytes: &[u8], out: &mut Vec<u8>, counts: &mut Counts) -> (usize, bool) {
         let Some((letters, rest)) = bytes[at..].split_first_chunk::<2>() else {
             return (at, false);
         };
-        let Some((place, bytes_in, reply)) = look_up(*letters) else {
-            counts.refuse(6, out);
-            return (at, true);
+        // The Rust at `f32` where the letters are small, else at `f64`.
+        let taken = match letters[0] & SMALL {
+            0 => double::take(*letters, rest, out),
+            _ => single::take(*letters, rest, out),
         };
-        let Some(record) = rest.get(..bytes_in) else {
-            return (at, false);
-        };
-        match reply(place, record, out) {
-            Ok(finite) => counts.answer(finite),
-            Err(number) => counts.refuse(number, out),
+        match taken {
+            Ok((bytes, told)) => {
+                at += 2 + bytes;
+                match told {
+                    Ok(finite) => counts.answer(finite),
+                    Err(number) => counts.refuse(number, out),
+                }
+            }
+            Err(6) => {
+                counts.refuse(6, out);
+                return (at, true);
+            }
+            Err(_) => return (at, false),
         }
-        at += 2 + bytes_in;
     }
     (at, true)
 }

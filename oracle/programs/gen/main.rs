@@ -20,7 +20,9 @@ gen --mode lone --seed S --count N [--mark XX | --marks M]
 gen --mode good --seed S --count N --mark XX [--arm A]
                                                 well-formed ordinary records of one mark,
                                                 the coefficients in arm A (1 to 5)
-gen --mode lib --seed S --count N [--id I]      records of judge-lib, of one function or of all
+gen --mode lib --seed S --count N [--id I] [--width f32]
+                                                records of judge-lib, or of judge-lib-f32, of one
+                                                function or of all
 gen --mode ends                                 how many ends there are
 gen --mode ids                                  the functions' numbers";
 
@@ -36,6 +38,7 @@ struct Settings {
     arm: usize,
     id: Option<u8>,
     end: Option<usize>,
+    single: bool,
 }
 
 fn settings() -> Result<Settings, String> {
@@ -53,6 +56,13 @@ fn settings() -> Result<Settings, String> {
             "--marks" => s.marks.truncate((number()? as usize).max(1)),
             "--id" => s.id = Some(number()? as u8),
             "--end" => s.end = Some(number()? as usize),
+            "--width" => {
+                s.single = match value.as_str() {
+                    "f32" => true,
+                    "f64" => false,
+                    _ => return Err(format!("{value}: no such width")),
+                }
+            }
             "--mark" => {
                 let found = marks().into_iter().find(|m| m.as_slice() == value.as_bytes());
                 s.mark = Some(found.ok_or(format!("{value}: no such mark"))?);
@@ -106,7 +116,7 @@ fn lib(s: &Settings, source: &mut Sources, out: &mut impl Write) -> io::Result<(
     let mut record = Vec::new();
     for i in 0..s.count as usize {
         record.clear();
-        source.library_record(ids[i % ids.len()], &mut record);
+        source.library_record(ids[i % ids.len()], s.single, &mut record);
         out.write_all(&record)?;
     }
     Ok(())

@@ -15,8 +15,9 @@ pub fn marks() -> Vec<Letters> {
 
 /// The bytes behind a mark in a record.
 pub fn bytes_in(letters: Letters) -> usize {
-    let single = || helicoid_f32::judge::marks::place(letters);
-    helicoid::judge::marks::place(letters).or_else(single).expect("a mark").1
+    let double = helicoid::judge::marks::mark(letters).map(|m| m.bytes_in);
+    let single = || helicoid_f32::judge::marks::mark(letters).map(|m| m.bytes_in);
+    double.or_else(single).expect("a mark")
 }
 
 fn is_single(letters: Letters) -> bool {
@@ -58,20 +59,16 @@ impl Sources {
         }
     }
 
-    /// A record of the library function with this number.
-    pub fn library_record(&mut self, id: u8, out: &mut Vec<u8>) {
-        match oracle::library::entry(id) {
-            Some(e) => self.double.library_record(e, out),
-            None => {
-                let e = oracle_f32::library::entry(id).expect("a function");
-                self.single.library_record(e, out);
-            }
+    /// A record of the library function with this number, of singles or of doubles.
+    pub fn library_record(&mut self, id: u8, single: bool, out: &mut Vec<u8>) {
+        match single {
+            false => self.double.library_record(oracle::library::entry(id).expect("one"), out),
+            true => self.single.library_record(oracle_f32::library::entry(id).expect("one"), out),
         }
     }
 }
 
-/// The numbers of the library functions, those of the narrow width last.
+/// The numbers of the library functions, the same at both widths.
 pub fn ids() -> Vec<u8> {
-    let single = oracle_f32::library::entries().map(|e| e.id);
-    oracle::library::entries().map(|e| e.id).chain(single).collect()
+    oracle::library::entries().map(|e| e.id).collect()
 }

@@ -9,7 +9,6 @@ mod pose;
 mod rotation;
 
 use helicoid::judge::layout::{Reader, Writer, WIDTH};
-use helicoid_linalg::float::by_width;
 use helicoid_linalg::handed::finish;
 
 /// What an input or output is: how many numbers, and what a generator puts there.
@@ -87,9 +86,6 @@ impl Part {
     }
 }
 
-/// What a function's number has at the narrow width beyond its own.
-pub const NARROW: u8 = by_width(0, 128);
-
 /// Parts with their names.
 pub type Parts = &'static [(&'static str, Part)];
 
@@ -109,7 +105,7 @@ pub struct Entry {
 impl Entry {
     /// An entry that refuses nothing.
     const fn new(id: u8, name: &'static str, input: Parts, output: Parts, answer: Answer) -> Self {
-        Self { id: id + NARROW, name, input, output, refusals: &[], answer }
+        Self { id, name, input, output, refusals: &[], answer }
     }
 
     const fn refusing(self, refusals: &'static [u8]) -> Self {

@@ -81,20 +81,21 @@ pub fn mark(letters: [u8; 2]) -> Option<&'static Mark> {
     MARKS.iter().find(|m| m.letters == letters)
 }
 
-/// The place of the mark with these letters in the table, and the bytes behind them in a record.
-#[inline]
-pub fn place(letters: [u8; 2]) -> Option<(usize, usize)> {
-    let place = MARKS.iter().position(|m| m.letters == letters)?;
-    Some((place, MARKS[place].bytes_in))
-}
-
-/// Writes the answer to the bytes behind the mark in this place, its letters included, and says
-/// whether its numbers are all finite; or writes nothing, and says the refusal.
-#[inline]
-pub fn reply(place: usize, record: &[u8], out: &mut Vec<u8>) -> Result<bool, u8> {
-    let (mark, before) = (&MARKS[place], out.len());
-    out.extend_from_slice(&mark.letters);
-    match (mark.answer)(Reader(record), Writer(out)) {
+/// Takes a record, whose bytes behind its mark begin `rest`: writes its answer, the letters included,
+/// and says how many of those bytes it is and whether the answer's numbers are all finite; or writes
+/// nothing and says, in place of the latter, by what it is refused. `Err` is 6 where the letters are no
+/// mark, and 7 where the record is not all there.
+#[inline(always)]
+pub fn take(
+    letters: [u8; 2],
+    rest: &[u8],
+    out: &mut Vec<u8>,
+) -> Result<(usize, Result<bool, u8>), u8> {
+    let mark = mark(letters).ok_or(6)?;
+    let record = rest.get(..mark.bytes_in).ok_or(7)?;
+    let before = out.len();
+    out.extend_from_slice(&letters);
+    let told = match (mark.answer)(Reader(record), Writer(out)) {
         Ok(()) => {
             debug_assert!(out.len() == before + mark.size());
             Ok(all_finite(mark.numbers(&out[before..])))
@@ -103,7 +104,8 @@ pub fn reply(place: usize, record: &[u8], out: &mut Vec<u8>) -> Result<bool, u8>
             out.truncate(before);
             Err(number)
         }
-    }
+    };
+    Ok((mark.bytes_in, told))
 }
 
 /// `Exp τ`, with the frames that it is given.
