@@ -37,7 +37,8 @@ class Width:
     def __init__(self, name, code, bits_code, nan, infinity):
         self.name, self.code, self.bits_code = name, code, bits_code
         self.nan, self.infinity = nan, infinity  # how every NaN of an answer is written; the bits of inf
-        self.size = struct.calcsize("<" + code)
+        self.number, self.pattern = struct.Struct("<" + code), struct.Struct("<" + bits_code)
+        self.size = self.number.size
         self.digits = 2 * self.size
         self.magnitude = (1 << 8 * self.size - 1) - 1  # all bits but the sign
         self.expected = ("a decimal (1.5, -2e-3), a hexadecimal (0x1.8p3), inf, -inf, nan, "
@@ -45,17 +46,21 @@ class Width:
 
     def from_bits(self, bits):
         """The number as Python has it; of a single NaN the bits may be lost."""
-        return struct.unpack("<" + self.code, struct.pack("<" + self.bits_code, bits))[0]
+        return self.number.unpack(self.pattern.pack(bits))[0]
 
     def to_bits(self, x):
         """The bits of a double, rounded to this width; beyond the largest number those of an infinity."""
         try:
-            return struct.unpack("<" + self.bits_code, struct.pack("<" + self.code, x))[0]
+            return self.pattern.unpack(self.number.pack(x))[0]
         except OverflowError:
             return self.infinity | (self.magnitude + 1 if x < 0 else 0)
 
+    def at_once(self, numbers):
+        """The bits of words' numbers, to which these doubles are nearest; None where one needs a closer look."""
+        return None if any(x in INFINITIES for x in numbers) else self.all_bits(numbers)
+
     def all_bits(self, numbers):
-        """The same of several numbers that are finite at this width."""
+        """The bits of several numbers that are finite at this width."""
         packed = struct.pack(f"<{len(numbers)}{self.code}", *numbers)
         return list(struct.unpack(f"<{len(numbers)}{self.bits_code}", packed))
 
@@ -88,31 +93,15 @@ class Width:
     def rounded(self, x, word):
         """The bits of a word's number from the double x that is nearest to it. A number that
         overflows is a slip of the pen rather than an infinity."""
-        bits = self.to_bits(x)
-        if self.code != "d" and x not in INFINITIES:
-            bits = self.settled(bits, x, word)
+        bits = self.settled(self.to_bits(x), x, word)
         if self.is_infinite(bits):
             raise BadNumber(f"{shown(word)} is beyond the largest {self.name}; expected a finite number, "
                             "or inf where an infinity is meant")
         return bits
 
     def settled(self, bits, x, word):
-        """Where x lies midway between two numbers, the word itself says to which of them it belongs."""
-        here = self.exact(bits)
-        if here == x:
-            return bits
-        other = bits + (1 if abs(here) < abs(x) and not self.is_infinite(bits) else -1)
-        if here + self.exact(other) != 2 * Fraction(x) or exactly(word) == Fraction(x):
-            return bits
-        further = abs(exactly(word)) > abs(Fraction(x))
-        return max(bits, other) if further else min(bits, other)
-
-    def exact(self, bits):
-        """The number as a fraction; in the place of an infinity the number one step beyond the largest."""
-        if not self.is_infinite(bits):
-            return Fraction(self.from_bits(bits))
-        beyond = 2 * Fraction(self.from_bits(self.infinity - 1)) - Fraction(self.from_bits(self.infinity - 2))
-        return beyond if bits <= self.magnitude else -beyond
+        """The bits of a word's number, which are those of the double x unless x was rounded already."""
+        return bits
 
     def is_infinite(self, bits):
         return bits & self.magnitude == self.infinity
@@ -138,16 +127,49 @@ class Width:
 
 
 class Single(Width):
-    """Singles, whose shortest decimals are shorter than those of the same number as a double."""
+    """Singles. A word's double lies midway between two of them where its last bits are these, and perhaps
+    where it is below the least normal one; then the word itself must be looked at."""
+
+    LAST_BITS, MIDWAY = 0x1FFFFFFF, 0x10000000
+    LEAST_NORMAL, LARGEST = 2.0 ** -126, 2.0 ** 128 - 2.0 ** 104
+    SURE_DIGITS = 6  # decimals of so many digits have singles of their own
+
+    def at_once(self, numbers):
+        return self.all_bits(numbers) if all(map(self.is_sure, numbers)) else None
+
+    def is_sure(self, x):
+        """Whether a word that has x as its nearest double has the same nearest single as x."""
+        normal = self.LEAST_NORMAL <= abs(x) <= self.LARGEST
+        return normal and DOUBLE.to_bits(x) & self.LAST_BITS != self.MIDWAY or x == 0
+
+    def settled(self, bits, x, word):
+        """Where x lies midway between two singles, the word itself says to which of them it belongs."""
+        if x in INFINITIES or self.is_sure(x):
+            return bits
+        here = self.exact(bits)
+        if here == x:
+            return bits
+        other = bits + (1 if abs(here) < abs(x) and not self.is_infinite(bits) else -1)
+        if here + self.exact(other) != 2 * Fraction(x) or exactly(word) == Fraction(x):
+            return bits
+        further = abs(exactly(word)) > abs(Fraction(x))
+        return max(bits, other) if further else min(bits, other)
+
+    def exact(self, bits):
+        """The single as a fraction; in the place of an infinity the number one step beyond the largest."""
+        if not self.is_infinite(bits):
+            return Fraction(self.from_bits(bits))
+        return Fraction(2) ** 128 * (1 if bits <= self.magnitude else -1)
 
     def decimal(self, bits):
+        """A single's shortest decimal is shorter than that of the same number as a double."""
         x = self.from_bits(bits)
         if x in INFINITIES:
             return repr(x)
-        for digits in range(1, 10):
-            word = repr(float(f"{x:.{digits}g}"))
-            if self.to_bits(float(word)) == bits and self.read(word) == bits:
-                return word
+        for digits in range(self.SURE_DIGITS if abs(x) >= self.LEAST_NORMAL else 1, 10):
+            near = float(f"{x:.{digits}g}")
+            if bits == (self.to_bits(near) if self.is_sure(near) else self.read(repr(near))):
+                return repr(near)
         raise AssertionError(f"nine digits do not read back as {bits:08x}")
 
 

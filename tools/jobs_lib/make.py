@@ -137,12 +137,12 @@ def read_all(words, form, width):
 
 
 def read_numbers(words, width):
-    """Words as the bits of numbers. Most lines of doubles hold plain decimals, which are read at once."""
-    if width is DOUBLE and PLAIN.fullmatch(" ".join(words)):
+    """Words as the bits of numbers. Most lines hold plain decimals, which are read at once."""
+    if PLAIN.fullmatch(" ".join(words)):
         try:
-            numbers = [float(word) for word in words]
-            if float("inf") not in numbers and float("-inf") not in numbers:
-                return width.all_bits(numbers)
+            numbers = width.at_once([float(word) for word in words])
+            if numbers is not None:
+                return numbers
         except ValueError:
             pass
     try:
