@@ -4,14 +4,37 @@ use crate::sources::{bytes_in, marks, Letters, Sources};
 
 /// Marks that are in no job table: other case, other order, one letter wrong, the answers' own.
 const UNKNOWN: [&Letters; 25] = [
-    b"Ex", b"cO", b"Pa", b"aC", b"Mu", b"iN", b"Ji", b"XE", b"OC", b"AP", b"CA", b"UM", b"NI", b"IJ",
-    b"EY", b"FX", b"ZZ", b"NO", b"ar", b"RA", b"CH", b"\0\0", b"\xff\xff", b"QQ", b"E\0",
+    b"Ex",
+    b"cO",
+    b"Pa",
+    b"aC",
+    b"Mu",
+    b"iN",
+    b"Ji",
+    b"XE",
+    b"OC",
+    b"AP",
+    b"CA",
+    b"UM",
+    b"NI",
+    b"IJ",
+    b"EY",
+    b"FX",
+    b"ZZ",
+    b"NO",
+    b"ar",
+    b"RA",
+    b"CH",
+    b"\0\0",
+    b"\xff\xff",
+    b"QQ",
+    b"E\0",
 ];
 
 /// The same beside the marks of the narrow width.
 const UNKNOWN_SMALL: [&Letters; 23] = [
-    b"eX", b"Co", b"pA", b"Ac", b"mU", b"In", b"jI", b"aR", b"Ar", b"xe", b"oc", b"ap", b"ca", b"um",
-    b"ni", b"ij", b"ey", b"fx", b"zz", b"no", b"ch", b"e\0", b"\0x",
+    b"eX", b"Co", b"pA", b"Ac", b"mU", b"In", b"jI", b"aR", b"Ar", b"xe", b"oc", b"ap", b"ca",
+    b"um", b"ni", b"ij", b"ey", b"fx", b"zz", b"no", b"ch", b"e\0", b"\0x",
 ];
 
 /// An end of a file.

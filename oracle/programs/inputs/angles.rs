@@ -14,8 +14,10 @@ pub const ARM_LIMITS: [Float; 4] = all_at_width(
 const FORM_LIMIT: Float = at_width(0x3fff_b1ff_bc2a_9c8c, 0x40ba_8a92);
 
 /// All limits in `Δ`, each once.
-const DELTA_LIMITS: &[Float] =
-    by_width(&ARM_LIMITS, &[ARM_LIMITS[0], ARM_LIMITS[1], ARM_LIMITS[2], ARM_LIMITS[3], FORM_LIMIT]);
+const DELTA_LIMITS: &[Float] = by_width(
+    &ARM_LIMITS,
+    &[ARM_LIMITS[0], ARM_LIMITS[1], ARM_LIMITS[2], ARM_LIMITS[3], FORM_LIMIT],
+);
 
 /// Below this `σ²` the closed arm takes `v0` and `w0` from series.
 const SERIES_V0_BELOW: Float = at_width(0x3fe2_a775_0162_6657, 0x3f15_3ba8);
@@ -345,11 +347,16 @@ impl Source {
     /// Zeros for zero; a NaN or infinite component, or ones whose squares overflow, for the rest.
     fn phi_of_special(&mut self, z: Float) -> [Float; 3] {
         if z == 0.0 {
-            let tiny = self.rng.pick(&[0.0, Float::from_bits(1), by_width(1e-170f64, 1e-25) as Float]);
+            let tiny =
+                self.rng.pick(&[0.0, Float::from_bits(1), by_width(1e-170f64, 1e-25) as Float]);
             return [self.zero(), self.rng.signed(tiny), self.zero()];
         }
         let mut phi = self.numbers(Mood::Sprinkled);
-        let root = if z.is_infinite() { self.rng.pick(&[z, by_width(1e160f64, 1e25) as Float]) } else { z };
+        let root = if z.is_infinite() {
+            self.rng.pick(&[z, by_width(1e160f64, 1e25) as Float])
+        } else {
+            z
+        };
         phi[self.rng.below(3)] = self.rng.signed(root);
         phi
     }

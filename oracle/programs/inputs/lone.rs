@@ -13,8 +13,7 @@ use helicoid_linalg::float::{by_width, Float};
 /// of a coefficient set does.
 const GREAT: Float = by_width(1e200f64, 1e25) as Float;
 const GREAT_ANGLE: Float = by_width(1e300f64, 1e37) as Float;
-const LONE_VALUES: [Float; 10] =
-    [1.0, 1.0, 5e4, 0.5, 1e4, -0.5, 0.5, -0.5, 2.0, 0.5];
+const LONE_VALUES: [Float; 10] = [1.0, 1.0, 5e4, 0.5, 1e4, -0.5, 0.5, -0.5, 2.0, 0.5];
 
 /// How many numbers of a record's answer are not finite; none if it is refused.
 fn not_finite(record: &[u8]) -> usize {

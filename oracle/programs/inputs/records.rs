@@ -66,8 +66,9 @@ impl Source {
         self.job_record(letters, out);
         let numbers = start + 2;
         match &letters.map(|x| x.to_ascii_uppercase()) {
-            b"CO" | b"AR" => out[numbers + WIDTH..numbers + 2 * WIDTH]
-                .copy_from_slice(&Float::to_le_bytes(-1.0)),
+            b"CO" | b"AR" => {
+                out[numbers + WIDTH..numbers + 2 * WIDTH].copy_from_slice(&Float::to_le_bytes(-1.0))
+            }
             b"JI" => out[numbers + 30 * WIDTH..].fill(0),
             b"MU" => part(&mut out[start..]),
             _ => {}

@@ -8,7 +8,6 @@ use helicoid_linalg::float::{all_at_width, Float};
 use helicoid_linalg::handed::{expect, finish, Function, H};
 use helicoid_linalg::Vector;
 
-
 /// Values that belong to nothing.
 fn values() -> Values {
     Values::from_array([1.1, 0.3, 0.7, 0.9, 0.2, -0.8, 0.4, -0.6, 5.0, 0.25])
@@ -95,7 +94,12 @@ fn pure_translation() -> bool {
 /// Says of each example whether it holds, and how many do not.
 pub fn failed() -> usize {
     let [closed, below, second, first] = all_at_width(
-        [0x3fff_b1ff_bc2a_9c8c, 0x3fff_b1ff_bc2a_9c8b, 0x3f0c_70e5_9cfc_9f1f, 0x3f0c_70e5_9cfc_9f1e],
+        [
+            0x3fff_b1ff_bc2a_9c8c,
+            0x3fff_b1ff_bc2a_9c8b,
+            0x3f0c_70e5_9cfc_9f1f,
+            0x3f0c_70e5_9cfc_9f1e,
+        ],
         [0x4017_c496, 0x4017_c495, 0x3a7c_e158, 0x3a7c_e157],
     );
     let (nan, [least, next, _, most]) = (Float::NAN, TERMS);
@@ -103,7 +107,10 @@ pub fn failed() -> usize {
         ("1 coefficients at zero", at_zero()),
         ("2 the most terms", in_series(0.0, below, most)),
         ("3 closed, not scaled", in_closed(0.0, closed) && !scaled(0.0, closed).1),
-        ("4 the least terms, then more", in_series(0.0, first, least) && in_series(0.0, second, next)),
+        (
+            "4 the least terms, then more",
+            in_series(0.0, first, least) && in_series(0.0, second, next),
+        ),
         ("5 scaled", scaled(2.0, 0.0).1),
         ("6 not scaled", !scaled(-2.0, 0.0).1),
         ("7 NaN: closed, not scaled", in_closed(nan, 0.0) && !scaled(nan, 0.0).1),

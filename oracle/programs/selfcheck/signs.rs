@@ -83,7 +83,12 @@ pub fn v_alone(source: &mut Source) -> Result<(), String> {
 
 /// `J_l(τ)` and its inverse through the group's public functions, whose bodies form `z`, the
 /// coefficients and the rotation Jacobians on their way.
-fn public(tau: &Sim3Tangent<H>, v: &Values, jl: &Mat3<H>, inv: &Mat3<H>) -> ([Float; 31], [Float; 31]) {
+fn public(
+    tau: &Sim3Tangent<H>,
+    v: &Values,
+    jl: &Mat3<H>,
+    inv: &Mat3<H>,
+) -> ([Float; 31], [Float; 31]) {
     let (sigma, z) = (tau.sigma.0, squared_angle(tau.phi).0);
     reads::coefficients(sigma, z, v);
     reads::rotation_jacobian(tau.phi, jl);

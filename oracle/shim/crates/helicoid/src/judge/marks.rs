@@ -2,8 +2,8 @@
 //! them; the frames by their own rules. A refusal is its number. At the narrow width the letters are
 //! small and the numbers have 4 bytes; AR is of the wide one alone.
 
-use super::frames::Frames;
 use super::counts::all_finite;
+use super::frames::Frames;
 use super::layout::{Reader, Writer, WIDTH};
 use super::{arms, reads, Values};
 use crate::sim3::access::{jl_and_inverse_from, squared_angle};
