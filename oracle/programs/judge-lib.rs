@@ -1,9 +1,10 @@
 //! The library's judge: for functions that no mark reaches, answers from the published Rust.
 //!
 //! Reads standard input, writes standard output. A record is one byte, the function's number in
-//! the table, and its inputs, little endian: numbers of 8 bytes, or of 4 in the program that is built
-//! for `f32`, and whole numbers of 64 bits. An answer is the byte 0 and the outputs, or a refusal's
-//! number alone. A byte that is no function and a record that is cut end the program with a message.
+//! the table, and its inputs, little endian: numbers of 8 bytes, or of 4 in the program that is
+//! built for `f32`, and whole numbers of 64 bits. An answer is the byte 0 and the outputs, or a
+//! refusal's number alone. A byte that is no function and a record that is cut end the program with
+//! a message.
 //! `judge-lib --table` prints the table of README.md.
 
 use oracle::library::{answer, table};

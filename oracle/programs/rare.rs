@@ -1,5 +1,6 @@
-//! Searches for the rare squared angles at which a circle function's first terms, those of its short
-//! arm, and its whole row round apart. Only there can a short arm taken at the wrong place be seen.
+//! Searches for the rare squared angles at which a circle function's first terms, those of its
+//! short arm, and its whole row round apart. Only there can a short arm taken at the wrong place be
+//! seen.
 //!
 //! `rare SEED TRIES` prints, for each range, the angles found. `inputs/angles.rs` keeps a list.
 //! At the narrow width `rare-f32 0 MOST` tries every number in place of so many random ones, and

@@ -67,8 +67,8 @@ pub fn ends() -> Vec<End> {
     all
 }
 
-/// Writes an end. A cut record of CO, AR, JI or MU, or of co, ji or mu, would earn refusal 1, 2 or 9
-/// if it were whole.
+/// Writes an end. A cut record of CO, AR, JI or MU, or of co, ji or mu, would earn refusal 1, 2 or
+/// 9 if it were whole.
 pub fn end(end: End, source: &mut Sources, out: &mut Vec<u8>) {
     match end {
         End::Clean => {}

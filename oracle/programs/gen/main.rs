@@ -11,9 +11,9 @@ use std::process::ExitCode;
 const USAGE: &str = "\
 gen --seed S --count N [--mark XX | --marks M] [--end E]
                                                 adversarial job records, of one mark or of the
-                                                first M of the table in turn (--marks small: of those
-                                                in small letters), then end number E (without --end:
-                                                number S modulo their count)
+                                                first M of the table in turn (--marks small: of
+                                                those in small letters), then end number E
+                                                (without --end: number S modulo their count)
 gen --mode lone --seed S --count N [--mark XX | --marks M]
                                                 records whose answer has one number alone that is
                                                 a NaN or an infinity

@@ -1,5 +1,5 @@
-//! The sources of both widths: a mark's letters say from which of them its records come, so that a seed
-//! gives the same records at one width whatever is asked at the other.
+//! The sources of both widths: a mark's letters say from which of them its records come, so that a
+//! seed gives the same records at one width whatever is asked at the other.
 
 pub type Letters = [u8; 2];
 

@@ -52,10 +52,11 @@ const ANGLE_LIMITS: [Float; 10] = all_at_width(
 );
 
 /// Rare angles, found by `rare`: the short arm's terms and the whole row round apart. At the wide
-/// width: below the five's limit in `k`, `cos θ/2`, `a`, `b`, `d`; from there to `exp_coeffs'` in `k`
-/// and `cos θ/2`; from there to the member's own limit in `a` and `b`; and from `exp_coeffs'` limit
-/// to its own in `k`. At the narrow one: the first in each row, in the same order. Of those one alone,
-/// in `k`, lies where a short arm is taken; the others are where one that reached too far would be seen.
+/// width: below the five's limit in `k`, `cos θ/2`, `a`, `b`, `d`; from there to `exp_coeffs'` in
+/// `k` and `cos θ/2`; from there to the member's own limit in `a` and `b`; and from `exp_coeffs'`
+/// limit to its own in `k`. At the narrow one: the first in each row, in the same order. Of those
+/// one alone, in `k`, lies where a short arm is taken; at the others one that reached too far would
+/// be seen.
 pub const RARE: [Float; 60] = all_at_width(
     [
         0x3f63_0004_059b_04a6,

@@ -183,7 +183,7 @@ pub fn answer(record: &[u8], out: &mut Vec<u8>) -> Result<Option<usize>, String>
     Ok(Some(end))
 }
 
-/// The inputs or outputs as README.md's table shows them: name, and how many where there are several.
+/// The inputs or outputs as README.md's table shows them: name, and how many if there are several.
 fn listed(parts: Parts, list: &str) -> String {
     let shown: Vec<String> = parts
         .iter()

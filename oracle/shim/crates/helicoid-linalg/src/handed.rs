@@ -6,7 +6,7 @@
 //! stops the program with a message. So a value is read in its own place only, even where two
 //! places have the same function and the same argument.
 //!
-//! Arithmetic, comparison, absolute value and sign are those of `Float`, the number type of the width.
+//! Arithmetic, comparison, absolute value and sign are those of `Float`, the width's number type.
 
 use crate::float::{Float, PRECISION};
 use crate::real::{Blend, Precision, Real, RotationJacobian};

@@ -89,8 +89,8 @@ pub fn unscale<S: Real>(c: Row<S>, sigma: S, scaled: S::Mask) -> Row<S> {
     row(super::unscale(from_row(c), sigma, scaled))
 }
 
-/// The five circle rows of this width in the order of `sinc_a_b_d`'s group, `k`, `cos θ/2`, `a`, `b`,
-/// `d`, and how many terms of each a whole arm reads.
+/// The five circle rows of this width in the order of `sinc_a_b_d`'s group, `k`, `cos θ/2`, `a`,
+/// `b`, `d`, and how many terms of each a whole arm reads.
 macro_rules! circle_rows {
     ($($swept:ident $row:ident),+) => {
         pub const CIRCLE_ROWS: [[Float; 16]; 5] = [$(super::generated::$swept),+];
@@ -99,9 +99,11 @@ macro_rules! circle_rows {
 }
 #[cfg(not(single))]
 circle_rows!(
-    SWEPT_K_F64 K_F64, SWEPT_COS_HALF_F64 COS_HALF_F64, SWEPT_A_F64 A_F64, SWEPT_B_F64 B_F64, SWEPT_D_F64 D_F64
+    SWEPT_K_F64 K_F64, SWEPT_COS_HALF_F64 COS_HALF_F64,
+    SWEPT_A_F64 A_F64, SWEPT_B_F64 B_F64, SWEPT_D_F64 D_F64
 );
 #[cfg(single)]
 circle_rows!(
-    SWEPT_K_F32 K_F32, SWEPT_COS_HALF_F32 COS_HALF_F32, SWEPT_A_F32 A_F32, SWEPT_B_F32 B_F32, SWEPT_D_F32 D_F32
+    SWEPT_K_F32 K_F32, SWEPT_COS_HALF_F32 COS_HALF_F32,
+    SWEPT_A_F32 A_F32, SWEPT_B_F32 B_F32, SWEPT_D_F32 D_F32
 );

@@ -1,6 +1,6 @@
-//! Numbers in bytes: little-endian, of 8 bytes or at the narrow width of 4; matrices column by column, a block as
-//! `a, b, c, f, e`, a pose as quaternion, translation, log scale. Frames are two 2-byte whole numbers,
-//! from and to, little endian too.
+//! Numbers in bytes: little endian, of 8 bytes, or at the narrow width of 4; matrices column by
+//! column, a block as `a, b, c, f, e`, a pose as quaternion, translation, log scale. Frames are two
+//! 2-byte whole numbers, from and to, little endian too.
 
 use super::frames::Frames;
 use super::Values;

@@ -1,6 +1,6 @@
 //! The marks of the job program: what a record's numbers are and which published function answers
-//! them; the frames by their own rules. A refusal is its number. At the narrow width the letters are
-//! small and the numbers have 4 bytes; AR is of the wide one alone.
+//! them; the frames by their own rules. A refusal is its number. At the narrow width the letters
+//! are small and the numbers have 4 bytes; AR is of the wide one alone.
 
 use super::counts::all_finite;
 use super::frames::Frames;
@@ -81,10 +81,10 @@ pub fn mark(letters: [u8; 2]) -> Option<&'static Mark> {
     MARKS.iter().find(|m| m.letters == letters)
 }
 
-/// Takes a record, whose bytes behind its mark begin `rest`: writes its answer, the letters included,
-/// and says how many of those bytes it is and whether the answer's numbers are all finite; or writes
-/// nothing and says, in place of the latter, by what it is refused. `Err` is 6 where the letters are no
-/// mark, and 7 where the record is not all there.
+/// Takes a record, whose bytes behind its mark begin `rest`: writes its answer, the letters
+/// included, and says how many of those bytes it has and whether the answer's numbers are all
+/// finite; or writes nothing and says, in place of the latter, by what it is refused. `Err` is 6
+/// where the letters are no mark, and 7 where the record is not all there.
 #[inline(always)]
 pub fn take(
     letters: [u8; 2],
