@@ -1,19 +1,16 @@
 //! How a job file ends: cleanly, or damaged in every way.
 
-use super::frames::part;
-use super::records::MARKS;
-use super::Source;
-use helicoid::judge::marks::mark;
+use crate::sources::{bytes_in, marks, Letters, Sources};
 
 /// Marks that are in no job table: other case, other order, one letter wrong, the answers' own.
-const UNKNOWN: [&[u8; 2]; 25] = [
-    b"ex",
-    b"co",
-    b"pa",
-    b"ac",
-    b"mu",
-    b"in",
-    b"ji",
+const UNKNOWN: [&Letters; 25] = [
+    b"Ex",
+    b"cO",
+    b"Pa",
+    b"aC",
+    b"Mu",
+    b"iN",
+    b"Ji",
     b"XE",
     b"OC",
     b"AP",
@@ -34,6 +31,12 @@ const UNKNOWN: [&[u8; 2]; 25] = [
     b"E\0",
 ];
 
+/// The same beside the marks of the narrow width.
+const UNKNOWN_SMALL: [&Letters; 23] = [
+    b"eX", b"Co", b"pA", b"Ac", b"mU", b"In", b"jI", b"aR", b"Ar", b"xe", b"oc", b"ap", b"ca",
+    b"um", b"ni", b"ij", b"ey", b"fx", b"zz", b"no", b"ch", b"e\0", b"\0x",
+];
+
 /// An end of a file.
 #[derive(Clone, Copy, Debug)]
 pub enum End {
@@ -41,41 +44,38 @@ pub enum End {
     /// The first byte of a mark alone.
     Half(u8),
     /// A mark and so many bytes of its numbers.
-    Cut(&'static [u8; 2], usize),
+    Cut(Letters, usize),
     /// An unknown mark, and behind it nothing, one byte, or a whole record.
-    Unknown(&'static [u8; 2], usize),
+    Unknown(&'static Letters, usize),
 }
 
 /// Every end: 0 is the clean one, the others are damaged.
 pub fn ends() -> Vec<End> {
+    let (single, double): (Vec<_>, Vec<_>) =
+        marks().into_iter().partition(|letters| letters[0].is_ascii_lowercase());
+    let cut = |letters: Letters| (0..bytes_in(letters)).map(move |n| End::Cut(letters, n));
     let mut all = vec![End::Clean];
     all.extend((0..=255).map(End::Half));
-    for letters in MARKS {
-        let bytes = mark(*letters).expect("a mark").bytes_in;
-        all.extend((0..bytes).map(|n| End::Cut(letters, n)));
-    }
+    all.extend(double.into_iter().flat_map(cut));
     for behind in 0..3 {
         all.extend(UNKNOWN.iter().map(|letters| End::Unknown(letters, behind)));
+    }
+    all.extend(single.into_iter().flat_map(cut));
+    for behind in 0..3 {
+        all.extend(UNKNOWN_SMALL.iter().map(|letters| End::Unknown(letters, behind)));
     }
     all
 }
 
-/// Writes an end. A cut record of CO, AR, JI or MU would earn refusal 1, 2 or 9 if it were whole.
-pub fn end(end: End, source: &mut Source, out: &mut Vec<u8>) {
+/// Writes an end. A cut record of CO, AR, JI or MU, or of co, ji or mu, would earn refusal 1, 2 or
+/// 9 if it were whole.
+pub fn end(end: End, source: &mut Sources, out: &mut Vec<u8>) {
     match end {
         End::Clean => {}
         End::Half(byte) => out.push(byte),
         End::Cut(letters, bytes) => {
             let start = out.len();
-            source.job_record(letters, out);
-            match letters {
-                b"CO" | b"AR" => {
-                    out[start + 10..start + 18].copy_from_slice(&(-1f64).to_le_bytes())
-                }
-                b"JI" => out[start + 242..].fill(0),
-                b"MU" => part(&mut out[start..]),
-                _ => {}
-            }
+            source.refused_record(letters, out);
             out.truncate(start + 2 + bytes);
         }
         End::Unknown(letters, behind) => {
@@ -83,7 +83,7 @@ pub fn end(end: End, source: &mut Source, out: &mut Vec<u8>) {
             match behind {
                 0 => {}
                 1 => out.push(b'E'),
-                _ => source.job_record(b"AC", out),
+                _ => source.job_record(*b"AC", out),
             }
         }
     }
