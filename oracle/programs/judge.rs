@@ -4,14 +4,17 @@
 //! is kept is one buffer of input, with at most one cut record at its front, and one of output.
 
 use helicoid::judge::counts::Counts;
-use helicoid::judge::layout::{Reader, Writer};
-use helicoid::judge::marks::mark;
+use helicoid::judge::marks as double;
+use helicoid_f32::judge::marks as single;
 use std::io::{self, Read, Write};
 
 /// After so many records nothing more is read.
 const MOST_RECORDS: u32 = 1_000_000;
 
 const BUFFER: usize = 1 << 16;
+
+/// The bit that small letters have and capital ones have not.
+const SMALL: u8 = 0x20;
 
 /// Answers the whole records at the front of `bytes`. Says how many bytes they were, and whether
 /// the program stops here.
@@ -21,26 +24,25 @@ fn feed(bytes: &[u8], out: &mut Vec<u8>, counts: &mut Counts) -> (usize, bool) {
         let Some((letters, rest)) = bytes[at..].split_first_chunk::<2>() else {
             return (at, false);
         };
-        let Some(mark) = mark(*letters) else {
-            counts.refuse(6, out);
-            return (at, true);
+        // The Rust at `f32` where the letters are small, else at `f64`.
+        let taken = match letters[0] & SMALL {
+            0 => double::take(*letters, rest, out),
+            _ => single::take(*letters, rest, out),
         };
-        let Some(numbers) = rest.get(..mark.bytes_in) else {
-            return (at, false);
-        };
-        let before = out.len();
-        out.extend_from_slice(letters);
-        match (mark.answer)(Reader(numbers), Writer(out)) {
-            Ok(()) => {
-                debug_assert!(out.len() == before + mark.size());
-                counts.answer(mark.numbers(&out[before..]));
+        match taken {
+            Ok((bytes, told)) => {
+                at += 2 + bytes;
+                match told {
+                    Ok(finite) => counts.answer(finite),
+                    Err(number) => counts.refuse(number, out),
+                }
             }
-            Err(number) => {
-                out.truncate(before);
-                counts.refuse(number, out);
+            Err(6) => {
+                counts.refuse(6, out);
+                return (at, true);
             }
+            Err(_) => return (at, false),
         }
-        at += 2 + mark.bytes_in;
     }
     (at, true)
 }

@@ -4,7 +4,7 @@ import tempfile
 
 from .common import bits, compiler, packed, run, rust_program, same
 from .records import parted
-from jobs_lib.doubles import text
+from jobs_lib.floats import DOUBLE
 from jobs_lib.layout import JOB
 from sim3 import host
 
@@ -49,6 +49,10 @@ def python_and_rust():
     with tempfile.TemporaryDirectory() as work:
         program = rust_program("tests/bindings_lib/host.rs", work)
         compare("bindings/rust/host.rs", run([program], b"".join(map(packed, cases()))), 31)
+
+
+def text(x):
+    return DOUBLE.text(DOUBLE.to_bits(x))
 
 
 def line_of(mark, numbers):

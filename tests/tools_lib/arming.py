@@ -5,7 +5,8 @@ import struct
 import xml.etree.ElementTree as tree
 
 from .common import ROOT, WORK, answers, end, ended, file, holds, jobs, records, same
-from jobs_lib import arms, doubles
+from jobs_lib import arms
+from jobs_lib.floats import DOUBLE
 from jobs_lib.layout import ANSWER, END, JOB
 from jobs_lib.records import walk
 
@@ -19,7 +20,7 @@ SERIES_END = 0x3FE2A77501626657
 def bytes_of(sigma, z):
     """AR's two bytes for one sign, by the order of bit patterns where the sums are not NaN."""
     def below(x, limit):
-        return x == x and doubles.to_bits(x) < limit
+        return x == x and DOUBLE.to_bits(x) < limit
 
     square = sigma * sigma
     arm = min([arm for arm, limit in ENDS.items() if below(square + z, limit)], default=5)
@@ -79,11 +80,11 @@ def stored_numbers():
 def neighbours():
     """The tool's limits, on each limit and beside it."""
     def near(bits):
-        return [doubles.from_bits(bits + n) for n in (-1, 0, 1)]
+        return [DOUBLE.from_bits(bits + n) for n in (-1, 0, 1)]
 
     for arm, bits in ENDS.items():
         same([arms.limits_give(0.0, z)[0] for z in near(bits)], [arm, arm + 1, arm + 1], f"the end of {arm}")
-    root = doubles.to_bits(math.sqrt(doubles.from_bits(SERIES_END)))
+    root = DOUBLE.to_bits(math.sqrt(DOUBLE.from_bits(SERIES_END)))
     for sigma in [s for bits in range(root - 2, root + 3) for s in near(bits)]:
         for z in (0.0, 1.25, 2.0, math.inf, math.nan):
             same(bytes(arms.limits_give(sigma, z)), bytes_of(sigma, z), f"sigma {sigma!r}, z {z!r}")
@@ -167,7 +168,7 @@ def picture_of_each_rule():
     same(marks_of(picture)[5][3], "record 6: σ² = 0.25, z = 3.0", "a title")
     text = "\n".join(element.text for element in all_of(picture, "text"))
     holds(text, "Arms of 8 AR records", "closed; v0, w0 by series\n2\n", "closed\n1\n", "refused, not drawn\n1\n",
-          *(repr(doubles.from_bits(bits)) for bits in (*ENDS.values(), SERIES_END)))
+          *(repr(DOUBLE.from_bits(bits)) for bits in (*ENDS.values(), SERIES_END)))
     shapes = [g[0].get("d") or g[0].tag for g in all_of(picture, "g") if g.get("id", "").startswith("mark")]
     same(len(set(shapes)), len(arms.RULES), "different shapes")
 

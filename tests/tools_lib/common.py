@@ -14,17 +14,19 @@ PROGRAM = pathlib.Path(os.environ.get("SIM3_JOB") or ROOT / "target" / "bin" / "
 WORK = tempfile.TemporaryDirectory()
 sys.path.insert(0, str(TOOL.parent))
 
-from jobs_lib import doubles
 from jobs_lib.cli import main as tool_main
-from jobs_lib.layout import ANSWER, END, FRAME, JOB
+from jobs_lib.floats import DOUBLE, SINGLE
+from jobs_lib.layout import ANSWER, DOUBLES, END, FRAME, JOB
 from jobs_lib.records import walk
 
-ONE, NAN, MINUS = 0x3FF0000000000000, doubles.NAN, 1 << 63
+ONE, NAN, MINUS = 0x3FF0000000000000, DOUBLE.nan, 1 << 63
+ONE32, NAN32, MINUS32 = 0x3F800000, SINGLE.nan, 1 << 31
 
-# Numbers that are easily lost on the way through text.
-ODD = [0.0, -0.0, 1.0, -1.5, 5e-324, 1.7976931348623157e308, float("inf"), float("-inf"), 0.1,
-       *map(doubles.from_bits, (NAN, NAN | MINUS, 0x7FF0000000000001, 0x7FFFFFFFFFFFFFFF,
-                                0x000FFFFFFFFFFFFF, ONE + 1))]
+# Numbers that are easily lost on the way through text, as bits.
+ODD = [*map(DOUBLE.to_bits, (0.0, -0.0, 1.0, -1.5, 5e-324, 1.7976931348623157e308, float("inf"), float("-inf"), 0.1)),
+       NAN, NAN | MINUS, 0x7FF0000000000001, 0x7FFFFFFFFFFFFFFF, 0x000FFFFFFFFFFFFF, ONE + 1]
+ODD32 = [*map(SINGLE.to_bits, (0.0, -0.0, 1.0, -1.5, 1e-45, 3.4028235e38, float("inf"), float("-inf"), 0.1, 16777216.0)),
+         NAN32, NAN32 | MINUS32, 0x7F800001, 0x7FFFFFFF, 0xFFA5BEEF, 0x007FFFFF, ONE32 + 1]
 
 
 def with_program(test):
@@ -78,16 +80,21 @@ def holds(text, *parts):
         assert part in text, f"no {part!r} in:\n{text}"
 
 
-def records(table, seed, count):
-    """Records of every mark in turn, with ordinary and odd numbers and any frames."""
+def any_numbers(layout, source, frames):
+    """The bits of ordinary and odd numbers, and any frames, for a record."""
+    odd, width = (ODD32 if layout.width is SINGLE else ODD), layout.width
+    return [frames.choice([0, 65535, frames.randrange(65536)]) if code == FRAME else
+            source.choice(list(names)) if names else
+            source.choice(odd) if source.random() < 0.3 else width.to_bits(source.gauss(0, 10))
+            for names, code in zip(layout.names, layout.codes)]
+
+
+def records(table, seed, count, marks=DOUBLES):
+    """Records of every mark of doubles in turn, or of those given, with ordinary and odd numbers and any frames."""
     source, frames, out = random.Random(seed), random.Random(-1 - seed), b""
     for number in range(count):
-        layout = table[list(JOB)[number % len(JOB)]]
-        numbers = [frames.choice([0, 65535, frames.randrange(65536)]) if code == FRAME else
-                   source.choice(list(names)) if names else
-                   source.choice(ODD) if source.random() < 0.3 else source.gauss(0, 10)
-                   for names, code in zip(layout.names, layout.codes)]
-        out += layout.mark.encode() + layout.numbers.pack(*numbers)
+        layout = table[marks[number % len(marks)]]
+        out += layout.mark.encode() + layout.bits.pack(*any_numbers(layout, source, frames))
     return out
 
 
@@ -100,9 +107,16 @@ def not_finite(data):
     """How many whole answers hold a NaN or an infinity, by their exponents, apart from the tool's own test."""
     found = 0
     for at, layout in walk(data, ANSWER):
-        numbers = layout.bits.unpack_from(data, at + 2)
-        found += any(x >> 52 & 0x7FF == 0x7FF for x, code in zip(numbers, layout.codes) if code == "d")
+        found += bool(places_not_finite(data, at, layout))
     return found
+
+
+def places_not_finite(data, at, layout):
+    """The places of a record's numbers that are a NaN or an infinity, by their exponents."""
+    exponents = {"d": (52, 0x7FF), "f": (23, 0xFF)}
+    numbers = zip(layout.bits.unpack_from(data, at + 2), layout.codes)
+    return [i for i, (x, code) in enumerate(numbers) if code in exponents
+            for shift, ones in [exponents[code]] if x >> shift & ones == ones]
 
 
 def ended(data, refused=0):
@@ -113,15 +127,19 @@ def ended(data, refused=0):
 EX_SIZE = ANSWER[b"EX"].size  # the first record of the answers below
 
 
-def answers():
-    """A whole answer file: every mark once, and a refusal."""
-    return ended(records(ANSWER, 3, len(JOB)) + b"NO\1", 1)
+SINGLES = [mark for mark in JOB if mark not in DOUBLES]
+
+
+def answers(marks=DOUBLES):
+    """A whole answer file: every mark of doubles once, or of those given, and a refusal."""
+    return ended(records(ANSWER, 3, len(marks), marks) + b"NO\1", 1)
 
 
 def answers_with(mark, field, bits):
-    """The same with another number in a field of the one record of that mark."""
-    data, at = bytearray(answers()), 0
-    for layout in ANSWER.values():
+    """The same with another number in a field of the one record of that mark; in singles if it is of those."""
+    marks = SINGLES if mark.islower() else DOUBLES
+    data, at = bytearray(answers(marks)), 0
+    for layout in map(ANSWER.get, marks):
         if layout.mark == mark:
             place = layout.fields.index(field)
             at += 2 + struct.calcsize("<" + layout.codes[:place])

@@ -1,7 +1,7 @@
 """`jobs diff`."""
 import struct
 
-from .common import (EX_SIZE, MINUS, NAN, ONE, WORK, answers, answers_with, end, ended, file, holds, jobs,
+from .common import (EX_SIZE, MINUS, MINUS32, NAN, NAN32, ONE, ONE32, WORK, answers, answers_with, end, ended, file, holds, jobs,
                      records, same)
 from jobs_lib.layout import ANSWER, END, JOB
 
@@ -48,6 +48,29 @@ def one_changed_bit():
         holds(text, f"record {number}  {mark}  {field}  1.0  ->  1.0000000000000002  1 ulp\n",
               f"different: 1 record ({mark} 1), 1 number\n",
               f"largest distance: 1 ulp, record {number} {mark} {field}\n")
+
+
+def singles():
+    """Singles are compared by their own units in the last place, apart from doubles; marks of the two widths differ."""
+    for mark, number, field in [("ex", 1, "pose.q.w"), ("co", 2, "coeffs(-).dv2"), ("pa", 3, "right_inv.e"), ("ac", 4, "point.z"), ("ji", 7, "inverse.f[2]")]:
+        text = diff(answers_with(mark, field, ONE32), answers_with(mark, field, ONE32 + 1), 1)
+        holds(text, f"record {number}  {mark}  {field}  1.0  ->  1.0000001  1 ulp\n", f"different: 1 record ({mark} 1), 1 number\n",
+              f"largest distance of singles: 1 ulp, record {number} {mark} {field}\n")
+    assert "largest distance:" not in text, text
+
+    def between(old, new, status=1, mark="in", field="inverse.t.x"):
+        return diff(answers_with(mark, field, old), answers_with(mark, field, new), status)
+
+    holds(between(0, MINUS32), "inverse.t.x  0.0  ->  -0.0  sign of zero\n")
+    holds(between(NAN32, ONE32), "nan  ->  1.0  NaN against a number\n")
+    holds(between(NAN32, 0xFF800001, 0), "the bits of a NaN: 1 record", "equal: 8 records")
+    holds(between(0, ONE32, 1, "co", "coeffs(+).scaled"), "scaled  0.0  ->  1.0  another flag\n")
+    holds(between(3, 65283, 1, "mu", "product.frames.to"), "record 5  mu  product.frames.to  3  ->  65283  another frame\n")
+    both = [ended(b"AC" + struct.pack("<3d", *point) + b"ac" + struct.pack("<3f", *point)) for point in ((1, 2, 3), (1, 2, 3 + 2 ** -20))]
+    holds(diff(*both, 1), "record 1  AC  point.z  3.0  ->  3.0000009536743164  2,147,483,648 ulp\n", "record 2  ac  point.z  3.0  ->  3.000001  4 ulp\n",
+          "largest distance: 2,147,483,648 ulp, record 1 AC point.z\n", "largest distance of singles: 4 ulp, record 2 ac point.z\n")
+    other = [ended(mark + bytes(size)) for mark, size in ((b"AC", 24), (b"ac", 12))]
+    holds(diff(*other, 1), "record 1  AC  ->  ac\n")
 
 
 def zeros_nans_flags():
@@ -137,5 +160,5 @@ def limited_output():
     holds(text, f"{every - 3:,} more differences not printed", "161 records (EX 20, CO 20", "AR 20, ZZ 1)")
 
 
-TESTS = [equal_files, unusable_answers, one_changed_bit, zeros_nans_flags, arms, frames, older_files, refusals, missing_and_short_ends,
+TESTS = [equal_files, unusable_answers, one_changed_bit, singles, zeros_nans_flags, arms, frames, older_files, refusals, missing_and_short_ends,
          unreadable_files, limited_output]

@@ -3,6 +3,7 @@ import subprocess
 
 from .common import ROOT, TOOL, file, holds, jobs, program, same, with_program
 from jobs_lib import page
+from jobs_lib.floats import SINGLE
 from jobs_lib.layout import JOB
 
 PAGE = ROOT / "docs" / "JOB-FORMAT.md"
@@ -47,9 +48,9 @@ def page_is_current():
 
 
 def example_jobs():
-    """Each example's job file follows from its lines of text."""
-    same({layout.mark for layout in JOB.values()} - {path.stem for path in FORMAT.iterdir()}, set(),
-         "marks without an example")
+    """Each example's job file follows from its lines of text; a mark in small letters has one of another name, not of another case."""
+    names = {layout.mark + ("-f32" if layout.width is SINGLE else "") for layout in JOB.values()}
+    same(names - {path.stem for path in FORMAT.iterdir()}, set(), "marks without an example")
     for path in FORMAT.iterdir():
         whole = path.read_text()
         text = page.example_text(whole)
@@ -78,14 +79,14 @@ def stored_job():
     answer = file("answers", program(data))
     text = jobs("show", answer)[0].decode()
     marks = " ".join(line.split()[0] for line in text.splitlines())
-    same(marks, "EX EX CO CO NO PA AC MU NO IN JI NO AR AR AR ZZ", "the answers' marks")
+    same(marks, "EX EX CO CO NO PA AC MU NO IN JI NO AR AR AR ex co co NO pa ac mu in ji ZZ", "the answers' marks")
     holds(text, "EX pose.q 1.0 0.0 0.0 0.0; pose.t 1.0 2.0 3.0; pose.sigma 0.0; pose.frames 0 0\n",
           "AC point 5.0 7.0 9.0\n", "; product.frames 7 1\nNO refusal 9", "; inverse.frames 1 3\n", "NO refusal 1", "NO refusal 2",
-          "  # 11 terms\n", "  # closed; v0, w0 by series\n", "  # closed\n",
-          "ZZ begun 15; answered 12; refused 3; unusable 0\n")
+          "  # 11 terms\n", "  # closed; v0, w0 by series\n", "  # closed\n", "ac point 5.0 7.0 9.0\nmu product.q ",
+          "ZZ begun 24; answered 20; refused 4; unusable 0\n")
     same(answer.read_bytes(), (ROOT / "examples" / "answers.bin").read_bytes(), "examples/answers.bin")
     again = jobs("diff", answer, file("again", program(data)))[0].decode()
-    holds(again, "equal: 15 records")
+    holds(again, "equal: 24 records")
 
 
 def renew():

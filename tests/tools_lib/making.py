@@ -2,7 +2,8 @@
 import struct
 
 from .common import ROOT, WORK, file, holds, jobs, records, same
-from jobs_lib import doubles, host
+from jobs_lib import host
+from jobs_lib.floats import DOUBLE, SINGLE
 from jobs_lib.layout import JOB
 
 
@@ -79,11 +80,49 @@ def stored_example():
     stored = (ROOT / "examples" / "jobs.bin").read_bytes()
     same(len(made), len(stored), "the length of examples/jobs.bin")
     texts = [jobs("show", "--in", data=data)[0].decode() for data in (made, stored)]
-    for old, new in zip(*(text.replace(";", " ").split() for text in texts)):
-        if old != new:
-            steps = doubles.ulps(*(doubles.to_bits(doubles.read(word)) for word in (old, new)))
-            assert steps is not None and steps <= 2, f"examples/jobs.bin has {new}, made is {old}"
+    for lines in zip(*(text.splitlines() for text in texts)):
+        width = SINGLE if lines[0][:2].islower() else DOUBLE
+        for old, new in zip(*(line.replace(";", " ").split() for line in lines)):
+            if old != new:
+                steps = width.ulps(width.read(old), width.read(new))
+                assert steps is not None and steps <= 2, f"examples/jobs.bin has {new}, made is {old}"
     holds("\n" + texts[1], *(f"\n{layout.mark} " for layout in JOB.values()))
+
+
+def singles():
+    """The marks in small letters: 4-byte numbers, each rounded once, frames of two bytes, in the same places."""
+    pose = (1, 0, 0, 0, 1, 2, 3, 0)
+    for line, expected in [
+            ("ac 1 0 0 0 1 2 3 0 frames 258 65535 1 4 5 6", b"ac" + struct.pack("<8f2H4f", *pose, 258, 65535, 1, 4, 5, 6)),
+            ("ac pose.q 1 0 0 0; pose.t 1 2 3; pose.sigma 0; frames 0 0; point 0.1 0.1 0.1", b"ac" + struct.pack("<8f2H4f", *pose, 0, 0, 1, .1, .1, .1)),
+            ("mu 1 0 0 0 1 2 3 0 frames 3 1 1 0 0 0 1 2 3 0 frames 7 3", b"mu" + struct.pack("<8f2H8f2Hf", *pose, 3, 1, *pose, 7, 3, 1)),
+            ("in 1 0 0 0 1 2 3 100 frames 3 1", b"in" + struct.pack("<8f2Hf", *pose[:7], 100, 3, 1, 3.783505853677006e-44)),
+            ("in 1 0 0 0 1 2 3 -100 frames 3 1", b"in" + struct.pack("<8f2Hf", *pose[:7], -100, 3, 1, float("inf"))),
+            ("co bits:7f800001 nan:ffc00001 1 2 3 4 5 6 7 8 9 10", b"co" + struct.pack("<2I10f", 0x7F800001, 0xFFC00001, *range(1, 11))),
+            ("co 1.00000005960464477539063 3.4028235677973366e38 1 2 3 4 5 6 7 8 9 10", b"co" + struct.pack("<2I10f", 0x3F800001, 0x7F7FFFFF, *range(1, 11)))]:
+        same(jobs("make", data=line.encode())[0], expected, line)
+    text = "ex 0.5 0 0 1 2 3 0.25 frames 3 7\npa 0.5 0 0 1 2 3 0.25\n"
+    short = jobs("make", data=text.encode())[0]
+    values, matrices = host.values(0.25, 0.25), host.rotation_jacobians([0.5, 0.0, 0.0])
+    tangent = struct.pack("<7f", 0.5, 0, 0, 1, 2, 3, 0.25)
+    same(short, b"ex" + tangent + struct.pack("<10f2H", *values, 3, 7) + b"pa" + tangent + struct.pack("<28f", *values, *matrices[0], *matrices[1]), text)
+
+
+def bad_singles():
+    """A bad line of singles is named as one of doubles is, in its own width."""
+    for line, wrong, expected in [
+            ("ex 1 2 3 4 5 6 7", "ex has 7 numbers, and frames is missing: put from and to behind sigma", "9 (phi 3; rho 3; sigma; frames 2), or 19"),
+            ("ji 1", "ji has 1 number;", "31 (block.a 9"), ("co 1 1e39", "'1e39' is beyond the largest single", "inf"),
+            ("co 1 bits:3ff0000000000000", "is not a number", "8 digits of bits (bits:3f800000)"),
+            ("co 1 nan:3f800000", "nan:3f800000 is not a NaN", "bits:3f800000"),
+            ("CO 1 bits:3f800000", "is not a number", "16 digits of bits (bits:3ff0000000000000)"),
+            ("mu 1 0 0 0 1 2 3 0 frames 1 70000 1 0 0 0 1 2 3 0 frames 1 2", "'70000' is no frame", "a whole number from 0 to 65535"),
+            ("Ex 1 2 3", "unknown mark 'Ex'", "EX CO PA AC MU IN JI AR ex co pa ac mu in ji"),
+            ("ar 1 2", "unknown mark 'ar'", "EX CO PA AC MU IN JI AR ex co pa ac mu in ji")]:
+        out, messages = jobs("make", data=f"in 1 0 0 0 1 2 3 0 3 7\n{line}\n".encode(), status=2)
+        same(out, b"", f"output for {line!r}")
+        holds(messages, "(standard input):2: ", wrong, "expected", expected, "nothing was written")
+        assert "older format" not in messages, messages
 
 
 def bad_lines():
@@ -93,7 +132,6 @@ def bad_lines():
             ("EX 1 2 3", "EX has 3 numbers", "9 (phi 3; rho 3; sigma; frames 2), or 19"),
             ("AC 1 0 0 0 1 2 3 0 3 7 1 4 5 six", "'six' is not a number", "a decimal"),
             ("ZZ 1 2 3", "unknown mark 'ZZ'", "EX CO PA AC MU IN JI AR"),
-            ("ex 1 2 3 4 5 6 7", "unknown mark 'ex'", "EX CO PA AC MU IN JI AR"),
             ("AR 1", "AR has 1 number;", "2 (sigma; z), or 12 (sigma; z; values 10)"),
             ("EX 1 2; 3 4 5 6 7 8 9", "';' after 2 numbers is inside phi", "phi 3; rho 3"),
             ("EX rho 1 2 3 phi 4 5 6 sigma 7 8 9", "rho after 0 numbers, where phi begins", "phi 3"),
@@ -119,4 +157,5 @@ def bad_files():
     same(jobs("make", data=b"")[0], b"", "the job file of nothing")
 
 
-TESTS = [scope_example, frames_in_their_places, missing_frames, what_is_left_out, arms_like_coefficients, stored_example, bad_lines, bad_files]
+TESTS = [scope_example, frames_in_their_places, missing_frames, what_is_left_out, arms_like_coefficients, stored_example, singles, bad_singles, bad_lines,
+         bad_files]

@@ -3,15 +3,18 @@ import collections
 import hashlib
 import struct
 
-from .common import EX_SIZE, ROOT, answers, end, ended, file, holds, jobs, not_finite, records, same
-from jobs_lib.layout import ANSWER, END, JOB, OLDER_ANSWER, OLDER_JOB
+from .common import (EX_SIZE, ROOT, SINGLES, answers, end, ended, file, holds, jobs, not_finite, places_not_finite, records,
+                     same)
+from jobs_lib.layout import ANSWER, DOUBLES, END, JOB, OLDER_ANSWER, OLDER_JOB
 from jobs_lib.records import scan, walk
 
 
 def layout_of_the_scope():
     """Lengths of the records, and where some numbers stand, apart from the tool's own table."""
     sizes = {"EX": (140, 68), "CO": (96, 160), "PA": (280, 992), "AC": (100, 24), "MU": (144, 68),
-             "IN": (76, 68), "JI": (248, 248), "AR": (96, 164)}
+             "IN": (76, 68), "JI": (248, 248), "AR": (96, 164), "ex": (72, 36), "co": (48, 80),
+             "pa": (140, 496), "ac": (52, 12), "mu": (76, 36), "in": (40, 36), "ji": (124, 124)}
+    same([layout.mark for layout in JOB.values()], list(sizes), "the marks")
     for layout in JOB.values():
         out = ANSWER[layout.mark.encode()]
         same((layout.size - 2, out.size - 2), sizes[layout.mark], f"bytes of {layout.mark}")
@@ -29,14 +32,19 @@ def layout_of_the_scope():
             (ANSWER, b"AR", "series(+)", 1), (ANSWER, b"AR", "arm(-)", 2),
             (ANSWER, b"AR", "coeffs(+).v0", 4), (ANSWER, b"AR", "coeffs(-).scaled", 23)]:
         same(table[mark].fields[number], field, f"number {number} of {mark.decode()}")
+    for table, mark, field, at in [(JOB, b"ex", "frames", 70), (JOB, b"ac", "pose.frames", 34), (JOB, b"ac", "up", 38), (JOB, b"mu", "right.q", 38),
+                                   (JOB, b"mu", "right.frames", 70), (JOB, b"mu", "up", 74), (JOB, b"in", "down", 38), (JOB, b"ji", "block.e", 122),
+                                   (ANSWER, b"co", "coeffs(-)", 42), (ANSWER, b"pa", "right_inv.e", 494), (ANSWER, b"in", "inverse.frames", 34)]:
+        same({group.name: at for at, group in table[mark].offsets()}[field], at, f"the byte of {field} in {mark.decode()}")
 
 
 def back_by_make():
     """`make` turns the lines of `show` into the same bytes, for every mark and odd numbers."""
-    data = records(JOB, 2, 160)
-    text, messages = jobs("show", data=data)
-    same((text.count(b"\n"), messages), (160, ""), "lines and messages")
-    same(jobs("make", data=text)[0], data, "the bytes made again")
+    for marks in (DOUBLES, SINGLES, list(JOB)):
+        data = records(JOB, 2, 160, marks)
+        text, messages = jobs("show", data=data)
+        same((text.count(b"\n"), messages), (160, ""), "lines and messages")
+        same(jobs("make", data=text)[0], data, "the bytes made again")
 
 
 def stored_runs():
@@ -76,7 +84,7 @@ not usable: 3 answers of 6 records
 """, "the list")
     for layout in ANSWER.values():
         for place, code in enumerate(layout.codes):
-            if code == "d":
+            if code in "df":
                 numbers = [nan if i == place else 0 for i in range(len(layout.fields))]
                 data = layout.mark.encode() + layout.numbers.pack(*numbers)
                 holds(jobs("show", "--unusable", data=data + end(1, 0, 1))[0].decode(),
@@ -95,13 +103,46 @@ def stored_counts():
         begun, answered, refused, unusable = struct.unpack("<4I", data[-16:])
         same((data[-18:-16], answered + refused + unusable, unusable), (b"ZZ", begun, not_finite(data)), path.name)
         for at, layout in walk(data, ANSWER):
-            numbers = layout.bits.unpack_from(data, at + 2)
-            bad = [i for i, x in enumerate(numbers) if layout.codes[i] == "d" and x >> 52 & 0x7FF == 0x7FF]
+            bad = places_not_finite(data, at, layout)
             alone.update([(layout.mark, layout.fields[bad[0]])] if len(bad) == 1 else [])
     for place in [("AC", "point.x"), ("AC", "point.z"), ("MU", "product.q.w"), ("MU", "product.sigma"), ("IN", "inverse.sigma"),
-                  ("CO", "coeffs(+).chi_delta"), ("CO", "coeffs(-).chi_delta"), ("AR", "coeffs(-).chi_delta"), ("JI", "inverse.f[2]")]:
+                  ("CO", "coeffs(+).chi_delta"), ("CO", "coeffs(-).chi_delta"), ("AR", "coeffs(-).chi_delta"), ("JI", "inverse.f[2]"),
+                  ("ac", "point.x"), ("ac", "point.z"), ("mu", "product.q.w"), ("mu", "product.sigma"), ("in", "inverse.sigma"), ("co", "coeffs(-).chi_delta")]:
         assert alone[place], f"no stored answer in which {place} alone is not finite"
     same({mark for mark, _ in alone}, {layout.mark for layout in JOB.values()}, "marks with one number alone that is not finite")
+
+
+def stored_nans():
+    """In the stored answers of singles a NaN stands in every number of every answer but a flag and pa's e, which is 1; it is written 7fc00000."""
+    found = collections.defaultdict(set)
+    for path in (ROOT / "tests" / "runs").glob("f32_nan_*.out"):
+        data = path.read_bytes()
+        for at, layout in walk(data, ANSWER):
+            for i, bits in enumerate(layout.bits.unpack_from(data, at + 2)):
+                if layout.codes[i] == "f" and bits & 0x7FFFFFFF > 0x7F800000:
+                    same(bits, 0x7FC00000, f"a NaN in {path.name}")
+                    found[layout.mark].add(i)
+    for layout in map(ANSWER.get, SINGLES):
+        ones = {i for i, field in enumerate(layout.fields) if layout.mark == "pa" and field.endswith(".e")}
+        numbers = {i for i, code in enumerate(layout.codes) if code == "f"} - layout.flags - ones
+        same(found[layout.mark], numbers, f"the numbers of {layout.mark}'s answer that were a NaN")
+
+
+def singles_as_text():
+    """A single is shown by the shortest decimal that reads back, its NaN by 8 digits; bytes are its own 4."""
+    numbers = struct.pack("<3f", 0.1, -0.0, 3.4028234663852886e38)
+    data = b"ac" + numbers + b"ac" + struct.pack("<3I", 0x7FC00000, 0xFFC00001, 0xFF800000) + end(2, 0, 1)
+    same(jobs("show", data=data)[0].decode(), "ac point 0.1 -0.0 3.4028235e+38\nac point nan nan:ffc00001 -inf\n"
+                                              "ZZ begun 2; answered 1; refused 0; unusable 1\n", "two points")
+    holds(jobs("show", "--hex", data=data)[0].decode(), "       0  61 63                    ac\n", "       2  cd cc cc 3d              point.x = 0.1\n",
+          "      20  01 00 c0 ff              point.y = nan:ffc00001\n")
+    same(jobs("show", "--unusable", data=data)[0].decode(),
+         "record 2  ac  point.x nan, point.y nan:ffc00001, point.z -inf\nnot usable: 1 answer of 2 records\n", "the list")
+    mixed = records(JOB, 5, 30, list(JOB))
+    same([line.split()[0].encode() for line in jobs("show", data=mixed)[0].decode().splitlines()], [*JOB, *JOB], "marks of both widths")
+    for mark in (b"Ac", b"aC", b"ar"):
+        holds(jobs("show", "--in", data=mixed + mark + bytes(200), status=1)[1], f"unknown mark {mark.hex(' ')} ('{mark.decode()}')")
+    holds(jobs("show", "--in", data=b"mu" + bytes(75), status=1)[1], "the file ends inside a record: mu takes 78 bytes, 77 are there")
 
 
 def stored_records():
@@ -269,5 +310,5 @@ def damaged_answers():
         holds(jobs("show", "--out", data=data, status=1)[1], message)
 
 
-TESTS = [layout_of_the_scope, back_by_make, stored_runs, answers_as_text, unusable_answers, stored_counts,
+TESTS = [layout_of_the_scope, back_by_make, stored_runs, answers_as_text, unusable_answers, stored_counts, stored_nans, singles_as_text,
          stored_records, arms_as_text, frames_as_text, older_files, stored_frames, stored_scope_record, single_records, guesses, damaged_jobs, damaged_answers]

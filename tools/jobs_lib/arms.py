@@ -2,7 +2,7 @@
 import os
 from array import array
 
-from .doubles import from_bits
+from .floats import DOUBLE
 from .layout import ANSWER, ARMS, BY_SERIES, JOB, MOST_RECORDS
 from .plane import picture
 from .records import guess, load, older, scan, walk
@@ -10,9 +10,9 @@ from .terminal import Failure, Lines, Progress, count
 
 # Where the arms 2 to 5 begin, in sigma sigma + z, and below which sigma sigma the closed arm takes
 # v0 and w0 from series.
-ARM_FROM = tuple(map(from_bits, (0x3F0C70E59CFC9F1F, 0x3FA59742AA36710D,
-                                 0x3FD0E8139C96FC79, 0x3FFFB1FFBC2A9C8C)))
-SERIES_BELOW = from_bits(0x3FE2A77501626657)
+ARM_FROM = tuple(map(DOUBLE.from_bits, (0x3F0C70E59CFC9F1F, 0x3FA59742AA36710D,
+                                        0x3FD0E8139C96FC79, 0x3FFFB1FFBC2A9C8C)))
+SERIES_BELOW = DOUBLE.from_bits(0x3FE2A77501626657)
 CLOSED = 5
 MOST_MESSAGES = 20
 

@@ -6,6 +6,7 @@ import sys
 
 from .arms import arms
 from .diff import diff
+from .floats import DOUBLE, SINGLE
 from .layout import ANSWER, JOB
 from .make import MAY_MISS, groups_text, make
 from .show import show
@@ -35,10 +36,15 @@ bytes as they are.
 Numbers in brackets may be left out; they are then computed by Python's math.
 {forms}
 
+The marks in small letters, {singles}, take the same numbers as singles: each is
+rounded once to the nearest single, what is left out is computed in doubles and then rounded, and bits
+have 8 digits (bits:3f800000).
+
 Where a line is bad, all bad lines are named and nothing is written; the exit status is 2.
 
 example:
   echo 'EX 0.1 0.2 0.3  1 2 3  0.5  frames 3 7' | tools/jobs make > jobs.bin
+  echo 'ex 0.1 0.2 0.3  1 2 3  0.5  frames 3 7' | tools/jobs make > jobs.bin
   echo 'AC pose.q 1 0 0 0; pose.t 1 2 3; pose.sigma 0; frames 3 7; point 4 5 6' | tools/jobs make > jobs.bin
 """
 
@@ -59,9 +65,10 @@ example:
 
 DIFF = """\
 Compares two answer files record by record. Each difference is a line with the record's number (from
-1), its mark, the field, both values and their distance in units in the last place; frames differ or
-are equal. A NaN equals every NaN; zeros of different sign differ. A file that does not end in ZZ is named first. At the end
-stands which answers are not usable, since they hold a NaN or an infinity.
+1), its mark, the field, both values and their distance in units in the last place, of singles where the
+mark has small letters; frames differ or are equal. A NaN equals every NaN; zeros of different sign
+differ. A file that does not end in ZZ is named first. At the end stands which answers are not usable,
+since they hold a NaN or an infinity.
 
 Exit status: 0 equal and whole, 1 different or not whole, 2 not to be read.
 
@@ -87,13 +94,18 @@ example:
 def forms_text():
     """Each mark with its groups, those that may be left out in brackets."""
     lines = []
-    for layout in JOB.values():
+    for layout in (layout for layout in JOB.values() if layout.width is DOUBLE):
         line = groups_text(layout.groups)
         for names in MAY_MISS[layout.mark]:
             part = groups_text([g for g in layout.groups if g.name in names])
             line = line.replace("; " + part, f"; [{part}]")
         lines.append(f"  {layout.mark}  {line}")
     return "\n".join(lines)
+
+
+def singles_text():
+    """The marks in small letters."""
+    return " ".join(layout.mark for layout in JOB.values() if layout.width is SINGLE)
 
 
 def record_range(word):
@@ -120,7 +132,7 @@ def parser():
     top = argparse.ArgumentParser(prog="jobs", description=ABOUT,
                                   formatter_class=argparse.RawDescriptionHelpFormatter)
     commands = top.add_subparsers(dest="command", metavar="COMMAND", required=True)
-    one = add_command(commands, "make", MAKE.format(forms=forms_text()), "text to a job file")
+    one = add_command(commands, "make", MAKE.format(forms=forms_text(), singles=singles_text()), "text to a job file")
     one.add_argument("file", nargs="?", metavar="FILE", help="the text; standard input if not given")
     one = add_command(commands, "show", SHOW, "a job or answer file to text")
     kind = one.add_mutually_exclusive_group()

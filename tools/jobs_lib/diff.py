@@ -1,5 +1,5 @@
 """`jobs diff`: two answer files record by record."""
-from .doubles import from_bits, is_nan, text, ulps
+from .floats import DOUBLE, SINGLE
 from .layout import ANSWER, END, FRAME, JOB
 from .records import counts_text, guess, load, older, scan, walk
 from .terminal import Failure, Lines, Progress, count
@@ -13,13 +13,19 @@ def differing(layout, old, old_at, new, new_at):
     before = layout.bits.unpack_from(old, old_at + 2)
     after = layout.bits.unpack_from(new, new_at + 2)
     return [(i, a, b) for i, (a, b) in enumerate(zip(before, after))
-            if a != b and not (layout.codes[i] == "d" and is_nan(a) and is_nan(b))]
+            if a != b and not is_nan(layout, i, a, b)]
+
+
+def is_nan(layout, i, *bits):
+    """Whether all these numbers of a field are NaN."""
+    width = layout.widths[i]
+    return width is not None and all(map(width.is_nan, bits))
 
 
 def shown(layout, i, bits):
     """A number as it stands in a difference."""
-    if layout.codes[i] == "d":
-        return text(from_bits(bits))
+    if layout.widths[i]:
+        return layout.widths[i].text(bits)
     said = layout.meaning(i, bits)
     return f"{bits} ({said})" if said else str(bits)
 
@@ -30,9 +36,9 @@ def distance(layout, i, old, new):
         return "another flag"
     if layout.codes[i] == FRAME:
         return "another frame"
-    if layout.codes[i] != "d":
+    if not layout.widths[i]:
         return f"another {layout.kind(i)}" if layout.names[i] else f"{new - old:+,}"
-    steps = ulps(old, new)
+    steps = layout.widths[i].ulps(old, new)
     if steps is None:
         return "NaN against a number"
     return f"{steps:,} ulp" if steps else "sign of zero"
@@ -49,7 +55,7 @@ class Report:
         self.out, self.limit = Lines(), limit
         self.differences, self.numbers, self.nan_bits = 0, 0, 0
         self.records = {}  # different records by mark, that of the old file
-        self.largest, self.where = 0, ""
+        self.largest = {DOUBLE: (0, ""), SINGLE: (0, "")}  # of each width: how far, and where
 
     def room(self):
         """Counts a difference; true if its line is to be printed."""
@@ -73,11 +79,11 @@ class Report:
         self.count_record(layout.mark)
         self.numbers += len(found)
         for i, old, new in found:
-            if layout.codes[i] == "d" and i not in layout.flags:
-                steps = ulps(old, new) or 0
-                if steps > self.largest:
-                    self.largest = steps
-                    self.where = f"{place} {layout.mark} {layout.fields[i]}"
+            width = layout.widths[i]
+            if width and i not in layout.flags:
+                steps = width.ulps(old, new) or 0
+                if steps > self.largest[width][0]:
+                    self.largest[width] = steps, f"{place} {layout.mark} {layout.fields[i]}"
             if self.room():
                 self.out.add(f"{place}  {layout.mark}  {layout.fields[i]}  "
                              f"{shown(layout, i, old)}  ->  {shown(layout, i, new)}  "
@@ -99,8 +105,9 @@ class Report:
             marks = ", ".join(f"{mark} {number:,}" for mark, number in self.records.items())
             yield f"different: {count(sum(self.records.values()), 'record')} ({marks}), " \
                   f"{count(self.numbers, 'number')}"
-        if self.largest:
-            yield f"largest distance: {self.largest:,} ulp, {self.where}"
+        for width, (steps, where) in self.largest.items():
+            if steps:
+                yield f"largest distance{' of singles' if width is SINGLE else ''}: {steps:,} ulp, {where}"
 
 
 def kind(data, at, layout):

@@ -6,6 +6,8 @@ import struct
 from math import isfinite
 from typing import NamedTuple, Optional, Tuple
 
+from .floats import DOUBLE, SINGLE, WIDTHS
+
 MOST_RECORDS = 1_000_000  # the job program answers no more
 FRAME = "H"  # the code of a frame number, a whole number of 16 bits
 SCALED, SERIES = ".scaled", "series("  # how the name of a field that is 1 or 0 ends or begins
@@ -31,7 +33,7 @@ class Group(NamedTuple):
     name: str
     parts: Tuple[str, ...]  # what each number adds to the name: ".x", "[1][2]", nothing
     about: str
-    code: str = "d"  # struct's letter: d a double, B a byte, H a frame, I a 32-bit count
+    code: str = DOUBLE.code  # struct's letter: d a double, f a single, B a byte, H a frame, I a 32-bit count
     names: Optional[dict] = None  # what its numbers stand for, where each has a name
 
 
@@ -46,8 +48,10 @@ class Layout:
         self.named = [i for i, names in enumerate(self.names) if names]
         self.flags = {i for i, field in enumerate(self.fields)
                       if field.endswith(SCALED) or field.startswith(SERIES)}
+        self.widths = [WIDTHS.get(code) for code in self.codes]  # of numbers; none of bytes, frames and counts
+        self.width = next(filter(None, self.widths), DOUBLE)
         self.numbers = struct.Struct("<" + self.codes)
-        self.bits = struct.Struct("<" + self.codes.replace("d", "Q"))
+        self.bits = struct.Struct("<" + self.codes.translate({ord(w.code): w.bits_code for w in WIDTHS.values()}))
         self.size = 2 + self.numbers.size
 
     def kind(self, i):
@@ -152,10 +156,22 @@ ANSWER = table(
 )
 
 
+def in_singles(layout):
+    """The same record with 4-byte numbers; its mark has small letters."""
+    groups = (g._replace(code=SINGLE.code) if g.code == DOUBLE.code else g for g in layout.groups)
+    return Layout(layout.mark.lower(), layout.about, *groups)
+
+
+# The marks of doubles; all but AR are there in small letters too.
+DOUBLES = tuple(JOB)
+for layouts in (JOB, ANSWER):
+    layouts.update(table(*(in_singles(layouts[mark]) for mark in DOUBLES if mark != b"AR")))
+
+
 def without_frames(layouts):
     """A table of the older format, in which poses had no frames."""
     return table(*(Layout(layout.mark, layout.about, *(g for g in layout.groups if g.code != FRAME))
-                   for layout in layouts.values()))
+                   for layout in layouts.values() if layout.width is DOUBLE))
 
 
 OLDER_JOB, OLDER_ANSWER = without_frames(JOB), without_frames(ANSWER)

@@ -4,7 +4,7 @@ import itertools
 import re
 import sys
 
-from .doubles import BadNumber, read, shown
+from .floats import DOUBLE, BadNumber, shown
 from .host import computed
 from .layout import FRAME, JOB, MOST_RECORDS
 from .records import load, name_of
@@ -50,7 +50,7 @@ def groups_text(groups):
 
 def forms(layout):
     """All ways to write a mark, by how many numbers they give."""
-    missing = MAY_MISS[layout.mark]
+    missing = MAY_MISS[layout.mark.upper()]
     found = []
     for present in itertools.product((False, True), repeat=len(missing)):
         absent = {name for names, here in zip(missing, present) if not here for name in names}
@@ -81,13 +81,14 @@ def names(word, group):
 
 
 def check_frames(mark, total, separators):
-    """A line that has all but its frames, as every line of the older format."""
+    """A line that has all but its frames, as every line of the older format, which had no singles."""
     without = [form.count - len(form.frames) for form in FORMS[mark].values() if form.frames]
     if total in without and not any(word.endswith(FRAMES) for _, word in separators):
         poses = [g.name for g in JOB[mark.encode()].groups if g.code == FRAME]
-        where = "behind sigma or the values" if mark == "EX" else "behind each pose's eight numbers"
+        where = "behind sigma or the values" if mark.upper() == "EX" else "behind each pose's eight numbers"
+        older = " (a job of the older format?)" if JOB[mark.encode()].width is DOUBLE else ""
         raise BadLine(f"{mark} has {count(total, 'number')}, and {' and '.join(poses)} "
-                      f"{'is' if len(poses) == 1 else 'are'} missing (a job of the older format?): "
+                      f"{'is' if len(poses) == 1 else 'are'} missing{older}: "
                       f"put from and to {where}, as {FRAMES} 3 7")
 
 
@@ -126,26 +127,26 @@ def read_frame(word):
     return int(word)
 
 
-def read_all(words, form):
-    """The numbers of a line: doubles, and whole numbers where frames stand."""
+def read_all(words, form, width):
+    """The numbers of a line as bits, and as whole numbers where frames stand."""
     frames = [(i, read_frame(words[i])) for i in form.frames]
-    numbers = read_doubles(words)
+    numbers = read_numbers(words, width)
     for i, frame in frames:
         numbers[i] = frame
     return numbers
 
 
-def read_doubles(words):
-    """Words as doubles. Most lines hold plain decimals, which are read at once."""
+def read_numbers(words, width):
+    """Words as the bits of numbers. Most lines hold plain decimals, which are read at once."""
     if PLAIN.fullmatch(" ".join(words)):
         try:
-            numbers = [float(word) for word in words]
-            if float("inf") not in numbers and float("-inf") not in numbers:
+            numbers = width.at_once([float(word) for word in words])
+            if numbers is not None:
                 return numbers
         except ValueError:
             pass
     try:
-        return [read(word) for word in words]
+        return [width.read(word) for word in words]
     except BadNumber as error:
         raise BadLine(str(error))
 
@@ -154,11 +155,12 @@ def complete(layout, form, numbers):
     """All numbers of a record: those given, and in their places those that were left out."""
     if form.count == len(layout.fields):
         return numbers
-    rest = iter(numbers)
+    width, rest = layout.width, iter(numbers)
     given = {g.name: list(itertools.islice(rest, len(g.parts))) for g in form.groups}
+    known = {g.name: [width.from_bits(x) for x in given[g.name]] for g in form.groups if g.code != FRAME}
     for group in layout.groups:
         if group.name not in given:
-            given[group.name] = computed(group.name, given)
+            given[group.name] = [width.to_bits(x) for x in computed(group.name, known)]
     return itertools.chain.from_iterable(given[g.name] for g in layout.groups)
 
 
@@ -183,7 +185,7 @@ def record(line):
     texts, separators = split(words[1:], mark)
     form = choose_form(mark, len(texts), separators)
     layout = JOB[mark.encode()]
-    return mark.encode() + layout.numbers.pack(*complete(layout, form, read_all(texts, form)))
+    return mark.encode() + layout.bits.pack(*complete(layout, form, read_all(texts, form, layout.width)))
 
 
 def job(name, lines):

@@ -2,7 +2,9 @@
 and from runs of the program. tests/tools compares them, and renews them with --renew.
 """
 import re
+import textwrap
 
+from .floats import SINGLE
 from .layout import ANSWER, END, JOB, MATRIX, REFUSALS
 from .records import scan, walk
 from .show import hex_lines
@@ -26,7 +28,20 @@ def layout_text(direction, layout):
 
 
 def layouts(direction, table):
-    return "\n".join(layout_text(direction, layout) for layout in table)
+    return "\n".join(layout_text(direction, layout) for layout in table if layout.width is not SINGLE)
+
+
+def short_text(direction, layout):
+    """The bytes of one record in singles: where each of its groups begins."""
+    places = ", ".join(f"{at} {group.name}" for at, group in layout.offsets())
+    title = f"{layout.mark} {direction + ',':4} {layout.size:3} bytes: "
+    return textwrap.fill(title + places, 120, subsequent_indent=" " * len(title))
+
+
+def in_singles():
+    """Every record in singles, each with its answer."""
+    pairs = ((layout, ANSWER[mark]) for mark, layout in JOB.items() if layout.width is SINGLE)
+    return "\n".join(f"{short_text('in', asked)}\n{short_text('out', told)}" for asked, told in pairs)
 
 
 def refusals():
@@ -76,5 +91,6 @@ def page_parts(example_ac):
     """All generated parts of the page."""
     return {"records of a job file": layouts("in", JOB.values()),
             "records of an answer file": layouts("out", [*ANSWER.values(), END]),
+            "records of singles": in_singles(),
             "refusals": refusals(),
             "example": example_ac}

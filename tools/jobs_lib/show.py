@@ -2,7 +2,7 @@
 import struct
 from math import isfinite
 
-from .doubles import NAN, text
+from .floats import DOUBLE
 from .layout import ANSWER, END, JOB, MOST_RECORDS
 from .records import guess, hexadecimal, load, name_of, older, scan, walk
 from .terminal import Failure, Lines, Progress, count, say
@@ -30,13 +30,18 @@ def remark(layout, numbers):
     return f"at sigma: {signs[0]}; at -sigma: {signs[1]}"
 
 
+def texts(layout, bits):
+    """The numbers of a record, of which these are the bits, as texts."""
+    return tuple(width.text(x) if width else str(x) for width, x in zip(layout.widths, bits))
+
+
 def one_line(data, at, layout):
     """A record as a line, which `make` reads if it is a job's."""
     numbers = layout.numbers.unpack_from(data, at + 2)
-    line = TEMPLATES[layout] % numbers  # str is the shortest decimal
+    line = TEMPLATES[layout] % numbers  # str is the shortest decimal of a double
     nans = line.count("nan")
-    if nans and layout.bits.unpack_from(data, at + 2).count(NAN) != nans:
-        line = TEMPLATES[layout] % tuple(map(text, numbers))  # a NaN with bits of its own
+    if layout.width is not DOUBLE or nans and layout.bits.unpack_from(data, at + 2).count(DOUBLE.nan) != nans:
+        line = TEMPLATES[layout] % texts(layout, layout.bits.unpack_from(data, at + 2))  # singles; a NaN with bits of its own
     said = remark(layout, numbers)
     return [f"{line}  # {said}" if said else line]
 
@@ -44,21 +49,21 @@ def one_line(data, at, layout):
 def hex_lines(data, at, layout):
     """A record as bytes: a line for its mark and one for each number."""
     lines = [f"{at:8}  {hexadecimal(data[at:at + 2]):23}  {layout.mark}"]
-    numbers = layout.numbers.unpack_from(data, at + 2)
+    bits = layout.bits.unpack_from(data, at + 2)
     at += 2
-    for i, (name, code, number) in enumerate(zip(layout.fields, layout.codes, numbers)):
+    for i, (name, code, number) in enumerate(zip(layout.fields, layout.codes, texts(layout, bits))):
         size = struct.calcsize("<" + code)
-        said = layout.meaning(i, number)
+        said = layout.meaning(i, bits[i])
         note = f" ({said})" if said else ""
-        lines.append(f"{at:8}  {hexadecimal(data[at:at + size]):23}  {name} = {text(number)}{note}")
+        lines.append(f"{at:8}  {hexadecimal(data[at:at + size]):23}  {name} = {number}{note}")
         at += size
     return lines
 
 
 def unusable_line(number, data, at, layout):
     """A record's number and mark, and its first numbers that are a NaN or an infinity."""
-    numbers = layout.numbers.unpack_from(data, at + 2)
-    bad = [f"{name} {text(x)}" for name, x in zip(layout.fields, numbers) if not isfinite(x)]
+    numbers, shown = layout.numbers.unpack_from(data, at + 2), texts(layout, layout.bits.unpack_from(data, at + 2))
+    bad = [f"{name} {word}" for name, x, word in zip(layout.fields, numbers, shown) if not isfinite(x)]
     more = f" and {len(bad) - MOST_NAMED:,} more" if len(bad) > MOST_NAMED else ""
     return f"record {number}  {layout.mark}  {', '.join(bad[:MOST_NAMED])}{more}"
 

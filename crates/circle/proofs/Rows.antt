@@ -1,22 +1,14 @@
--- The rows of the code against their rule, and the order of the limits. Assumes nothing.
-use mathlib.Core.Path.{_≡_, sym, ap, _∙_, subst}
-use mathlib.Core.List.{List}
+-- No arm reads past its table, and the order of the limits. Assumes nothing.
+use mathlib.Core.Path.{_≡_, sym, subst}
 use mathlib.Core.Bool.{true}
 use Prim.Native.Nat.{_≤_}
 use native.Mathlib.Omega.{arith}
 use lib.Dec.{T}
-use lib.ListN.{length}
 use lib.Ieee.{Float, Format, binary32, binary64, ofBits, lt, le}
 use lib.Ieee.Bits.{is-true}
-use Rattle.ieee.specs.Table.{entries}
-use Rattle.ieee.proofs.Table.{follows, follows-is}
 use Rattle.ieee.proofs.Order.{lt-le-trans}
-use Rattle.circle.specs.Tables.{Row, cosHalfRow, kRow, aRow, bRow, dRow, rowRule, rowTable, rowTerms, rowLimit}
-
--- one computed test: sixteen constants that follow a row's rule are its table
-pub table-is : (f : Format) (row : Row) (xs : List Float) → follows f (rowRule row) 0 xs ≡ true → length xs ≡ 16 → xs ≡ rowTable f row
-unfolding rowTable
-table-is f row xs t n = follows-is f (rowRule row) xs t ∙ ap (entries f (rowRule row) 0) n
+use Rattle.tables.specs.Tables.{Row, cosHalfRow, kRow, aRow, bRow, dRow}
+use Rattle.circle.specs.Limits.{rowTerms, rowLimit}
 
 -- no arm reads past the table
 pub terms-fit : (f : Format) (row : Row) → rowTerms f row ≤ 16

@@ -6,7 +6,8 @@ use lib.ListN.{take}
 use lib.Ieee.{Float, Format, add, sub, mul, div, lt}
 use Rattle.ieee.specs.Numbers.{f0, f1, f2, half}
 use Rattle.linalg.specs.Answer.{Answer, answers, refuses, unlessBelowZero}
-use Rattle.circle.specs.Tables.{Row, cosHalfRow, kRow, aRow, bRow, dRow, rowTable, rowTerms, rowLimit, shortTerms, expShortLimit, fiveShortLimit}
+use Rattle.tables.specs.Tables.{Row, cosHalfRow, kRow, aRow, bRow, dRow, rowTable}
+use Rattle.circle.specs.Limits.{rowTerms, rowLimit, shortTerms, expShortLimit, fiveShortLimit}
 use Rattle.circle.specs.declared.kernel.ExpCoeffs.{ExpCoeffs}
 use Rattle.circle.specs.declared.kernel.SincABD.{SincABD}
 use Rattle.circle.specs.declared.kernel.SincA.{SincA}

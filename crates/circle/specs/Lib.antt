@@ -1,3 +1,2 @@
-pub mod Tables
+pub mod Limits
 pub mod Kernel
-pub mod Rows

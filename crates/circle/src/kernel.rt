@@ -7,12 +7,13 @@ ghost use Prim.Native.Nat.{_≤_};
 ghost use lib.Ieee.{binary64, lt};
 ghost use Rattle.ieee.specs.Numbers.{f0};
 ghost use Rattle.linalg.specs.Vector.{vecNormSq};
-ghost use Rattle.circle.specs.Tables.{bRow, rowLimit};
-ghost use Rattle.circle.specs.Rows.{rowNamed};
+ghost use Rattle.tables.specs.Tables.{bRow};
+ghost use Rattle.tables.specs.Rows.{rowNamed};
+ghost use Rattle.circle.specs.Limits.{rowLimit};
 ghost use Rattle.circle.specs.Kernel.{expCoeffsTold, sincABDTold, sincATold, sincTold, hornerSum, rowSeries, rowWhole, rowOwn, exactA, exactB, exactD, sincFrom, circleExp, circleSincABD, circleSincA, circleExpAnswer, circleSincAnswer, circleSincABDAnswer, circleSincAAnswer};
 use crate::generated;
-use crate::generated::Row;
 use linalg::vector::Vec3;
+use tables::Row;
 
 // sin(x/2)/x and cos(x/2): the exponential's quaternion is (cos_half, k phi).
 pub struct ExpCoeffs {
@@ -83,7 +84,7 @@ fn series(row: Row, n: usize, z: f64) -> f64
     requires { ⌜ n ≤ 16 ⌝ }
     ensures { λ r. ⌜ r ≡ rowSeries binary64 (rowNamed row) n z ⌝ }
 {
-    let t = generated::table(row);
+    let t = tables::double::table(row);
     horner(&t[..n], z)
 }
 

@@ -8,12 +8,12 @@ use Rattle.sim3.specs.Pose.{poseMul, poseMulInv, poseInvMul}
 use Rattle.frames.specs.Pose.{framed}
 use Rattle.frames.specs.declared.Pose.{Pose}
 use Rattle.frames.specs.declared.PoseAnswer.{PoseAnswer}
-use Rattle.frames.specs.declared.PoseAnswer.the-variants.{Pose as Given, Refused}
+use Rattle.frames.specs.declared.PoseAnswer.the-variants as poseAnswer
 
 -- what each case of an answer says
 unfoldable pub poseTold : PoseAnswer → Answer Pose
-poseTold (Given x) = answers x
-poseTold (Refused n) = refuses n
+poseTold (poseAnswer.Pose x) = answers x
+poseTold (poseAnswer.Refused n) = refuses n
 
 -- x, where the frames a and b are one and the same
 abbrev pub meets : ℕ → ℕ → Pose → Answer Pose

@@ -1,4 +1,4 @@
--- The whole output for one AC record, for a product whose frames do not meet, each other way in which a job stops, and how long a record of each mark is, computed from the definition. Assumes nothing.
+-- The whole output for one AC record at either width, for a product whose frames do not meet, each other way in which a job stops, and how long a record of each mark is, computed from the definition. Assumes nothing.
 use Prim.Native.Nat.{ℕ, _+_, _-_}
 use mathlib.Core.Path.{_≡_, refl}
 use mathlib.Core.Bool.{Bool, true, false, _&&_}
@@ -51,6 +51,29 @@ answered : jobOf jobLimit record-in ≡ 0x41 ∷ 0x43 ∷ (double 0x14 0x40 ++ (
 unfolding ofBits toBits add sub mul vecScale vecCross vecAdd so3Act poseAct vecIn quatIn poseIn vecNumbers wordOf wordBytes numberOf numberAt numberBytes itemBytes itemsBytes allFinite isFinite numbers countBytes markKnown markOf markBytes replyOf acOf answerOf entryReply countsMore recordFound foundAt foundOf trailer jobOn jobFrom double zero one counts frames record-in
 answered = refl
 
+-- the same record on singles, each by its two greatest bytes
+single : ℕ → ℕ → List ℕ
+single a b = 0 ∷ 0 ∷ a ∷ b ∷ []
+
+nought : List ℕ
+nought = single 0x00 0x00
+
+unit : List ℕ
+unit = single 0x80 0x3f
+
+small-in : List ℕ
+small-in =
+    0x61
+    ∷ 0x63
+    ∷ (unit
+    ++ (nought
+    ++ (nought
+    ++ (nought ++ (unit ++ (single 0x00 0x40 ++ (single 0x40 0x40 ++ (nought ++ (frames 0 0 ++ (unit ++ (single 0x80 0x40 ++ (single 0xa0 0x40 ++ single 0xc0 0x40))))))))))))
+
+small : jobOf jobLimit small-in ≡ 0x61 ∷ 0x63 ∷ (single 0xa0 0x40 ++ (single 0xe0 0x40 ++ (single 0x10 0x41 ++ counts 1 1 0 0)))
+unfolding ofBits toBits add sub mul vecScale vecCross vecAdd so3Act poseAct vecIn quatIn poseIn vecNumbers wordOf wordBytes numberOf numberAt numberBytes itemBytes itemsBytes allFinite isFinite numbers countBytes markKnown markOf markBytes replyOf acOf answerOf entryReply countsMore recordFound foundAt foundOf trailer jobOn jobFrom single nought unit counts frames small-in
+small = refl
+
 -- the same with an infinite point: it is answered, and counted last
 unfinite-in : List ℕ
 unfinite-in =
@@ -84,6 +107,15 @@ cut-short = refl
 unlisted : jobOf jobLimit (0x51 ∷ 0x51 ∷ []) ≡ 0x4e ∷ 0x4f ∷ 6 ∷ counts 1 0 1 0
 unfolding wordBytes countBytes markKnown markOf markBytes noBytes countsMore recordFound foundAt foundOf trailer jobOn jobFrom counts
 unlisted = refl
+
+-- AR in small letters, and a capital with a small letter
+small-ar : jobOf jobLimit (0x61 ∷ 0x72 ∷ []) ≡ 0x4e ∷ 0x4f ∷ 6 ∷ counts 1 0 1 0
+unfolding wordBytes countBytes markKnown markOf markBytes noBytes countsMore recordFound foundAt foundOf trailer jobOn jobFrom counts
+small-ar = refl
+
+mixed : jobOf jobLimit (0x41 ∷ 0x63 ∷ []) ≡ 0x4e ∷ 0x4f ∷ 6 ∷ counts 1 0 1 0
+unfolding wordBytes countBytes markKnown markOf markBytes noBytes countsMore recordFound foundAt foundOf trailer jobOn jobFrom counts
+mixed = refl
 
 -- a product of poses from 3 to 5 and from 3 to 7: whole it is refused, since 3 is not 7; and cut by its last byte it is a cut record
 mu-in : ℕ → List ℕ
@@ -131,6 +163,13 @@ table =
     ∷ record { first = 0x49; second = 0x4e; bytes = 76 }
     ∷ record { first = 0x4a; second = 0x49; bytes = 248 }
     ∷ record { first = 0x41; second = 0x52; bytes = 96 }
+    ∷ record { first = 0x65; second = 0x78; bytes = 72 }
+    ∷ record { first = 0x63; second = 0x6f; bytes = 48 }
+    ∷ record { first = 0x70; second = 0x61; bytes = 140 }
+    ∷ record { first = 0x61; second = 0x63; bytes = 52 }
+    ∷ record { first = 0x6d; second = 0x75; bytes = 76 }
+    ∷ record { first = 0x69; second = 0x6e; bytes = 40 }
+    ∷ record { first = 0x6a; second = 0x69; bytes = 124 }
     ∷ []
 
 found : Row → ℕ → Found

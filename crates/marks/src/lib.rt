@@ -8,9 +8,15 @@ ghost use Rattle.marks.specs.Marks.{markKnown, markOf, lookTold, foundOf
 use outcome::Entry;
 use outcome::Step;
 
-// A mark of the table, by the entry that it asks for; or none.
+// A mark of the table: the entry that it asks for, on doubles or on singles.
+pub enum Mark {
+    Double(Entry),
+    Single(Entry),
+}
+
+// A mark of the table, or none.
 pub enum Look {
-    Known(Entry),
+    Known(Mark),
     Unknown,
 }
 
@@ -26,14 +32,21 @@ fn known(k: u16) -> Look
     ensures { λ r. ⌜ lookTold r ≡ markKnown k ⌝ }
 {
     match k {
-        0x4558 => Look::Known(Entry::Ex),
-        0x434f => Look::Known(Entry::Co),
-        0x5041 => Look::Known(Entry::Pa),
-        0x4143 => Look::Known(Entry::Ac),
-        0x4d55 => Look::Known(Entry::Mu),
-        0x494e => Look::Known(Entry::In),
-        0x4a49 => Look::Known(Entry::Ji),
-        0x4152 => Look::Known(Entry::Ar),
+        0x4558 => Look::Known(Mark::Double(Entry::Ex)),
+        0x434f => Look::Known(Mark::Double(Entry::Co)),
+        0x5041 => Look::Known(Mark::Double(Entry::Pa)),
+        0x4143 => Look::Known(Mark::Double(Entry::Ac)),
+        0x4d55 => Look::Known(Mark::Double(Entry::Mu)),
+        0x494e => Look::Known(Mark::Double(Entry::In)),
+        0x4a49 => Look::Known(Mark::Double(Entry::Ji)),
+        0x4152 => Look::Known(Mark::Double(Entry::Ar)),
+        0x6578 => Look::Known(Mark::Single(Entry::Ex)),
+        0x636f => Look::Known(Mark::Single(Entry::Co)),
+        0x7061 => Look::Known(Mark::Single(Entry::Pa)),
+        0x6163 => Look::Known(Mark::Single(Entry::Ac)),
+        0x6d75 => Look::Known(Mark::Single(Entry::Mu)),
+        0x696e => Look::Known(Mark::Single(Entry::In)),
+        0x6a69 => Look::Known(Mark::Single(Entry::Ji)),
         _ => Look::Unknown,
     }
 }
@@ -57,8 +70,11 @@ pub fn reply(s: &[u8], out: &mut [u8]) -> Step
     if s.len() == 1 {
         return Step::Cut;
     }
-    let Look::Known(e) = look_up(s[0], s[1]) else {
+    let Look::Known(m) = look_up(s[0], s[1]) else {
         return Step::Unknown;
     };
-    replies::reply(e, s, out)
+    match m {
+        Mark::Double(e) => replies::reply(e, s, out),
+        Mark::Single(e) => replies_f32::reply(e, s, out),
+    }
 }

@@ -10,7 +10,7 @@ ghost use Rattle.layout.specs.Layout.{poseNumbers, blockNumbers, blockPairNumbe
 ghost use Rattle.wire.specs.Wire.{width, numbersBytes, itemsBytes, allFinite, numbers};
 ghost use Rattle.replies.specs.Table.{armedItems, framedWidth, framedItems};
 use crate::FRAME;
-use crate::NUMBER;
+use crate::bytes::NUMBER;
 use crate::bytes::put_short;
 use crate::finite;
 use crate::places;
@@ -24,7 +24,7 @@ use sides::pair::BlockPair;
 use sim3::sim3::Sim3;
 
 pub(crate) fn answer_vec(out: &mut [u8], i: usize, v: Vec3) -> bool
-    requires { ⌜ (i + 3) * 8 ≤ length (now out) ⌝ }
+    requires { ⌜ (i + 3) * width binary64 ≤ length (now out) ⌝ }
     ensures { λ r. ⌜ r ≡ allFinite (numbers (vecNumbers v)) ⌝ }
     ensures { λ _. ⌜ now (out .exit) ≡ sets (now (out .entry)) (i * width binary64) (numbersBytes binary64 (vecNumbers v)) ⌝ }
 {
@@ -37,7 +37,7 @@ pub(crate) fn answer_vec(out: &mut [u8], i: usize, v: Vec3) -> bool
 }
 
 pub(crate) fn answer_pose(out: &mut [u8], i: usize, x: Sim3) -> bool
-    requires { ⌜ (i + 8) * 8 ≤ length (now out) ⌝ }
+    requires { ⌜ (i + 8) * width binary64 ≤ length (now out) ⌝ }
     ensures { λ r. ⌜ r ≡ allFinite (numbers (poseNumbers x)) ⌝ }
     ensures { λ _. ⌜ now (out .exit) ≡ sets (now (out .entry)) (i * width binary64) (numbersBytes binary64 (poseNumbers x)) ⌝ }
 {
@@ -64,7 +64,7 @@ pub(crate) fn answer_framed(out: &mut [u8], x: Pose) -> bool
 }
 
 pub(crate) fn answer_block(out: &mut [u8], i: usize, j: Sim3Jac) -> bool
-    requires { ⌜ (i + 31) * 8 ≤ length (now out) ⌝ }
+    requires { ⌜ (i + 31) * width binary64 ≤ length (now out) ⌝ }
     ensures { λ r. ⌜ r ≡ allFinite (numbers (blockNumbers j)) ⌝ }
     ensures { λ _. ⌜ now (out .exit) ≡ sets (now (out .entry)) (i * width binary64) (numbersBytes binary64 (blockNumbers j)) ⌝ }
 {
@@ -77,7 +77,7 @@ pub(crate) fn answer_block(out: &mut [u8], i: usize, j: Sim3Jac) -> bool
 }
 
 pub(crate) fn answer_block_pair(out: &mut [u8], i: usize, p: BlockPair) -> bool
-    requires { ⌜ (i + 124) * 8 ≤ length (now out) ⌝ }
+    requires { ⌜ (i + 124) * width binary64 ≤ length (now out) ⌝ }
     ensures { λ r. ⌜ r ≡ allFinite (numbers (blockPairNumbers p)) ⌝ }
     ensures { λ _. ⌜ now (out .exit) ≡ sets (now (out .entry)) (i * width binary64) (numbersBytes binary64 (blockPairNumbers p)) ⌝ }
 {
@@ -90,7 +90,7 @@ pub(crate) fn answer_block_pair(out: &mut [u8], i: usize, p: BlockPair) -> bool
 
 // The coefficients of one sign, and the flag, which is 1 or 0.
 pub(crate) fn answer_scaled(out: &mut [u8], i: usize, c: Sim3Coeffs, scaled: bool) -> bool
-    requires { ⌜ (i + 10) * 8 ≤ length (now out) ⌝ }
+    requires { ⌜ (i + 10) * width binary64 ≤ length (now out) ⌝ }
     ensures { λ r. ⌜ r ≡ allFinite (numbers (scaledNumbers (record { c = c; scaled = scaled }))) ⌝ }
     ensures { λ _. ⌜ now (out .exit) ≡ sets (now (out .entry)) (i * width binary64) (numbersBytes binary64 (scaledNumbers (record { c = c; scaled = scaled }))) ⌝ }
 {
@@ -104,7 +104,7 @@ pub(crate) fn answer_scaled(out: &mut [u8], i: usize, c: Sim3Coeffs, scaled: boo
 
 // The scaled pair of one whose arms are told.
 fn answer_scaled_pair(out: &mut [u8], p: ArmedPair) -> bool
-    requires { ⌜ 20 * 8 ≤ length (now out) ⌝ }
+    requires { ⌜ 20 * width binary64 ≤ length (now out) ⌝ }
     ensures { λ r. ⌜ r ≡ allFinite (numbers (scaledPairNumbers (armedScaled p))) ⌝ }
     ensures { λ _. ⌜ now (out .exit) ≡ sets (now (out .entry)) 0 (numbersBytes binary64 (scaledPairNumbers (armedScaled p))) ⌝ }
 {
@@ -115,7 +115,7 @@ fn answer_scaled_pair(out: &mut [u8], p: ArmedPair) -> bool
 
 // The arms of both signs, and behind them the scaled pair.
 pub(crate) fn answer_armed_pair(out: &mut [u8], p: ArmedPair) -> bool
-    requires { ⌜ 4 + 20 * 8 ≤ length (now out) ⌝ }
+    requires { ⌜ 4 + 20 * width binary64 ≤ length (now out) ⌝ }
     ensures { λ r. ⌜ r ≡ allFinite (armedItems p) ⌝ }
     ensures { λ _. ⌜ now (out .exit) ≡ sets (now (out .entry)) 0 (itemsBytes binary64 (armedItems p)) ⌝ }
 {

@@ -9,11 +9,14 @@ ghost use lib.Seq.{sets};
 ghost use Rattle.ieee.specs.Finite.{isFinite};
 ghost use Rattle.wire.specs.Wire.{word, width, wordAt, numberAt, numberBytes, itemBytes};
 
+// How many bytes a number has.
+pub(crate) const NUMBER: usize = 8;
+
 pub(crate) fn number_at(b: &[u8], i: usize) -> f64
-    requires { ⌜ (i + 1) * 8 ≤ length (now b) ⌝ }
+    requires { ⌜ (i + 1) * width binary64 ≤ length (now b) ⌝ }
     ensures { λ r. ⌜ r ≡ numberAt binary64 (now (b .entry)) i ⌝ }
 {
-    let at = i * 8;
+    let at = i * NUMBER;
     wire::from_le_bytes([
         b[at],
         b[at + 1],
@@ -27,10 +30,10 @@ pub(crate) fn number_at(b: &[u8], i: usize) -> f64
 }
 
 pub(crate) fn put_number(out: &mut [u8], i: usize, x: f64)
-    requires { ⌜ (i + 1) * 8 ≤ length (now out) ⌝ }
+    requires { ⌜ (i + 1) * width binary64 ≤ length (now out) ⌝ }
     ensures { λ _. ⌜ now (out .exit) ≡ sets (now (out .entry)) (i * width binary64) (numberBytes binary64 x) ⌝ }
 {
-    let at = i * 8;
+    let at = i * NUMBER;
     let d = wire::to_le_bytes(x);
     out[at] = d[0];
     out[at + 1] = d[1];
@@ -67,11 +70,11 @@ pub(crate) fn put_short(out: &mut [u8], at: usize, n: u16)
 
 // Of a finite number the bits are taken as they are.
 pub(crate) fn put_finite(out: &mut [u8], i: usize, x: f64)
-    requires { ⌜ (i + 1) * 8 ≤ length (now out) ⌝ }
+    requires { ⌜ (i + 1) * width binary64 ≤ length (now out) ⌝ }
     requires { ⌜ isFinite x ≡ true ⌝ }
     ensures { λ _. ⌜ now (out .exit) ≡ sets (now (out .entry)) (i * width binary64) (numberBytes binary64 x) ⌝ }
 {
-    let at = i * 8;
+    let at = i * NUMBER;
     let d = wire::word_to_le_bytes(f64::to_bits(x));
     out[at] = d[0];
     out[at + 1] = d[1];

@@ -91,7 +91,7 @@ pub(crate) fn coeffs(k: Sim3Coeffs) -> bool
 
 // ---- written, where all is finite
 pub(crate) fn put_vec(out: &mut [u8], i: usize, v: Vec3)
-    requires { ⌜ (i + 3) * 8 ≤ length (now out) ⌝ }
+    requires { ⌜ (i + 3) * width binary64 ≤ length (now out) ⌝ }
     requires { ⌜ allFinite (numbers (vecNumbers v)) ≡ true ⌝ }
     ensures { λ _. ⌜ now (out .exit) ≡ sets (now (out .entry)) (i * width binary64) (numbersBytes binary64 (vecNumbers v)) ⌝ }
 {
@@ -101,7 +101,7 @@ pub(crate) fn put_vec(out: &mut [u8], i: usize, v: Vec3)
 }
 
 fn put_mat(out: &mut [u8], i: usize, m: Mat3)
-    requires { ⌜ (i + 9) * 8 ≤ length (now out) ⌝ }
+    requires { ⌜ (i + 9) * width binary64 ≤ length (now out) ⌝ }
     requires { ⌜ allFinite (numbers (matNumbers m)) ≡ true ⌝ }
     ensures { λ _. ⌜ now (out .exit) ≡ sets (now (out .entry)) (i * width binary64) (numbersBytes binary64 (matNumbers m)) ⌝ }
 {
@@ -111,7 +111,7 @@ fn put_mat(out: &mut [u8], i: usize, m: Mat3)
 }
 
 pub(crate) fn put_pose(out: &mut [u8], i: usize, x: Sim3)
-    requires { ⌜ (i + 8) * 8 ≤ length (now out) ⌝ }
+    requires { ⌜ (i + 8) * width binary64 ≤ length (now out) ⌝ }
     requires { ⌜ allFinite (numbers (poseNumbers x)) ≡ true ⌝ }
     ensures { λ _. ⌜ now (out .exit) ≡ sets (now (out .entry)) (i * width binary64) (numbersBytes binary64 (poseNumbers x)) ⌝ }
 {
@@ -124,7 +124,7 @@ pub(crate) fn put_pose(out: &mut [u8], i: usize, x: Sim3)
 }
 
 pub(crate) fn put_block(out: &mut [u8], i: usize, j: Sim3Jac)
-    requires { ⌜ (i + 31) * 8 ≤ length (now out) ⌝ }
+    requires { ⌜ (i + 31) * width binary64 ≤ length (now out) ⌝ }
     requires { ⌜ allFinite (numbers (blockNumbers j)) ≡ true ⌝ }
     ensures { λ _. ⌜ now (out .exit) ≡ sets (now (out .entry)) (i * width binary64) (numbersBytes binary64 (blockNumbers j)) ⌝ }
 {
@@ -137,7 +137,7 @@ pub(crate) fn put_block(out: &mut [u8], i: usize, j: Sim3Jac)
 
 // The nine coefficients, three at a time, and the flag as 1 or 0.
 pub(crate) fn put_scaled(out: &mut [u8], i: usize, c: Sim3Coeffs, scaled: bool)
-    requires { ⌜ (i + 10) * 8 ≤ length (now out) ⌝ }
+    requires { ⌜ (i + 10) * width binary64 ≤ length (now out) ⌝ }
     requires { ⌜ allFinite (numbers (scaledNumbers (record { c = c; scaled = scaled }))) ≡ true ⌝ }
     ensures { λ _. ⌜ now (out .exit) ≡ sets (now (out .entry)) (i * width binary64) (numbersBytes binary64 (scaledNumbers (record { c = c; scaled = scaled }))) ⌝ }
 {

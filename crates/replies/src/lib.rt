@@ -7,6 +7,7 @@ ghost use lib.ListN.{length};
 ghost use lib.Seq.{sets};
 ghost use Rattle.outcome.specs.Outcome.{longest, becameOf, writtenOf, stepTold, gaveOf, gaveBytes};
 ghost use Rattle.replies.specs.Table.{widthOf, answerOf, entryFound};
+use crate::bytes::NUMBER;
 use crate::entries::ac;
 use crate::entries::ar;
 use crate::entries::co;
@@ -33,9 +34,7 @@ mod entries; // what each entry answers
 mod finite; // answers that are finite
 mod places; // things of several numbers
 
-// How many bytes a number has, a frame, and a pose with both of its frames.
-const NUMBER: usize = 8;
-
+// How many bytes a frame has, and a pose with both of its frames.
 const FRAME: usize = 2;
 
 const FRAMED: usize = NUMBER * POSE + 2 * FRAME;

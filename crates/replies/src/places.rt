@@ -11,7 +11,7 @@ ghost use Rattle.layout.specs.Layout.{matNumbers, poseNumbers, blockNumbers, sc
 ghost use Rattle.wire.specs.Wire.{width, numberAt, numbersBytes, itemsBytes};
 ghost use Rattle.replies.specs.Table.{armItems, framedWidth, framedIn};
 use crate::FRAME;
-use crate::NUMBER;
+use crate::bytes::NUMBER;
 use crate::bytes::number_at;
 use crate::bytes::put_number;
 use crate::bytes::put_word;
@@ -31,7 +31,7 @@ use so3::quat::Quat;
 
 // ---- read
 pub(crate) fn vec_at(b: &[u8], i: usize) -> Vec3
-    requires { ⌜ (i + 3) * 8 ≤ length (now b) ⌝ }
+    requires { ⌜ (i + 3) * width binary64 ≤ length (now b) ⌝ }
     ensures { λ r. ⌜ r ≡ vecIn (numberAt binary64 (now (b .entry))) i ⌝ }
 {
     Vec3 {
@@ -42,7 +42,7 @@ pub(crate) fn vec_at(b: &[u8], i: usize) -> Vec3
 }
 
 pub(crate) fn mat_at(b: &[u8], i: usize) -> Mat3
-    requires { ⌜ (i + 9) * 8 ≤ length (now b) ⌝ }
+    requires { ⌜ (i + 9) * width binary64 ≤ length (now b) ⌝ }
     ensures { λ r. ⌜ r ≡ matIn (numberAt binary64 (now (b .entry))) i ⌝ }
 {
     Mat3 {
@@ -53,7 +53,7 @@ pub(crate) fn mat_at(b: &[u8], i: usize) -> Mat3
 }
 
 pub(crate) fn pose_at(b: &[u8], i: usize) -> Sim3
-    requires { ⌜ (i + 8) * 8 ≤ length (now b) ⌝ }
+    requires { ⌜ (i + 8) * width binary64 ≤ length (now b) ⌝ }
     ensures { λ r. ⌜ r ≡ poseIn (numberAt binary64 (now (b .entry))) i ⌝ }
 {
     let q = Quat {
@@ -82,7 +82,7 @@ pub(crate) fn framed_at(b: &[u8]) -> Pose
 }
 
 pub(crate) fn tangent_at(b: &[u8], i: usize) -> Sim3Tangent
-    requires { ⌜ (i + 7) * 8 ≤ length (now b) ⌝ }
+    requires { ⌜ (i + 7) * width binary64 ≤ length (now b) ⌝ }
     ensures { λ r. ⌜ r ≡ tangentIn (numberAt binary64 (now (b .entry))) i ⌝ }
 {
     Sim3Tangent {
@@ -93,7 +93,7 @@ pub(crate) fn tangent_at(b: &[u8], i: usize) -> Sim3Tangent
 }
 
 pub(crate) fn values_at(b: &[u8], i: usize) -> Values
-    requires { ⌜ (i + 10) * 8 ≤ length (now b) ⌝ }
+    requires { ⌜ (i + 10) * width binary64 ≤ length (now b) ⌝ }
     ensures { λ r. ⌜ r ≡ valuesIn (numberAt binary64 (now (b .entry))) i ⌝ }
 {
     Values {
@@ -111,7 +111,7 @@ pub(crate) fn values_at(b: &[u8], i: usize) -> Values
 }
 
 pub(crate) fn block_at(b: &[u8], i: usize) -> Sim3Jac
-    requires { ⌜ (i + 31) * 8 ≤ length (now b) ⌝ }
+    requires { ⌜ (i + 31) * width binary64 ≤ length (now b) ⌝ }
     ensures { λ r. ⌜ r ≡ blockIn (numberAt binary64 (now (b .entry))) i ⌝ }
 {
     Sim3Jac {
@@ -125,7 +125,7 @@ pub(crate) fn block_at(b: &[u8], i: usize) -> Sim3Jac
 
 // ---- written
 pub(crate) fn put_vec(out: &mut [u8], i: usize, v: Vec3)
-    requires { ⌜ (i + 3) * 8 ≤ length (now out) ⌝ }
+    requires { ⌜ (i + 3) * width binary64 ≤ length (now out) ⌝ }
     ensures { λ _. ⌜ now (out .exit) ≡ sets (now (out .entry)) (i * width binary64) (numbersBytes binary64 (vecNumbers v)) ⌝ }
 {
     put_number(out, i, v.x);
@@ -134,7 +134,7 @@ pub(crate) fn put_vec(out: &mut [u8], i: usize, v: Vec3)
 }
 
 pub(crate) fn put_mat(out: &mut [u8], i: usize, m: Mat3)
-    requires { ⌜ (i + 9) * 8 ≤ length (now out) ⌝ }
+    requires { ⌜ (i + 9) * width binary64 ≤ length (now out) ⌝ }
     ensures { λ _. ⌜ now (out .exit) ≡ sets (now (out .entry)) (i * width binary64) (numbersBytes binary64 (matNumbers m)) ⌝ }
 {
     put_vec(out, i, m.c0);
@@ -143,7 +143,7 @@ pub(crate) fn put_mat(out: &mut [u8], i: usize, m: Mat3)
 }
 
 pub(crate) fn put_pose(out: &mut [u8], i: usize, x: Sim3)
-    requires { ⌜ (i + 8) * 8 ≤ length (now out) ⌝ }
+    requires { ⌜ (i + 8) * width binary64 ≤ length (now out) ⌝ }
     ensures { λ _. ⌜ now (out .exit) ≡ sets (now (out .entry)) (i * width binary64) (numbersBytes binary64 (poseNumbers x)) ⌝ }
 {
     put_number(out, i, x.q.w);
@@ -155,7 +155,7 @@ pub(crate) fn put_pose(out: &mut [u8], i: usize, x: Sim3)
 }
 
 pub(crate) fn put_block(out: &mut [u8], i: usize, j: Sim3Jac)
-    requires { ⌜ (i + 31) * 8 ≤ length (now out) ⌝ }
+    requires { ⌜ (i + 31) * width binary64 ≤ length (now out) ⌝ }
     ensures { λ _. ⌜ now (out .exit) ≡ sets (now (out .entry)) (i * width binary64) (numbersBytes binary64 (blockNumbers j)) ⌝ }
 {
     put_mat(out, i, j.a);
@@ -167,7 +167,7 @@ pub(crate) fn put_block(out: &mut [u8], i: usize, j: Sim3Jac)
 
 // The nine coefficients, three at a time, and the flag as 1 or 0.
 pub(crate) fn put_scaled(out: &mut [u8], i: usize, c: Sim3Coeffs, scaled: bool)
-    requires { ⌜ (i + 10) * 8 ≤ length (now out) ⌝ }
+    requires { ⌜ (i + 10) * width binary64 ≤ length (now out) ⌝ }
     ensures { λ _. ⌜ now (out .exit) ≡ sets (now (out .entry)) (i * width binary64) (numbersBytes binary64 (scaledNumbers (record { c = c; scaled = scaled }))) ⌝ }
 {
     put_vec(

@@ -1,5 +1,4 @@
 -- The laws of the series, each over any format.
-pub mod Recip
 pub mod Mirror
 pub mod Terms
 pub mod Stopped

@@ -4,7 +4,7 @@ use Prim.Native.Nat.{ℕ, zero, suc, _+_}
 use native.Mathlib.Omega.{arith}
 use native.Mathlib.Numerals.{add-one}
 use lib.Ieee.{Float, Format, add, mul}
-use Rattle.series.specs.Recip.{recipFact}
+use Rattle.tables.specs.Tables.{recipFact}
 use Rattle.series.specs.Series.{seriesFirst, seriesNext, seriesLevel, levelTerms, seriesTerms, seriesSum, seriesSums}
 use Rattle.series.specs.Turns.{sumsNone, sumsGain, tailTerms, sumsLast, soloTurn, soloTurns, vNone, vTurn, vTurns}
 use Rattle.series.specs.declared.recurrence.TurnsV.{TurnsV}

@@ -12,12 +12,12 @@ use Rattle.ieee.specs.Signs.{notMinusZero}
 use Rattle.ieee.proofs.Clear.{add-is-same}
 use Rattle.ieee.proofs.Exact.{add-zero-same}
 use Rattle.ieee.proofs.Product.{mul-same}
-use Rattle.series.specs.Recip.{recipFact}
+use Rattle.tables.specs.Tables.{recipFact}
 use Rattle.series.specs.Series.{gSeries, gSeriesPair}
 use Rattle.series.specs.Turns.{gTerm}
 use Rattle.series.specs.Pass.{gStopped, bothStopped}
 use Rattle.series.specs.declared.sim3.GPair.{GPair}
-use Rattle.series.proofs.Recip.{recip-fits, recip-clear}
+use Rattle.tables.proofs.Every.{recip-fits, recip-clear}
 
 -- ---- one entry more, as a loop counts
 pub stopped-more :
@@ -34,13 +34,19 @@ minus-term f sigma r g s p c =
     add-is-same f r r _ _ p p (mul-fits f _ _) (mul-fits f _ _) c c refl (mul-same f _ _ g g (add-zero-same f (neg sigma) (neg-fits f sigma s)) refl)
 
 -- and so at both signs at once
-pub both-more :
+both-more :
     (f : Format) (sigma : Float) (l terms n j : ℕ) → T (fits f sigma) → j ≡ terms - (n + 1) + l →
     gTerm f sigma (add f (neg sigma) f0) (recipFact f j) (bothStopped f sigma l terms n) ≡ bothStopped f sigma l terms (n + 1)
 unfolding gTerm
 both-more f sigma l terms n j s e =
     let other = minus-term f sigma (recipFact f j) (gStopped f (neg sigma) l terms n) s (recip-fits f j) (recip-clear f j) in
     λ i. record { pos = stopped-more f sigma l terms n j e i; neg = (other ∙ stopped-more f (neg sigma) l terms n j e) i }
+
+-- the entry j behind n others, which hold g
+pub both-further :
+    (f : Format) (sigma : Float) (l terms n j : ℕ) (g : GPair) → T (fits f sigma) → j ≡ terms - (n + 1) + l → g ≡ bothStopped f sigma l terms n →
+    gTerm f sigma (add f (neg sigma) f0) (recipFact f j) g ≡ bothStopped f sigma l terms (n + 1)
+both-further f sigma l terms n j g s e q = ap (gTerm f sigma (add f (neg sigma) f0) (recipFact f j)) q ∙ both-more f sigma l terms n j s e
 
 -- ---- the partial sum after n entries is Horner's sum of the last n terms, and the whole sum after all of them
 stopped-is : (f : Format) (sigma : Float) (l terms n : ℕ) → n ≤ terms → gStopped f sigma l terms n ≡ gSeries f sigma (terms - n + l) n

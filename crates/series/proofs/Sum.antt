@@ -8,7 +8,7 @@ use lib.Ieee.{Float, Format, add, fits}
 use lib.Ieee.Fits.{add-fits}
 use Rattle.ieee.specs.Signs.{notMinusZero}
 use Rattle.ieee.proofs.Clear.{add-clear}
-use Rattle.series.specs.Recip.{recipFact}
+use Rattle.tables.specs.Tables.{recipFact}
 use Rattle.series.specs.Series.{seriesNext, seriesLevel, levelTerms, seriesTerms, seriesSum}
 use Rattle.series.specs.Turns.{tailTerms}
 use Rattle.series.specs.declared.recurrence.Sums.{Sums}

@@ -3,7 +3,7 @@ use mathlib.Core.Path.{_≡_, refl}
 use Prim.Native.Nat.{ℕ, suc, _+_}
 use native.Mathlib.Numerals.{add-one}
 use lib.Ieee.{Float, Format, add, mul}
-use Rattle.series.specs.Recip.{recipFact}
+use Rattle.tables.specs.Tables.{recipFact}
 use Rattle.series.specs.Series.{gSeries}
 
 -- a sum of i terms from index n on, and one term more in front

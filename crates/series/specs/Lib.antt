@@ -1,4 +1,3 @@
-pub mod Recip
 pub mod Series
 pub mod Pass
 pub mod Small

@@ -2,7 +2,7 @@
 use Prim.Native.Nat.{ℕ, zero, suc, _+_, _-_}
 use lib.Ieee.{Float, Format, neg, add, mul}
 use Rattle.ieee.specs.Numbers.{f0}
-use Rattle.series.specs.Recip.{recipFact}
+use Rattle.tables.specs.Tables.{recipFact}
 use Rattle.series.specs.declared.sim3.GPair.{GPair}
 
 -- the sum of `terms` terms, from 1 / l! on, after n entries: entry n + 1 is the reciprocal of index terms - (n + 1) + l

@@ -5,7 +5,7 @@ use lib.Dec.{ltb}
 use lib.Ieee.{Float, Format, binary32, binary64, neg, add, sub, mul}
 use Rattle.ieee.specs.Numbers.{f0, f1}
 use Rattle.linalg.specs.Answer.{Answer, answers, refuses, andThen, unlessBelowZero}
-use Rattle.series.specs.Recip.{recipFact}
+use Rattle.tables.specs.Tables.{recipFact}
 use Rattle.series.specs.declared.recurrence.Level.{Level}
 use Rattle.series.specs.declared.recurrence.Sums.{Sums}
 use Rattle.series.specs.declared.sim3.Sim3Coeffs.{Sim3Coeffs}

@@ -4,7 +4,7 @@ use mathlib.Core.Bool.{Bool, not, cond}
 use lib.Dec.{eqb}
 use lib.Ieee.{Float, Format, neg, add, sub, mul}
 use Rattle.ieee.specs.Numbers.{f0, f1}
-use Rattle.series.specs.Recip.{recipFact}
+use Rattle.tables.specs.Tables.{recipFact}
 use Rattle.series.specs.Series.{seriesFirst, seriesNext, levelTerms, gSeries, seriesCoeffs}
 use Rattle.series.specs.declared.recurrence.Level.{Level}
 use Rattle.series.specs.declared.recurrence.Sums.{Sums}

@@ -4,8 +4,8 @@ ghost use Prim.Native.Nat.{_≤_};
 ghost use lib.Ieee.{binary64};
 ghost use Rattle.series.specs.Series.{gSeries};
 ghost use Rattle.series.specs.Turns.{gTerm};
-use crate::generated_sim3::recip_fact;
 use crate::sim3::GPair;
+use tables::double::recip_fact;
 
 // The sum of sigma^i/(i + l)! over i < terms, by Horner from the last term.
 pub fn g_series(sigma: f64, l: usize, terms: usize) -> f64

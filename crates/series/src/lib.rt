@@ -1,5 +1,4 @@
 // The Sim(3) coefficients by their total-degree series, at any number of terms to 64.
-pub mod generated_sim3; // the factorial reciprocals: helicoid's generated_sim3.rs
 pub mod sim3; // the coefficients and their series at one sign of sigma: coeffs/sim3.rs
 pub mod small; // v0 and w0 of the closed arm at small sigma
 mod shortest; // the shortest series, for v alone

@@ -2,10 +2,10 @@
 ghost use mathlib.Core.Path.{_≡_};
 ghost use lib.Ieee.{binary64};
 ghost use Rattle.series.specs.Turns.{vTurns};
-use crate::generated_sim3::recip_fact;
 use crate::recurrence::TurnsV;
 use crate::recurrence::none_v;
 use crate::recurrence::turn_v;
+use tables::double::recip_fact;
 
 // The fewest terms that an arm of the coefficients takes.
 pub const TERMS: usize = 6;

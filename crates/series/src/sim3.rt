@@ -6,7 +6,6 @@ ghost use Prim.Native.Nat.{_+_, _≤_};
 ghost use lib.Ieee.{binary64};
 ghost use Rattle.series.specs.Series.{seriesSums, seriesFull, seriesV, seriesTold, seriesVTold, seriesAnswer, seriesVAnswer};
 ghost use Rattle.series.specs.Turns.{soloTurn, soloTurns, vTurns};
-use crate::generated_sim3::recip_fact;
 use crate::horner::g_series;
 use crate::recurrence;
 use crate::recurrence::Sums;
@@ -15,6 +14,7 @@ use crate::recurrence::TurnsV;
 use crate::recurrence::none_v;
 use crate::recurrence::turn_v;
 use crate::shortest;
+use tables::double::recip_fact;
 
 // v0, v1, v2 of V, w0, w1, w2 of Gamma_2(M), the z-derivatives of v1 and v2, and chi times delta,
 // where chi = v0 - z v2 and delta = sigma^2 + z.

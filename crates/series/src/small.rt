@@ -4,14 +4,14 @@ ghost use mathlib.Core.Path.{_≡_};
 ghost use Prim.Native.Nat.{_+_};
 ghost use lib.Ieee.{binary64};
 ghost use Rattle.series.specs.Series.{gSeries, gSeriesPair, w0Terms};
-ghost use Rattle.series.specs.Recip.{recipFact};
+ghost use Rattle.tables.specs.Tables.{recipFact};
 ghost use Rattle.series.specs.Turns.{gTerm};
-ghost use Rattle.series.specs.Small.{passed};
-use crate::generated_sim3::recip_fact;
+ghost use Rattle.series.specs.Small.{passed, passTold};
 use crate::horner::g_series;
 use crate::horner::g_term;
 use crate::sim3::GPair;
 use crate::sim3::Horner;
+use tables::double::recip_fact;
 
 // The terms of w0; v0 has one more.
 const W0_TERMS: usize = 15;
@@ -61,7 +61,7 @@ fn next(sigma: f64, minus: f64, n: usize, g: GPair) -> GPair
 // is written out, and `minus` is -sigma but +0 for a zero, which no sum sees: so the compiler works
 // both signs as one vector, with constant reciprocals.
 fn passes(sigma: f64) -> Pass
-    ensures { λ r. ⌜ r ≡ passed binary64 sigma ⌝ }
+    ensures { λ r. ⌜ passTold r ≡ passed binary64 sigma ⌝ }
 {
     let minus = -sigma + 0.0;
     let none = GPair { pos: 0.0, neg: 0.0 };

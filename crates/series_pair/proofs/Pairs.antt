@@ -12,7 +12,7 @@ use lib.Ieee.Fits.{neg-fits, mul-fits}
 use Rattle.ieee.specs.Signs.{notMinusZero}
 use Rattle.ieee.proofs.Sign.{mul-neg-neg}
 use Rattle.ieee.proofs.Clear.{add-is-same}
-use Rattle.series.specs.Recip.{recipFact}
+use Rattle.tables.specs.Tables.{recipFact}
 use Rattle.series.specs.Series.{seriesLevel, levelTerms, seriesTerms, seriesSum, seriesSums, coeffsDelta, seriesChi, seriesCoeffs, seriesFull}
 use Rattle.series.specs.Turns.{odd, gainFlip, sumsNone, sumsGain, sumsGainMirrored, tailTerms, sumsLastMirrored, pairTurn, pairTurns, pairSums, pairFull}
 use Rattle.series.specs.declared.recurrence.Sums.{Sums}

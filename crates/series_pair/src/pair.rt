@@ -8,7 +8,6 @@ ghost use lib.Ieee.{binary64, neg};
 ghost use Rattle.series.specs.Series.{gSeriesPair, seriesFull, seriesPairTold, seriesPairAnswer};
 ghost use Rattle.series.specs.Pass.{bothStopped};
 ghost use Rattle.series.specs.Turns.{sumsGainMirrored, sumsLastMirrored, pairTurn, pairTurns, pairSums};
-use series::generated_sim3::recip_fact;
 use series::recurrence;
 use series::recurrence::Sums;
 use series::recurrence::SumsPair;
@@ -18,6 +17,7 @@ use series::sim3::CoeffsPair;
 use series::sim3::GPair;
 use series::sim3::Horner;
 use series::sim3::SeriesPairAnswer;
+use tables::double::recip_fact;
 
 // The series at k terms, at sigma and at -sigma; refusal 1 for z below zero, then 4 for k above 64.
 pub fn series_pair(sigma: f64, z: f64, k: usize) -> SeriesPairAnswer

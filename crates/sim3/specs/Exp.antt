@@ -4,7 +4,8 @@ use lib.Ieee.{Float, Format, add, mul, div, lt}
 use Rattle.linalg.specs.Vector.{vecScale, vecDot, vecNormSq, vecCross, vecAdd}
 use Rattle.linalg.specs.declared.vector.Vec3.{Vec3}
 use Rattle.so3.specs.So3.{so3Exp}
-use Rattle.circle.specs.Tables.{bRow, rowLimit}
+use Rattle.tables.specs.Tables.{bRow}
+use Rattle.circle.specs.Limits.{rowLimit}
 use Rattle.series.specs.declared.sim3.Coeffs4.{Coeffs4}
 use Rattle.coeffs.specs.Limits.{coeffsDelta}
 use Rattle.coeffs.specs.Group.{coeffsV}

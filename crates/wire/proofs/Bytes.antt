@@ -70,6 +70,10 @@ pub bytes-all : (b : List ℕ) (k : ℕ) → length b ≡ k → b ≡ bytesAt b 
 bytes-all b k h = sym (take-all k b (omega arith)) ∙ bytes-at b 0 k (omega arith)
 
 -- ---- what the bytes of a word are
+pub word-four : (b : List ℕ) → length b ≡ 4 → wordOf b ≡ getD b 0 0 + 0x100 * getD b 1 0 + 0x1_0000 * getD b 2 0 + 0x100_0000 * getD b 3 0
+unfolding wordOf
+word-four b h = ap wordOf (bytes-all b 4 h) ∙ omega arith
+
 pub word-eight :
     (b : List ℕ) → length b ≡ 8 →
     wordOf b

@@ -5,7 +5,7 @@ use mathlib.Core.List.{List, [], _∷_}
 use native.Mathlib.Numerals.{towards-suc}
 use lib.ListN.{length, getD, set}
 use lib.Seq.{sets}
-use lib.Ieee.{Float, binary64}
+use lib.Ieee.{Float, binary32, binary64}
 use Rattle.wire.specs.Wire.{wordOf, wordBytes, wordAt, numberOf, numberAt, numberBytes, countBytes}
 use Rattle.wire.proofs.Bytes.{bytes-at, bytes-all, word-length, number-length, count-length}
 
@@ -26,6 +26,13 @@ pub double-read :
     ≡ numberAt binary64 b i
 unfolding numberAt
 double-read b i at e h = rw (← e, bytes-at b at 8 h) (simp towards-suc)
+
+-- the i-th single
+pub single-read :
+    (b : List ℕ) (i at : ℕ) → at ≡ i * 4 → at + 4 ≤ length b →
+    numberOf binary32 (getD b at 0 ∷ getD b (at + 1) 0 ∷ getD b (at + 2) 0 ∷ getD b (at + 3) 0 ∷ []) ≡ numberAt binary32 b i
+unfolding numberAt
+single-read b i at e h = rw (← e, bytes-at b at 4 h) (simp towards-suc)
 
 -- the number of the two bytes that begin at `at`
 pub short-read : (b : List ℕ) (at : ℕ) → at + 2 ≤ length b → wordOf (getD b at 0 ∷ getD b (at + 1) 0 ∷ []) ≡ wordAt 2 b at
@@ -56,3 +63,6 @@ count-stored n d l at e = four-are d l at (ap length e ∙ count-length n) ∙ a
 
 pub double-stored : (x : Float) (d l : List ℕ) (at : ℕ) → d ≡ numberBytes binary64 x → eightStores l at d ≡ sets l at (numberBytes binary64 x)
 double-stored x d l at e = eight-are d l at (ap length e ∙ number-length binary64 x) ∙ ap (sets l at) e
+
+pub single-stored : (x : Float) (d l : List ℕ) (at : ℕ) → d ≡ numberBytes binary32 x → fourStores l at d ≡ sets l at (numberBytes binary32 x)
+single-stored x d l at e = four-are d l at (ap length e ∙ number-length binary32 x) ∙ ap (sets l at) e

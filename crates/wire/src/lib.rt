@@ -5,6 +5,8 @@ ghost use Prim.Native.Nat.{_+_, _*_, _<_};
 ghost use lib.Ieee.{binary64};
 ghost use Rattle.wire.specs.Wire.{wordOf, wordBytes, numberOf, numberBytes, countBytes};
 
+pub mod single; // singles
+
 fn wide(x: u8) -> u64
     ensures { λ r. ⌜ (r ≡ x) × (r < 256) ⌝ }
 {

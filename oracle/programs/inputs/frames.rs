@@ -2,13 +2,14 @@
 //! the frames.
 
 use super::{Rng, Source};
+use helicoid::judge::layout::WIDTH;
 
 /// A pose's frames: from, to.
 pub type Frames = [u16; 2];
 
 /// Where the left pose's `from` and the right pose's `to` stand in a whole MU record.
-const LEFT_FROM: usize = 2 + 64;
-const RIGHT_TO: usize = LEFT_FROM + 4 + 64 + 2;
+const LEFT_FROM: usize = 2 + 8 * WIDTH;
+const RIGHT_TO: usize = LEFT_FROM + 4 + 8 * WIDTH + 2;
 
 pub(super) fn put_frames(out: &mut Vec<u8>, frames: Frames) {
     frames.iter().for_each(|x| out.extend_from_slice(&x.to_le_bytes()));

@@ -2,7 +2,6 @@
 //! belong to them or to nothing, poses with their frames, and blocks.
 
 mod angles;
-mod ends;
 mod frames;
 mod lone;
 mod numbers;
@@ -11,9 +10,8 @@ mod records;
 mod rng;
 mod values;
 
-pub use ends::{end, ends};
 pub use numbers::Mood;
-pub use records::MARKS;
+pub use records::{marks, Letters};
 pub use rng::Rng;
 
 /// A source of inputs; the same seed gives the same inputs.

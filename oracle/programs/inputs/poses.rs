@@ -1,10 +1,11 @@
 //! Poses, tangents and blocks.
 
 use super::{Mood, Source};
+use helicoid_linalg::float::Float;
 
 impl Source {
     /// A quaternion: a rotation, nearly one, the identity with any zeros, or any four numbers.
-    pub fn quat(&mut self, mood: Mood) -> [f64; 4] {
+    pub fn quat(&mut self, mood: Mood) -> [Float; 4] {
         match self.rng.below(8) {
             0..=3 => self.unit_quat(1.0),
             4 => {
@@ -17,14 +18,14 @@ impl Source {
     }
 
     /// A quaternion of this length, in any direction.
-    pub fn unit_quat(&mut self, length: f64) -> [f64; 4] {
-        let q: [f64; 4] = core::array::from_fn(|_| self.rng.between(-1.0, 1.0));
-        let norm = q.iter().map(|x| x * x).sum::<f64>().sqrt();
+    pub fn unit_quat(&mut self, length: Float) -> [Float; 4] {
+        let q: [Float; 4] = core::array::from_fn(|_| self.rng.between(-1.0, 1.0));
+        let norm = q.iter().map(|x| x * x).sum::<Float>().sqrt();
         q.map(|x| x / norm * length)
     }
 
     /// A log scale that stands alone.
-    pub fn log_scale(&mut self, mood: Mood) -> f64 {
+    pub fn log_scale(&mut self, mood: Mood) -> Float {
         match self.rng.below(4) {
             0 => self.sigma_angle().0,
             1 => self.rng.between(-3.0, 3.0),
@@ -33,7 +34,7 @@ impl Source {
     }
 
     /// Quaternion, translation, log scale.
-    pub fn pose(&mut self) -> [f64; 8] {
+    pub fn pose(&mut self) -> [Float; 8] {
         let mood = self.mood();
         let [w, x, y, z] = self.quat(mood);
         let [t0, t1, t2] = self.numbers(mood);
@@ -42,7 +43,7 @@ impl Source {
 
     /// Rotation vector, translation part, log scale; the squared angle is the second of
     /// `sigma_angle`, or what comes of any three numbers.
-    pub fn tangent(&mut self) -> [f64; 7] {
+    pub fn tangent(&mut self) -> [Float; 7] {
         let mood = self.mood();
         let (sigma, z) = self.sigma_angle();
         let any = self.rng.one_in(if mood == Mood::Zeros { 2 } else { 10 });
@@ -52,8 +53,8 @@ impl Source {
     }
 
     /// A 3×3 matrix column by column: any, near the identity, or with two equal columns.
-    pub fn matrix(&mut self, mood: Mood) -> [f64; 9] {
-        let m: [f64; 9] = self.numbers(mood);
+    pub fn matrix(&mut self, mood: Mood) -> [Float; 9] {
+        let m: [Float; 9] = self.numbers(mood);
         match self.rng.below(8) {
             0 => core::array::from_fn(|i| if i % 4 == 0 { 1.0 + m[i] / 16.0 } else { m[i] / 64.0 }),
             1 => core::array::from_fn(|i| if i < 3 { m[i + 3] } else { m[i] }),
@@ -63,13 +64,13 @@ impl Source {
     }
 
     /// `a, b, c, f, e`; `e` is a zero once in sixteen times.
-    pub fn block(&mut self) -> [f64; 31] {
+    pub fn block(&mut self) -> [Float; 31] {
         let mood = self.mood();
         let mut j = [0.0; 31];
         for part in j[..27].chunks_exact_mut(9) {
             part.copy_from_slice(&self.matrix(mood));
         }
-        let f: [f64; 3] = self.numbers(mood);
+        let f: [Float; 3] = self.numbers(mood);
         j[27..30].copy_from_slice(&f);
         j[30] = match self.rng.below(16) {
             0 => self.zero(),

@@ -1,31 +1,40 @@
 //! Whole records: of the job program's marks, and of the library's functions.
 
-use super::frames::put_frames;
+use super::frames::{part, put_frames};
 use super::values::host_jacobians;
 use super::{Mood, Source};
 use crate::library::{Entry, Part};
+use helicoid::judge::layout::WIDTH;
+use helicoid::judge::marks::MARKS;
 use helicoid::judge::Values;
+use helicoid_linalg::float::{Float, SINGLE};
 
-/// The marks in the order of the job table, the requested ones behind it.
-pub const MARKS: [&[u8; 2]; 8] = [b"EX", b"CO", b"PA", b"AC", b"MU", b"IN", b"JI", b"AR"];
+/// A mark's two letters as they stand in a file: small at the narrow width.
+pub type Letters = [u8; 2];
+
+/// The marks of this width in the order of the job table, the requested ones behind it.
+pub fn marks() -> Vec<Letters> {
+    MARKS.iter().map(|mark| mark.letters).collect()
+}
 
 /// `(x² + y²) + z²`.
-pub fn squared_angle([x, y, z]: [f64; 3]) -> f64 {
+pub fn squared_angle([x, y, z]: [Float; 3]) -> Float {
     (x * x + y * y) + z * z
 }
 
-pub(super) fn put(out: &mut Vec<u8>, numbers: &[f64]) {
+pub(super) fn put(out: &mut Vec<u8>, numbers: &[Float]) {
     numbers.iter().for_each(|x| out.extend_from_slice(&x.to_bits().to_le_bytes()));
 }
 
-fn phi_of(tangent: &[f64; 7]) -> [f64; 3] {
+fn phi_of(tangent: &[Float; 7]) -> [Float; 3] {
     [tangent[0], tangent[1], tangent[2]]
 }
 
 impl Source {
     /// An adversarial record of a mark, its two letters included.
-    pub fn job_record(&mut self, mark: &[u8; 2], out: &mut Vec<u8>) {
-        out.extend_from_slice(mark);
+    pub fn job_record(&mut self, letters: Letters, out: &mut Vec<u8>) {
+        out.extend_from_slice(&letters);
+        let mark = &letters.map(|x| x.to_ascii_uppercase());
         match mark {
             b"EX" | b"PA" => {
                 let tangent = self.tangent();
@@ -40,13 +49,29 @@ impl Source {
                 }
             }
             b"CO" | b"AR" => {
-                let (sigma, z) = if mark == b"CO" { self.sigma_angle() } else { self.arm_angle() };
+                let by_arm = mark == b"AR" || SINGLE && self.rng.one_in(4);
+                let (sigma, z) = if by_arm { self.arm_angle() } else { self.sigma_angle() };
                 let z = if self.rng.one_in(16) { -z } else { z };
                 put(out, &[sigma, z]);
                 put(out, &self.values(sigma, z.abs()));
             }
             b"JI" => put(out, &self.block()),
             _ => self.pose_record(mark, out),
+        }
+    }
+
+    /// A record that would be refused, by 1, 2 or 9, if its mark can be.
+    pub fn refused_record(&mut self, letters: Letters, out: &mut Vec<u8>) {
+        let start = out.len();
+        self.job_record(letters, out);
+        let numbers = start + 2;
+        match &letters.map(|x| x.to_ascii_uppercase()) {
+            b"CO" | b"AR" => {
+                out[numbers + WIDTH..numbers + 2 * WIDTH].copy_from_slice(&Float::to_le_bytes(-1.0))
+            }
+            b"JI" => out[numbers + 30 * WIDTH..].fill(0),
+            b"MU" => part(&mut out[start..]),
+            _ => {}
         }
     }
 
@@ -71,8 +96,9 @@ impl Source {
 
     /// A well-formed record of ordinary numbers with the host's values, for timing. `arm` is 1 to
     /// 5 for the arm of the coefficients, 0 for a mixture.
-    pub fn good_record(&mut self, mark: &[u8; 2], arm: usize, out: &mut Vec<u8>) {
-        out.extend_from_slice(mark);
+    pub fn good_record(&mut self, letters: Letters, arm: usize, out: &mut Vec<u8>) {
+        out.extend_from_slice(&letters);
+        let mark = &letters.map(|x| x.to_ascii_uppercase());
         let (sigma, z) = match arm {
             0 => (self.rng.between(-2.0, 2.0), self.rng.between(0.0, 9.0)),
             _ => self.in_arm(arm),
@@ -100,7 +126,7 @@ impl Source {
         }
     }
 
-    fn good_pose_record(&mut self, mark: &[u8; 2], sigma: f64, out: &mut Vec<u8>) {
+    fn good_pose_record(&mut self, mark: &[u8; 2], sigma: Float, out: &mut Vec<u8>) {
         if mark == b"JI" {
             put(out, &self.numbers::<31>(Mood::Ordinary));
             return;
@@ -131,7 +157,7 @@ impl Source {
         let mood = known.mood;
         match part {
             Part::Number => put(out, &[self.number(mood)]),
-            Part::Flag => put(out, &[self.rng.below(2) as f64]),
+            Part::Flag => put(out, &[self.rng.below(2) as Float]),
             Part::Count => out.extend_from_slice(&self.term_count().to_le_bytes()),
             Part::Index => out.extend_from_slice(&self.index().to_le_bytes()),
             Part::Vector => put(out, &self.numbers::<3>(mood)),
@@ -200,7 +226,7 @@ impl Source {
     }
 
     /// A squared angle for a function of the angle alone.
-    fn lone_angle(&mut self) -> f64 {
+    fn lone_angle(&mut self) -> Float {
         match self.rng.below(4) {
             0 => self.rng.between(0.0, 12.0),
             1 => self.rng.between(0.0, 0.01),
@@ -239,11 +265,11 @@ impl Source {
 /// What the parts of a library record so far were.
 struct Known {
     mood: Mood,
-    sigma: f64,
-    z: Option<f64>,
-    phi: [f64; 3],
-    log_scales: [f64; 2],
-    norm_sq: f64,
+    sigma: Float,
+    z: Option<Float>,
+    phi: [Float; 3],
+    log_scales: [Float; 2],
+    norm_sq: Float,
 }
 
 impl Default for Known {
@@ -260,7 +286,7 @@ impl Default for Known {
 }
 
 impl Known {
-    fn know_phi(&mut self, phi: [f64; 3]) {
+    fn know_phi(&mut self, phi: [Float; 3]) {
         self.phi = phi;
         self.z = Some(squared_angle(phi));
     }

@@ -1,5 +1,10 @@
 //! A small generator of random bits, the same on every machine: xoshiro256**, seeded by splitmix64.
 
+use helicoid_linalg::float::{Bits, Float};
+
+/// The random bits that a number of this width leaves over.
+pub(super) const SPARE: u32 = 64 - Bits::BITS;
+
 pub struct Rng([u64; 4]);
 
 impl Rng {
@@ -44,16 +49,18 @@ impl Rng {
         from[self.below(from.len())]
     }
 
-    /// A number in `[low, high)`.
+    /// A number from `low` on and below `high`, which rounding may reach.
     #[inline]
-    pub fn between(&mut self, low: f64, high: f64) -> f64 {
+    pub fn between(&mut self, low: Float, high: Float) -> Float {
         let unit = (self.bits() >> 11) as f64 * (1.0 / (1u64 << 53) as f64);
-        low + (high - low) * unit
+        let (low, high) = (low as f64, high as f64);
+        (low + (high - low) * unit) as Float
     }
 
     /// `x` or `-x`.
     #[inline]
-    pub fn signed(&mut self, x: f64) -> f64 {
-        f64::from_bits(x.to_bits() ^ (self.bits() & (1 << 63)))
+    pub fn signed(&mut self, x: Float) -> Float {
+        let sign = ((self.bits() & (1 << 63)) >> SPARE) as Bits;
+        Float::from_bits(x.to_bits() ^ sign)
     }
 }

@@ -5,6 +5,7 @@ use super::Part::*;
 use super::{Entry, Parts, Reader, Writer};
 use helicoid::coefficients as c;
 use helicoid::judge::{arms, reads, Values};
+use helicoid_linalg::float::Float;
 use helicoid_linalg::handed::H;
 
 /// The most terms a series entry takes.
@@ -15,7 +16,7 @@ const SIGMA_ANGLE: Parts = &[("σ", Sigma), ("z", Angle), ("values", Values)];
 const SERIES: Parts = &[("σ", Sigma), ("z", Angle), ("k", Count)];
 
 /// A squared angle, refused below zero, and the values.
-fn angle(r: &mut Reader<'_>) -> Result<(f64, Values), u8> {
+fn angle(r: &mut Reader<'_>) -> Result<(Float, Values), u8> {
     let (z, v) = (r.number(), r.values());
     if z < 0.0 {
         Err(1)
@@ -25,7 +26,7 @@ fn angle(r: &mut Reader<'_>) -> Result<(f64, Values), u8> {
 }
 
 /// `σ`, a squared angle, refused below zero, and the values.
-fn sigma_angle(r: &mut Reader<'_>) -> Result<(f64, f64, Values), u8> {
+fn sigma_angle(r: &mut Reader<'_>) -> Result<(Float, Float, Values), u8> {
     let sigma = r.number();
     let (z, v) = angle(r)?;
     Ok((sigma, z, v))

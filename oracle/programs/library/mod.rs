@@ -8,14 +8,15 @@ mod linear;
 mod pose;
 mod rotation;
 
-use helicoid::judge::layout::{Reader, Writer};
+use helicoid::judge::layout::{Reader, Writer, WIDTH};
+use helicoid_linalg::handed::finish;
 
-/// What an input or output is: how many 8-byte words, and what a generator puts there.
+/// What an input or output is: how many numbers, and what a generator puts there.
 #[derive(Clone, Copy, Debug, PartialEq, Eq)]
 pub enum Part {
     /// A number that may be any.
     Number,
-    /// The double 1 or 0.
+    /// The number 1 or 0.
     Flag,
     /// A term count, a whole number in 64 bits.
     Count,
@@ -62,8 +63,8 @@ pub enum Part {
 use Part::*;
 
 impl Part {
-    /// The 8-byte words of a part; for a list, of its length alone.
-    pub const fn words(self) -> usize {
+    /// The numbers of a part; for a list, its length alone.
+    pub const fn count(self) -> usize {
         match self {
             Number | Flag | Count | Index | Root | Exponential | Sigma | Angle | List => 1,
             Vector | Phi => 3,
@@ -77,6 +78,11 @@ impl Part {
             Block => 31,
             Square => 49,
         }
+    }
+
+    /// The bytes of a part: 8 for a whole number.
+    pub const fn bytes(self) -> usize {
+        self.count() * if matches!(self, Count | Index | List) { 8 } else { WIDTH }
     }
 }
 
@@ -106,9 +112,9 @@ impl Entry {
         Self { refusals, ..self }
     }
 
-    /// The words before a list's numbers.
-    pub fn words_in(&self) -> usize {
-        words(self.input)
+    /// The bytes before a list's numbers.
+    pub fn bytes_in(&self) -> usize {
+        bytes(self.input)
     }
 
     /// Whether the last input is a list.
@@ -117,9 +123,9 @@ impl Entry {
     }
 }
 
-/// The words of several parts.
-pub fn words(parts: Parts) -> usize {
-    parts.iter().map(|(_, p)| p.words()).sum()
+/// The bytes of several parts.
+pub fn bytes(parts: Parts) -> usize {
+    parts.iter().map(|(_, p)| p.bytes()).sum()
 }
 
 /// Every function, in the order of its number.
@@ -134,11 +140,54 @@ pub fn entry(id: u8) -> Option<&'static Entry> {
     entries().find(|e| e.id == id)
 }
 
-/// The inputs or outputs as README.md's table shows them: name, and words where there are several.
+/// A list in a record has at most so many numbers, refused ones included.
+const MOST_IN_LIST: u64 = 100_000;
+
+/// Where the whole record at the front of `bytes` ends, if it is all there.
+fn record_end(e: &Entry, bytes: &[u8]) -> Result<Option<usize>, String> {
+    let fixed = 1 + e.bytes_in();
+    if bytes.len() < fixed {
+        return Ok(None);
+    }
+    if !e.takes_list() {
+        return Ok(Some(fixed));
+    }
+    let n = Reader(&bytes[fixed - 8..]).word();
+    if n > MOST_IN_LIST {
+        return Err(format!("{}: a list of {n} numbers", e.name));
+    }
+    let end = fixed + WIDTH * n as usize;
+    Ok((bytes.len() >= end).then_some(end))
+}
+
+/// Writes the answer to the record at the front of `bytes` and says how many bytes it is; nothing
+/// where it is not all there.
+pub fn answer(record: &[u8], out: &mut Vec<u8>) -> Result<Option<usize>, String> {
+    let e = entry(record[0]).ok_or(format!("no function has the number {}", record[0]))?;
+    let Some(end) = record_end(e, record)? else {
+        return Ok(None);
+    };
+    let before = out.len();
+    out.push(0);
+    match (e.answer)(&mut Reader(&record[1..end]), &mut Writer(out)) {
+        Ok(()) => {
+            let expected = 1 + bytes(e.output);
+            assert!(e.takes_list() || out.len() == before + expected, "{}: length", e.name);
+        }
+        Err(number) => {
+            out.truncate(before);
+            out.push(number);
+        }
+    }
+    finish();
+    Ok(Some(end))
+}
+
+/// The inputs or outputs as README.md's table shows them: name, and how many if there are several.
 fn listed(parts: Parts, list: &str) -> String {
     let shown: Vec<String> = parts
         .iter()
-        .map(|(name, part)| match (part, part.words()) {
+        .map(|(name, part)| match (part, part.count()) {
             (Count | Index, _) => format!("{name} (u64)"),
             (List, _) => format!("{name} ({list})"),
             (_, 1) => name.to_string(),

@@ -5,6 +5,7 @@ use super::{Entry, Parts, Reader, Writer};
 use helicoid::judge::{reads, Values};
 use helicoid::sim3::access::{exp_and_jl, squared_angle};
 use helicoid::{Left, LieGroup, Right, Side, Sim3, Sim3Tangent, Tangent as _};
+use helicoid_linalg::float::Float;
 use helicoid_linalg::handed::H;
 use helicoid_linalg::{Mat3, Matrix as Mat, Point};
 
@@ -44,7 +45,7 @@ fn inv_mul(r: &mut Reader<'_>, w: &mut Writer<'_>) -> Result<(), u8> {
 }
 
 /// A pose whose scale is taken once, with the exponential handed in.
-fn pose_up(r: &mut Reader<'_>) -> (Sim3<H>, f64) {
+fn pose_up(r: &mut Reader<'_>) -> (Sim3<H>, Float) {
     let (x, up) = (r.pose(), r.number());
     reads::exponential_at(x.log_scale().0, up);
     (x, up)
@@ -95,7 +96,7 @@ fn act_jacobians<Sd: Side>(r: &mut Reader<'_>, w: &mut Writer<'_>) -> Result<(),
 }
 
 /// The inverse, then the inverse's own scale: both are the pose's `e^−σ`.
-fn expect_inverse_adjoint(x: &Sim3<H>, down: f64) {
+fn expect_inverse_adjoint(x: &Sim3<H>, down: Float) {
     reads::exponential_at(-x.log_scale().0, down);
     reads::exponential_at(-x.log_scale().0, down);
 }

@@ -4,11 +4,12 @@ use super::same;
 use helicoid::coefficients;
 use helicoid::judge::arms::{told, CLOSED, TERMS};
 use helicoid::judge::{reads, Values};
+use helicoid_linalg::float::Float;
 use helicoid_linalg::handed::{finish, H};
 use oracle::inputs::Source;
 
 /// The Rust's coefficients with this value as `M`, the other nine being 1.
-fn with_m(sigma: f64, z: f64, m: f64) -> [f64; 9] {
+fn with_m(sigma: Float, z: Float, m: Float) -> [Float; 9] {
     let v = Values { m, ..Values::from_array([1.0; 10]) };
     reads::scaled_coefficients(sigma, z, &v);
     let (row, _) = coefficients::sim3_coeffs_scaled(H(sigma), H(z));

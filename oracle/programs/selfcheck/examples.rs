@@ -1,21 +1,19 @@
 //! The ten proved examples.
 
 use super::same;
+use helicoid::judge::arms::TERMS;
 use helicoid::judge::{reads, Values};
 use helicoid::{coefficients, LieGroup, Quat, Sim3, Sim3Tangent};
+use helicoid_linalg::float::{all_at_width, Float};
 use helicoid_linalg::handed::{expect, finish, Function, H};
 use helicoid_linalg::Vector;
-
-fn bits<const N: usize>(a: [u64; N]) -> [f64; N] {
-    a.map(f64::from_bits)
-}
 
 /// Values that belong to nothing.
 fn values() -> Values {
     Values::from_array([1.1, 0.3, 0.7, 0.9, 0.2, -0.8, 0.4, -0.6, 5.0, 0.25])
 }
 
-fn scaled(sigma: f64, z: f64) -> ([f64; 9], bool) {
+fn scaled(sigma: Float, z: Float) -> ([Float; 9], bool) {
     reads::scaled_coefficients(sigma, z, &values());
     let (row, scaled) = coefficients::sim3_coeffs_scaled(H(sigma), H(z));
     finish();
@@ -23,7 +21,7 @@ fn scaled(sigma: f64, z: f64) -> ([f64; 9], bool) {
 }
 
 /// Whether the series arm answered, with `k` terms: its numbers, and no function evaluated.
-fn in_series(sigma: f64, z: f64, k: usize) -> bool {
+fn in_series(sigma: Float, z: Float, k: usize) -> bool {
     let series = coefficients::series(H(sigma), H(z), k).map(|x| x.0);
     let (row, _) = coefficients::sim3_coeffs_scaled(H(sigma), H(z));
     finish();
@@ -31,7 +29,7 @@ fn in_series(sigma: f64, z: f64, k: usize) -> bool {
 }
 
 /// Whether the closed arm answered: it alone evaluates `E` and `M`, else `finish` stops.
-fn in_closed(sigma: f64, z: f64) -> bool {
+fn in_closed(sigma: Float, z: Float) -> bool {
     let t = if 0.0 < sigma { -sigma } else { sigma };
     reads::sinc_a_b_d(z, &values());
     expect(Function::Exp, t, 0.2);
@@ -42,17 +40,30 @@ fn in_closed(sigma: f64, z: f64) -> bool {
 }
 
 fn at_zero() -> bool {
-    let expected = bits([
-        0x3ff0_0000_0000_0000,
-        0x3fe0_0000_0000_0000,
-        0x3fc5_5555_5555_5555,
-        0x3fe0_0000_0000_0000,
-        0x3fc5_5555_5555_5555,
-        0x3fa5_5555_5555_5555,
-        0xbfa5_5555_5555_5555,
-        0xbf81_1111_1111_1111,
-        0,
-    ]);
+    let expected = all_at_width(
+        [
+            0x3ff0_0000_0000_0000,
+            0x3fe0_0000_0000_0000,
+            0x3fc5_5555_5555_5555,
+            0x3fe0_0000_0000_0000,
+            0x3fc5_5555_5555_5555,
+            0x3fa5_5555_5555_5555,
+            0xbfa5_5555_5555_5555,
+            0xbf81_1111_1111_1111,
+            0,
+        ],
+        [
+            0x3f80_0000,
+            0x3f00_0000,
+            0x3e2a_aaab,
+            0x3f00_0000,
+            0x3e2a_aaab,
+            0x3d2a_aaab,
+            0xbd2a_aaab,
+            0xbc08_8889,
+            0,
+        ],
+    );
     let (row, flag) = scaled(0.0, 0.0);
     same(&row, &expected) && !flag
 }
@@ -82,14 +93,24 @@ fn pure_translation() -> bool {
 
 /// Says of each example whether it holds, and how many do not.
 pub fn failed() -> usize {
-    let [closed, below] = bits([0x3fff_b1ff_bc2a_9c8c, 0x3fff_b1ff_bc2a_9c8b]);
-    let [eleven, six] = bits([0x3f0c_70e5_9cfc_9f1f, 0x3f0c_70e5_9cfc_9f1e]);
-    let nan = f64::NAN;
+    let [closed, below, second, first] = all_at_width(
+        [
+            0x3fff_b1ff_bc2a_9c8c,
+            0x3fff_b1ff_bc2a_9c8b,
+            0x3f0c_70e5_9cfc_9f1f,
+            0x3f0c_70e5_9cfc_9f1e,
+        ],
+        [0x4017_c496, 0x4017_c495, 0x3a7c_e158, 0x3a7c_e157],
+    );
+    let (nan, [least, next, _, most]) = (Float::NAN, TERMS);
     let examples = [
         ("1 coefficients at zero", at_zero()),
-        ("2 19 terms", in_series(0.0, below, 19)),
+        ("2 the most terms", in_series(0.0, below, most)),
         ("3 closed, not scaled", in_closed(0.0, closed) && !scaled(0.0, closed).1),
-        ("4 6 terms, then 11", in_series(0.0, six, 6) && in_series(0.0, eleven, 11)),
+        (
+            "4 the least terms, then more",
+            in_series(0.0, first, least) && in_series(0.0, second, next),
+        ),
         ("5 scaled", scaled(2.0, 0.0).1),
         ("6 not scaled", !scaled(-2.0, 0.0).1),
         ("7 NaN: closed, not scaled", in_closed(nan, 0.0) && !scaled(nan, 0.0).1),

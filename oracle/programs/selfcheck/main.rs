@@ -11,12 +11,13 @@ mod plain;
 mod signs;
 mod stops;
 
+use helicoid_linalg::float::Float;
 use oracle::inputs::Source;
 use std::process::ExitCode;
 
 /// The same numbers: the same bits, or both NaN.
-fn same(a: &[f64], b: &[f64]) -> bool {
-    let one = |(x, y): (&f64, &f64)| x.to_bits() == y.to_bits() || (x.is_nan() && y.is_nan());
+fn same(a: &[Float], b: &[Float]) -> bool {
+    let one = |(x, y): (&Float, &Float)| x.to_bits() == y.to_bits() || (x.is_nan() && y.is_nan());
     a.len() == b.len() && a.iter().zip(b).all(one)
 }
 

@@ -1,4 +1,4 @@
-//! The same Rust with plain `f64`, whose functions are the host's, against the handed-in values
+//! The same Rust with plain `Float`, whose functions are the host's, against the handed-in values
 //! where these are the host's: every value is read in its place.
 
 use super::same;
@@ -6,15 +6,16 @@ use super::signs::{block, matrix, tangent};
 use helicoid::judge::{reads, Values};
 use helicoid::sim3::access::{block_parts, jl_and_inverse_from, squared_angle};
 use helicoid::{coefficients, LieGroup, SO3Tangent, Sim3, Sim3Jac, Sim3Tangent, Tangent, SO3};
+use helicoid_linalg::float::Float;
 use helicoid_linalg::handed::{finish, H};
 use helicoid_linalg::{Mat3, Vector};
 use oracle::inputs::Source;
 
-fn columns(m: &Mat3<f64>) -> [f64; 9] {
+fn columns(m: &Mat3<Float>) -> [Float; 9] {
     core::array::from_fn(|i| m.get(i % 3, i / 3))
 }
 
-fn plain_block(j: &Sim3Jac<f64>) -> [f64; 31] {
+fn plain_block(j: &Sim3Jac<Float>) -> [Float; 31] {
     let (a, b, c, f, e) = block_parts(j);
     let mut all = [0.0; 31];
     all[..9].copy_from_slice(&columns(&a));
@@ -37,7 +38,7 @@ pub fn coefficients(source: &mut Source) -> Result<(), String> {
     }
 }
 
-fn pose(x: &Sim3<f64>) -> [f64; 8] {
+fn pose(x: &Sim3<Float>) -> [Float; 8] {
     let (r, t, sigma) = x.parts();
     let q = r.quat();
     [q.w, q.x, q.y, q.z, t.0[0], t.0[1], t.0[2], sigma]

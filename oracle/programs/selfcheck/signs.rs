@@ -4,25 +4,26 @@ use super::same;
 use helicoid::judge::{reads, Values};
 use helicoid::sim3::access::{block_parts, jl_and_inverse_from, squared_angle};
 use helicoid::{coefficients, LieGroup, Sim3, Sim3Jac, Sim3Tangent, Tangent};
+use helicoid_linalg::float::Float;
 use helicoid_linalg::handed::{finish, H};
 use helicoid_linalg::{Mat3, Matrix, Vector};
 use oracle::inputs::Source;
 
 /// A log scale, a squared angle and ten values.
-fn input(source: &mut Source) -> (f64, f64, Values) {
+fn input(source: &mut Source) -> (Float, Float, Values) {
     let (sigma, z) = source.sigma_angle();
     (sigma, z, Values::from_array(source.values(sigma, z)))
 }
 
-pub fn tangent(a: [f64; 7]) -> Sim3Tangent<H> {
+pub fn tangent(a: [Float; 7]) -> Sim3Tangent<H> {
     Sim3Tangent::read_dense(&a.map(H))
 }
 
-pub fn matrix(a: [f64; 9]) -> Mat3<H> {
+pub fn matrix(a: [Float; 9]) -> Mat3<H> {
     Matrix::from_cols([0, 3, 6].map(|i| Vector([H(a[i]), H(a[i + 1]), H(a[i + 2])])))
 }
 
-pub fn block(j: &Sim3Jac<H>) -> [f64; 31] {
+pub fn block(j: &Sim3Jac<H>) -> [Float; 31] {
     let (a, b, c, f, e) = block_parts(j);
     let entry = |m: &Mat3<H>, i: usize| m.get(i % 3, i / 3).0;
     core::array::from_fn(|i| match i {
@@ -34,7 +35,7 @@ pub fn block(j: &Sim3Jac<H>) -> [f64; 31] {
     })
 }
 
-fn single(sigma: f64, z: f64, v: &Values) -> ([f64; 9], bool) {
+fn single(sigma: Float, z: Float, v: &Values) -> ([Float; 9], bool) {
     reads::scaled_coefficients(sigma, z, v);
     let (row, scaled) = coefficients::sim3_coeffs_scaled(H(sigma), H(z));
     finish();
@@ -82,7 +83,12 @@ pub fn v_alone(source: &mut Source) -> Result<(), String> {
 
 /// `J_l(τ)` and its inverse through the group's public functions, whose bodies form `z`, the
 /// coefficients and the rotation Jacobians on their way.
-fn public(tau: &Sim3Tangent<H>, v: &Values, jl: &Mat3<H>, inv: &Mat3<H>) -> ([f64; 31], [f64; 31]) {
+fn public(
+    tau: &Sim3Tangent<H>,
+    v: &Values,
+    jl: &Mat3<H>,
+    inv: &Mat3<H>,
+) -> ([Float; 31], [Float; 31]) {
     let (sigma, z) = (tau.sigma.0, squared_angle(tau.phi).0);
     reads::coefficients(sigma, z, v);
     reads::rotation_jacobian(tau.phi, jl);

@@ -2,7 +2,7 @@
 use borrow.Author.Needs.{needs}
 use lib.Ieee.{binary64}
 use Rattle.circle.specs.Kernel.{rowWhole}
-use Rattle.circle.specs.Rows.{rowNamed}
+use Rattle.tables.specs.Rows.{rowNamed}
 use Rattle.circle.proofs.Rows.{terms-fit}
 use Rattle.circle.proofs.kernel.whole.Statement.{statement}
 use Rattle.circle.proofs.kernel.whole.Tie as tie

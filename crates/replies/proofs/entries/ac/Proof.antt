@@ -1,10 +1,10 @@
--- Written by tools/proofs from Proof.template: edit that one. Digest 7f0e3ebec053ce73.
+-- Written by tools/proofs from Proof.template: edit that one. Digest 5225605c6e56cf99.
 -- `replies::entries::ac` meets its contract: the engine is asked at the numbers read, and its answer written. Assumes nothing.
 use borrow.Author.Needs.{needs}
 use lib.Ieee.{binary64}
 use mathlib.Core.Path.{refl}
 use Rattle.layout.proofs.Numbers.{vec-count}
-use Rattle.replies.specs.Table.{acOf}
+use Rattle.replies.specs.Table.{framedWidth, acOf}
 use Rattle.replies.proofs.Frames.{rest-is}
 use Rattle.replies.proofs.Replies.{wrote}
 use Rattle.replies.proofs.entries.ac.Statement.{statement}
@@ -21,7 +21,7 @@ returns c =
       c1 .before .before .pose-at .ensures,
       c1 .before .number-at .ensures,
       c1 .vec-at .ensures,
-      rest-is (c2 .before .before .args .b .now) 68,
+      rest-is (c2 .before .before .args .b .now) (framedWidth binary64),
     ) at (c .before .before .before .answer-vec .ensures))
 
 pub ac-spec : {M : Type 1} → statement M

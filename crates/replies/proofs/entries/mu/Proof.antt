@@ -1,11 +1,12 @@
--- Written by tools/proofs from Proof.template: edit that one. Digest 45208fcb5c1eac78.
+-- Written by tools/proofs from Proof.template: edit that one. Digest 655f4dde32e2bf52.
 -- `replies::entries::mu` meets its contract: the engine is asked at the numbers and frames read, and its answer is written or its refusal told. Assumes nothing.
 use borrow.Author.Needs.{needs}
+use Prim.Native.Nat.{_*_}
 use lib.Ieee.{binary64}
 use mathlib.Core.Path.{refl}
 use Rattle.frames.specs.Joins.{poseTold}
 use Rattle.outcome.specs.Outcome.{gaveOf, gaveBytes}
-use Rattle.replies.specs.Table.{muOf}
+use Rattle.replies.specs.Table.{framedWidth, muOf}
 use Rattle.replies.proofs.Frames.{framed-length, rest-is}
 use Rattle.replies.proofs.Replies.{wrote-items}
 use Rattle.replies.proofs.entries.mu.Statement.{statement}
@@ -18,8 +19,8 @@ returns c =
     let c2 = c1 .before .before .before .before .before in
     let c3 = c2 .before .before .before .before .before in
     rw (
-      ← (rest-is (c3 .before .args .b .now) 68),
-      ← (rest-is (c3 .before .args .b .now) 136),
+      ← (rest-is (c3 .before .args .b .now) (framedWidth binary64)),
+      ← (rest-is (c3 .before .args .b .now) (2 * framedWidth binary64)),
       ← (c2 .before .before .framed-at .ensures),
       ← (c1 .before .before .before .before .framed-at2 .ensures),
       ← (c2 .number-at .ensures),
@@ -34,8 +35,8 @@ returns-2 c =
     let c1 = c .before .before .before .before .before in
     let c2 = c1 .before .before .before .before .before in
     rw (
-      ← (rest-is (c2 .before .args .b .now) 68),
-      ← (rest-is (c2 .before .args .b .now) 136),
+      ← (rest-is (c2 .before .args .b .now) (framedWidth binary64)),
+      ← (rest-is (c2 .before .args .b .now) (2 * framedWidth binary64)),
       ← (c1 .before .before .framed-at .ensures),
       ← (c .before .before .before .before .framed-at2 .ensures),
       ← (c1 .number-at .ensures),

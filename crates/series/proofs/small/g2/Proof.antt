@@ -1,4 +1,4 @@
--- `series::small::g2` meets its contract: by what `g_series` ensures at 15 terms. Assumes nothing.
+-- `series::small::g2` meets its contract: by what `g_series` ensures at its number of terms. Assumes nothing.
 use borrow.Author.Needs.{needs}
 use Rattle.series.proofs.small.g2.Statement.{statement}
 use Rattle.series.proofs.small.g2.Tie as tie

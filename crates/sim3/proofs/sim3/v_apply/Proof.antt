@@ -4,7 +4,8 @@ use borrow.Author.Tests.{not-true, not-false}
 use mathlib.Core.Path.{_≡_, sym, _∙_}
 use mathlib.Core.Bool.{true, false}
 use lib.Ieee.{binary64, lt}
-use Rattle.circle.specs.Tables.{bRow, rowLimit}
+use Rattle.tables.specs.Tables.{bRow}
+use Rattle.circle.specs.Limits.{rowLimit}
 use Rattle.sim3.specs.Exp.{vApply}
 use Rattle.coeffs.specs.Limits.{coeffsDelta}
 use Rattle.sim3.proofs.sim3.v_apply.Statement.{statement}

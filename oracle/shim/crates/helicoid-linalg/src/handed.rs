@@ -1,4 +1,4 @@
-//! The scalar of the judge: an `f64` whose functions return numbers handed in.
+//! The scalar of the judge: a number whose functions return numbers handed in.
 //!
 //! Before a call the judge lays down, in order, every function that the paper expects the call to
 //! evaluate: which function, at which argument, and the number it is to return. Each evaluation
@@ -6,16 +6,17 @@
 //! stops the program with a message. So a value is read in its own place only, even where two
 //! places have the same function and the same argument.
 //!
-//! Arithmetic, comparison, absolute value and sign are `f64`'s own.
+//! Arithmetic, comparison, absolute value and sign are those of `Float`, the width's number type.
 
+use crate::float::{Float, PRECISION};
 use crate::real::{Blend, Precision, Real, RotationJacobian};
 use core::cell::Cell;
 use core::ops::{Add, Div, Mul, Neg, Sub};
 
-/// An `f64` with handed-in functions.
+/// A number with handed-in functions.
 #[derive(Clone, Copy, Debug)]
 #[repr(transparent)]
-pub struct H(pub f64);
+pub struct H(pub Float);
 
 /// What an evaluation can be of; `End` stands behind the last expected step.
 #[derive(Clone, Copy, Debug, PartialEq, Eq)]
@@ -33,10 +34,10 @@ pub enum Function {
 #[derive(Clone, Copy)]
 struct Step {
     function: Function,
-    arg: f64,
-    value: f64,
+    arg: Float,
+    value: Float,
     /// The cosine of `SinCos`.
-    second: f64,
+    second: Float,
 }
 
 const END: Step = Step { function: Function::End, arg: 0.0, value: 0.0, second: 0.0 };
@@ -46,8 +47,8 @@ const MOST_STEPS: usize = 16;
 
 #[derive(Clone, Copy)]
 struct Jacobian {
-    phi: [f64; 3],
-    cols: [[f64; 3]; 3],
+    phi: [Float; 3],
+    cols: [[Float; 3]; 3],
 }
 
 const NO_JACOBIAN: Jacobian = Jacobian { phi: [0.0; 3], cols: [[0.0; 3]; 3] };
@@ -74,13 +75,13 @@ thread_local! {
 
 /// The same number: the same bits, or both NaN.
 #[inline(always)]
-fn same(a: f64, b: f64) -> bool {
+fn same(a: Float, b: Float) -> bool {
     a.to_bits() == b.to_bits() || (a.is_nan() && b.is_nan())
 }
 
 #[cold]
 #[inline(never)]
-fn stop(function: Function, arg: f64, step: Step) -> ! {
+fn stop(function: Function, arg: Float, step: Step) -> ! {
     panic!(
         "oracle: the Rust evaluates {function:?} at {arg:e}, where {:?} at {:e} is expected",
         step.function, step.arg
@@ -106,19 +107,19 @@ fn push(step: Step) {
 
 /// Expect `function` at `arg` next, and let it return `value`.
 #[inline(always)]
-pub fn expect(function: Function, arg: f64, value: f64) {
+pub fn expect(function: Function, arg: Float, value: Float) {
     push(Step { function, arg, value, second: 0.0 });
 }
 
 /// Expect sine and cosine of `arg` next.
 #[inline(always)]
-pub fn expect_sin_cos(arg: f64, sin: f64, cos: f64) {
+pub fn expect_sin_cos(arg: Float, sin: Float, cos: Float) {
     push(Step { function: Function::SinCos, arg, value: sin, second: cos });
 }
 
 /// Expect a rotation Jacobian at `phi` next, and let it be `cols`.
 #[inline]
-pub fn expect_jacobian(which: RotationJacobian, phi: [f64; 3], cols: [[f64; 3]; 3]) {
+pub fn expect_jacobian(which: RotationJacobian, phi: [Float; 3], cols: [[Float; 3]; 3]) {
     SCRIPT.with(|s| s.jacobian[which as usize].set(Jacobian { phi, cols }));
     expect(Function::Jacobian(which), phi[0], 0.0);
 }
@@ -147,7 +148,7 @@ pub fn clear() {
 
 /// The next step, which must be `function` at `arg`.
 #[inline(always)]
-fn take(function: Function, arg: f64) -> (f64, f64) {
+fn take(function: Function, arg: Float) -> (Float, Float) {
     SCRIPT.with(|s| {
         let next = s.next.get();
         let step = s.steps[next].get();
@@ -208,11 +209,11 @@ impl Blend<H> for H {
 
 impl Real for H {
     type Mask = bool;
-    const PRECISION: Precision = Precision::F64;
+    const PRECISION: Precision = PRECISION;
 
     #[inline(always)]
     fn lit(x: f64) -> Self {
-        H(x)
+        H(x as Float)
     }
     #[inline(always)]
     fn lt(self, o: Self) -> bool {

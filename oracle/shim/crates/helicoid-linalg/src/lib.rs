@@ -4,6 +4,7 @@
 #![allow(dead_code)]
 
 mod dual;
+pub mod float;
 pub mod handed;
 mod hat;
 mod matrix;

@@ -1,5 +1,5 @@
 //! Shim of the scalar: what a number type offers, its comparison mask and the choice between two
-//! values, with the plain `f64`, whose functions are the host's.
+//! values, with the plain `f64` and `f32`, whose functions are the host's.
 
 use core::fmt::Debug;
 use core::ops::{Add, Div, Mul, Neg, Sub};
@@ -122,75 +122,82 @@ pub trait Real:
     }
 }
 
-impl Blend<f64> for f64 {
-    #[inline(always)]
-    fn blend(m: bool, t: Self, f: Self) -> Self {
-        Self::select(m, t, f)
-    }
-}
-
-impl Real for f64 {
-    type Mask = bool;
-    const PRECISION: Precision = Precision::F64;
-
-    #[inline(always)]
-    fn lit(x: f64) -> Self {
-        x
-    }
-    #[inline(always)]
-    fn lt(self, o: Self) -> bool {
-        self < o
-    }
-    #[inline(always)]
-    fn le(self, o: Self) -> bool {
-        self <= o
-    }
-    #[inline(always)]
-    fn select(m: bool, t: Self, f: Self) -> Self {
-        if m {
-            t
-        } else {
-            f
+/// A host's number type as a scalar.
+macro_rules! host_scalar {
+    ($float:ident $width:ident) => {
+        impl Blend<$float> for $float {
+            #[inline(always)]
+            fn blend(m: bool, t: Self, f: Self) -> Self {
+                Self::select(m, t, f)
+            }
         }
-    }
-    #[inline(always)]
-    fn branch<T: Blend<Self>>(m: bool, t: impl FnOnce() -> T, f: impl FnOnce() -> T) -> T {
-        if m {
-            t()
-        } else {
-            f()
+
+        impl Real for $float {
+            type Mask = bool;
+            const PRECISION: Precision = Precision::$width;
+
+            #[inline(always)]
+            fn lit(x: f64) -> Self {
+                x as $float
+            }
+            #[inline(always)]
+            fn lt(self, o: Self) -> bool {
+                self < o
+            }
+            #[inline(always)]
+            fn le(self, o: Self) -> bool {
+                self <= o
+            }
+            #[inline(always)]
+            fn select(m: bool, t: Self, f: Self) -> Self {
+                if m {
+                    t
+                } else {
+                    f
+                }
+            }
+            #[inline(always)]
+            fn branch<T: Blend<Self>>(m: bool, t: impl FnOnce() -> T, f: impl FnOnce() -> T) -> T {
+                if m {
+                    t()
+                } else {
+                    f()
+                }
+            }
+            #[inline(always)]
+            fn abs(self) -> Self {
+                <$float>::abs(self)
+            }
+            #[inline(always)]
+            fn copysign(self, sign: Self) -> Self {
+                <$float>::copysign(self, sign)
+            }
+            #[inline(always)]
+            fn sqrt(self) -> Self {
+                <$float>::sqrt(self)
+            }
+            #[inline(always)]
+            fn sin(self) -> Self {
+                <$float>::sin(self)
+            }
+            #[inline(always)]
+            fn sin_cos(self) -> (Self, Self) {
+                (<$float>::sin(self), <$float>::cos(self))
+            }
+            #[inline(always)]
+            fn exp(self) -> Self {
+                <$float>::exp(self)
+            }
+            #[inline(always)]
+            fn exp_m1(self) -> Self {
+                <$float>::exp_m1(self)
+            }
+            #[inline(always)]
+            fn atan2(self, x: Self) -> Self {
+                <$float>::atan2(self, x)
+            }
         }
-    }
-    #[inline(always)]
-    fn abs(self) -> Self {
-        f64::abs(self)
-    }
-    #[inline(always)]
-    fn copysign(self, sign: Self) -> Self {
-        f64::copysign(self, sign)
-    }
-    #[inline(always)]
-    fn sqrt(self) -> Self {
-        f64::sqrt(self)
-    }
-    #[inline(always)]
-    fn sin(self) -> Self {
-        f64::sin(self)
-    }
-    #[inline(always)]
-    fn sin_cos(self) -> (Self, Self) {
-        (f64::sin(self), f64::cos(self))
-    }
-    #[inline(always)]
-    fn exp(self) -> Self {
-        f64::exp(self)
-    }
-    #[inline(always)]
-    fn exp_m1(self) -> Self {
-        f64::exp_m1(self)
-    }
-    #[inline(always)]
-    fn atan2(self, x: Self) -> Self {
-        f64::atan2(self, x)
-    }
+    };
 }
+host_scalar!(f64 F64);
+host_scalar!(f32 F32);

@@ -6,6 +6,7 @@
 //! `v0 v1 v2 w0 w1 w2 dv1 dv2 χΔ`.
 
 use super::{kernel, sim3};
+use helicoid_linalg::float::Float;
 use helicoid_linalg::Real;
 
 /// The nine numbers of a coefficient set.
@@ -88,20 +89,21 @@ pub fn unscale<S: Real>(c: Row<S>, sigma: S, scaled: S::Mask) -> Row<S> {
     row(super::unscale(from_row(c), sigma, scaled))
 }
 
-/// The five circle rows in the order of `sinc_a_b_d`'s group: `k`, `cos θ/2`, `a`, `b`, `d`.
-pub const CIRCLE_ROWS: [[f64; 16]; 5] = [
-    super::generated::SWEPT_K_F64,
-    super::generated::SWEPT_COS_HALF_F64,
-    super::generated::SWEPT_A_F64,
-    super::generated::SWEPT_B_F64,
-    super::generated::SWEPT_D_F64,
-];
-
-/// How many terms of each of those rows a whole arm reads.
-pub const CIRCLE_TERMS: [usize; 5] = [
-    super::generated::K_F64.series.len(),
-    super::generated::COS_HALF_F64.series.len(),
-    super::generated::A_F64.series.len(),
-    super::generated::B_F64.series.len(),
-    super::generated::D_F64.series.len(),
-];
+/// The five circle rows of this width in the order of `sinc_a_b_d`'s group, `k`, `cos θ/2`, `a`,
+/// `b`, `d`, and how many terms of each a whole arm reads.
+macro_rules! circle_rows {
+    ($($swept:ident $row:ident),+) => {
+        pub const CIRCLE_ROWS: [[Float; 16]; 5] = [$(super::generated::$swept),+];
+        pub const CIRCLE_TERMS: [usize; 5] = [$(super::generated::$row.series.len()),+];
+    };
+}
+#[cfg(not(single))]
+circle_rows!(
+    SWEPT_K_F64 K_F64, SWEPT_COS_HALF_F64 COS_HALF_F64,
+    SWEPT_A_F64 A_F64, SWEPT_B_F64 B_F64, SWEPT_D_F64 D_F64
+);
+#[cfg(single)]
+circle_rows!(
+    SWEPT_K_F32 K_F32, SWEPT_COS_HALF_F32 COS_HALF_F32,
+    SWEPT_A_F32 A_F32, SWEPT_B_F32 B_F32, SWEPT_D_F32 D_F32
+);

@@ -1,5 +1,8 @@
 //! How the records of a job are counted, and which answers are usable.
 
+use super::layout::WIDTH;
+use helicoid_linalg::float::Float;
+
 /// The counts of the last line.
 #[derive(Default)]
 pub struct Counts {
@@ -12,10 +15,10 @@ pub struct Counts {
 }
 
 impl Counts {
-    /// An answered record; `numbers` are the doubles of its answer as they are written.
-    pub fn answer(&mut self, numbers: &[u8]) {
+    /// An answered record, and whether the numbers of its answer are all finite.
+    pub fn answer(&mut self, finite: bool) {
         self.begun += 1;
-        if all_finite(numbers) {
+        if finite {
             self.answered += 1;
         } else {
             self.unusable += 1;
@@ -36,8 +39,8 @@ impl Counts {
     }
 }
 
-/// Whether no number is a NaN or an infinity.
+/// Whether none of these numbers, as they are written, is a NaN or an infinity.
 pub fn all_finite(numbers: &[u8]) -> bool {
-    let mut doubles = numbers.chunks_exact(8).map(|x| f64::from_le_bytes(x.try_into().unwrap()));
-    doubles.all(f64::is_finite)
+    let mut all = numbers.chunks_exact(WIDTH).map(|x| Float::from_le_bytes(x.try_into().unwrap()));
+    all.all(Float::is_finite)
 }

@@ -1,32 +1,42 @@
-//! Numbers in bytes: 8-byte little-endian doubles, matrices column by column, a block as
-//! `a, b, c, f, e`, a pose as quaternion, translation, log scale. Frames are two 2-byte whole numbers,
-//! from and to, little endian too.
+//! Numbers in bytes: little endian, of 8 bytes, or at the narrow width of 4; matrices column by
+//! column, a block as `a, b, c, f, e`, a pose as quaternion, translation, log scale. Frames are two
+//! 2-byte whole numbers, from and to, little endian too.
 
 use super::frames::Frames;
 use super::Values;
 use crate::sim3::access::{block, block_parts};
 use crate::{Quat, Sim3, Sim3Jac, Sim3Tangent, SO3};
+use helicoid_linalg::float::{by_width, Bits, Float};
 use helicoid_linalg::handed::H;
 use helicoid_linalg::{Mat3, Matrix, Vec3, Vector};
 
+/// The bytes of a number.
+pub const WIDTH: usize = size_of::<Float>();
+
 /// How every NaN is written.
-pub const NAN: u64 = 0x7ff8_0000_0000_0000;
+pub const NAN: Bits = by_width(0x7ff8_0000_0000_0000u64, 0x7fc0_0000) as Bits;
 
 /// A record's numbers, taken from the front.
 pub struct Reader<'a>(pub &'a [u8]);
 
 impl Reader<'_> {
-    /// Eight bytes as they are.
+    /// So many bytes as they are.
+    #[inline(always)]
+    fn take<const N: usize>(&mut self) -> [u8; N] {
+        let (head, rest) = self.0.split_first_chunk::<N>().expect("a whole record");
+        self.0 = rest;
+        *head
+    }
+
+    /// A whole number of 64 bits.
     #[inline(always)]
     pub fn word(&mut self) -> u64 {
-        let (head, rest) = self.0.split_first_chunk::<8>().expect("a whole record");
-        self.0 = rest;
-        u64::from_le_bytes(*head)
+        u64::from_le_bytes(self.take())
     }
 
     #[inline(always)]
-    pub fn number(&mut self) -> f64 {
-        f64::from_bits(self.word())
+    pub fn number(&mut self) -> Float {
+        Float::from_le_bytes(self.take())
     }
 
     #[inline(always)]
@@ -35,7 +45,7 @@ impl Reader<'_> {
     }
 
     #[inline(always)]
-    pub fn numbers<const N: usize>(&mut self) -> [f64; N] {
+    pub fn numbers<const N: usize>(&mut self) -> [Float; N] {
         let mut a = [0.0; N];
         a.iter_mut().for_each(|x| *x = self.number());
         a
@@ -72,9 +82,8 @@ impl Reader<'_> {
 
     #[inline(always)]
     pub fn frames(&mut self) -> Frames {
-        let ([a, b, c, d], rest) = self.0.split_first_chunk::<4>().expect("a whole record");
-        self.0 = rest;
-        Frames { from: u16::from_le_bytes([*a, *b]), to: u16::from_le_bytes([*c, *d]) }
+        let [a, b, c, d] = self.take();
+        Frames { from: u16::from_le_bytes([a, b]), to: u16::from_le_bytes([c, d]) }
     }
 
     #[inline(always)]
@@ -98,7 +107,7 @@ impl Reader<'_> {
 
 /// The bytes of a number; every NaN has the same.
 #[inline(always)]
-fn bytes(x: H) -> [u8; 8] {
+fn bytes(x: H) -> [u8; WIDTH] {
     let bits = if x.0.is_nan() { NAN } else { x.0.to_bits() };
     bits.to_le_bytes()
 }
@@ -135,7 +144,7 @@ impl Writer<'_> {
 
     #[inline(always)]
     pub fn matrix<const R: usize, const C: usize>(&mut self, m: &Matrix<H, R, C>) {
-        let columns: [[[u8; 8]; R]; C] = core::array::from_fn(|c| m.col(c).0.map(bytes));
+        let columns: [[[u8; WIDTH]; R]; C] = core::array::from_fn(|c| m.col(c).0.map(bytes));
         self.0.extend_from_slice(columns.as_flattened().as_flattened());
     }
 

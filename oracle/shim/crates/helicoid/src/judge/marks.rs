@@ -1,11 +1,14 @@
 //! The marks of the job program: what a record's numbers are and which published function answers
-//! them; the frames by their own rules. A refusal is its number.
+//! them; the frames by their own rules. A refusal is its number. At the narrow width the letters
+//! are small and the numbers have 4 bytes; AR is of the wide one alone.
 
+use super::counts::all_finite;
 use super::frames::Frames;
-use super::layout::{Reader, Writer};
+use super::layout::{Reader, Writer, WIDTH};
 use super::{arms, reads, Values};
 use crate::sim3::access::{jl_and_inverse_from, squared_angle};
 use crate::{coefficients, Jac, LieGroup, Sim3, Sim3Tangent, Tangent};
+use helicoid_linalg::float::{by_width, Float};
 use helicoid_linalg::handed::{finish, H};
 use helicoid_linalg::{Mat3, Point};
 
@@ -23,27 +26,40 @@ pub struct Mark {
 /// The bytes of a pose's frames.
 const FRAMES: usize = 4;
 
-/// A mark whose answer is numbers alone.
+/// What a letter of a mark has at the narrow width beyond its code at the wide one.
+const SMALL: u8 = by_width(0, b'a' - b'A');
+
+/// A mark whose record and answer are numbers alone, so many of each.
 const fn plain(
-    letters: &[u8; 2],
-    bytes_in: usize,
-    bytes_out: usize,
+    [first, second]: &[u8; 2],
+    numbers_in: usize,
+    numbers_out: usize,
     answer: fn(Reader<'_>, Writer<'_>) -> Result<(), u8>,
 ) -> Mark {
-    Mark { letters: *letters, bytes_in, bytes_before: 0, bytes_out, bytes_behind: 0, answer }
+    let letters = [*first + SMALL, *second + SMALL];
+    let (bytes_in, bytes_out) = (numbers_in * WIDTH, numbers_out * WIDTH);
+    Mark { letters, bytes_in, bytes_before: 0, bytes_out, bytes_behind: 0, answer }
+}
+
+/// The same with the frames of so many poses in the record and of one behind the answer.
+const fn posed(mark: Mark, poses: usize) -> Mark {
+    Mark { bytes_in: mark.bytes_in + poses * FRAMES, bytes_behind: FRAMES, ..mark }
 }
 
 /// The paper's job table with the frames of its poses, and the requested marks behind it.
-pub const MARKS: [Mark; 8] = [
-    Mark { bytes_behind: FRAMES, ..plain(b"EX", 136 + FRAMES, 64, ex) },
-    plain(b"CO", 96, 160, co),
-    plain(b"PA", 280, 992, pa),
-    plain(b"AC", 96 + FRAMES, 24, ac),
-    Mark { bytes_behind: FRAMES, ..plain(b"MU", 136 + 2 * FRAMES, 64, mu) },
-    Mark { bytes_behind: FRAMES, ..plain(b"IN", 72 + FRAMES, 64, inverse) },
-    plain(b"JI", 248, 248, ji),
-    Mark { bytes_before: 4, ..plain(b"AR", 96, 160, ar) },
+const ALL: [Mark; 8] = [
+    posed(plain(b"EX", 17, 8, ex), 1),
+    plain(b"CO", 12, 20, co),
+    plain(b"PA", 35, 124, pa),
+    Mark { bytes_behind: 0, ..posed(plain(b"AC", 12, 3, ac), 1) },
+    posed(plain(b"MU", 17, 8, mu), 2),
+    posed(plain(b"IN", 9, 8, inverse), 1),
+    plain(b"JI", 31, 31, ji),
+    Mark { bytes_before: 4, ..plain(b"AR", 12, 20, ar) },
 ];
+
+/// The marks of this width, in the order of the job table.
+pub const MARKS: &[Mark] = ALL.split_at(by_width(8, 7)).0;
 
 impl Mark {
     /// The bytes of a whole answer, its letters included.
@@ -63,6 +79,33 @@ impl Mark {
 #[inline]
 pub fn mark(letters: [u8; 2]) -> Option<&'static Mark> {
     MARKS.iter().find(|m| m.letters == letters)
+}
+
+/// Takes a record, whose bytes behind its mark begin `rest`: writes its answer, the letters
+/// included, and says how many of those bytes it has and whether the answer's numbers are all
+/// finite; or writes nothing and says, in place of the latter, by what it is refused. `Err` is 6
+/// where the letters are no mark, and 7 where the record is not all there.
+#[inline(always)]
+pub fn take(
+    letters: [u8; 2],
+    rest: &[u8],
+    out: &mut Vec<u8>,
+) -> Result<(usize, Result<bool, u8>), u8> {
+    let mark = mark(letters).ok_or(6)?;
+    let record = rest.get(..mark.bytes_in).ok_or(7)?;
+    let before = out.len();
+    out.extend_from_slice(&letters);
+    let told = match (mark.answer)(Reader(record), Writer(out)) {
+        Ok(()) => {
+            debug_assert!(out.len() == before + mark.size());
+            Ok(all_finite(mark.numbers(&out[before..])))
+        }
+        Err(number) => {
+            out.truncate(before);
+            Err(number)
+        }
+    };
+    Ok((mark.bytes_in, told))
 }
 
 /// `Exp τ`, with the frames that it is given.
@@ -86,7 +129,7 @@ fn co(mut r: Reader<'_>, mut w: Writer<'_>) -> Result<(), u8> {
 
 /// What CO and AR take; a squared angle below zero is refused.
 #[inline]
-fn sigma_angle(r: &mut Reader<'_>) -> Result<(f64, f64, Values), u8> {
+fn sigma_angle(r: &mut Reader<'_>) -> Result<(Float, Float, Values), u8> {
     let (sigma, z, v) = (r.number(), r.number(), r.values());
     if z < 0.0 {
         Err(1)
@@ -96,7 +139,7 @@ fn sigma_angle(r: &mut Reader<'_>) -> Result<(f64, f64, Values), u8> {
 }
 
 #[inline]
-fn co_one(sigma: f64, z: f64, v: &Values, w: &mut Writer<'_>) {
+fn co_one(sigma: Float, z: Float, v: &Values, w: &mut Writer<'_>) {
     reads::scaled_coefficients(sigma, z, v);
     let (row, scaled) = coefficients::sim3_coeffs_scaled(H(sigma), H(z));
     finish();
@@ -138,7 +181,7 @@ fn pa_one(tau: &Sim3Tangent<H>, v: &Values, jacobians: (Mat3<H>, Mat3<H>), w: &m
 /// `X p`; the frames say nothing here.
 fn ac(mut r: Reader<'_>, mut w: Writer<'_>) -> Result<(), u8> {
     let (x, _) = (r.pose(), r.frames());
-    let (up, p): (f64, [H; 3]) = (r.number(), r.scalars());
+    let (up, p): (Float, [H; 3]) = (r.number(), r.scalars());
     reads::exponential_at(x.log_scale().0, up);
     let y = x * Point(p);
     finish();

@@ -1,42 +1,44 @@
 //! The ten handed-in function values of a tangent.
 
+use helicoid_linalg::float::Float;
+
 /// The values in the paper's order.
 #[derive(Clone, Copy, Debug)]
 pub struct Values {
     /// `√z`.
-    pub root: f64,
+    pub root: Float,
     /// Sine and cosine of half the root.
-    pub sin_half: f64,
-    pub cos_half: f64,
+    pub sin_half: Float,
+    pub cos_half: Float,
     /// Sine of the root.
-    pub sin: f64,
+    pub sin: Float,
     /// `e^t` and `e^t − 1` at `t = −|σ|`.
-    pub e: f64,
-    pub m: f64,
+    pub e: Float,
+    pub m: Float,
     /// The same two at `−σ`, read only where `σ` is a zero.
-    pub e0: f64,
-    pub m0: f64,
+    pub e0: Float,
+    pub m0: Float,
     /// `e^σ` and `e^−σ`.
-    pub up: f64,
-    pub down: f64,
+    pub up: Float,
+    pub down: Float,
 }
 
 impl Values {
     #[inline(always)]
-    pub fn from_array(a: [f64; 10]) -> Self {
+    pub fn from_array(a: [Float; 10]) -> Self {
         let [root, sin_half, cos_half, sin, e, m, e0, m0, up, down] = a;
         Self { root, sin_half, cos_half, sin, e, m, e0, m0, up, down }
     }
 
     #[inline(always)]
-    pub fn to_array(self) -> [f64; 10] {
+    pub fn to_array(self) -> [Float; 10] {
         let Self { root, sin_half, cos_half, sin, e, m, e0, m0, up, down } = self;
         [root, sin_half, cos_half, sin, e, m, e0, m0, up, down]
     }
 
     /// The mirrored values: those that the negative of a tangent with this `sigma` takes.
     #[inline(always)]
-    pub fn mirrored(self, sigma: f64) -> Self {
+    pub fn mirrored(self, sigma: Float) -> Self {
         let turned = Self { up: self.down, down: self.up, ..self };
         if sigma == 0.0 {
             Self { e: self.e0, m: self.m0, e0: self.e, m0: self.m, ..turned }
@@ -46,7 +48,7 @@ impl Values {
     }
 
     /// The host's values for `sigma` and squared angle `z`.
-    pub fn of_host(sigma: f64, z: f64) -> Self {
+    pub fn of_host(sigma: Float, z: Float) -> Self {
         let root = z.sqrt();
         let t = if sigma > 0.0 { -sigma } else { sigma };
         Self {

@@ -1,0 +1,41 @@
+-- Written by tools/widths from crates/coeffs/proofs/sim3/by_series/Proof.antt: edit that one. Digest 0d0506acd9bd91cb.
+-- `coeffs_f32::sim3::by_series` meets its contract: what the series answers at the arm's terms is answered, and its refusal is handed upward. Assumes nothing.
+use borrow.Author.Needs.{needs}
+use mathlib.Core.Path.{sym, ap, _∙_}
+use mathlib.Core.Bool.{false}
+use lib.Ieee.{binary32}
+use Rattle.series.specs.Series.{seriesAnswer, seriesFull}
+use Rattle.series_f32.specs.Told.{seriesTold}
+use Rattle.coeffs.specs.Shared.{seriesArm}
+use Rattle.coeffs_f32.specs.Told.{scaledTold}
+use Rattle.coeffs.proofs.Arms.{series-answers, series-refuses}
+use Rattle.coeffs_f32.proofs.sim3.by_series.Statement.{statement}
+use Rattle.coeffs_f32.proofs.sim3.by_series.Tie as tie
+use Rattle.series_f32.specs.As.{asSim3Coeffs}
+use Rattle.coeffs_f32.specs.As.{asScaled}
+
+returns : tie.Need-returns
+unfolding scaledTold seriesArm seriesTold seriesAnswer asScaled asSim3Coeffs
+returns c =
+    let c1 = c .before .before .before .before .before in
+    let a = c1 .args in
+    let d = c .before .before .before .before .terms .ensures in
+    let r = sym (c .before .before .before .series .ensures) ∙ ap seriesTold (c .before .c .given .1) in
+    sym (series-answers (a .z) _ _ _ _ (λ x. record { c = x; scaled = false }) (d .1) (ap (λ k. record { c = seriesFull binary32 (a .sigma) (a .z) k; scaled = false }) (sym (d .0))) r)
+
+returns-2 : tie.Need-returns-2
+unfolding scaledTold seriesArm seriesTold seriesAnswer asScaled asSim3Coeffs
+returns-2 c =
+    let c1 = c .before .before .before .before .before in
+    sym (series-refuses (c1 .args .z) _ _ _ _ (c .before .before .before .before .terms .ensures .1) (sym (c .before .before .before .series .ensures) ∙ ap seriesTold (c .before .n .given .1)))
+
+pub by-series-spec : {M : Type 1} → statement M
+by-series-spec =
+    tie.close
+    (tie.spec
+    (λ c κs. search needs)
+    (λ c κs. search needs)
+    (λ c. search needs)
+    (λ c. search needs)
+    returns
+    returns-2)

@@ -1,0 +1,17 @@
+-- Written by tools/widths from crates/coeffs/proofs/sim3/closed_one/Proof.antt: edit that one. Digest 510b246c5b305aa7.
+use borrow.Author.Needs.{needs}
+use Rattle.coeffs.specs.Shared.{closedOne}
+use lib.Ieee.{ofBits}
+use Rattle.coeffs_f32.proofs.sim3.closed_one.Statement.{statement}
+use Rattle.coeffs_f32.proofs.sim3.closed_one.Tie as tie
+use Rattle.linalg_f32.proofs.As.{linalg-singles}
+use Rattle.circle_f32.proofs.As.{circle-singles}
+use Rattle.series_f32.proofs.As.{series-singles}
+use Rattle.coeffs_f32.proofs.As.{coeffs-singles}
+
+returns : tie.Need-returns
+unfolding closedOne ofBits
+returns c = simp (linalg-singles, circle-singles, series-singles, coeffs-singles, c .closed-from .ensures, c .before .on-form-b .ensures)
+
+pub closed-one-spec : {M : Type 1} → statement M
+closed-one-spec = tie.close (tie.spec (λ c κs. search needs) (λ c κs. search needs) returns)

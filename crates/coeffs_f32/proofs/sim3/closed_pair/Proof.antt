@@ -1,0 +1,29 @@
+-- Written by tools/widths from crates/coeffs/proofs/sim3/closed_pair/Proof.antt: edit that one. Digest cc466e8bc335cc1a.
+use borrow.Author.Needs.{needs}
+use Rattle.coeffs.specs.Shared.{closedPair}
+use lib.Ieee.{ofBits}
+use Rattle.coeffs_f32.proofs.sim3.closed_pair.Statement.{statement}
+use Rattle.coeffs_f32.proofs.sim3.closed_pair.Tie as tie
+use Rattle.linalg_f32.proofs.As.{linalg-singles}
+use Rattle.circle_f32.proofs.As.{circle-singles}
+use Rattle.series_f32.proofs.As.{series-singles}
+use Rattle.coeffs_f32.proofs.As.{coeffs-singles}
+
+returns : tie.Need-returns
+unfolding closedPair ofBits
+returns c =
+    let c1 = c .before .before .before .before .before in
+    simp (
+      linalg-singles,
+      circle-singles,
+      series-singles,
+      coeffs-singles,
+      c .before .before .closed-both .ensures,
+      c .before .before .before .on-form-b .ensures,
+      c .before .before .before .before .pick2 .ensures,
+      c1 .pick .ensures,
+      c1 .before .at-zero .ensures,
+    )
+
+pub closed-pair-spec : {M : Type 1} → statement M
+closed-pair-spec = tie.close (tie.spec (λ c κs. search needs) (λ c κs. search needs) (λ c κs. search needs) (λ c κs. search needs) (λ c κs. search needs) returns)

@@ -1,0 +1,50 @@
+-- Written by tools/widths from crates/replies/proofs/places/block_at/Proof.antt: edit that one. Digest 8e85a1cc2f113fe3.
+-- `replies_f32::places::block_at` meets its contract: its parts stand one behind another. Assumes nothing.
+use borrow.Author.Needs.{needs}
+use Rattle.layout.specs.Layout.{blockIn}
+use Rattle.replies_f32.proofs.places.block_at.Statement.{statement}
+use Rattle.replies_f32.proofs.places.block_at.Tie as tie
+use Rattle.linalg_f32.proofs.As.{linalg-singles}
+use Rattle.circle_f32.proofs.As.{circle-singles}
+use Rattle.series_f32.proofs.As.{series-singles}
+use Rattle.coeffs_f32.proofs.As.{coeffs-singles}
+use Rattle.so3_f32.proofs.As.{so3-singles}
+use Rattle.sim3_f32.proofs.As.{sim3-singles}
+use Rattle.jacobian_f32.proofs.As.{jacobian-singles}
+use Rattle.sides_f32.proofs.As.{sides-singles}
+use Rattle.frames_f32.proofs.As.{frames-singles}
+
+returns : tie.Need-returns
+unfolding blockIn
+returns c =
+    simp (
+      linalg-singles,
+      circle-singles,
+      series-singles,
+      coeffs-singles,
+      so3-singles,
+      sim3-singles,
+      jacobian-singles,
+      sides-singles,
+      frames-singles,
+      c .number-at .ensures,
+      c .before .vec-at .ensures,
+      c .before .before .mat-at3 .ensures,
+      c .before .before .before .mat-at2 .ensures,
+      c .before .before .before .before .mat-at .ensures,
+    )
+
+pub block-at-spec : {M : Type 1} → statement M
+block-at-spec =
+    tie.close
+    (tie.spec
+    (λ c κs. search needs)
+    (λ c. search needs)
+    (λ c κs. search needs)
+    (λ c. search needs)
+    (λ c κs. search needs)
+    (λ c. search needs)
+    (λ c κs. search needs)
+    (λ c. search needs)
+    (λ c κs. search needs)
+    returns)

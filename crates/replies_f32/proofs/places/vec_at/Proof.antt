@@ -1,0 +1,44 @@
+-- Written by tools/widths from crates/replies/proofs/places/vec_at/Proof.antt: edit that one. Digest 3140f3f379f792be.
+-- `replies_f32::places::vec_at` meets its contract: three numbers from a place on. Assumes nothing.
+use borrow.Author.Needs.{needs}
+use Rattle.layout.specs.Layout.{vecIn}
+use Rattle.replies_f32.proofs.places.vec_at.Statement.{statement}
+use Rattle.replies_f32.proofs.places.vec_at.Tie as tie
+use Rattle.linalg_f32.proofs.As.{linalg-singles}
+use Rattle.circle_f32.proofs.As.{circle-singles}
+use Rattle.series_f32.proofs.As.{series-singles}
+use Rattle.coeffs_f32.proofs.As.{coeffs-singles}
+use Rattle.so3_f32.proofs.As.{so3-singles}
+use Rattle.sim3_f32.proofs.As.{sim3-singles}
+use Rattle.jacobian_f32.proofs.As.{jacobian-singles}
+use Rattle.sides_f32.proofs.As.{sides-singles}
+use Rattle.frames_f32.proofs.As.{frames-singles}
+
+returns : tie.Need-returns
+unfolding vecIn
+returns c =
+    simp (
+      linalg-singles,
+      circle-singles,
+      series-singles,
+      coeffs-singles,
+      so3-singles,
+      sim3-singles,
+      jacobian-singles,
+      sides-singles,
+      frames-singles,
+      c .number-at3 .ensures,
+      c .before .number-at2 .ensures,
+      c .before .before .number-at .ensures,
+    )
+
+pub vec-at-spec : {M : Type 1} → statement M
+vec-at-spec =
+    tie.close
+    (tie.spec
+    (λ c κs. search needs)
+    (λ c. search needs)
+    (λ c κs. search needs)
+    (λ c. search needs)
+    (λ c κs. search needs)
+    returns)

@@ -1,0 +1,13 @@
+-- Written by tools/widths from crates/series/proofs/recurrence/gain/Proof.antt: edit that one. Digest 1ad8c164ec2fd378.
+use mathlib.Core.Path.{refl}
+use Rattle.series.specs.Turns.{sumsGain}
+use Rattle.series_f32.proofs.recurrence.gain.Statement.{statement}
+use Rattle.series_f32.proofs.recurrence.gain.Tie as tie
+use Rattle.series_f32.specs.As.{asSums}
+
+returns : tie.Need-returns
+unfolding sumsGain asSums
+returns c = refl
+
+pub gain-spec : {M : Type 1} → statement M
+gain-spec = tie.close (tie.spec returns)

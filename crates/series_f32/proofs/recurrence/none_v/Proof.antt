@@ -1,0 +1,14 @@
+-- Written by tools/widths from crates/series/proofs/recurrence/none_v/Proof.antt: edit that one. Digest b8dc4eb92f378c2f.
+use mathlib.Core.Path.{refl}
+use Rattle.series.specs.Turns.{vNone}
+use lib.Ieee.{ofBits}
+use Rattle.series_f32.proofs.recurrence.none_v.Statement.{statement}
+use Rattle.series_f32.proofs.recurrence.none_v.Tie as tie
+use Rattle.series_f32.specs.As.{asTurnsV}
+
+returns : tie.Need-returns
+unfolding vNone ofBits asTurnsV
+returns c = refl
+
+pub none-v-spec : {M : Type 1} → statement M
+none-v-spec = tie.close (tie.spec returns)

@@ -1,0 +1,38 @@
+-- Written by tools/widths from crates/series/proofs/sim3/sums_at/Proof.antt: edit that one. Digest 6b510a359d859dcb.
+-- `series_f32::sim3::sums_at` meets its contract: the loop leaves the sums over the levels to k, and the tail brings each to its own last level. Assumes nothing.
+use borrow.Author.Needs.{needs}
+use Rattle.series.proofs.Solo.{solo-are, last-is}
+use Rattle.series_f32.proofs.sim3.sums_at.Statement.{statement}
+use Rattle.series_f32.proofs.sim3.sums_at.Tie as tie
+use Rattle.linalg_f32.proofs.As.{linalg-singles}
+use Rattle.series_f32.proofs.As.{series-singles}
+
+returns : tie.Need-returns
+returns c =
+    simp (
+      linalg-singles,
+      series-singles,
+      solo-are,
+      last-is,
+      c .last .ensures,
+      c .before .tail-terms .ensures,
+      c .before .before .recip-fact3 .ensures,
+      c .before .before .before .recip-fact2 .ensures,
+      c .before .before .before .before .recip-fact .ensures,
+      c .before .before .before .before .before .turns-at .ensures,
+    )
+
+pub sums-at-spec : {M : Type 1} → statement M
+sums-at-spec =
+    tie.close
+    (tie.spec
+    (λ c κs. search needs)
+    (λ c. search needs)
+    (λ c κs. search needs)
+    (λ c. search needs)
+    (λ c κs. search needs)
+    (λ c. search needs)
+    (λ c κs. search needs)
+    (λ c κs. search needs)
+    (λ c κs. search needs)
+    returns)

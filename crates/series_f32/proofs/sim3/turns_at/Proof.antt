@@ -1,0 +1,51 @@
+-- Written by tools/widths from crates/series/proofs/sim3/turns_at/Proof.antt: edit that one. Digest e2f1fd37ac38ab35.
+-- `series_f32::sim3::turns_at` meets its contract: after j turns the loop holds `soloTurns` at j, and it stops at k + 1. Assumes nothing.
+use mathlib.Core.Path.{_≡_}
+use Prim.Native.Nat.{_+_, _-_, _≤_}
+use native.Mathlib.Omega.{arith}
+use lib.Ieee.{binary32}
+use Rattle.series.specs.Turns.{soloTurns}
+use Rattle.series.proofs.Solo.{solo-more}
+use Rattle.series_f32.proofs.sim3.turns_at.Statement.{statement}
+use Rattle.series_f32.proofs.sim3.turns_at.Tie as tie
+use Rattle.series_f32.specs.As.{asTurns}
+use Rattle.linalg_f32.proofs.As.{linalg-singles}
+use Rattle.series_f32.proofs.As.{series-singles}
+
+abbrev Inv-loop : tie.InvT-loop
+Inv-loop sigma z k s₀ j₀ end s j = (j ≤ k + 1) × (asTurns s ≡ soloTurns binary32 sigma z j)
+
+abbrev μ-loop : tie.MeasureT-loop
+μ-loop sigma z k s₀ j₀ end s j = k + 1 - j
+
+loop-holds : tie.Need-loop-holds Inv-loop μ-loop
+unfolding soloTurns
+loop-holds c = (omega arith, simp (linalg-singles, series-singles, c .none .ensures, c .before .first .ensures))
+
+loop-again : tie.Need-loop-again Inv-loop μ-loop
+loop-again c = (omega arith, simp (linalg-singles, series-singles, c .turn .ensures, c .before .recip-fact2 .ensures, c .before .before .recip-fact .ensures, c .before .before .before .before .loop .inv .1, solo-more))
+
+returns : tie.Need-returns Inv-loop μ-loop
+returns c =
+    let last : c .before .loop .j ≡ c .before .before .before .before .args .k + 1 = omega arith in
+    simp (linalg-singles, series-singles, c .before .loop .inv .1, last)
+
+pub turns-at-spec : {M : Type 1} → statement M
+turns-at-spec =
+    tie.close
+    (tie.spec
+    Inv-loop
+    μ-loop
+    (λ c κs. tt)
+    (λ c κs. tt)
+    (λ c. omega arith)
+    loop-holds
+    (λ c. omega arith)
+    (λ c κs. tt)
+    (λ c. omega arith)
+    (λ c κs. tt)
+    (λ c κs. tt)
+    (λ c. omega arith)
+    (λ c. omega arith)
+    loop-again
+    returns)

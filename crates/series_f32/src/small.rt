@@ -1,0 +1,94 @@
+// v0 and w0 of the closed arm at small sigma, at one sign and at both: how many terms they have, the
+// width of the numbers decides.
+ghost use mathlib.Core.Path.{_≡_};
+ghost use Prim.Native.Nat.{_+_};
+ghost use lib.Ieee.{binary32};
+ghost use Rattle.series.specs.Series.{gSeries, gSeriesPair, w0Terms};
+ghost use Rattle.tables.specs.Tables.{recipFact};
+ghost use Rattle.series.specs.Turns.{gTerm};
+ghost use Rattle.series.specs.Small.{passed};
+ghost use Rattle.series_f32.specs.As.{asGPair, asHorner};
+ghost use Rattle.series_f32.specs.Small.{passTold};
+use crate::horner::g_series;
+use crate::horner::g_term;
+use crate::sim3::GPair;
+use crate::sim3::Horner;
+use tables::single::recip_fact;
+
+// The terms of w0; v0 has one more.
+const W0_TERMS: usize = 8;
+
+// v0 of the closed arm at small sigma, 9 terms: the first, and sigma times the 8 of `g2`.
+pub fn g1(sigma: f32) -> f32
+    ensures { λ r. ⌜ r ≡ gSeries binary32 sigma 1 (w0Terms binary32 + 1) ⌝ }
+{
+    recip_fact(1) + sigma * g2(sigma)
+}
+
+// w0 of the closed arm at small sigma: 8 terms.
+pub fn g2(sigma: f32) -> f32
+    ensures { λ r. ⌜ r ≡ gSeries binary32 sigma 2 (w0Terms binary32) ⌝ }
+{
+    g_series(sigma, 2, W0_TERMS)
+}
+
+// The sum of v0 at both signs after each of its 9 entries, the reciprocals 9 down to 1.
+pub struct Pass {
+    pub after1: GPair,
+    pub after2: GPair,
+    pub after3: GPair,
+    pub after4: GPair,
+    pub after5: GPair,
+    pub after6: GPair,
+    pub after7: GPair,
+    pub after8: GPair,
+    pub after9: GPair,
+}
+
+// One entry more, the reciprocal n.
+fn next(sigma: f32, minus: f32, n: usize, g: GPair) -> GPair
+    ensures { λ r. ⌜ asGPair r ≡ gTerm binary32 sigma minus (recipFact binary32 n) (asGPair g) ⌝ }
+{
+    g_term(sigma, minus, recip_fact(n), g)
+}
+
+// The pass for both signs: stopped after any of its entries it holds what each sign alone has then. It
+// is written out, and `minus` is -sigma but +0 for a zero, which no sum sees: so the compiler works
+// both signs as one vector, with constant reciprocals.
+fn passes(sigma: f32) -> Pass
+    ensures { λ r. ⌜ passTold r ≡ passed binary32 sigma ⌝ }
+{
+    let minus = -sigma + 0.0;
+    let none = GPair { pos: 0.0, neg: 0.0 };
+    let s1 = next(sigma, minus, 9, none);
+    let s2 = next(sigma, minus, 8, s1);
+    let s3 = next(sigma, minus, 7, s2);
+    let s4 = next(sigma, minus, 6, s3);
+    let s5 = next(sigma, minus, 5, s4);
+    let s6 = next(sigma, minus, 4, s5);
+    let s7 = next(sigma, minus, 3, s6);
+    let s8 = next(sigma, minus, 2, s7);
+    let s9 = next(sigma, minus, 1, s8);
+    Pass {
+        after1: s1,
+        after2: s2,
+        after3: s3,
+        after4: s4,
+        after5: s5,
+        after6: s6,
+        after7: s7,
+        after8: s8,
+        after9: s9,
+    }
+}
+
+// v0 and w0 of the closed arm at small sigma, at both signs, in one pass over the reciprocals: all of
+// v0's entries but the last are w0's.
+pub fn horner_small(sigma: f32) -> Horner
+    ensures { λ r. ⌜ asHorner r ≡ record { v0 = gSeriesPair binary32 sigma 1 (w0Terms binary32 + 1); w0 = gSeriesPair binary32 sigma 2 (w0Terms binary32) } ⌝ }
+{
+    let p = passes(sigma);
+    let v0 = p.after9;
+    let w0 = p.after8;
+    Horner { v0, w0 }
+}

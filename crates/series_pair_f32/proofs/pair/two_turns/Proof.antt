@@ -1,0 +1,38 @@
+-- Written by tools/widths from crates/series_pair/proofs/pair/two_turns/Proof.antt: edit that one. Digest f01b52690b33989b.
+use borrow.Author.Needs.{needs}
+use Rattle.series.specs.Turns.{pairTurn}
+use Rattle.series_pair_f32.proofs.pair.two_turns.Statement.{statement}
+use Rattle.series_pair_f32.proofs.pair.two_turns.Tie as tie
+use Rattle.linalg_f32.proofs.As.{linalg-singles}
+use Rattle.series_f32.proofs.As.{series-singles}
+
+returns : tie.Need-returns
+unfolding pairTurn
+returns c =
+    let c1 = c .before .before .before .before .before in
+    simp (
+      linalg-singles,
+      series-singles,
+      c .gain-odd .ensures,
+      c .before .gain-even .ensures,
+      c .before .before .gain2 .ensures,
+      c .before .before .before .gain .ensures,
+      c .before .before .before .before .next2 .ensures,
+      c1 .terms2 .ensures,
+      c1 .before .terms .ensures,
+      c1 .before .before .next .ensures,
+    )
+
+pub two-turns-spec : {M : Type 1} → statement M
+two-turns-spec =
+    tie.close
+    (tie.spec
+    (λ c κs. search needs)
+    (λ c κs. search needs)
+    (λ c κs. search needs)
+    (λ c κs. search needs)
+    (λ c κs. search needs)
+    (λ c κs. search needs)
+    (λ c κs. search needs)
+    (λ c κs. search needs)
+    returns)

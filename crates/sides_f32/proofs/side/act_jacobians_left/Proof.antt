@@ -1,0 +1,46 @@
+-- Written by tools/widths from crates/sides/proofs/side/act_jacobians_left/Proof.antt: edit that one. Digest 6424cd007bfc3d46.
+use borrow.Author.Needs.{needs}
+use Rattle.sides.specs.Side.{actJacobiansLeft}
+use Rattle.sides_f32.proofs.side.act_jacobians_left.Statement.{statement}
+use Rattle.sides_f32.proofs.side.act_jacobians_left.Tie as tie
+use Rattle.linalg_f32.proofs.As.{linalg-singles}
+use Rattle.circle_f32.proofs.As.{circle-singles}
+use Rattle.series_f32.proofs.As.{series-singles}
+use Rattle.coeffs_f32.proofs.As.{coeffs-singles}
+use Rattle.so3_f32.proofs.As.{so3-singles}
+use Rattle.sim3_f32.proofs.As.{sim3-singles}
+use Rattle.jacobian_f32.proofs.As.{jacobian-singles}
+use Rattle.sides_f32.proofs.As.{sides-singles}
+
+returns : tie.Need-returns
+unfolding actJacobiansLeft
+returns c =
+    let c1 = c .before .before .before .before .before in
+    simp (
+      linalg-singles,
+      circle-singles,
+      series-singles,
+      coeffs-singles,
+      so3-singles,
+      sim3-singles,
+      jacobian-singles,
+      sides-singles,
+      c .scale .ensures,
+      c .before .to-matrix .ensures,
+      c .before .before .identity .ensures,
+      c .before .before .before .neg .ensures,
+      c .before .before .before .before .hat .ensures,
+      c1 .act .ensures,
+    )
+
+pub act-jacobians-left-spec : {M : Type 1} → statement M
+act-jacobians-left-spec =
+    tie.close
+    (tie.spec
+    (λ c κs. search needs)
+    (λ c κs. search needs)
+    (λ c κs. search needs)
+    (λ c κs. search needs)
+    (λ c κs. search needs)
+    (λ c κs. search needs)
+    returns)

@@ -1,0 +1,107 @@
+-- One computed test: at each width, in each row, every entry is the exact rational of the row's rule, rounded once. What follows for the constants of the code. Assumes nothing.
+use mathlib.Core.Path.{_≡_, refl, sym, ap, _∙_, subst}
+use mathlib.Core.Bool.{Bool, true, _&&_}
+use Prim.Native.Nat.{ℕ, zero, suc, _≤_, _<_, zero-le}
+use native.Mathlib.Omega.{arith}
+use lib.Dec.{T, leb, eqb, leb→le, eqb→eq}
+use lib.ListN.{length, getD}
+use borrow.Author.Tests.{lt-leb}
+use lib.Ieee.{nan, Format, binary32, binary64, round, ofBits, toBits, fits}
+use lib.Ieee.Fits.{and-l, and-r, round-fits, cond-fits, nan-fits}
+use Rattle.ieee.specs.Signs.{notMinusZero}
+use Rattle.ieee.specs.Table.{factorial, Rational, rounded, entries}
+use Rattle.ieee.proofs.Table.{floats, right, floats-are, entry-at}
+use Rattle.ieee.proofs.Clear.{cond-clear, round-clear-false}
+use Rattle.tables.specs.Tables.{Row, cosHalfRow, kRow, aRow, bRow, dRow, rowRule, rowTable, recipRule, recipFact}
+use Rattle.tables.proofs.Patterns.{Table, circleTable, recipTable, patterns}
+
+abbrev ruleOf : Table → ℕ → Rational
+ruleOf (circleTable row) = rowRule row
+ruleOf recipTable = recipRule
+
+abbrev lengthOf : Table → ℕ
+lengthOf (circleTable row) = 16
+lengthOf recipTable = 33
+
+-- ---- the test, over width, row and index: 2 (5 · 16 + 33) = 226 entries
+eachWidth : (Format → Bool) → Bool
+eachWidth p = p binary32 && p binary64
+
+eachTable : (Table → Bool) → Bool
+eachTable p =
+    p (circleTable cosHalfRow) && (p (circleTable kRow) && (p (circleTable aRow) && (p (circleTable bRow) && (p (circleTable dRow) && p recipTable))))
+
+-- each table has its length, and each of its entries is its rule's
+holds : Format → Table → Bool
+holds f t = eqb (length (patterns f t)) (lengthOf t) && right f (ruleOf t) 0 (patterns f t)
+
+everyEntry : Bool
+everyEntry = eachWidth (λ f. eachTable (holds f))
+
+every-entry : everyEntry ≡ true
+unfolding everyEntry eachWidth eachTable holds right patterns rowRule recipRule rounded factorial round toBits
+every-entry = refl
+
+-- ---- so it holds of each table at each width
+at-width : (p : Format → Bool) → T (eachWidth p) → (f : Format) → T (p f)
+unfolding eachWidth
+at-width p t binary32 = and-l (p binary32) (p binary64) t
+at-width p t binary64 = and-r (p binary32) (p binary64) t
+
+at-table : (p : Table → Bool) → T (eachTable p) → (t : Table) → T (p t)
+unfolding eachTable
+at-table p h (circleTable cosHalfRow) = search (and-l)
+at-table p h (circleTable kRow) = search (and-l, and-r)
+at-table p h (circleTable aRow) = search (and-l, and-r)
+at-table p h (circleTable bRow) = search (and-l, and-r)
+at-table p h (circleTable dRow) = search (and-l, and-r)
+at-table p h recipTable = search (and-r)
+
+table-holds : (f : Format) (t : Table) → T (holds f t)
+unfolding everyEntry
+table-holds f t = at-table (holds f) (at-width (λ f. eachTable (holds f)) (subst T (sym every-entry) tt) f) t
+
+table-right : (f : Format) (t : Table) → T (right f (ruleOf t) 0 (patterns f t))
+unfolding holds
+table-right f t = and-r (eqb (length (patterns f t)) (lengthOf t)) (right f (ruleOf t) 0 (patterns f t)) (table-holds f t)
+
+table-length : (f : Format) (t : Table) → length (patterns f t) ≡ lengthOf t
+unfolding holds
+table-length f t = eqb→eq _ _ (and-l (eqb (length (patterns f t)) (lengthOf t)) (right f (ruleOf t) 0 (patterns f t)) (table-holds f t))
+
+-- ---- the constants of a row are its table
+pub table-is : (f : Format) (row : Row) → floats f (patterns f (circleTable row)) ≡ rowTable f row
+unfolding rowTable
+table-is f row = floats-are f (rowRule row) 0 (patterns f (circleTable row)) (table-right f (circleTable row)) ∙ ap (entries f (rowRule row) 0) (table-length f (circleTable row))
+
+-- ---- the reciprocals, entry by entry: at the index that equals k
+pub recip-is : (f : Format) (n k : ℕ) → n ≡ k → leb k 32 ≡ true → ofBits f (getD (patterns f recipTable) k 0) ≡ recipFact f n
+unfolding recipFact
+recip-is f n k e h =
+    let m : leb n 32 ≡ true = ap (λ (i : ℕ). leb i 32) e ∙ h in
+    let l : k ≤ 32 = leb→le k 32 (subst T (sym h) tt) in
+    rw m (entry-at f recipRule 0 (patterns f recipTable) (table-right f recipTable) n k (rw (table-length f recipTable) (omega arith)) (omega arith))
+
+pub recip-past : (f : Format) (n : ℕ) → 32 < n → recipFact f n ≡ nan
+unfolding recipFact
+recip-past f n h = rw (lt-leb n 32 h) refl
+
+pub recip-fits : (f : Format) (n : ℕ) → T (fits f (recipFact f n))
+unfolding recipFact rounded
+recip-fits f n = cond-fits f (leb n 32) _ nan (round-fits f _ _ _) (nan-fits f)
+
+pub recip-clear : (f : Format) (n : ℕ) → T (notMinusZero (recipFact f n))
+unfolding recipFact rounded recipRule
+recip-clear f n = cond-clear (leb n 32) _ nan (round-clear-false f _ _) tt
+
+-- n is none of 0, .., k - 1: what the last arm of a match knows
+abbrev pub NoneBelow : ℕ → ℕ → Type 0
+NoneBelow n zero = Unit
+NoneBelow n (suc k) = NoneBelow n k × (n ≡ k → ⊥)
+
+above : (k n : ℕ) → k ≤ n → (n ≡ k → ⊥) → suc k ≤ n
+above k n h d = omega arith
+
+pub none-below : (n k : ℕ) → NoneBelow n k → k ≤ n
+none-below n zero h = zero-le
+none-below n (suc k) h = above k n (none-below n k (h .0)) (h .1)

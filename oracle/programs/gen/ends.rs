@@ -1,0 +1,90 @@
+//! How a job file ends: cleanly, or damaged in every way.
+
+use crate::sources::{bytes_in, marks, Letters, Sources};
+
+/// Marks that are in no job table: other case, other order, one letter wrong, the answers' own.
+const UNKNOWN: [&Letters; 25] = [
+    b"Ex",
+    b"cO",
+    b"Pa",
+    b"aC",
+    b"Mu",
+    b"iN",
+    b"Ji",
+    b"XE",
+    b"OC",
+    b"AP",
+    b"CA",
+    b"UM",
+    b"NI",
+    b"IJ",
+    b"EY",
+    b"FX",
+    b"ZZ",
+    b"NO",
+    b"ar",
+    b"RA",
+    b"CH",
+    b"\0\0",
+    b"\xff\xff",
+    b"QQ",
+    b"E\0",
+];
+
+/// The same beside the marks of the narrow width.
+const UNKNOWN_SMALL: [&Letters; 23] = [
+    b"eX", b"Co", b"pA", b"Ac", b"mU", b"In", b"jI", b"aR", b"Ar", b"xe", b"oc", b"ap", b"ca",
+    b"um", b"ni", b"ij", b"ey", b"fx", b"zz", b"no", b"ch", b"e\0", b"\0x",
+];
+
+/// An end of a file.
+#[derive(Clone, Copy, Debug)]
+pub enum End {
+    Clean,
+    /// The first byte of a mark alone.
+    Half(u8),
+    /// A mark and so many bytes of its numbers.
+    Cut(Letters, usize),
+    /// An unknown mark, and behind it nothing, one byte, or a whole record.
+    Unknown(&'static Letters, usize),
+}
+
+/// Every end: 0 is the clean one, the others are damaged.
+pub fn ends() -> Vec<End> {
+    let (single, double): (Vec<_>, Vec<_>) =
+        marks().into_iter().partition(|letters| letters[0].is_ascii_lowercase());
+    let cut = |letters: Letters| (0..bytes_in(letters)).map(move |n| End::Cut(letters, n));
+    let mut all = vec![End::Clean];
+    all.extend((0..=255).map(End::Half));
+    all.extend(double.into_iter().flat_map(cut));
+    for behind in 0..3 {
+        all.extend(UNKNOWN.iter().map(|letters| End::Unknown(letters, behind)));
+    }
+    all.extend(single.into_iter().flat_map(cut));
+    for behind in 0..3 {
+        all.extend(UNKNOWN_SMALL.iter().map(|letters| End::Unknown(letters, behind)));
+    }
+    all
+}
+
+/// Writes an end. A cut record of CO, AR, JI or MU, or of co, ji or mu, would earn refusal 1, 2 or
+/// 9 if it were whole.
+pub fn end(end: End, source: &mut Sources, out: &mut Vec<u8>) {
+    match end {
+        End::Clean => {}
+        End::Half(byte) => out.push(byte),
+        End::Cut(letters, bytes) => {
+            let start = out.len();
+            source.refused_record(letters, out);
+            out.truncate(start + 2 + bytes);
+        }
+        End::Unknown(letters, behind) => {
+            out.extend_from_slice(letters);
+            match behind {
+                0 => {}
+                1 => out.push(b'E'),
+                _ => source.job_record(*b"AC", out),
+            }
+        }
+    }
+}

@@ -1,0 +1,74 @@
+//! The sources of both widths: a mark's letters say from which of them its records come, so that a
+//! seed gives the same records at one width whatever is asked at the other.
+
+pub type Letters = [u8; 2];
+
+pub struct Sources {
+    double: oracle::inputs::Source,
+    single: oracle_f32::inputs::Source,
+}
+
+/// The marks: those of doubles in the order of the job table, then those of the narrow width.
+pub fn marks() -> Vec<Letters> {
+    [oracle::inputs::marks(), oracle_f32::inputs::marks()].concat()
+}
+
+/// The bytes behind a mark in a record.
+pub fn bytes_in(letters: Letters) -> usize {
+    let double = helicoid::judge::marks::mark(letters).map(|m| m.bytes_in);
+    let single = || helicoid_f32::judge::marks::mark(letters).map(|m| m.bytes_in);
+    double.or_else(single).expect("a mark")
+}
+
+fn is_single(letters: Letters) -> bool {
+    letters[0].is_ascii_lowercase()
+}
+
+impl Sources {
+    pub fn new(seed: u64) -> Self {
+        let single = oracle_f32::inputs::Source::new(seed);
+        Self { double: oracle::inputs::Source::new(seed), single }
+    }
+
+    pub fn job_record(&mut self, letters: Letters, out: &mut Vec<u8>) {
+        match is_single(letters) {
+            false => self.double.job_record(letters, out),
+            true => self.single.job_record(letters, out),
+        }
+    }
+
+    /// A record that would be refused, by 1, 2 or 9, if its mark can be.
+    pub fn refused_record(&mut self, letters: Letters, out: &mut Vec<u8>) {
+        match is_single(letters) {
+            false => self.double.refused_record(letters, out),
+            true => self.single.refused_record(letters, out),
+        }
+    }
+
+    pub fn lone_record(&mut self, letters: Letters, out: &mut Vec<u8>) {
+        match is_single(letters) {
+            false => self.double.lone_record(letters, out),
+            true => self.single.lone_record(letters, out),
+        }
+    }
+
+    pub fn good_record(&mut self, letters: Letters, arm: usize, out: &mut Vec<u8>) {
+        match is_single(letters) {
+            false => self.double.good_record(letters, arm, out),
+            true => self.single.good_record(letters, arm, out),
+        }
+    }
+
+    /// A record of the library function with this number, of singles or of doubles.
+    pub fn library_record(&mut self, id: u8, single: bool, out: &mut Vec<u8>) {
+        match single {
+            false => self.double.library_record(oracle::library::entry(id).expect("one"), out),
+            true => self.single.library_record(oracle_f32::library::entry(id).expect("one"), out),
+        }
+    }
+}
+
+/// The numbers of the library functions, the same at both widths.
+pub fn ids() -> Vec<u8> {
+    oracle::library::entries().map(|e| e.id).collect()
+}
