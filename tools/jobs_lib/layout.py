@@ -16,7 +16,7 @@ REFUSALS = {
     1: "squared angle z below zero",
     2: "e is +0 or -0 in the block inverse",
     3: "row or column of a 3x3 matrix above 2",
-    4: "term count k above 64",
+    4: "term count k above 28, or above 30 for v alone",
     5: "point list of a wrong length",
     6: "unknown mark",
     7: "input ends inside a mark or record",

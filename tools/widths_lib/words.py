@@ -1,7 +1,7 @@
 """Names at the other width: words, crates, modules and imports."""
 import re
 
-WORDS = {"f64": "f32", "binary64": "binary32", "doubles": "singles", "double": "single"}
+WORDS = {"f64": "f32", "binary64": "binary32", "doubles": "singles", "double": "single", "recipTold": "recipSingleTold"}
 
 
 def twin(crate):
@@ -10,7 +10,7 @@ def twin(crate):
 
 def width(text):
     """The text with each word of a width replaced."""
-    return re.sub(r"\b(f64|binary64|doubles|double)\b", lambda m: WORDS[m.group(1)], text)
+    return re.sub(rf"\b({'|'.join(WORDS)})\b", lambda m: WORDS[m.group(1)], text)
 
 
 def place(crate, path):

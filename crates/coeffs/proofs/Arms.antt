@@ -2,6 +2,7 @@
 use mathlib.Core.Path.{_≡_, refl, sym, ap, _∙_}
 use Prim.Native.Nat.{ℕ, _≤_}
 use mathlib.Core.Bool.{Bool, true, false, cond}
+use native.Mathlib.Omega.{arith}
 use borrow.Author.Tests.{le-ltb}
 use lib.Dec.{ltb}
 use lib.Ieee.{Float, Format, neg, mul, lt, le}
@@ -14,7 +15,7 @@ use Rattle.circle.specs.Kernel.{notBelowZero, circleSincABD, circleSincA}
 use Rattle.circle.specs.declared.kernel.SincABD.{SincABD}
 use Rattle.circle.specs.declared.kernel.SincA.{SincA}
 use Rattle.circle.proofs.Angle.{norm-not-below}
-use Rattle.series.specs.Series.{seriesFull, seriesV, coeffs4, seriesGuard, seriesAnswer, seriesPairAnswer}
+use Rattle.series.specs.Series.{seriesFull, seriesV, coeffs4, seriesMost, seriesVMost, seriesGuard, seriesAnswer, seriesPairAnswer}
 use Rattle.coeffs.specs.Limits.{coeffsDelta, formBBelow, w0Below}
 use Rattle.coeffs.specs.Arm.{coeffsArm, armTerms, armEnds}
 use Rattle.coeffs.specs.Closed.{closedFrom, closedV, closedVFrom, closedNine, closedJoined}
@@ -27,14 +28,19 @@ use Rattle.coeffs.specs.declared.sim3.VScaled.{VScaled}
 use Rattle.coeffs.specs.declared.sim3.Armed.{Armed}
 
 -- ---- the series arm: its answer x at a term count that is not refused
-guard-is : {A : Type 0} (z : Float) (k : ℕ) (a : A) → k ≤ 64 → seriesGuard z k a ≡ notBelowZero z a
-guard-is z k a h = rw (le-ltb 64 k h) refl
+guard-is : {A : Type 0} (most : ℕ) (z : Float) (k : ℕ) (a : A) → k ≤ most → seriesGuard most z k a ≡ notBelowZero z a
+guard-is most z k a h = rw (le-ltb most k h) refl
 
-pub series-answers : {A B : Type 0} (z : Float) (k : ℕ) (x c : A) (y : B) (g : A → B) → k ≤ 64 → y ≡ g x → seriesGuard z k x ≡ answers c → notBelowZero z y ≡ answers (g c)
-series-answers z k x c y g h e r = ap (notBelowZero z) e ∙ answered-as (lt z f0) 1 x c g (sym (guard-is z k x h) ∙ r)
+pub series-answers :
+    {A B : Type 0} (most : ℕ) (z : Float) (k : ℕ) (x c : A) (y : B) (g : A → B) → k ≤ most → y ≡ g x → seriesGuard most z k x ≡ answers c → notBelowZero z y ≡ answers (g c)
+series-answers most z k x c y g h e r = ap (notBelowZero z) e ∙ answered-as (lt z f0) 1 x c g (sym (guard-is most z k x h) ∙ r)
 
-pub series-refuses : {A B : Type 0} (z : Float) (k n : ℕ) (x : A) (y : B) → k ≤ 64 → seriesGuard z k x ≡ refuses n → notBelowZero z y ≡ refuses n
-series-refuses z k n x y h r = refused-as (lt z f0) 1 n x y (sym (guard-is z k x h) ∙ r)
+pub series-refuses : {A B : Type 0} (most : ℕ) (z : Float) (k n : ℕ) (x : A) (y : B) → k ≤ most → seriesGuard most z k x ≡ refuses n → notBelowZero z y ≡ refuses n
+series-refuses most z k n x y h r = refused-as (lt z f0) 1 n x y (sym (guard-is most z k x h) ∙ r)
+
+-- what the full series take, the one for v alone takes too
+pub within-v : (k : ℕ) → k ≤ seriesMost → k ≤ seriesVMost
+within-v k h = omega arith
 
 -- ---- any other arm
 pub arm-answers : {A B : Type 0} (z : Float) (x c : A) (y : B) (g : A → B) → y ≡ g x → notBelowZero z x ≡ answers c → notBelowZero z y ≡ answers (g c)
@@ -124,9 +130,9 @@ guards true t a b g = refl
 guards false true a b g = refl
 guards false false a b g = refl
 
-pub series-pair-is : (f : Format) (sigma z : Float) (k : ℕ) → seriesPairAnswer f sigma z k ≡ seriesGuard z k (record { pos = seriesFull f sigma z k; neg = seriesFull f (neg sigma) z k })
+pub series-pair-is : (f : Format) (sigma z : Float) (k : ℕ) → seriesPairAnswer f sigma z k ≡ seriesGuard seriesMost z k (record { pos = seriesFull f sigma z k; neg = seriesFull f (neg sigma) z k })
 unfolding seriesPairAnswer seriesAnswer
-series-pair-is f sigma z k = guards (lt z f0) (ltb 64 k) (seriesFull f sigma z k) (seriesFull f (neg sigma) z k) (λ p n. record { pos = p; neg = n })
+series-pair-is f sigma z k = guards (lt z f0) (ltb seriesMost k) (seriesFull f sigma z k) (seriesFull f (neg sigma) z k) (λ p n. record { pos = p; neg = n })
 
 -- ---- v and χΔ alone: which arm
 pub v-series :

@@ -4,3 +4,4 @@ pub mod Terms
 pub mod Stopped
 pub mod Sum
 pub mod Solo
+pub mod Asked

@@ -98,15 +98,22 @@ coeffs4 c = record { v0 = c .v0; v1 = c .v1; v2 = c .v2; «chi_delta» = c .«ch
 unfoldable pub seriesV : Format → Float → Float → ℕ → Coeffs4
 seriesV f sigma z k = coeffs4 (seriesFull f sigma z k)
 
--- ---- what the entries answer: refusal 1 for z below zero, then refusal 4 for k above 64
-abbrev pub seriesGuard : {A : Type 0} → Float → ℕ → A → Answer A
-seriesGuard z k a = unlessBelowZero z (cond (ltb 64 k) (refuses 4) (answers a))
+-- ---- the most terms: the full series reads the reciprocals to k + 4, v alone those to k + 2, and the table ends at 32
+abbrev pub seriesMost : ℕ
+seriesMost = 28
+
+abbrev pub seriesVMost : ℕ
+seriesVMost = 30
+
+-- ---- what the entries answer: refusal 1 for z below zero, then refusal 4 for k above the most terms
+abbrev pub seriesGuard : {A : Type 0} → ℕ → Float → ℕ → A → Answer A
+seriesGuard most z k a = unlessBelowZero z (cond (ltb most k) (refuses 4) (answers a))
 
 unfoldable pub seriesAnswer : Format → Float → Float → ℕ → Answer Sim3Coeffs
-seriesAnswer f sigma z k = seriesGuard z k (seriesFull f sigma z k)
+seriesAnswer f sigma z k = seriesGuard seriesMost z k (seriesFull f sigma z k)
 
 unfoldable pub seriesVAnswer : Format → Float → Float → ℕ → Answer Coeffs4
-seriesVAnswer f sigma z k = seriesGuard z k (seriesV f sigma z k)
+seriesVAnswer f sigma z k = seriesGuard seriesVMost z k (seriesV f sigma z k)
 
 -- the answers at sigma and at -sigma beside each other
 unfoldable pub seriesPairAnswer : Format → Float → Float → ℕ → Answer CoeffsPair

@@ -4,17 +4,17 @@ ghost use Prim.Native.Nat.{_≤_};
 ghost use lib.Ieee.{binary64};
 ghost use Rattle.series.specs.Series.{gSeries};
 ghost use Rattle.series.specs.Turns.{gTerm};
+use crate::reciprocal::recip;
 use crate::sim3::GPair;
-use tables::double::recip_fact;
 
 // The sum of sigma^i/(i + l)! over i < terms, by Horner from the last term.
 pub fn g_series(sigma: f64, l: usize, terms: usize) -> f64
-    requires { ⌜ (l ≤ 2) × (terms ≤ 64) ⌝ }
+    requires { ⌜ (l ≤ 2) × (terms ≤ 30) ⌝ }
     ensures { λ r. ⌜ r ≡ gSeries binary64 sigma l terms ⌝ }
 {
     let mut acc = 0.0;
     for i in 0..terms {
-        acc = recip_fact(terms - 1 - i + l) + sigma * acc;
+        acc = recip(terms - 1 - i + l) + sigma * acc;
     }
     acc
 }

@@ -7,6 +7,7 @@ ghost use lib.Ieee.{binary64};
 ghost use Rattle.series.specs.Series.{seriesSums, seriesFull, seriesV, seriesTold, seriesVTold, seriesAnswer, seriesVAnswer};
 ghost use Rattle.series.specs.Turns.{soloTurn, soloTurns, vTurns};
 use crate::horner::g_series;
+use crate::reciprocal::recip;
 use crate::recurrence;
 use crate::recurrence::Sums;
 use crate::recurrence::Turns;
@@ -14,7 +15,6 @@ use crate::recurrence::TurnsV;
 use crate::recurrence::none_v;
 use crate::recurrence::turn_v;
 use crate::shortest;
-use tables::double::recip_fact;
 
 // v0, v1, v2 of V, w0, w1, w2 of Gamma_2(M), the z-derivatives of v1 and v2, and chi times delta,
 // where chi = v0 - z v2 and delta = sigma^2 + z.
@@ -74,27 +74,27 @@ pub enum SeriesPairAnswer {
     Refused(u8),
 }
 
-// The series at k terms; refusal 1 for z below zero, then 4 for k above 64.
+// The series at k terms; refusal 1 for z below zero, then 4 for k above 28.
 pub fn series(sigma: f64, z: f64, k: usize) -> SeriesAnswer
     ensures { λ r. ⌜ seriesTold r ≡ seriesAnswer binary64 sigma z k ⌝ }
 {
     if z < 0.0 {
         return SeriesAnswer::Refused(1);
     }
-    if 64 < k {
+    if 28 < k {
         return SeriesAnswer::Refused(4);
     }
     SeriesAnswer::Coeffs(series_at(sigma, z, k))
 }
 
-// The series for v alone; refusals as in `series`.
+// The series for v alone; refusal 1 for z below zero, then 4 for k above 30.
 pub fn series_v(sigma: f64, z: f64, k: usize) -> SeriesVAnswer
     ensures { λ r. ⌜ seriesVTold r ≡ seriesVAnswer binary64 sigma z k ⌝ }
 {
     if z < 0.0 {
         return SeriesVAnswer::Refused(1);
     }
-    if 64 < k {
+    if 30 < k {
         return SeriesVAnswer::Refused(4);
     }
     SeriesVAnswer::Coeffs(series_v_at(sigma, z, k))
@@ -102,7 +102,7 @@ pub fn series_v(sigma: f64, z: f64, k: usize) -> SeriesVAnswer
 
 // `series` for a k that is not refused.
 fn series_at(sigma: f64, z: f64, k: usize) -> Sim3Coeffs
-    requires { ⌜ k ≤ 64 ⌝ }
+    requires { ⌜ k ≤ 28 ⌝ }
     ensures { λ r. ⌜ r ≡ seriesFull binary64 sigma z k ⌝ }
 {
     let v0 = g_series(sigma, 1, k);
@@ -113,24 +113,17 @@ fn series_at(sigma: f64, z: f64, k: usize) -> Sim3Coeffs
 
 // The six sums, each to its own last level.
 fn sums_at(sigma: f64, z: f64, k: usize) -> Sums
-    requires { ⌜ k ≤ 64 ⌝ }
+    requires { ⌜ k ≤ 28 ⌝ }
     ensures { λ r. ⌜ r ≡ seriesSums binary64 sigma z k ⌝ }
 {
     let s = turns_at(sigma, z, k);
-    let t = recurrence::tail_terms(
-        sigma,
-        z,
-        s.level,
-        recip_fact(k + 2),
-        recip_fact(k + 3),
-        recip_fact(k + 4),
-    );
+    let t = recurrence::tail_terms(sigma, z, s.level, recip(k + 2), recip(k + 3), recip(k + 4));
     recurrence::last(s.sums, t)
 }
 
 // The levels to k, which give a term to every sum.
 fn turns_at(sigma: f64, z: f64, k: usize) -> Turns
-    requires { ⌜ k ≤ 64 ⌝ }
+    requires { ⌜ k ≤ 28 ⌝ }
     ensures { λ r. ⌜ r ≡ soloTurns binary64 sigma z (k + 1) ⌝ }
 {
     let mut s = Turns {
@@ -138,7 +131,7 @@ fn turns_at(sigma: f64, z: f64, k: usize) -> Turns
         sums: recurrence::none(),
     };
     for j in 0..k + 1 {
-        s = turn(sigma, z, recip_fact(j + 1), recip_fact(j + 2), s);
+        s = turn(sigma, z, recip(j + 1), recip(j + 2), s);
     }
     s
 }
@@ -156,12 +149,12 @@ fn turn(sigma: f64, z: f64, r1: f64, r2: f64, s: Turns) -> Turns
 
 // `series_v` for a k that is not refused. v2 takes one level more than v1.
 fn series_v_at(sigma: f64, z: f64, k: usize) -> Coeffs4
-    requires { ⌜ k ≤ 64 ⌝ }
+    requires { ⌜ k ≤ 30 ⌝ }
     ensures { λ r. ⌜ r ≡ seriesV binary64 sigma z k ⌝ }
 {
     let s = turns_v_at(sigma, z, k);
     let v0 = g_series(sigma, 1, k);
-    let v2 = s.v2 + s.zeta * recip_fact(k + 2);
+    let v2 = s.v2 + s.zeta * recip(k + 2);
     Coeffs4 {
         v0,
         v1: s.v1,
@@ -172,7 +165,7 @@ fn series_v_at(sigma: f64, z: f64, k: usize) -> Coeffs4
 
 // The levels to k, for v alone.
 fn turns_v_at(sigma: f64, z: f64, k: usize) -> TurnsV
-    requires { ⌜ k ≤ 64 ⌝ }
+    requires { ⌜ k ≤ 30 ⌝ }
     ensures { λ r. ⌜ r ≡ vTurns binary64 sigma z (k + 1) ⌝ }
 {
     if k == shortest::TERMS {
@@ -180,7 +173,7 @@ fn turns_v_at(sigma: f64, z: f64, k: usize) -> TurnsV
     }
     let mut s = none_v();
     for j in 0..k + 1 {
-        s = turn_v(sigma, z, recip_fact(j + 1), s);
+        s = turn_v(sigma, z, recip(j + 1), s);
     }
     s
 }

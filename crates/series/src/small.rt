@@ -1,7 +1,7 @@
 // v0 and w0 of the closed arm at small sigma, at one sign and at both: how many terms they have, the
 // width of the numbers decides.
 ghost use mathlib.Core.Path.{_≡_};
-ghost use Prim.Native.Nat.{_+_};
+ghost use Prim.Native.Nat.{_+_, _≤_};
 ghost use lib.Ieee.{binary64};
 ghost use Rattle.series.specs.Series.{gSeries, gSeriesPair, w0Terms};
 ghost use Rattle.tables.specs.Tables.{recipFact};
@@ -9,9 +9,9 @@ ghost use Rattle.series.specs.Turns.{gTerm};
 ghost use Rattle.series.specs.Small.{passed, passTold};
 use crate::horner::g_series;
 use crate::horner::g_term;
+use crate::reciprocal::recip;
 use crate::sim3::GPair;
 use crate::sim3::Horner;
-use tables::double::recip_fact;
 
 // The terms of w0; v0 has one more.
 const W0_TERMS: usize = 15;
@@ -20,7 +20,7 @@ const W0_TERMS: usize = 15;
 pub fn g1(sigma: f64) -> f64
     ensures { λ r. ⌜ r ≡ gSeries binary64 sigma 1 (w0Terms binary64 + 1) ⌝ }
 {
-    recip_fact(1) + sigma * g2(sigma)
+    recip(1) + sigma * g2(sigma)
 }
 
 // w0 of the closed arm at small sigma: 15 terms.
@@ -52,9 +52,10 @@ pub struct Pass {
 
 // One entry more, the reciprocal n.
 fn next(sigma: f64, minus: f64, n: usize, g: GPair) -> GPair
+    requires { ⌜ n ≤ 32 ⌝ }
     ensures { λ r. ⌜ r ≡ gTerm binary64 sigma minus (recipFact binary64 n) g ⌝ }
 {
-    g_term(sigma, minus, recip_fact(n), g)
+    g_term(sigma, minus, recip(n), g)
 }
 
 // The pass for both signs: stopped after any of its entries it holds what each sign alone has then. It

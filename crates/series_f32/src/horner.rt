@@ -1,4 +1,4 @@
-// Written by tools/widths from crates/series/src/horner.rt: edit that one. Digest 2b188e2b3aecf273.
+// Written by tools/widths from crates/series/src/horner.rt: edit that one. Digest e7822485aee7a6b1.
 // Horner's sums of the series, at one sign and at both.
 ghost use mathlib.Core.Path.{_≡_};
 ghost use Prim.Native.Nat.{_≤_};
@@ -6,17 +6,17 @@ ghost use lib.Ieee.{binary32};
 ghost use Rattle.series.specs.Series.{gSeries};
 ghost use Rattle.series.specs.Turns.{gTerm};
 ghost use Rattle.series_f32.specs.As.{asGPair};
+use crate::reciprocal::recip;
 use crate::sim3::GPair;
-use tables::single::recip_fact;
 
 // The sum of sigma^i/(i + l)! over i < terms, by Horner from the last term.
 pub fn g_series(sigma: f32, l: usize, terms: usize) -> f32
-    requires { ⌜ (l ≤ 2) × (terms ≤ 64) ⌝ }
+    requires { ⌜ (l ≤ 2) × (terms ≤ 30) ⌝ }
     ensures { λ r. ⌜ r ≡ gSeries binary32 sigma l terms ⌝ }
 {
     let mut acc = 0.0;
     for i in 0..terms {
-        acc = recip_fact(terms - 1 - i + l) + sigma * acc;
+        acc = recip(terms - 1 - i + l) + sigma * acc;
     }
     acc
 }

@@ -1,7 +1,8 @@
-// Written by tools/widths from crates/series/src/lib.rt: edit that one. Digest 6a365550522f4af6.
-// The Sim(3) coefficients by their total-degree series, at any number of terms to 64.
+// Written by tools/widths from crates/series/src/lib.rt: edit that one. Digest 03c97a71ecda28c0.
+// The Sim(3) coefficients by their total-degree series, at up to 28 terms, and 30 for v alone.
 pub mod sim3; // the coefficients and their series at one sign of sigma: coeffs/sim3.rs
 pub mod small; // v0 and w0 of the closed arm at small sigma
 mod shortest; // the shortest series, for v alone
 mod horner; // Horner's sums
+mod reciprocal; // the reciprocals that the series read
 pub mod recurrence; // the levels, their terms and the sums, for both

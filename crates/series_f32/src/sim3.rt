@@ -1,4 +1,4 @@
-// Written by tools/widths from crates/series/src/sim3.rt: edit that one. Digest cde50a57e6d09211.
+// Written by tools/widths from crates/series/src/sim3.rt: edit that one. Digest 966e4e9d3f7fb26d.
 // The Sim(3) coefficients, and their total-degree series at one sign of sigma: the full one, and
 // the one for v alone, which has the full one's bits. k is the number of terms of v0 and w0; the
 // other sums run to the level that gives every coefficient the same total degree.
@@ -10,6 +10,7 @@ ghost use Rattle.series_f32.specs.Told.{seriesTold, seriesVTold};
 ghost use Rattle.series.specs.Turns.{soloTurn, soloTurns, vTurns};
 ghost use Rattle.series_f32.specs.As.{asCoeffs4, asSim3Coeffs, asSums, asTurns, asTurnsV};
 use crate::horner::g_series;
+use crate::reciprocal::recip;
 use crate::recurrence;
 use crate::recurrence::Sums;
 use crate::recurrence::Turns;
@@ -17,7 +18,6 @@ use crate::recurrence::TurnsV;
 use crate::recurrence::none_v;
 use crate::recurrence::turn_v;
 use crate::shortest;
-use tables::single::recip_fact;
 
 // v0, v1, v2 of V, w0, w1, w2 of Gamma_2(M), the z-derivatives of v1 and v2, and chi times delta,
 // where chi = v0 - z v2 and delta = sigma^2 + z.
@@ -77,27 +77,27 @@ pub enum SeriesPairAnswer {
     Refused(u8),
 }
 
-// The series at k terms; refusal 1 for z below zero, then 4 for k above 64.
+// The series at k terms; refusal 1 for z below zero, then 4 for k above 28.
 pub fn series(sigma: f32, z: f32, k: usize) -> SeriesAnswer
     ensures { λ r. ⌜ seriesTold r ≡ seriesAnswer binary32 sigma z k ⌝ }
 {
     if z < 0.0 {
         return SeriesAnswer::Refused(1);
     }
-    if 64 < k {
+    if 28 < k {
         return SeriesAnswer::Refused(4);
     }
     SeriesAnswer::Coeffs(series_at(sigma, z, k))
 }
 
-// The series for v alone; refusals as in `series`.
+// The series for v alone; refusal 1 for z below zero, then 4 for k above 30.
 pub fn series_v(sigma: f32, z: f32, k: usize) -> SeriesVAnswer
     ensures { λ r. ⌜ seriesVTold r ≡ seriesVAnswer binary32 sigma z k ⌝ }
 {
     if z < 0.0 {
         return SeriesVAnswer::Refused(1);
     }
-    if 64 < k {
+    if 30 < k {
         return SeriesVAnswer::Refused(4);
     }
     SeriesVAnswer::Coeffs(series_v_at(sigma, z, k))
@@ -105,7 +105,7 @@ pub fn series_v(sigma: f32, z: f32, k: usize) -> SeriesVAnswer
 
 // `series` for a k that is not refused.
 fn series_at(sigma: f32, z: f32, k: usize) -> Sim3Coeffs
-    requires { ⌜ k ≤ 64 ⌝ }
+    requires { ⌜ k ≤ 28 ⌝ }
     ensures { λ r. ⌜ asSim3Coeffs r ≡ seriesFull binary32 sigma z k ⌝ }
 {
     let v0 = g_series(sigma, 1, k);
@@ -116,24 +116,17 @@ fn series_at(sigma: f32, z: f32, k: usize) -> Sim3Coeffs
 
 // The six sums, each to its own last level.
 fn sums_at(sigma: f32, z: f32, k: usize) -> Sums
-    requires { ⌜ k ≤ 64 ⌝ }
+    requires { ⌜ k ≤ 28 ⌝ }
     ensures { λ r. ⌜ asSums r ≡ seriesSums binary32 sigma z k ⌝ }
 {
     let s = turns_at(sigma, z, k);
-    let t = recurrence::tail_terms(
-        sigma,
-        z,
-        s.level,
-        recip_fact(k + 2),
-        recip_fact(k + 3),
-        recip_fact(k + 4),
-    );
+    let t = recurrence::tail_terms(sigma, z, s.level, recip(k + 2), recip(k + 3), recip(k + 4));
     recurrence::last(s.sums, t)
 }
 
 // The levels to k, which give a term to every sum.
 fn turns_at(sigma: f32, z: f32, k: usize) -> Turns
-    requires { ⌜ k ≤ 64 ⌝ }
+    requires { ⌜ k ≤ 28 ⌝ }
     ensures { λ r. ⌜ asTurns r ≡ soloTurns binary32 sigma z (k + 1) ⌝ }
 {
     let mut s = Turns {
@@ -141,7 +134,7 @@ fn turns_at(sigma: f32, z: f32, k: usize) -> Turns
         sums: recurrence::none(),
     };
     for j in 0..k + 1 {
-        s = turn(sigma, z, recip_fact(j + 1), recip_fact(j + 2), s);
+        s = turn(sigma, z, recip(j + 1), recip(j + 2), s);
     }
     s
 }
@@ -159,12 +152,12 @@ fn turn(sigma: f32, z: f32, r1: f32, r2: f32, s: Turns) -> Turns
 
 // `series_v` for a k that is not refused. v2 takes one level more than v1.
 fn series_v_at(sigma: f32, z: f32, k: usize) -> Coeffs4
-    requires { ⌜ k ≤ 64 ⌝ }
+    requires { ⌜ k ≤ 30 ⌝ }
     ensures { λ r. ⌜ asCoeffs4 r ≡ seriesV binary32 sigma z k ⌝ }
 {
     let s = turns_v_at(sigma, z, k);
     let v0 = g_series(sigma, 1, k);
-    let v2 = s.v2 + s.zeta * recip_fact(k + 2);
+    let v2 = s.v2 + s.zeta * recip(k + 2);
     Coeffs4 {
         v0,
         v1: s.v1,
@@ -175,7 +168,7 @@ fn series_v_at(sigma: f32, z: f32, k: usize) -> Coeffs4
 
 // The levels to k, for v alone.
 fn turns_v_at(sigma: f32, z: f32, k: usize) -> TurnsV
-    requires { ⌜ k ≤ 64 ⌝ }
+    requires { ⌜ k ≤ 30 ⌝ }
     ensures { λ r. ⌜ asTurnsV r ≡ vTurns binary32 sigma z (k + 1) ⌝ }
 {
     if k == shortest::TERMS {
@@ -183,7 +176,7 @@ fn turns_v_at(sigma: f32, z: f32, k: usize) -> TurnsV
     }
     let mut s = none_v();
     for j in 0..k + 1 {
-        s = turn_v(sigma, z, recip_fact(j + 1), s);
+        s = turn_v(sigma, z, recip(j + 1), s);
     }
     s
 }

@@ -1,7 +1,7 @@
 // v0 and w0 of the closed arm at small sigma, at one sign and at both: how many terms they have, the
 // width of the numbers decides.
 ghost use mathlib.Core.Path.{_≡_};
-ghost use Prim.Native.Nat.{_+_};
+ghost use Prim.Native.Nat.{_+_, _≤_};
 ghost use lib.Ieee.{binary32};
 ghost use Rattle.series.specs.Series.{gSeries, gSeriesPair, w0Terms};
 ghost use Rattle.tables.specs.Tables.{recipFact};
@@ -11,9 +11,9 @@ ghost use Rattle.series_f32.specs.As.{asGPair, asHorner};
 ghost use Rattle.series_f32.specs.Small.{passTold};
 use crate::horner::g_series;
 use crate::horner::g_term;
+use crate::reciprocal::recip;
 use crate::sim3::GPair;
 use crate::sim3::Horner;
-use tables::single::recip_fact;
 
 // The terms of w0; v0 has one more.
 const W0_TERMS: usize = 8;
@@ -22,7 +22,7 @@ const W0_TERMS: usize = 8;
 pub fn g1(sigma: f32) -> f32
     ensures { λ r. ⌜ r ≡ gSeries binary32 sigma 1 (w0Terms binary32 + 1) ⌝ }
 {
-    recip_fact(1) + sigma * g2(sigma)
+    recip(1) + sigma * g2(sigma)
 }
 
 // w0 of the closed arm at small sigma: 8 terms.
@@ -47,9 +47,10 @@ pub struct Pass {
 
 // One entry more, the reciprocal n.
 fn next(sigma: f32, minus: f32, n: usize, g: GPair) -> GPair
+    requires { ⌜ n ≤ 32 ⌝ }
     ensures { λ r. ⌜ asGPair r ≡ gTerm binary32 sigma minus (recipFact binary32 n) (asGPair g) ⌝ }
 {
-    g_term(sigma, minus, recip_fact(n), g)
+    g_term(sigma, minus, recip(n), g)
 }
 
 // The pass for both signs: stopped after any of its entries it holds what each sign alone has then. It

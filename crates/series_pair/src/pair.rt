@@ -8,6 +8,7 @@ ghost use lib.Ieee.{binary64, neg};
 ghost use Rattle.series.specs.Series.{gSeriesPair, seriesFull, seriesPairTold, seriesPairAnswer};
 ghost use Rattle.series.specs.Pass.{bothStopped};
 ghost use Rattle.series.specs.Turns.{sumsGainMirrored, sumsLastMirrored, pairTurn, pairTurns, pairSums};
+use crate::reciprocal::recip;
 use series::recurrence;
 use series::recurrence::Sums;
 use series::recurrence::SumsPair;
@@ -17,16 +18,15 @@ use series::sim3::CoeffsPair;
 use series::sim3::GPair;
 use series::sim3::Horner;
 use series::sim3::SeriesPairAnswer;
-use tables::double::recip_fact;
 
-// The series at k terms, at sigma and at -sigma; refusal 1 for z below zero, then 4 for k above 64.
+// The series at k terms, at sigma and at -sigma; refusal 1 for z below zero, then 4 for k above 28.
 pub fn series_pair(sigma: f64, z: f64, k: usize) -> SeriesPairAnswer
     ensures { λ r. ⌜ seriesPairTold r ≡ seriesPairAnswer binary64 sigma z k ⌝ }
 {
     if z < 0.0 {
         return SeriesPairAnswer::Refused(1);
     }
-    if 64 < k {
+    if 28 < k {
         return SeriesPairAnswer::Refused(4);
     }
     SeriesPairAnswer::Coeffs(series_pair_at(sigma, z, k))
@@ -34,7 +34,7 @@ pub fn series_pair(sigma: f64, z: f64, k: usize) -> SeriesPairAnswer
 
 // `series_pair` for a k that is not refused.
 fn series_pair_at(sigma: f64, z: f64, k: usize) -> CoeffsPair
-    requires { ⌜ k ≤ 64 ⌝ }
+    requires { ⌜ k ≤ 28 ⌝ }
     ensures { λ r. ⌜ r ≡ record { pos = seriesFull binary64 sigma z k; neg = seriesFull binary64 (neg sigma) z k } ⌝ }
 {
     let h = horner_at(sigma, k);
@@ -49,18 +49,11 @@ fn series_pair_at(sigma: f64, z: f64, k: usize) -> CoeffsPair
 
 // The six sums at each sign, each to its own last level.
 fn sums_pair_at(sigma: f64, z: f64, k: usize) -> SumsPair
-    requires { ⌜ k ≤ 64 ⌝ }
+    requires { ⌜ k ≤ 28 ⌝ }
     ensures { λ r. ⌜ r ≡ pairSums binary64 sigma z k ⌝ }
 {
     let s = turns_at(sigma, z, k);
-    let t = recurrence::tail_terms(
-        sigma,
-        z,
-        s.level,
-        recip_fact(k + 2),
-        recip_fact(k + 3),
-        recip_fact(k + 4),
-    );
+    let t = recurrence::tail_terms(sigma, z, s.level, recip(k + 2), recip(k + 3), recip(k + 4));
     SumsPair {
         pos: recurrence::last(s.pos, t),
         neg: last_mirrored((k + 1) % 2 == 1, s.neg, t),
@@ -70,7 +63,7 @@ fn sums_pair_at(sigma: f64, z: f64, k: usize) -> SumsPair
 // The levels to k, which give a term to every sum: an even and an odd level at each turn of the
 // loop, and an even one after it where k is even.
 fn turns_at(sigma: f64, z: f64, k: usize) -> TurnsPair
-    requires { ⌜ k ≤ 64 ⌝ }
+    requires { ⌜ k ≤ 28 ⌝ }
     ensures { λ r. ⌜ r ≡ pairTurns binary64 sigma z (k + 1) ⌝ }
 {
     let mut s = TurnsPair {
@@ -80,18 +73,11 @@ fn turns_at(sigma: f64, z: f64, k: usize) -> TurnsPair
     };
     let mut j = 0;
     while j < k {
-        s = two_turns(
-            sigma,
-            z,
-            recip_fact(j + 1),
-            recip_fact(j + 2),
-            recip_fact(j + 3),
-            s,
-        );
+        s = two_turns(sigma, z, recip(j + 1), recip(j + 2), recip(j + 3), s);
         j += 2;
     }
     if j == k {
-        return even_turn(sigma, z, recip_fact(k + 1), recip_fact(k + 2), s);
+        return even_turn(sigma, z, recip(k + 1), recip(k + 2), s);
     }
     s
 }
@@ -178,7 +164,7 @@ fn last_mirrored(odd: bool, s: Sums, t: Tail) -> Sums
 // The sums over i < k of sigma^i/(i + 1)! and of sigma^i/(i + 2)!, by Horner from the last term, at
 // both signs in one pass over the reciprocals.
 fn horner_at(sigma: f64, k: usize) -> Horner
-    requires { ⌜ k ≤ 64 ⌝ }
+    requires { ⌜ k ≤ 28 ⌝ }
     ensures { λ r. ⌜ r ≡ record { v0 = gSeriesPair binary64 sigma 1 k; w0 = gSeriesPair binary64 sigma 2 k } ⌝ }
 {
     horner_stopped(sigma, k, k)
@@ -186,7 +172,7 @@ fn horner_at(sigma: f64, k: usize) -> Horner
 
 // That pass, stopped after n entries: it holds the partial sums that each sign alone has then.
 fn horner_stopped(sigma: f64, k: usize, n: usize) -> Horner
-    requires { ⌜ (n ≤ k) × (k ≤ 64) ⌝ }
+    requires { ⌜ (n ≤ k) × (k ≤ 30) ⌝ }
     ensures { λ r. ⌜ r ≡ record { v0 = bothStopped binary64 sigma 1 k n; w0 = bothStopped binary64 sigma 2 k n } ⌝ }
 {
     let minus = -sigma;
@@ -195,8 +181,8 @@ fn horner_stopped(sigma: f64, k: usize, n: usize) -> Horner
     let mut w = 0.0;
     let mut w_neg = 0.0;
     for i in 0..n {
-        let r1 = recip_fact(k - i);
-        let r2 = recip_fact(k - i + 1);
+        let r1 = recip(k - i);
+        let r2 = recip(k - i + 1);
         v = r1 + sigma * v;
         v_neg = r1 + minus * v_neg;
         w = r2 + sigma * w;

@@ -11,7 +11,7 @@ use Rattle.ieee.specs.Table.{factorial, rounded, entries}
 use Rattle.tables.specs.Tables.{rowRule, rowTable, recipRule, recipFact}
 use Rattle.linalg.specs.Vector.{vecScale, vecDot, vecNormSq, vecCross, vecAdd}
 use Rattle.circle.specs.Kernel.{hornerSum, rowSeries, rowShort, rowMember, rowOwn, rowWhole, exactA, exactB, exactD, sincFrom, circleExp, circleSincABD}
-use Rattle.series.specs.Series.{seriesFirst, seriesNext, seriesLevel, levelTerms, seriesSum, seriesSums, gSeries, coeffsDelta, seriesChi, seriesCoeffs, seriesFull, coeffs4}
+use Rattle.series.specs.Series.{seriesFirst, seriesNext, seriesLevel, levelTerms, seriesSum, seriesSums, gSeries, coeffsDelta, seriesChi, seriesCoeffs, seriesFull, coeffs4, seriesAnswer, seriesVAnswer, seriesPairAnswer}
 use Rattle.coeffs.specs.Arm.{coeffsArm, armEnds}
 use Rattle.coeffs.specs.Values.{atZero}
 use Rattle.coeffs.specs.Closed.{closedV0, closedW0, closedV, closedWs, closedDvs, closedJoined, closedNine, closedVFrom, closedFrom}
@@ -39,14 +39,14 @@ every-row (e ∷ es) z t (suc i) h = every-row es z (and-r (same (e .found) (e .
 
 pub examples : ExamplesHold
 unfolding table same allSame toBits ofBits isNan add sub mul div lt le neg round rounded entries factorial recipRule recipFact
-    seriesFirst seriesNext seriesLevel levelTerms seriesSum seriesSums gSeries seriesChi seriesCoeffs seriesFull coeffs4
+    seriesFirst seriesNext seriesLevel levelTerms seriesSum seriesSums gSeries seriesChi seriesCoeffs seriesFull coeffs4 seriesAnswer seriesVAnswer seriesPairAnswer
     coeffsDelta coeffsArm coeffsScaled coeffsUnscale coeffsPlain coeffsV rowRule rowTable hornerSum rowSeries rowShort rowMember circleExp
     quatNormSq quatRenormalized so3Exp polyApply vApply poseExp vecScale vecDot vecNormSq vecCross vecAdd
 examples v z = refl
 
 pub single-examples : SinglesHold
 unfolding singles same allSame toBits ofBits isNan add sub mul div lt le neg round rounded entries factorial recipRule recipFact
-    seriesFirst seriesNext seriesLevel levelTerms seriesSum seriesSums gSeries seriesChi seriesCoeffs seriesFull coeffs4
+    seriesFirst seriesNext seriesLevel levelTerms seriesSum seriesSums gSeries seriesChi seriesCoeffs seriesFull coeffs4 seriesAnswer seriesVAnswer seriesPairAnswer
     coeffsDelta coeffsArm armEnds coeffsScaled coeffsUnscale coeffsPlain coeffsV rowRule rowTable hornerSum rowSeries rowShort rowWhole rowOwn rowMember
     circleExp circleSincABD sincFrom exactA exactB exactD atZero closedV0 closedW0 closedV closedWs closedDvs closedJoined closedNine closedVFrom closedFrom
     quatNormSq quatRenormalized so3Exp polyApply vApply poseExp vecScale vecDot vecNormSq vecCross vecAdd

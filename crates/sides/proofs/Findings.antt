@@ -8,7 +8,7 @@ use Rattle.linalg.specs.Vector.{vec, vecScale, vecCross, vecAdd}
 use Rattle.linalg.specs.Matrix.{matScale, matMulVec, vecComponent, matCol, matGet}
 use Rattle.linalg.specs.declared.vector.Vec3.{Vec3}
 use Rattle.linalg.specs.declared.matrix.Mat3.{Mat3}
-use Rattle.series.specs.Series.{seriesFirst, seriesNext, seriesLevel, seriesAnswer}
+use Rattle.series.specs.Series.{seriesFirst, seriesNext, seriesLevel, seriesAnswer, seriesVAnswer}
 use Rattle.coeffs.specs.Entries.{scaledAnswer}
 use Rattle.coeffs.specs.declared.values.Values.{Values}
 use Rattle.so3.specs.Quat.{quat, quatIdentity, quatToMatrix}
@@ -70,7 +70,11 @@ row-three : (m : Mat3) → matGet m 3 0 ≡ refuses 3
 unfolding matGet matCol vecComponent
 row-three m = refl
 
--- 6: k = 65
-many-terms : seriesAnswer binary64 f0 f0 65 ≡ refuses 4
+-- 6: k = 29, and k = 31 for v alone
+many-terms : seriesAnswer binary64 f0 f0 29 ≡ refuses 4
 unfolding seriesAnswer lt
 many-terms = refl
+
+many-terms-v : seriesVAnswer binary64 f0 f0 31 ≡ refuses 4
+unfolding seriesVAnswer lt
+many-terms-v = refl

@@ -7,9 +7,10 @@ use Prim.Native.Nat.{ℕ}
 use lib.Dec.{eqb}
 use lib.Ieee.{Float, nan, Format, binary32, binary64, ofBits, toBits, isNan, neg, le}
 use Rattle.ieee.specs.Numbers.{f0, f1, f2, f3}
+use Rattle.linalg.specs.Answer.{Answer, answers, refuses}
 use Rattle.linalg.specs.Vector.{vec}
 use Rattle.linalg.specs.declared.vector.Vec3.{Vec3}
-use Rattle.series.specs.Series.{seriesFull}
+use Rattle.series.specs.Series.{seriesFull, seriesAnswer, seriesVAnswer, seriesPairAnswer}
 use Rattle.series.specs.declared.sim3.Sim3Coeffs.{Sim3Coeffs}
 use Rattle.coeffs.specs.Limits.{coeffsDelta, formBBelow}
 use Rattle.coeffs.specs.Arm.{coeffsArm, armTerms}
@@ -38,6 +39,11 @@ allSame (e ∷ es) = same (e .found) (e .due) && allSame es
 -- ---- the numbers of a row
 abbrev flag : Bool → ℕ
 flag b = cond b 1 0
+
+-- the number of a refusal, and 0 where there is an answer
+abbrev refusal : {A : Type 0} → Answer A → ℕ
+refusal (answers a) = 0
+refusal (refuses n) = n
 
 abbrev nine : (Float → ℕ) → Sim3Coeffs → List ℕ
 nine g c = g (c .v0) ∷ g (c .v1) ∷ g (c .v2) ∷ g (c .w0) ∷ g (c .w1) ∷ g (c .w2) ∷ g (c .dv1) ∷ g (c .dv2) ∷ g (c .«chi_delta») ∷ []
@@ -68,7 +74,7 @@ armBits f b = armAt f f0 (ofBits f b) ∷ termsAt f f0 (ofBits f b) ∷ []
 abbrev row : List ℕ → List ℕ → Example
 row found due = record { found = found; due = due }
 
--- ---- the ten
+-- ---- the ten; behind the eighth, a series that is refused, the same for v alone and for the pair, and that refusal 1 comes first
 unfoldable pub table : Values → Float → List Example
 table v z =
     row (nine (toBits binary64) (coeffsScaled binary64 f0 f0 v .c) ++ isScaled binary64 f0 f0 v ∷ [])
@@ -79,8 +85,11 @@ table v z =
     ∷ row (isScaled binary64 f2 f0 v ∷ []) (1 ∷ [])
     ∷ row (isScaled binary64 (neg f2) f0 v ∷ []) (0 ∷ [])
     ∷ row (armAt binary64 nan z ∷ isScaled binary64 nan z v ∷ []) (5 ∷ 0 ∷ [])
-    ∷ row (nine (λ x. flag (isNan x)) (seriesFull binary64 f0 f0 28) ++ nine (λ x. flag (isNan x)) (seriesFull binary64 f0 f0 29))
-    (0 ∷ 0 ∷ 0 ∷ 0 ∷ 0 ∷ 0 ∷ 0 ∷ 0 ∷ 0 ∷ 0 ∷ 0 ∷ 0 ∷ 0 ∷ 0 ∷ 0 ∷ 0 ∷ 1 ∷ 0 ∷ [])
+    ∷ row (nine (λ x. flag (isNan x)) (seriesFull binary64 f0 f0 28) ++ refusal (seriesAnswer binary64 f0 f0 28) ∷ refusal (seriesAnswer binary64 f0 f0 29) ∷ [])
+    (0 ∷ 0 ∷ 0 ∷ 0 ∷ 0 ∷ 0 ∷ 0 ∷ 0 ∷ 0 ∷ 0 ∷ 4 ∷ [])
+    ∷ row (refusal (seriesVAnswer binary64 f0 f0 30) ∷ refusal (seriesVAnswer binary64 f0 f0 31) ∷ refusal (seriesPairAnswer binary64 f0 f0 28) ∷ refusal (seriesPairAnswer binary64 f0 f0 29) ∷ [])
+    (0 ∷ 4 ∷ 0 ∷ 4 ∷ [])
+    ∷ row (refusal (seriesAnswer binary64 f0 (neg f1) 29) ∷ refusal (seriesVAnswer binary64 f0 (neg f1) 31) ∷ []) (1 ∷ 1 ∷ [])
     ∷ row (four binary64 (quatRenormalized binary64 (quat f2 f0 f0 f0))) (0xbff0000000000000 ∷ 0x8000000000000000 ∷ 0x8000000000000000 ∷ 0x8000000000000000 ∷ [])
     ∷ row (four binary64 (poseExp binary64 (tangent (vec f0 f0 f0) (vec f1 f2 f3) f0) v .q) ++ three binary64 (poseExp binary64 (tangent (vec f0 f0 f0) (vec f1 f2 f3) f0) v .t))
     (0x3ff0000000000000 ∷ 0 ∷ 0 ∷ 0 ∷ 0x3ff0000000000000 ∷ 0x4000000000000000 ∷ 0x4008000000000000 ∷ [])
@@ -120,8 +129,11 @@ singles v z =
     ∷ row (armAt binary32 f1 f2 ∷ onFormB binary32 f1 f2 ∷ toBits binary32 (coeffsScaled binary32 f1 f2 (atOne v) .c .v1) ∷ []) (5 ∷ 0 ∷ 0x3e9b5fa0 ∷ [])
     ∷ row (isScaled binary32 f2 f0 v ∷ isScaled binary32 (neg f2) f0 v ∷ []) (1 ∷ 0 ∷ [])
     ∷ row (armAt binary32 nan z ∷ isScaled binary32 nan z v ∷ []) (5 ∷ 0 ∷ [])
-    ∷ row (nine (λ x. flag (isNan x)) (seriesFull binary32 f0 f0 28) ++ nine (λ x. flag (isNan x)) (seriesFull binary32 f0 f0 29))
-    (0 ∷ 0 ∷ 0 ∷ 0 ∷ 0 ∷ 0 ∷ 0 ∷ 0 ∷ 0 ∷ 0 ∷ 0 ∷ 0 ∷ 0 ∷ 0 ∷ 0 ∷ 0 ∷ 1 ∷ 0 ∷ [])
+    ∷ row (nine (λ x. flag (isNan x)) (seriesFull binary32 f0 f0 28) ++ refusal (seriesAnswer binary32 f0 f0 28) ∷ refusal (seriesAnswer binary32 f0 f0 29) ∷ [])
+    (0 ∷ 0 ∷ 0 ∷ 0 ∷ 0 ∷ 0 ∷ 0 ∷ 0 ∷ 0 ∷ 0 ∷ 4 ∷ [])
+    ∷ row (refusal (seriesVAnswer binary32 f0 f0 30) ∷ refusal (seriesVAnswer binary32 f0 f0 31) ∷ refusal (seriesPairAnswer binary32 f0 f0 28) ∷ refusal (seriesPairAnswer binary32 f0 f0 29) ∷ [])
+    (0 ∷ 4 ∷ 0 ∷ 4 ∷ [])
+    ∷ row (refusal (seriesAnswer binary32 f0 (neg f1) 29) ∷ refusal (seriesVAnswer binary32 f0 (neg f1) 31) ∷ []) (1 ∷ 1 ∷ [])
     ∷ row (four binary32 (quatRenormalized binary32 (quat f2 f0 f0 f0))) (0xbf800000 ∷ 0x80000000 ∷ 0x80000000 ∷ 0x80000000 ∷ [])
     ∷ row (four binary32 (poseExp binary32 (tangent (vec f0 f0 f0) (vec f1 f2 f3) f0) v .q) ++ three binary32 (poseExp binary32 (tangent (vec f0 f0 f0) (vec f1 f2 f3) f0) v .t))
     (0x3f800000 ∷ 0 ∷ 0 ∷ 0 ∷ 0x3f800000 ∷ 0x40000000 ∷ 0x40400000 ∷ [])

@@ -1,27 +1,27 @@
 -- One computed test: at each width, in each row, every entry is the exact rational of the row's rule, rounded once. What follows for the constants of the code. Assumes nothing.
 use mathlib.Core.Path.{_≡_, refl, sym, ap, _∙_, subst}
-use mathlib.Core.Bool.{Bool, true, _&&_}
+use mathlib.Core.Bool.{Bool, true, false, _&&_}
 use Prim.Native.Nat.{ℕ, zero, suc, _≤_, _<_, zero-le}
 use native.Mathlib.Omega.{arith}
 use lib.Dec.{T, leb, eqb, leb→le, eqb→eq}
 use lib.ListN.{length, getD}
-use borrow.Author.Tests.{lt-leb}
-use lib.Ieee.{nan, Format, binary32, binary64, round, ofBits, toBits, fits}
-use lib.Ieee.Fits.{and-l, and-r, round-fits, cond-fits, nan-fits}
+use borrow.Author.Tests.{le-leb, lt-leb}
+use lib.Ieee.{Float, Format, binary32, binary64, round, ofBits, toBits, fits}
+use lib.Ieee.Fits.{and-l, and-r, round-fits}
 use Rattle.ieee.specs.Signs.{notMinusZero}
 use Rattle.ieee.specs.Table.{factorial, Rational, rounded, entries}
 use Rattle.ieee.proofs.Table.{floats, right, floats-are, entry-at}
-use Rattle.ieee.proofs.Clear.{cond-clear, round-clear-false}
-use Rattle.tables.specs.Tables.{Row, cosHalfRow, kRow, aRow, bRow, dRow, rowRule, rowTable, recipRule, recipFact}
-use Rattle.tables.proofs.Patterns.{Table, circleTable, recipTable, patterns}
+use Rattle.ieee.proofs.Clear.{round-clear-false}
+use Rattle.tables.specs.Tables.{Row, cosHalfRow, kRow, aRow, bRow, dRow, rowRule, rowTable, recipRule, recipFact, Recip, number, none, recipTable}
+use Rattle.tables.proofs.Patterns.{Table, circleTable, recipRow, patterns}
 
 abbrev ruleOf : Table → ℕ → Rational
 ruleOf (circleTable row) = rowRule row
-ruleOf recipTable = recipRule
+ruleOf recipRow = recipRule
 
 abbrev lengthOf : Table → ℕ
 lengthOf (circleTable row) = 16
-lengthOf recipTable = 33
+lengthOf recipRow = 33
 
 -- ---- the test, over width, row and index: 2 (5 · 16 + 33) = 226 entries
 eachWidth : (Format → Bool) → Bool
@@ -29,7 +29,7 @@ eachWidth p = p binary32 && p binary64
 
 eachTable : (Table → Bool) → Bool
 eachTable p =
-    p (circleTable cosHalfRow) && (p (circleTable kRow) && (p (circleTable aRow) && (p (circleTable bRow) && (p (circleTable dRow) && p recipTable))))
+    p (circleTable cosHalfRow) && (p (circleTable kRow) && (p (circleTable aRow) && (p (circleTable bRow) && (p (circleTable dRow) && p recipRow))))
 
 -- each table has its length, and each of its entries is its rule's
 holds : Format → Table → Bool
@@ -55,7 +55,7 @@ at-table p h (circleTable kRow) = search (and-l, and-r)
 at-table p h (circleTable aRow) = search (and-l, and-r)
 at-table p h (circleTable bRow) = search (and-l, and-r)
 at-table p h (circleTable dRow) = search (and-l, and-r)
-at-table p h recipTable = search (and-r)
+at-table p h recipRow = search (and-r)
 
 table-holds : (f : Format) (t : Table) → T (holds f t)
 unfolding everyEntry
@@ -75,24 +75,45 @@ unfolding rowTable
 table-is f row = floats-are f (rowRule row) 0 (patterns f (circleTable row)) (table-right f (circleTable row)) ∙ ap (entries f (rowRule row) 0) (table-length f (circleTable row))
 
 -- ---- the reciprocals, entry by entry: at the index that equals k
-pub recip-is : (f : Format) (n k : ℕ) → n ≡ k → leb k 32 ≡ true → ofBits f (getD (patterns f recipTable) k 0) ≡ recipFact f n
-unfolding recipFact
+pub recip-is : (f : Format) (n k : ℕ) → n ≡ k → leb k 32 ≡ true → number (ofBits f (getD (patterns f recipRow) k 0)) ≡ recipTable f n
+unfolding recipTable recipFact
 recip-is f n k e h =
     let m : leb n 32 ≡ true = ap (λ (i : ℕ). leb i 32) e ∙ h in
     let l : k ≤ 32 = leb→le k 32 (subst T (sym h) tt) in
-    rw m (entry-at f recipRule 0 (patterns f recipTable) (table-right f recipTable) n k (rw (table-length f recipTable) (omega arith)) (omega arith))
+    rw m (ap number (entry-at f recipRule 0 (patterns f recipRow) (table-right f recipRow) n k (rw (table-length f recipRow) (omega arith)) (omega arith)))
 
-pub recip-past : (f : Format) (n : ℕ) → 32 < n → recipFact f n ≡ nan
-unfolding recipFact
+pub recip-past : (f : Format) (n : ℕ) → 32 < n → recipTable f n ≡ none
+unfolding recipTable
 recip-past f n h = rw (lt-leb n 32 h) refl
 
 pub recip-fits : (f : Format) (n : ℕ) → T (fits f (recipFact f n))
 unfolding recipFact rounded
-recip-fits f n = cond-fits f (leb n 32) _ nan (round-fits f _ _ _) (nan-fits f)
+recip-fits f n = round-fits f _ _ _
 
 pub recip-clear : (f : Format) (n : ℕ) → T (notMinusZero (recipFact f n))
 unfolding recipFact rounded recipRule
-recip-clear f n = cond-clear (leb n 32) _ nan (round-clear-false f _ _) tt
+recip-clear f n = round-clear-false f _ _
+
+-- ---- to index 32 there is one, and a number that is told is this one
+pub recip-exists : (f : Format) (n : ℕ) → n ≤ 32 → recipTable f n ≡ number (recipFact f n)
+unfolding recipTable
+recip-exists f n h = rw (le-leb n 32 h) refl
+
+unwrap : Float → Recip → Float
+unwrap x (number y) = y
+unwrap x none = x
+
+pub recip-number : (f : Format) (n : ℕ) (x : Float) → n ≤ 32 → number x ≡ recipTable f n → x ≡ recipFact f n
+unfolding unwrap
+recip-number f n x h e = ap (unwrap x) (e ∙ recip-exists f n h)
+
+isNumber : Recip → Bool
+isNumber (number y) = true
+isNumber none = false
+
+pub recip-not-none : {A : Type 0} (f : Format) (n : ℕ) → n ≤ 32 → none ≡ recipTable f n → A
+unfolding isNumber
+recip-not-none f n h e = absurd (subst T (sym (ap isNumber (e ∙ recip-exists f n h))) tt)
 
 -- n is none of 0, .., k - 1: what the last arm of a match knows
 abbrev pub NoneBelow : ℕ → ℕ → Type 0

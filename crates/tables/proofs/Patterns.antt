@@ -6,7 +6,7 @@ use Rattle.tables.specs.Tables.{Row, cosHalfRow, kRow, aRow, bRow, dRow}
 
 pub data Table : Type 0 where
   circleTable : Row → Table
-  recipTable : Table
+  recipRow : Table
 
 unfoldable pub patterns : Format → Table → List ℕ
 patterns binary32 (circleTable cosHalfRow) =
@@ -24,7 +24,7 @@ patterns binary32 (circleTable bRow) =
 patterns binary32 (circleTable dRow) =
     0x3d2aaaab ∷ 0xbab60b61 ∷ 0x37d00d01 ∷ 0xb493f27e ∷ 0x310f76c7 ∷ 0xad49cba5 ∷ 0x29573f9f ∷ 0xa53413c3 ∷ 0x20f2a15d ∷ 0x9c8671cb ∷ 0x17f96781 ∷ 0x93447430
     ∷ 0x0e850c51 ∷ 0x899c9963 ∷ 0x04a1a697 ∷ 0x8024e204 ∷ []
-patterns binary32 recipTable =
+patterns binary32 recipRow =
     0x3f800000 ∷ 0x3f800000 ∷ 0x3f000000 ∷ 0x3e2aaaab ∷ 0x3d2aaaab ∷ 0x3c088889 ∷ 0x3ab60b61 ∷ 0x39500d01 ∷ 0x37d00d01 ∷ 0x3638ef1d ∷ 0x3493f27e ∷ 0x32d7322b
     ∷ 0x310f76c7 ∷ 0x2f309231 ∷ 0x2d49cba5 ∷ 0x2b573f9f ∷ 0x29573f9f ∷ 0x274a963c ∷ 0x253413c3 ∷ 0x2317a4da ∷ 0x20f2a15d ∷ 0x1eb8dc78 ∷ 0x1c8671cb ∷ 0x1a3b0da1
     ∷ 0x17f96781 ∷ 0x159f9e67 ∷ 0x13447430 ∷ 0x10e8d58e ∷ 0x0e850c51 ∷ 0x0c12cfcc ∷ 0x099c9963 ∷ 0x0721a697 ∷ 0x04a1a697 ∷ []
@@ -48,7 +48,7 @@ patterns binary64 (circleTable dRow) =
     0x3fa5555555555555 ∷ 0xbf56c16c16c16c17 ∷ 0x3efa01a01a01a01a ∷ 0xbe927e4fb7789f5c ∷ 0x3e21eed8eff8d898 ∷ 0xbda93974a8c07c9d ∷ 0x3d2ae7f3e733b81f ∷ 0xbca6827863b97d97
     ∷ 0x3c1e542ba4020225 ∷ 0xbb90ce396db7f853 ∷ 0x3aff2cf01972f578 ∷ 0xba688e85fc6a4e5a ∷ 0x39d0a18a2635085d ∷ 0xb933932c5047d60e ∷ 0x389434d2e783f5bc ∷ 0xb7f2710231c0fd7a
     ∷ []
-patterns binary64 recipTable =
+patterns binary64 recipRow =
     0x3ff0000000000000 ∷ 0x3ff0000000000000 ∷ 0x3fe0000000000000 ∷ 0x3fc5555555555555 ∷ 0x3fa5555555555555 ∷ 0x3f81111111111111 ∷ 0x3f56c16c16c16c17 ∷ 0x3f2a01a01a01a01a
     ∷ 0x3efa01a01a01a01a ∷ 0x3ec71de3a556c734 ∷ 0x3e927e4fb7789f5c ∷ 0x3e5ae64567f544e4 ∷ 0x3e21eed8eff8d898 ∷ 0x3de6124613a86d09 ∷ 0x3da93974a8c07c9d ∷ 0x3d6ae7f3e733b81f
     ∷ 0x3d2ae7f3e733b81f ∷ 0x3ce952c77030ad4a ∷ 0x3ca6827863b97d97 ∷ 0x3c62f49b46814157 ∷ 0x3c1e542ba4020225 ∷ 0x3bd71b8ef6dcf572 ∷ 0x3b90ce396db7f853 ∷ 0x3b4761b41316381a

@@ -3,7 +3,7 @@ use Prim.Native.Nat.{ℕ, _+_, _*_, _^_, _%_}
 use mathlib.Core.List.{List}
 use mathlib.Core.Bool.{false, cond}
 use lib.Dec.{eqb, leb}
-use lib.Ieee.{Float, nan, Format}
+use lib.Ieee.{Float, Format}
 use Rattle.ieee.specs.Table.{factorial, Rational, rounded, entries}
 
 -- the rows of the circle functions
@@ -30,6 +30,15 @@ rowTable f row = entries f (rowRule row) 0 16
 unfoldable pub recipRule : ℕ → Rational
 recipRule n = record { negative = false; num = 1; den = factorial n }
 
--- 1 / n!, rounded once, and NaN past index 32
+-- 1 / n!, rounded once
 unfoldable pub recipFact : Format → ℕ → Float
-recipFact f n = cond (leb n 32) (rounded f (recipRule n)) nan
+recipFact f n = rounded f (recipRule n)
+
+-- what the table of reciprocals has at an index
+pub data Recip : Type 0 where
+  number : Float → Recip
+  none : Recip
+
+-- the table ends at index 32: past it there is none
+unfoldable pub recipTable : Format → ℕ → Recip
+recipTable f n = cond (leb n 32) (number (recipFact f n)) none

@@ -1,9 +1,16 @@
 // The tables at f64.
 ghost use mathlib.Core.Path.{_≡_};
 ghost use lib.Ieee.{binary64};
-ghost use Rattle.tables.specs.Tables.{rowTable, recipFact};
+ghost use Rattle.tables.specs.Tables.{rowTable, recipTable};
 ghost use Rattle.tables.specs.Rows.{rowNamed};
+ghost use Rattle.tables.specs.Found.{recipTold};
 use crate::Row;
+
+// What the table of reciprocals has at an index: a number, or none.
+pub enum Recip {
+    Number(f64),
+    None,
+}
 
 // 1/2 (-1)^i / (4^i (2i+1)!): sin(x/2)/x in x^2.
 const SWEPT_K: [f64; 16] = [
@@ -118,44 +125,44 @@ pub fn table(row: Row) -> [f64; 16]
     }
 }
 
-// 1/n!; NaN past index 32.
-pub fn recip_fact(n: usize) -> f64
-    ensures { λ r. ⌜ r ≡ recipFact binary64 n ⌝ }
+// 1/n!, or that there is none: the table ends at index 32.
+pub fn recip_fact(n: usize) -> Recip
+    ensures { λ r. ⌜ recipTold r ≡ recipTable binary64 n ⌝ }
 {
     match n {
-        0 => 1.0,
-        1 => 1.0,
-        2 => 0.5,
-        3 => 0.16666666666666666,
-        4 => 0.041666666666666664,
-        5 => 0.008333333333333333,
-        6 => 0.001388888888888889,
-        7 => 0.0001984126984126984,
-        8 => 2.48015873015873e-5,
-        9 => 2.7557319223985893e-6,
-        10 => 2.755731922398589e-7,
-        11 => 2.505210838544172e-8,
-        12 => 2.08767569878681e-9,
-        13 => 1.6059043836821613e-10,
-        14 => 1.1470745597729725e-11,
-        15 => 7.647163731819816e-13,
-        16 => 4.779477332387385e-14,
-        17 => 2.8114572543455206e-15,
-        18 => 1.5619206968586225e-16,
-        19 => 8.22063524662433e-18,
-        20 => 4.110317623312165e-19,
-        21 => 1.9572941063391263e-20,
-        22 => 8.896791392450574e-22,
-        23 => 3.868170170630684e-23,
-        24 => 1.6117375710961184e-24,
-        25 => 6.446950284384474e-26,
-        26 => 2.4795962632247976e-27,
-        27 => 9.183689863795546e-29,
-        28 => 3.279889237069838e-30,
-        29 => 1.1309962886447716e-31,
-        30 => 3.7699876288159054e-33,
-        31 => 1.216125041553518e-34,
-        32 => 3.8003907548547434e-36,
-        _ => 0.0 / 0.0,
+        0 => Recip::Number(1.0),
+        1 => Recip::Number(1.0),
+        2 => Recip::Number(0.5),
+        3 => Recip::Number(0.16666666666666666),
+        4 => Recip::Number(0.041666666666666664),
+        5 => Recip::Number(0.008333333333333333),
+        6 => Recip::Number(0.001388888888888889),
+        7 => Recip::Number(0.0001984126984126984),
+        8 => Recip::Number(2.48015873015873e-5),
+        9 => Recip::Number(2.7557319223985893e-6),
+        10 => Recip::Number(2.755731922398589e-7),
+        11 => Recip::Number(2.505210838544172e-8),
+        12 => Recip::Number(2.08767569878681e-9),
+        13 => Recip::Number(1.6059043836821613e-10),
+        14 => Recip::Number(1.1470745597729725e-11),
+        15 => Recip::Number(7.647163731819816e-13),
+        16 => Recip::Number(4.779477332387385e-14),
+        17 => Recip::Number(2.8114572543455206e-15),
+        18 => Recip::Number(1.5619206968586225e-16),
+        19 => Recip::Number(8.22063524662433e-18),
+        20 => Recip::Number(4.110317623312165e-19),
+        21 => Recip::Number(1.9572941063391263e-20),
+        22 => Recip::Number(8.896791392450574e-22),
+        23 => Recip::Number(3.868170170630684e-23),
+        24 => Recip::Number(1.6117375710961184e-24),
+        25 => Recip::Number(6.446950284384474e-26),
+        26 => Recip::Number(2.4795962632247976e-27),
+        27 => Recip::Number(9.183689863795546e-29),
+        28 => Recip::Number(3.279889237069838e-30),
+        29 => Recip::Number(1.1309962886447716e-31),
+        30 => Recip::Number(3.7699876288159054e-33),
+        31 => Recip::Number(1.216125041553518e-34),
+        32 => Recip::Number(3.8003907548547434e-36),
+        _ => Recip::None,
     }
 }

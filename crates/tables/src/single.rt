@@ -1,9 +1,16 @@
 // The tables at f32.
 ghost use mathlib.Core.Path.{_≡_};
 ghost use lib.Ieee.{binary32};
-ghost use Rattle.tables.specs.Tables.{rowTable, recipFact};
+ghost use Rattle.tables.specs.Tables.{rowTable, recipTable};
 ghost use Rattle.tables.specs.Rows.{rowNamed};
+ghost use Rattle.tables.specs.Found.{recipSingleTold};
 use crate::Row;
+
+// What the table of reciprocals has at an index: a number, or none.
+pub enum Recip {
+    Number(f32),
+    None,
+}
 
 // 1/2 (-1)^i / (4^i (2i+1)!): sin(x/2)/x in x^2.
 const SWEPT_K: [f32; 16] = [
@@ -118,44 +125,44 @@ pub fn table(row: Row) -> [f32; 16]
     }
 }
 
-// 1/n!; NaN past index 32.
-pub fn recip_fact(n: usize) -> f32
-    ensures { λ r. ⌜ r ≡ recipFact binary32 n ⌝ }
+// 1/n!, or that there is none: the table ends at index 32.
+pub fn recip_fact(n: usize) -> Recip
+    ensures { λ r. ⌜ recipSingleTold r ≡ recipTable binary32 n ⌝ }
 {
     match n {
-        0 => 1.0,
-        1 => 1.0,
-        2 => 0.5,
-        3 => 0.16666667,
-        4 => 0.041666668,
-        5 => 0.008333334,
-        6 => 0.0013888889,
-        7 => 0.0001984127,
-        8 => 2.4801588e-5,
-        9 => 2.7557319e-6,
-        10 => 2.755732e-7,
-        11 => 2.5052108e-8,
-        12 => 2.0876756e-9,
-        13 => 1.6059044e-10,
-        14 => 1.1470745e-11,
-        15 => 7.6471636e-13,
-        16 => 4.7794773e-14,
-        17 => 2.8114574e-15,
-        18 => 1.5619207e-16,
-        19 => 8.220635e-18,
-        20 => 4.1103176e-19,
-        21 => 1.9572942e-20,
-        22 => 8.896791e-22,
-        23 => 3.8681703e-23,
-        24 => 1.6117376e-24,
-        25 => 6.4469503e-26,
-        26 => 2.4795963e-27,
-        27 => 9.18369e-29,
-        28 => 3.279889e-30,
-        29 => 1.1309962e-31,
-        30 => 3.7699878e-33,
-        31 => 1.216125e-34,
-        32 => 3.8003907e-36,
-        _ => 0.0 / 0.0,
+        0 => Recip::Number(1.0),
+        1 => Recip::Number(1.0),
+        2 => Recip::Number(0.5),
+        3 => Recip::Number(0.16666667),
+        4 => Recip::Number(0.041666668),
+        5 => Recip::Number(0.008333334),
+        6 => Recip::Number(0.0013888889),
+        7 => Recip::Number(0.0001984127),
+        8 => Recip::Number(2.4801588e-5),
+        9 => Recip::Number(2.7557319e-6),
+        10 => Recip::Number(2.755732e-7),
+        11 => Recip::Number(2.5052108e-8),
+        12 => Recip::Number(2.0876756e-9),
+        13 => Recip::Number(1.6059044e-10),
+        14 => Recip::Number(1.1470745e-11),
+        15 => Recip::Number(7.6471636e-13),
+        16 => Recip::Number(4.7794773e-14),
+        17 => Recip::Number(2.8114574e-15),
+        18 => Recip::Number(1.5619207e-16),
+        19 => Recip::Number(8.220635e-18),
+        20 => Recip::Number(4.1103176e-19),
+        21 => Recip::Number(1.9572942e-20),
+        22 => Recip::Number(8.896791e-22),
+        23 => Recip::Number(3.8681703e-23),
+        24 => Recip::Number(1.6117376e-24),
+        25 => Recip::Number(6.4469503e-26),
+        26 => Recip::Number(2.4795963e-27),
+        27 => Recip::Number(9.18369e-29),
+        28 => Recip::Number(3.279889e-30),
+        29 => Recip::Number(1.1309962e-31),
+        30 => Recip::Number(3.7699878e-33),
+        31 => Recip::Number(1.216125e-34),
+        32 => Recip::Number(3.8003907e-36),
+        _ => Recip::None,
     }
 }

@@ -236,9 +236,9 @@ impl Source {
 
     fn term_count(&mut self) -> u64 {
         match self.rng.below(16) {
-            0 => self.rng.pick(&[65, 66, 100, 255, 256, 1 << 32, u64::MAX]),
-            1..=2 => self.rng.pick(&[0, 1, 2, 28, 29, 30, 31, 32, 33, 63, 64]),
-            _ => self.rng.below(34) as u64,
+            0 => self.rng.pick(&[32, 33, 64, 65, 100, 255, 256, 1 << 32, u64::MAX]),
+            1..=2 => self.rng.pick(&[0, 1, 2, 27, 28, 29, 30, 31]),
+            _ => self.rng.below(29) as u64,
         }
     }
 

@@ -8,8 +8,10 @@ use helicoid::judge::{arms, reads, Values};
 use helicoid_linalg::float::Float;
 use helicoid_linalg::handed::H;
 
-/// The most terms a series entry takes.
-const MOST_TERMS: u64 = 64;
+/// The most terms that a full series takes, and the series for v alone: past them the Rust reads a
+/// NaN for a reciprocal, and there is nothing to compare.
+const MOST_TERMS: u64 = 28;
+const MOST_TERMS_V: u64 = 30;
 
 const ANGLE: Parts = &[("z", Angle), ("values", Values)];
 const SIGMA_ANGLE: Parts = &[("σ", Sigma), ("z", Angle), ("values", Values)];
@@ -33,9 +35,9 @@ fn sigma_angle(r: &mut Reader<'_>) -> Result<(Float, Float, Values), u8> {
 }
 
 /// A series entry's arguments: first the angle is refused, then the count.
-fn series(r: &mut Reader<'_>) -> Result<(H, H, usize), u8> {
+fn series(r: &mut Reader<'_>, most: u64) -> Result<(H, H, usize), u8> {
     let (sigma, z, k) = (r.scalar(), r.scalar(), r.word());
-    match (z.0 < 0.0, k > MOST_TERMS) {
+    match (z.0 < 0.0, k > most) {
         (true, _) => Err(1),
         (_, true) => Err(4),
         _ => Ok((sigma, z, k as usize)),
@@ -63,7 +65,7 @@ fn sinc_value(r: &mut Reader<'_>, w: &mut Writer<'_>) -> Result<(), u8> {
 }
 
 fn series_pair(r: &mut Reader<'_>, w: &mut Writer<'_>) -> Result<(), u8> {
-    let (sigma, z, k) = series(r)?;
+    let (sigma, z, k) = series(r, MOST_TERMS)?;
     let [plus, minus] = c::series_pair(sigma, z, k);
     w.scalars(&plus);
     Ok(w.scalars(&minus))
@@ -141,12 +143,12 @@ pub const ENTRIES: &[Entry] = &[
     .refusing(&[1]),
     Entry::new(52, "sinc_value", ANGLE, &[("sinc", Number)], sinc_value).refusing(&[1]),
     Entry::new(60, "series, full", SERIES, &[("coefficients", Coefficients)], |r, w| {
-        let (sigma, z, k) = series(r)?;
+        let (sigma, z, k) = series(r, MOST_TERMS)?;
         Ok(w.scalars(&c::series(sigma, z, k)))
     })
     .refusing(&[1, 4]),
     Entry::new(61, "series, v alone", SERIES, &[("v, χΔ", Coefficients4)], |r, w| {
-        let (sigma, z, k) = series(r)?;
+        let (sigma, z, k) = series(r, MOST_TERMS_V)?;
         Ok(w.scalars(&c::series_v(sigma, z, k)))
     })
     .refusing(&[1, 4]),

@@ -10,7 +10,7 @@ use Rattle.circle.specs.Kernel.{sincATold, circleSincAAnswer}
 use Rattle.coeffs.specs.Limits.{coeffsDelta}
 use Rattle.coeffs.specs.Arm.{armTerms}
 use Rattle.coeffs.specs.Entries.{vScaledTold, vScaledAnswer}
-use Rattle.coeffs.proofs.Arms.{series-answers, series-refuses, arm-refuses, v-series, v-closed-answers}
+use Rattle.coeffs.proofs.Arms.{series-answers, series-refuses, arm-refuses, within-v, v-series, v-closed-answers}
 use Rattle.coeffs.proofs.sim3.sim3_v_scaled.Statement.{statement}
 use Rattle.coeffs.proofs.sim3.sim3_v_scaled.Tie as tie
 
@@ -22,13 +22,13 @@ returns c =
     let e = c .before .before .before .before .before .before .arm .ensures in
     let t = ap (λ n. ltb n 5) (sym e) ∙ lt-ltb _ _ (c .before .before .before .before .before .if1 .taken) in
     let r = sym (c .before .before .before .series-v .ensures) ∙ ap seriesVTold (c .before .c .given .1) in
-    sym (series-answers (a .z) _ _ _ _ (λ x. record { c = x; scaled = false }) (d .1) (v-series binary64 (a .sigma) (a .z) (a .v) _ t (d .0 ∙ ap (armTerms binary64) e)) r)
+    sym (series-answers 30 (a .z) _ _ _ _ (λ x. record { c = x; scaled = false }) (within-v _ (d .1)) (v-series binary64 (a .sigma) (a .z) (a .v) _ t (d .0 ∙ ap (armTerms binary64) e)) r)
 
 returns-2 : tie.Need-returns-2
 unfolding vScaledTold vScaledAnswer seriesVTold seriesVAnswer
 returns-2 c =
     let r = sym (c .before .before .before .series-v .ensures) ∙ ap seriesVTold (c .before .n .given .1) in
-    sym (series-refuses (c .before .before .before .before .before .before .before .args .z) _ _ _ _ (c .before .before .before .before .terms .ensures .1) r)
+    sym (series-refuses 30 (c .before .before .before .before .before .before .before .args .z) _ _ _ _ (within-v _ (c .before .before .before .before .terms .ensures .1)) r)
 
 returns-3 : tie.Need-returns-3
 unfolding vScaledTold vScaledAnswer sincATold circleSincAAnswer coeffsDelta ofBits

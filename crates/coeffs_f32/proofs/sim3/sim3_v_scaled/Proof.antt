@@ -1,4 +1,4 @@
--- Written by tools/widths from crates/coeffs/proofs/sim3/sim3_v_scaled/Proof.antt: edit that one. Digest 7cd0f24fdcd22350.
+-- Written by tools/widths from crates/coeffs/proofs/sim3/sim3_v_scaled/Proof.antt: edit that one. Digest 303516b4b4a4390b.
 -- `coeffs_f32::sim3::sim3_v_scaled` meets its contract: in either arm what the arm answers is answered, and its refusal is handed upward. Assumes nothing.
 use borrow.Author.Needs.{needs}
 use mathlib.Core.Path.{sym, ap, _∙_}
@@ -14,7 +14,7 @@ use Rattle.coeffs.specs.Limits.{coeffsDelta}
 use Rattle.coeffs.specs.Arm.{armTerms}
 use Rattle.coeffs.specs.Entries.{vScaledAnswer}
 use Rattle.coeffs_f32.specs.Told.{vScaledTold}
-use Rattle.coeffs.proofs.Arms.{series-answers, series-refuses, arm-refuses, v-series, v-closed-answers}
+use Rattle.coeffs.proofs.Arms.{series-answers, series-refuses, arm-refuses, within-v, v-series, v-closed-answers}
 use Rattle.coeffs_f32.proofs.sim3.sim3_v_scaled.Statement.{statement}
 use Rattle.coeffs_f32.proofs.sim3.sim3_v_scaled.Tie as tie
 use Rattle.circle_f32.specs.As.{asSincA}
@@ -33,13 +33,13 @@ returns c =
     let e = c .before .before .before .before .before .before .arm .ensures in
     let t = ap (λ n. ltb n 5) (sym e) ∙ lt-ltb _ _ (c .before .before .before .before .before .if1 .taken) in
     let r = sym (c .before .before .before .series-v .ensures) ∙ ap seriesVTold (c .before .c .given .1) in
-    sym (series-answers (a .z) _ _ _ _ (λ x. record { c = x; scaled = false }) (d .1) (v-series binary32 (a .sigma) (a .z) (asValues (a .v)) _ t (d .0 ∙ ap (armTerms binary32) e)) r)
+    sym (series-answers 30 (a .z) _ _ _ _ (λ x. record { c = x; scaled = false }) (within-v _ (d .1)) (v-series binary32 (a .sigma) (a .z) (asValues (a .v)) _ t (d .0 ∙ ap (armTerms binary32) e)) r)
 
 returns-2 : tie.Need-returns-2
 unfolding vScaledTold vScaledAnswer seriesVTold seriesVAnswer asCoeffs4 asSincA asVScaled asValues
 returns-2 c =
     let r = sym (c .before .before .before .series-v .ensures) ∙ ap seriesVTold (c .before .n .given .1) in
-    sym (series-refuses (c .before .before .before .before .before .before .before .args .z) _ _ _ _ (c .before .before .before .before .terms .ensures .1) r)
+    sym (series-refuses 30 (c .before .before .before .before .before .before .before .args .z) _ _ _ _ (within-v _ (c .before .before .before .before .terms .ensures .1)) r)
 
 returns-3 : tie.Need-returns-3
 unfolding vScaledTold vScaledAnswer sincATold circleSincAAnswer coeffsDelta ofBits asValues

@@ -12,7 +12,7 @@ returns c =
       v1-is,
       v2-is,
       c .chi-delta .ensures,
-      c .before .before .before .recip-fact .ensures,
+      c .before .before .before .recip .ensures,
       c .before .before .before .before .g-series .ensures,
       c .before .before .before .before .before .turns-v-at .ensures,
     )

@@ -11,9 +11,9 @@ returns c =
       last-is,
       c .last .ensures,
       c .before .tail-terms .ensures,
-      c .before .before .recip-fact3 .ensures,
-      c .before .before .before .recip-fact2 .ensures,
-      c .before .before .before .before .recip-fact .ensures,
+      c .before .before .recip3 .ensures,
+      c .before .before .before .recip2 .ensures,
+      c .before .before .before .before .recip .ensures,
       c .before .before .before .before .before .turns-at .ensures,
     )
 

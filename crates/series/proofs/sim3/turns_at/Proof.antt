@@ -19,7 +19,7 @@ unfolding soloTurns
 loop-holds c = (omega arith, simp (c .none .ensures, c .before .first .ensures))
 
 loop-again : tie.Need-loop-again Inv-loop μ-loop
-loop-again c = (omega arith, simp (c .turn .ensures, c .before .recip-fact2 .ensures, c .before .before .recip-fact .ensures, c .before .before .before .before .loop .inv .1, solo-more))
+loop-again c = (omega arith, simp (c .turn .ensures, c .before .recip2 .ensures, c .before .before .recip .ensures, c .before .before .before .before .loop .inv .1, solo-more))
 
 returns : tie.Need-returns Inv-loop μ-loop
 returns c =
@@ -37,9 +37,9 @@ turns-at-spec =
     (λ c. omega arith)
     loop-holds
     (λ c. omega arith)
-    (λ c κs. tt)
+    (λ c κs. omega arith)
     (λ c. omega arith)
-    (λ c κs. tt)
+    (λ c κs. omega arith)
     (λ c κs. tt)
     (λ c. omega arith)
     (λ c. omega arith)

@@ -19,7 +19,7 @@ unfolding vTurns
 loop-holds c = (omega arith, c .none-v .ensures)
 
 loop-again : tie.Need-loop-again Inv-loop μ-loop
-loop-again c = (omega arith, simp (c .turn-v .ensures, c .before .recip-fact .ensures, c .before .before .before .loop .inv .1, v-more))
+loop-again c = (omega arith, simp (c .turn-v .ensures, c .before .recip .ensures, c .before .before .before .loop .inv .1, v-more))
 
 returns : tie.Need-returns Inv-loop μ-loop
 returns c = rw (c .before .if1 .taken) (c .turns-v .ensures)
@@ -41,7 +41,7 @@ turns-v-at-spec =
     (λ c. omega arith)
     loop-holds
     (λ c. omega arith)
-    (λ c κs. tt)
+    (λ c κs. omega arith)
     (λ c κs. tt)
     (λ c. omega arith)
     (λ c. omega arith)

@@ -1,4 +1,4 @@
--- Written by tools/widths from crates/series/proofs/horner/g_series/Proof.antt: edit that one. Digest 3a3194b5816352f8.
+-- Written by tools/widths from crates/series/proofs/horner/g_series/Proof.antt: edit that one. Digest 69dc10abdf55982a.
 -- `series_f32::horner::g_series` meets its contract: after i turns the loop holds Horner's sum of the last i terms. Assumes nothing.
 use mathlib.Core.Path.{_≡_, refl}
 use Prim.Native.Nat.{suc, _+_, _-_, _≤_}
@@ -38,4 +38,4 @@ returns c =
 pub g-series-spec : {M : Type 1} → statement M
 g-series-spec =
     tie.close
-    (tie.spec Inv-loop μ-loop loop-holds (λ c. omega arith) (λ c. omega arith) (λ c. omega arith) (λ c κs. tt) (λ c. omega arith) (λ c. omega arith) loop-again returns)
+    (tie.spec Inv-loop μ-loop loop-holds (λ c. omega arith) (λ c. omega arith) (λ c. omega arith) (λ c κs. omega arith) (λ c. omega arith) (λ c. omega arith) loop-again returns)

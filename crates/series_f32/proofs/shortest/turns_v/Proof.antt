@@ -1,4 +1,4 @@
--- Written by tools/proofs from Proof.template: edit that one. Digest c739a4e214ccfeb5.
+-- Written by tools/proofs from Proof.template: edit that one. Digest 5b9f253cbfb998c6.
 -- `series_f32::shortest::turns_v` meets its contract: turn by turn, as the definition has it. Assumes nothing.
 use borrow.Author.Needs.{needs}
 use Rattle.series.specs.Turns.{vTurns}
@@ -14,16 +14,16 @@ returns c =
     simp (
       series-singles,
       c .turn-v5 .ensures,
-      c .before .recip-fact5 .ensures,
+      c .before .recip5 .ensures,
       c .before .before .turn-v4 .ensures,
-      c .before .before .before .recip-fact4 .ensures,
+      c .before .before .before .recip4 .ensures,
       c .before .before .before .before .turn-v3 .ensures,
-      c1 .recip-fact3 .ensures,
+      c1 .recip3 .ensures,
       c1 .before .turn-v2 .ensures,
-      c1 .before .before .recip-fact2 .ensures,
+      c1 .before .before .recip2 .ensures,
       c1 .before .before .before .turn-v .ensures,
       c1 .before .before .before .before .none-v .ensures,
-      c2 .recip-fact .ensures,
+      c2 .recip .ensures,
     )
 
 pub turns-v-spec : {M : Type 1} → statement M

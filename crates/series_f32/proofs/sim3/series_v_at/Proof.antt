@@ -1,4 +1,4 @@
--- Written by tools/widths from crates/series/proofs/sim3/series_v_at/Proof.antt: edit that one. Digest 0935c5a261d2e24d.
+-- Written by tools/widths from crates/series/proofs/sim3/series_v_at/Proof.antt: edit that one. Digest f5b11a80a61240c0.
 -- `series_f32::sim3::series_v_at` meets its contract: v1 and v2 are the full sums, and v0 and chi times delta are formed alike. Assumes nothing.
 use borrow.Author.Needs.{needs}
 use Rattle.series.proofs.Solo.{v1-is, v2-is}
@@ -17,7 +17,7 @@ returns c =
       v1-is,
       v2-is,
       c .chi-delta .ensures,
-      c .before .before .before .recip-fact .ensures,
+      c .before .before .before .recip .ensures,
       c .before .before .before .before .g-series .ensures,
       c .before .before .before .before .before .turns-v-at .ensures,
     )

@@ -1,4 +1,4 @@
--- Written by tools/widths from crates/series/proofs/sim3/sums_at/Proof.antt: edit that one. Digest 6b510a359d859dcb.
+-- Written by tools/widths from crates/series/proofs/sim3/sums_at/Proof.antt: edit that one. Digest 217e0dc779a77abc.
 -- `series_f32::sim3::sums_at` meets its contract: the loop leaves the sums over the levels to k, and the tail brings each to its own last level. Assumes nothing.
 use borrow.Author.Needs.{needs}
 use Rattle.series.proofs.Solo.{solo-are, last-is}
@@ -16,9 +16,9 @@ returns c =
       last-is,
       c .last .ensures,
       c .before .tail-terms .ensures,
-      c .before .before .recip-fact3 .ensures,
-      c .before .before .before .recip-fact2 .ensures,
-      c .before .before .before .before .recip-fact .ensures,
+      c .before .before .recip3 .ensures,
+      c .before .before .before .recip2 .ensures,
+      c .before .before .before .before .recip .ensures,
       c .before .before .before .before .before .turns-at .ensures,
     )
 

@@ -1,4 +1,4 @@
--- Written by tools/widths from crates/series/proofs/sim3/turns_at/Proof.antt: edit that one. Digest e2f1fd37ac38ab35.
+-- Written by tools/widths from crates/series/proofs/sim3/turns_at/Proof.antt: edit that one. Digest 9f68d87ddbf60a04.
 -- `series_f32::sim3::turns_at` meets its contract: after j turns the loop holds `soloTurns` at j, and it stops at k + 1. Assumes nothing.
 use mathlib.Core.Path.{_≡_}
 use Prim.Native.Nat.{_+_, _-_, _≤_}
@@ -23,7 +23,7 @@ unfolding soloTurns
 loop-holds c = (omega arith, simp (linalg-singles, series-singles, c .none .ensures, c .before .first .ensures))
 
 loop-again : tie.Need-loop-again Inv-loop μ-loop
-loop-again c = (omega arith, simp (linalg-singles, series-singles, c .turn .ensures, c .before .recip-fact2 .ensures, c .before .before .recip-fact .ensures, c .before .before .before .before .loop .inv .1, solo-more))
+loop-again c = (omega arith, simp (linalg-singles, series-singles, c .turn .ensures, c .before .recip2 .ensures, c .before .before .recip .ensures, c .before .before .before .before .loop .inv .1, solo-more))
 
 returns : tie.Need-returns Inv-loop μ-loop
 returns c =
@@ -41,9 +41,9 @@ turns-at-spec =
     (λ c. omega arith)
     loop-holds
     (λ c. omega arith)
-    (λ c κs. tt)
+    (λ c κs. omega arith)
     (λ c. omega arith)
-    (λ c κs. tt)
+    (λ c κs. omega arith)
     (λ c κs. tt)
     (λ c. omega arith)
     (λ c. omega arith)

@@ -1,4 +1,4 @@
--- Written by tools/widths from crates/series/proofs/sim3/turns_v_at/Proof.antt: edit that one. Digest 980a5e89e6693625.
+-- Written by tools/widths from crates/series/proofs/sim3/turns_v_at/Proof.antt: edit that one. Digest 7c88fbf4d0f59693.
 -- `series_f32::sim3::turns_v_at` meets its contract: the shortest arm's turns are written out; after j turns the loop holds `vTurns` at j, and it stops at k + 1. Assumes nothing.
 use mathlib.Core.Path.{_≡_}
 use Prim.Native.Nat.{_+_, _-_, _≤_}
@@ -23,7 +23,7 @@ unfolding vTurns
 loop-holds c = (omega arith, c .none-v .ensures)
 
 loop-again : tie.Need-loop-again Inv-loop μ-loop
-loop-again c = (omega arith, simp (linalg-singles, series-singles, c .turn-v .ensures, c .before .recip-fact .ensures, c .before .before .before .loop .inv .1, v-more))
+loop-again c = (omega arith, simp (linalg-singles, series-singles, c .turn-v .ensures, c .before .recip .ensures, c .before .before .before .loop .inv .1, v-more))
 
 returns : tie.Need-returns Inv-loop μ-loop
 unfolding asTurnsV
@@ -46,7 +46,7 @@ turns-v-at-spec =
     (λ c. omega arith)
     loop-holds
     (λ c. omega arith)
-    (λ c κs. tt)
+    (λ c κs. omega arith)
     (λ c κs. tt)
     (λ c. omega arith)
     (λ c. omega arith)

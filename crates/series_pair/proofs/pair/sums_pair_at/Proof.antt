@@ -1,4 +1,4 @@
--- Written by tools/proofs, plain, opening pairSums. Digest e065039b61d998b7.
+-- Written by tools/proofs, plain, opening pairSums. Digest b081aa90aa455b93.
 use borrow.Author.Needs.{needs}
 use Rattle.series.specs.Turns.{pairSums}
 use Rattle.series_pair.proofs.pair.sums_pair_at.Statement.{statement}
@@ -12,9 +12,9 @@ returns c =
       c .last-mirrored .ensures,
       c .before .last .ensures,
       c .before .before .tail-terms .ensures,
-      c .before .before .before .recip-fact3 .ensures,
-      c .before .before .before .before .recip-fact2 .ensures,
-      c1 .recip-fact .ensures,
+      c .before .before .before .recip3 .ensures,
+      c .before .before .before .before .recip2 .ensures,
+      c1 .recip .ensures,
       c1 .before .turns-at .ensures,
     )
 

@@ -22,16 +22,16 @@ loop-again : tie.Need-loop-again Inv-loop μ-loop
 loop-again c =
     let l = c .before .before .before .before .before in
     let a = l .before .before .before .before .args in
-    let r = c .before .before .before .recip-fact .ensures in
+    let r = c .before .before .before .recip .ensures in
     let m = two-more binary64 (a .sigma) (a .z) (l .loop .j) (omega arith) in
-    (omega arith, omega arith, simp (c .two-turns .ensures, c .before .recip-fact3 .ensures, c .before .before .recip-fact2 .ensures, r, l .loop .inv .2, m))
+    (omega arith, omega arith, simp (c .two-turns .ensures, c .before .recip3 .ensures, c .before .before .recip2 .ensures, r, l .loop .inv .2, m))
 
 returns : tie.Need-returns Inv-loop μ-loop
 returns c =
     let l = c .before .before .before .before .before in
     let a = l .before .before .before .before .args in
     let d : l .loop .j ≡ a .k = omega arith in
-    simp (c .even-turn .ensures, c .before .recip-fact5 .ensures, c .before .before .recip-fact4 .ensures, l .loop .inv .2, d, even-more binary64 (a .sigma) (a .z) (a .k) (omega arith))
+    simp (c .even-turn .ensures, c .before .recip5 .ensures, c .before .before .recip4 .ensures, l .loop .inv .2, d, even-more binary64 (a .sigma) (a .z) (a .k) (omega arith))
 
 returns-2 : tie.Need-returns-2 Inv-loop μ-loop
 returns-2 c =
@@ -49,19 +49,19 @@ turns-at-spec =
     (λ c κs. tt)
     loop-holds
     (λ c. omega arith)
-    (λ c κs. tt)
+    (λ c κs. omega arith)
     (λ c. omega arith)
-    (λ c κs. tt)
+    (λ c κs. omega arith)
     (λ c. omega arith)
-    (λ c κs. tt)
+    (λ c κs. omega arith)
     (λ c κs. tt)
     (λ c. omega arith)
     (λ c. omega arith)
     loop-again
     (λ c. omega arith)
-    (λ c κs. tt)
+    (λ c κs. omega arith)
     (λ c. omega arith)
-    (λ c κs. tt)
+    (λ c κs. omega arith)
     (λ c κs. tt)
     returns
     returns-2)

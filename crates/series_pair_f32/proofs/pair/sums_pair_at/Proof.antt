@@ -1,4 +1,4 @@
--- Written by tools/widths from crates/series_pair/proofs/pair/sums_pair_at/Proof.antt: edit that one. Digest 1182935d7e97cbdd.
+-- Written by tools/widths from crates/series_pair/proofs/pair/sums_pair_at/Proof.antt: edit that one. Digest c9ec0148cb0e92ae.
 use borrow.Author.Needs.{needs}
 use Rattle.series.specs.Turns.{pairSums}
 use Rattle.series_pair_f32.proofs.pair.sums_pair_at.Statement.{statement}
@@ -16,9 +16,9 @@ returns c =
       c .last-mirrored .ensures,
       c .before .last .ensures,
       c .before .before .tail-terms .ensures,
-      c .before .before .before .recip-fact3 .ensures,
-      c .before .before .before .before .recip-fact2 .ensures,
-      c1 .recip-fact .ensures,
+      c .before .before .before .recip3 .ensures,
+      c .before .before .before .before .recip2 .ensures,
+      c1 .recip .ensures,
       c1 .before .turns-at .ensures,
     )
 

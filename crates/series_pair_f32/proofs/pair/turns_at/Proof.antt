@@ -1,4 +1,4 @@
--- Written by tools/widths from crates/series_pair/proofs/pair/turns_at/Proof.antt: edit that one. Digest 5d9b414551f4bca7.
+-- Written by tools/widths from crates/series_pair/proofs/pair/turns_at/Proof.antt: edit that one. Digest eedfd2b8ce37a353.
 -- `series_pair_f32::pair::turns_at` meets its contract: the loop holds `pairTurns` at an even j, which ends at k or at k + 1, and the turn after it is the one that is left. Assumes nothing.
 use mathlib.Core.Path.{_≡_}
 use Prim.Native.Nat.{_+_, _-_, _%_, _≤_}
@@ -26,16 +26,16 @@ loop-again : tie.Need-loop-again Inv-loop μ-loop
 loop-again c =
     let l = c .before .before .before .before .before in
     let a = l .before .before .before .before .args in
-    let r = c .before .before .before .recip-fact .ensures in
+    let r = c .before .before .before .recip .ensures in
     let m = two-more binary32 (a .sigma) (a .z) (l .loop .j) (omega arith) in
-    (omega arith, omega arith, simp (linalg-singles, series-singles, c .two-turns .ensures, c .before .recip-fact3 .ensures, c .before .before .recip-fact2 .ensures, r, l .loop .inv .2, m))
+    (omega arith, omega arith, simp (linalg-singles, series-singles, c .two-turns .ensures, c .before .recip3 .ensures, c .before .before .recip2 .ensures, r, l .loop .inv .2, m))
 
 returns : tie.Need-returns Inv-loop μ-loop
 returns c =
     let l = c .before .before .before .before .before in
     let a = l .before .before .before .before .args in
     let d : l .loop .j ≡ a .k = omega arith in
-    simp (linalg-singles, series-singles, c .even-turn .ensures, c .before .recip-fact5 .ensures, c .before .before .recip-fact4 .ensures, l .loop .inv .2, d, even-more binary32 (a .sigma) (a .z) (a .k) (omega arith))
+    simp (linalg-singles, series-singles, c .even-turn .ensures, c .before .recip5 .ensures, c .before .before .recip4 .ensures, l .loop .inv .2, d, even-more binary32 (a .sigma) (a .z) (a .k) (omega arith))
 
 returns-2 : tie.Need-returns-2 Inv-loop μ-loop
 returns-2 c =
@@ -53,19 +53,19 @@ turns-at-spec =
     (λ c κs. tt)
     loop-holds
     (λ c. omega arith)
-    (λ c κs. tt)
+    (λ c κs. omega arith)
     (λ c. omega arith)
-    (λ c κs. tt)
+    (λ c κs. omega arith)
     (λ c. omega arith)
-    (λ c κs. tt)
+    (λ c κs. omega arith)
     (λ c κs. tt)
     (λ c. omega arith)
     (λ c. omega arith)
     loop-again
     (λ c. omega arith)
-    (λ c κs. tt)
+    (λ c κs. omega arith)
     (λ c. omega arith)
-    (λ c κs. tt)
+    (λ c κs. omega arith)
     (λ c κs. tt)
     returns
     returns-2)

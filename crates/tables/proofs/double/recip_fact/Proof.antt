@@ -1,17 +1,18 @@
--- `tables::double::recip_fact` meets its contract: each constant has the pattern that passes the test, and what is past the table is 0 / 0. Assumes nothing.
-use mathlib.Core.Path.{refl, sym, _∙_}
+-- `tables::double::recip_fact` meets its contract: each constant has the pattern that passes the test, and past the table there is none. Assumes nothing.
+use mathlib.Core.Path.{refl, sym}
 use lib.Ieee.{binary64}
-use Rattle.ieee.proofs.Nan.{zero-over-zero}
+use Rattle.tables.specs.Found.{recipTold}
 use Rattle.tables.proofs.Patterns.{patterns}
 use Rattle.tables.proofs.Every.{recip-is, recip-past, none-below}
 use Rattle.tables.proofs.double.recip_fact.Statement.{statement}
 use Rattle.tables.proofs.double.recip_fact.Tie as tie
 
 past : tie.Need-returns-34
-past c = zero-over-zero binary64 ∙ sym (recip-past binary64 _ (none-below _ 33 (c .match .rest)))
+unfolding recipTold
+past c = sym (recip-past binary64 _ (none-below _ 33 (c .match .rest)))
 
 pub recip-fact-spec : {M : Type 1} → statement M
-unfolding patterns
+unfolding patterns recipTold
 recip-fact-spec =
     tie.close
     (tie.spec

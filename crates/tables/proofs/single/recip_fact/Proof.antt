@@ -1,18 +1,19 @@
--- Written by tools/proofs from Proof.like: edit that one. Digest c53fc2fe85cef007.
--- `tables::single::recip_fact` meets its contract: each constant has the pattern that passes the test, and what is past the table is 0 / 0. Assumes nothing.
-use mathlib.Core.Path.{refl, sym, _∙_}
+-- Written by tools/proofs from Proof.like: edit that one. Digest f8694332301ced4f.
+-- `tables::single::recip_fact` meets its contract: each constant has the pattern that passes the test, and past the table there is none. Assumes nothing.
+use mathlib.Core.Path.{refl, sym}
 use lib.Ieee.{binary32}
-use Rattle.ieee.proofs.Nan.{zero-over-zero}
+use Rattle.tables.specs.Found.{recipSingleTold}
 use Rattle.tables.proofs.Patterns.{patterns}
 use Rattle.tables.proofs.Every.{recip-is, recip-past, none-below}
 use Rattle.tables.proofs.single.recip_fact.Statement.{statement}
 use Rattle.tables.proofs.single.recip_fact.Tie as tie
 
 past : tie.Need-returns-34
-past c = zero-over-zero binary32 ∙ sym (recip-past binary32 _ (none-below _ 33 (c .match .rest)))
+unfolding recipSingleTold
+past c = sym (recip-past binary32 _ (none-below _ 33 (c .match .rest)))
 
 pub recip-fact-spec : {M : Type 1} → statement M
-unfolding patterns
+unfolding patterns recipSingleTold
 recip-fact-spec =
     tie.close
     (tie.spec
