@@ -6,4 +6,5 @@ pub mod Tried
 pub mod Only
 pub mod Sides
 pub mod Starts
+pub mod Answers
 pub mod Theorem

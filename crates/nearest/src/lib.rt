@@ -3,12 +3,12 @@
 // the arm does not fall as z grows; so the two ends of z's arm are found by halving the patterns.
 ghost use mathlib.Core.Path.{_≡_};
 ghost use mathlib.Core.Bool.{_&&_};
-ghost use Prim.Native.Nat.{_<_, _≤_};
+ghost use Prim.Native.Nat.{_+_, _-_, _<_, _≤_};
 ghost use lib.Ieee.{binary64};
 ghost use Rattle.ieee.specs.Finite.{isFinite};
 ghost use Rattle.ieee.specs.Patterns.{patterns};
 ghost use Rattle.linalg.specs.Answer.{answers};
-ghost use Rattle.nearest.specs.Nearest.{nearestTold, nearestFrom, firstTold, armAt, nearestOf};
+ghost use Rattle.nearest.specs.Nearest.{step, down, up, nearestTold, nearestFrom, firstTold, armAt, nearestOf};
 ghost use Rattle.nearest.specs.Parts.{Parts};
 use crate::width::END;
 use crate::width::pattern;
@@ -61,6 +61,30 @@ fn edge(sigma: f64, a: u8) -> u64
     from
 }
 
+// Up from the pattern p to `high`, the first with a higher arm.
+fn upward(sigma: f64, p: u64, high: u64) -> NearestAnswer
+    requires { ⌜ (p < high) × (high < patterns binary64) ⌝ }
+    ensures { λ r. ⌜ nearestTold r ≡ answers (step (high - p) up (armAt binary64 sigma high)) ⌝ }
+{
+    NearestAnswer::Found(Step {
+        count: high - p,
+        direction: Direction::Up,
+        arm: arm_at(sigma, high),
+    })
+}
+
+// Down from the pattern p to the last before `low`, from which on it has p's arm.
+fn downward(sigma: f64, p: u64, low: u64) -> NearestAnswer
+    requires { ⌜ (0 < low) × (low ≤ p) × (p < patterns binary64) ⌝ }
+    ensures { λ r. ⌜ nearestTold r ≡ answers (step (p - low + 1) down (armAt binary64 sigma (low - 1))) ⌝ }
+{
+    NearestAnswer::Found(Step {
+        count: p - low + 1,
+        direction: Direction::Down,
+        arm: arm_at(sigma, low - 1),
+    })
+}
+
 // The nearest other arm from the pattern p, whose arm has the patterns from `low` up to `high`.
 fn nearest_from(sigma: f64, p: u64) -> NearestAnswer
     requires { ⌜ p < patterns binary64 ⌝ }
@@ -69,23 +93,20 @@ fn nearest_from(sigma: f64, p: u64) -> NearestAnswer
     let a = arm_at(sigma, p);
     let low = edge(sigma, a - 1);
     let high = edge(sigma, a);
-    let down = p - low + 1;
-    let up = high - p;
-    if high < END && (low == 0 || up < down) {
-        return NearestAnswer::Found(Step {
-            count: up,
-            direction: Direction::Up,
-            arm: arm_at(sigma, high),
-        });
-    }
     if low == 0 {
-        return NearestAnswer::OneArm;
+        if high == END {
+            return NearestAnswer::OneArm;
+        }
+        return upward(sigma, p, high);
     }
-    NearestAnswer::Found(Step {
-        count: down,
-        direction: Direction::Down,
-        arm: arm_at(sigma, low - 1),
-    })
+    if high == END {
+        return downward(sigma, p, low);
+    }
+    if high - p < p - low + 1 {
+        upward(sigma, p, high)
+    } else {
+        downward(sigma, p, low)
+    }
 }
 
 // Whether both are finite: 0 times a finite number is a zero, 0 times another is NaN, and NaN stays.

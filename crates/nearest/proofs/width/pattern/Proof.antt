@@ -1,4 +1,4 @@
--- Written by tools/proofs from Proof.template: edit that one. Digest fcf3be1c52ec1451.
+-- Written by tools/proofs from Proof.template: edit that one. Digest 75497e21256a3c3a.
 -- `nearest::width::pattern` meets its contract: z + 0 is z without the sign of a zero, and its pattern is below the infinity's. Assumes nothing.
 use borrow.Author.Needs.{needs}
 use mathlib.Core.Path.{_≡_, sym, subst, _∙_}
