@@ -12,7 +12,7 @@ pub enum Refusal {
     EIsZero,
     /// 5: `pts` is no multiple of 3 or longer than 65,535, or `out` has another length.
     PointsLength { pts: usize, out: usize },
-    /// 8: z is a NaN or +infinity.
+    /// 8: z is a NaN or +infinity; of `nearest_arm`, also sigma is a NaN or an infinity.
     NotFinite,
 }
 
@@ -51,7 +51,7 @@ impl fmt::Display for Refusal {
                 write!(f, "pts has {pts} numbers; at most 65535 (21845 points) are taken at once, so move it in pieces")
             }
             Refusal::NotFinite => {
-                write!(f, "z is a NaN or infinite; such a z has no root with what is left, so look at z first")
+                write!(f, "z, or sigma where nearest_arm was asked, is a NaN or infinite; it has no root with what is left and no neighbours, so look at it first")
             }
         }
     }

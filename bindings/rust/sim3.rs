@@ -13,10 +13,12 @@
 #![deny(unsafe_code)]
 
 pub mod host;
+mod near;
 mod raw;
 mod refusal;
 mod square_root;
 
+pub use near::{nearest_arm, Direction, Near};
 pub use refusal::Refusal;
 pub use square_root::{root, Root};
 

@@ -18,9 +18,10 @@ from . import host, raw
 from .numbers import lent, number, over
 from .raw import LibraryMissing
 from .refusals import Refusal, explained, wrong_length
+from .near import Near, nearest_arm
 from .square_root import Root, nearest_root, root
 
-__all__ = ["LibraryMissing", "Refusal", "Root", "host", "nearest_root", "root", *raw.FUNCTIONS]
+__all__ = ["LibraryMissing", "Near", "Refusal", "Root", "host", "nearest_arm", "nearest_root", "root", *raw.FUNCTIONS]
 
 
 # ---- asking the C functions

@@ -1,5 +1,5 @@
 -- The definition where the call is refused and where it is accepted. Assumes nothing.
-use mathlib.Core.Path.{_≡_, refl, sym, ap, _∙_}
+use mathlib.Core.Path.{_≡_, refl, ap}
 use Prim.Native.Nat.{ℕ}
 use mathlib.Core.Bool.{Bool, true, false, _&&_}
 use lib.Ieee.{Float, Format, toBits, lt}
@@ -7,8 +7,8 @@ use Rattle.ieee.specs.Finite.{isFinite}
 use Rattle.ieee.specs.Numbers.{f0}
 use Rattle.ieee.specs.Patterns.{patterns}
 use Rattle.ieee.specs.Signs.{plain}
-use Rattle.linalg.specs.Answer.{Answer, answers, refuses}
-use Rattle.nearest.specs.Nearest.{Way, Near, nearestFrom, armAt, nearestOf}
+use Rattle.linalg.specs.Answer.{answers, refuses}
+use Rattle.nearest.specs.Nearest.{Way, nearestFrom, armAt, nearestOf}
 
 pub right : (a b : Bool) → a && b ≡ true → b ≡ true
 right true b h = h

@@ -8,3 +8,4 @@ pub mod Sides
 pub mod Starts
 pub mod Answers
 pub mod Theorem
+pub mod Examples

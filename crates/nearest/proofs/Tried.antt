@@ -4,11 +4,11 @@ use mathlib.Core.Path.{_≡_, refl, sym, ap, _∙_, subst}
 use mathlib.Core.Logic.{_⊎_, inl, inr}
 use Prim.Native.Nat.{ℕ, zero, suc, _+_, _-_, _≤_, _<_}
 use native.Mathlib.Omega.{arith}
-use mathlib.Core.Bool.{Bool, true, false, cond, not}
+use mathlib.Core.Bool.{Bool, true, false, cond}
 use lib.Dec.{T, eqb, eqb→eq, eqb-refl}
 use Rattle.ieee.proofs.Signed.{order}
-use Rattle.nearest.specs.Nearest.{Way, down, up, Near, step, none, other, place, changes, leastFrom, nearestFrom}
-use Rattle.nearest.specs.Theorem.{Least, OneArm, NearIs}
+use Rattle.nearest.specs.Nearest.{Way, down, up, step, other, place, changes, leastFrom, nearestFrom}
+use Rattle.nearest.specs.Theorem.{NearIs}
 use Rattle.nearest.proofs.Steps.{down-changes, up-changes, down-permitted, up-permitted, another}
 
 module _ (arm : ℕ → ℕ) (end : ℕ) (first : Way) (p : ℕ) (inside : p < end) where

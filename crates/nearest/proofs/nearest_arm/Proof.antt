@@ -1,10 +1,8 @@
--- Written by tools/proofs from Proof.template: edit that one. Digest 0463680d5d2cfb03.
+-- Written by tools/proofs from Proof.template: edit that one. Digest e26a8e5790750011.
 -- `nearest::nearest_arm` meets its contract: its tests are those of the definition, in their order. Assumes nothing.
 use borrow.Author.Needs.{needs}
 use borrow.Author.Tests.{not-true, not-false}
-use mathlib.Core.Path.{_≡_, refl, sym, _∙_}
-use mathlib.Core.Bool.{true, false, _&&_}
-use lib.Dec.{T}
+use mathlib.Core.Path.{sym, _∙_}
 use lib.Ieee.{binary64, ofBits}
 use Rattle.ieee.specs.Finite.{isFinite}
 use Rattle.nearest.specs.Nearest.{nearestTold, firstTold}

@@ -1,7 +1,7 @@
--- Written by tools/proofs from Proof.template: edit that one. Digest f9c48e8a9484a6e4.
+-- Written by tools/proofs from Proof.template: edit that one. Digest e06d10e28825e112.
 -- `nearest::nearest_from` meets its contract: `low` and `high` are the ends of p's arm, and its tests say which of them is nearer. Assumes nothing.
 use borrow.Author.Needs.{needs}
-use mathlib.Core.Path.{_≡_, refl, sym, ap, _∙_}
+use mathlib.Core.Path.{_≡_, refl, ap, _∙_}
 use Prim.Native.Nat.{_+_, _-_, _<_}
 use native.Mathlib.Omega.{arith}
 use lib.Ieee.{binary64}
