@@ -34,7 +34,8 @@ pub extern "C" fn sim3_nearest_arm(sigma: f64, z: f64, out: &mut [u64]) -> u32
             }
             let count = s.count;
             let arm = s.arm as u64;
-            let direction = way_number(s.direction);
+            let toward = s.direction;
+            let direction = way_number(toward);
             out[0] = count;
             out[1] = direction;
             out[2] = arm;
