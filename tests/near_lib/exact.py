@@ -1,7 +1,7 @@
 """What is due at (sigma, z), computed by fractions and without a search.
 
-The rounded sum of s = sigma sigma and z reaches a limit exactly where s + z reaches the middle between the limit and the number before it, or lies above that middle where the limit is odd, since a tie
-is rounded to the even one. So the first z with a higher arm is the first number of the format from `middle - s` on, and counts are differences of bit patterns."""
+The rounded sum of s = sigma sigma and z reaches a limit exactly where s + z reaches the middle between the limit and the number before it, or lies above that middle where the limit is
+odd, since a tie is rounded to the even one. So the first z with a higher arm is the first number of the format from `middle - s` on, and counts are differences of bit patterns."""
 import struct
 from fractions import Fraction
 

@@ -1,5 +1,5 @@
--- How near another arm is, by its plain definition: the least number n ≥ 1 of neighbouring values that z must move, down or up, for the arm to change. Neighbouring values have neighbouring bit patterns:
--- the finite values from +0 up have those below `patterns f`, in the order of the values. `arm` is the arm at a pattern, `end` is how many patterns there are.
+-- How near another arm is, by its plain definition: the least number n ≥ 1 of neighbouring values that z must move, down or up, for the arm to change. Neighbouring values have
+-- neighbouring bit patterns: the finite values from +0 up have those below `patterns f`, in the order of the values. `arm` is the arm at a pattern, `end` is how many patterns there are.
 use mathlib.Core.Bool.{Bool, cond, not, _&&_}
 use Prim.Native.Nat.{ℕ, zero, suc, _+_, _-_}
 use lib.Dec.{leb, ltb, eqb}

@@ -1,4 +1,4 @@
--- Written by tools/proofs from Proof.template: edit that one. Digest e06d10e28825e112.
+-- Written by tools/proofs from Proof.template: edit that one. Digest e4cad575639092f3.
 -- `nearest::nearest_from` meets its contract: `low` and `high` are the ends of p's arm, and its tests say which of them is nearer. Assumes nothing.
 use borrow.Author.Needs.{needs}
 use mathlib.Core.Path.{_≡_, refl, ap, _∙_}
@@ -23,9 +23,10 @@ ends c =
       upper = c .edge2 .ensures;
     }
 
--- what each of the four ways says, where its way is the nearer one
+-- the steps to either end of p's arm, where it is the nearer one
 up-is : (c : tie.After-edge2) → c .edge2 .result < patterns binary64 → (0 < c .before .edge .result → Ahead firstTold up (c .edge2 .result - c .before .before .before .args .p) (c .before .before .before .args .p - c .before .edge .result + 1))
-    → answers (step (c .edge2 .result - c .before .before .before .args .p) up (armAt binary64 (c .before .before .before .args .sigma) (c .edge2 .result))) ≡ answers (nearestFrom (armAt binary64 (c .before .before .before .args .sigma)) (patterns binary64) firstTold (c .before .before .before .args .p))
+    → answers (step (c .edge2 .result - c .before .before .before .args .p) up (armAt binary64 (c .before .before .before .args .sigma) (c .edge2 .result)))
+    ≡ answers (nearestFrom (armAt binary64 (c .before .before .before .args .sigma)) (patterns binary64) firstTold (c .before .before .before .args .p))
 up-is c h k =
     let s = ends c in
     let l = to-high s in
@@ -33,7 +34,8 @@ up-is c h k =
     ap answers (upward s firstTold _ h refl k _ (ap (armAt binary64 (c .before .before .before .args .sigma)) e))
 
 down-is : (c : tie.After-edge2) → 0 < c .before .edge .result → (c .edge2 .result < patterns binary64 → Ahead firstTold down (c .before .before .before .args .p - c .before .edge .result + 1) (c .edge2 .result - c .before .before .before .args .p))
-    → answers (step (c .before .before .before .args .p - c .before .edge .result + 1) down (armAt binary64 (c .before .before .before .args .sigma) (c .before .edge .result - 1))) ≡ answers (nearestFrom (armAt binary64 (c .before .before .before .args .sigma)) (patterns binary64) firstTold (c .before .before .before .args .p))
+    → answers (step (c .before .before .before .args .p - c .before .edge .result + 1) down (armAt binary64 (c .before .before .before .args .sigma) (c .before .edge .result - 1)))
+    ≡ answers (nearestFrom (armAt binary64 (c .before .before .before .args .sigma)) (patterns binary64) firstTold (c .before .before .before .args .p))
 down-is c h k =
     let s = ends c in
     let l = from-low s in
