@@ -4,10 +4,10 @@
  * overlaps no other list of the call. That is all that is asked of a caller: every count and every number is taken, NaN and infinities included.
  *
  * Answers. A call returns 0 and has written all of `out` and `out_frames` (sim3_root: of its three lists), or the number of a refusal and has written nothing:
- *     1  z is below zero                        (sim3_scaled_pair, sim3_coeffs_armed, sim3_armed_pair, sim3_root)
+ *     1  z is below zero                        (sim3_scaled_pair, sim3_coeffs_armed, sim3_armed_pair, sim3_root, sim3_nearest_arm)
  *     2  e is +0 or -0                          (sim3_block_inverse)
  *     5  a list of points has a wrong length    (sim3_act_many, sim3_act_each: a multiple of 3, at most 65,535 numbers, `out` as long as `pts`)
- *     8  z is a NaN or +infinity                (sim3_root)
+ *     8  z is a NaN or +infinity                (sim3_root; sim3_nearest_arm: or sigma is a NaN or an infinity)
  *     9  the frames do not meet                 (sim3_mul, sim3_mul_inv, sim3_inv_mul)
  *   100  another list has a wrong length; the right one stands in brackets below. This number is the boundary's own: in Rattle no such list can be made
  * A wrong length of an input is refused before the numbers are looked at, and of what is written after.
@@ -133,6 +133,13 @@ uint32_t sim3_inverse_jacobian_left(const double *x, size_t x_n, double down, do
  * m - r^2; exponent [1] holds s; nearest [1] the double nearest to the square root of z: r 2^s where the remainder is at most r, else (r + 1) 2^s. A zero gives
  * zeros, and nearest keeps its sign. Refusal 1 where z is below zero, -infinity too, and 8 where it is a NaN or +infinity. */
 uint32_t sim3_root(double z, uint64_t *whole, size_t whole_n, int64_t *exponent, size_t exponent_n, double *nearest, size_t nearest_n);
+
+/* ---- how near another arm is */
+
+/* The least number of neighbouring doubles that z must move, up or down, staying finite and not below zero, for the arm of sim3_coeffs_armed to change: out [3]
+ * holds that count, the direction, 0 for down and 1 for up, and the new arm. Where both directions need the same count, down is given. -0 counts as +0. Three
+ * zeros say that there is none: every such z has the same arm. Refusal 1 where z is below zero, then 8 where sigma or z is a NaN or an infinity. */
+uint32_t sim3_nearest_arm(double sigma, double z, uint64_t *out, size_t out_n);
 
 #ifdef __cplusplus
 }

@@ -15,7 +15,7 @@ static inline const char *sim3_refusal_text(uint32_t number) {
     case SIM3_POINTS_LENGTH:
         return "a list of points has a wrong length; hand in x y z of every point, at most 65,535 numbers, and an out as long as pts";
     case SIM3_NOT_FINITE:
-        return "z is a NaN or infinite; such a z has no root with what is left, so look at z first";
+        return "z, or sigma where sim3_nearest_arm was asked, is a NaN or infinite; it has no root with what is left and no neighbours, so look at it first";
     case SIM3_FRAMES:
         return "the frames do not meet; sim3_mul wants from of x to be to of y, sim3_mul_inv equal froms, sim3_inv_mul equal tos, so look which way round "
                "the poses are handed in";

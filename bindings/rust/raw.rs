@@ -185,6 +185,7 @@ extern "C" {
         nearest: *mut f64,
         nearest_n: usize,
     ) -> u32;
+    fn sim3_nearest_arm(sigma: f64, z: f64, out: *mut u64, out_n: usize) -> u32;
 }
 
 // LISTS, the reason why each call below is sound. The C functions ask of their caller that no pointer is
@@ -456,4 +457,9 @@ pub fn root(z: f64, whole: &mut [u64], exponent: &mut [i64], nearest: &mut [f64]
             nearest.len(),
         )
     }
+}
+
+pub fn nearest_arm(sigma: f64, z: f64, out: &mut [u64]) -> u32 {
+    // SAFETY: LISTS.
+    unsafe { sim3_nearest_arm(sigma, z, out.as_mut_ptr(), out.len()) }
 }

@@ -12,7 +12,7 @@ pub enum Refusal {
     EIsZero,
     /// 5: `pts` is no multiple of 3 or longer than 65,535, or `out` has another length.
     PointsLength { pts: usize, out: usize },
-    /// 8: z is a NaN or +infinity.
+    /// 8: z is a NaN or +infinity; of `nearest_arm`, also sigma is a NaN or an infinity.
     NotFinite,
     /// 9: the frames do not meet. `x` and `y` are the two that would have to be one: X's from and Y's
     /// to in X Y, both froms in X Y⁻¹, both tos in Y⁻¹ X.
@@ -63,7 +63,7 @@ impl fmt::Display for Refusal {
                 write!(f, "pts has {pts} numbers; at most 65535 (21845 points) are taken at once, so move it in pieces")
             }
             Refusal::NotFinite => {
-                write!(f, "z is a NaN or infinite; such a z has no root with what is left, so look at z first")
+                write!(f, "z, or sigma where nearest_arm was asked, is a NaN or infinite; it has no root with what is left and no neighbours, so look at it first")
             }
             Refusal::Frames { join: Join::Mul, x, y } => {
                 write!(f, "x starts from frame {x}, and y goes to frame {y}; X Y wants one frame there, so hand the poses in the other way round, or an inverse")

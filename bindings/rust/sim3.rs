@@ -15,10 +15,12 @@
 #![deny(unsafe_code)]
 
 pub mod host;
+mod near;
 mod raw;
 mod refusal;
 mod square_root;
 
+pub use near::{nearest_arm, Direction, Near};
 pub use refusal::{Join, Refusal};
 pub use square_root::{root, Root};
 

@@ -44,6 +44,9 @@ def of_python():
     found["root"] = [("z", "number")]
     for argument, (kind, _) in raw.ROOT_WRITES.items():
         found["root"] += [(argument, WRITTEN[kind]), (argument + "_n", "count")]
+    found["nearest_arm"] = [("sigma", "number"), ("z", "number")]
+    for argument, (kind, _) in raw.NEAR_WRITES.items():
+        found["nearest_arm"] += [(argument, WRITTEN[kind]), (argument + "_n", "count")]
     return found
 
 

@@ -35,6 +35,16 @@ def with_program(test):
     return test
 
 
+def with_library(test):
+    """Marks a test that is skipped where the shared library is not built."""
+    test.with_library = True
+    return test
+
+
+def needs_library(test):
+    return getattr(test, "with_library", False)
+
+
 def needs_program(test):
     return getattr(test, "with_program", False)
 

@@ -9,12 +9,13 @@ from .diff import diff
 from .floats import DOUBLE, SINGLE
 from .layout import ANSWER, JOB
 from .make import MAY_MISS, groups_text, make
+from .near import near
 from .show import show
 from .terminal import Failure, say
 
 ABOUT = """\
-Job files of the Sim(3) engine: make them from text, show them as text, compare their answers, and
-see which arm gave each coefficient set.
+Job files of the Sim(3) engine: make them from text, show them as text, compare their answers, see
+which arm gave each coefficient set, and which shots lie beside another arm.
 docs/JOB-FORMAT.md has the bytes of every record.
 
 example:
@@ -23,6 +24,7 @@ example:
   tools/jobs show answers.bin
   tools/jobs diff last-answers.bin answers.bin
   tools/jobs arms --svg arms.svg jobs.bin answers.bin
+  tools/jobs near --within 1000 jobs.bin
 """
 
 MAKE = """\
@@ -91,6 +93,21 @@ example:
 """
 
 
+NEAR = """\
+Which shots of a job lie beside another arm: the AR and CO records whose z is at most N neighbouring
+doubles from one with another arm, up or down, nearest first. Each is a line with the record's number
+(from 1), the count, the direction, the arm there and its own. Records of other marks are passed over.
+The counts are the proved library's, which bindings/build makes.
+
+Exit status: 0, or 1 where the file is damaged or cut (the byte is named), or 2 if it cannot be read,
+or the library is not there.
+
+example:
+  bindings/build
+  tools/jobs near --within 1000 jobs.bin
+"""
+
+
 def forms_text():
     """Each mark with its groups, those that may be left out in brackets."""
     lines = []
@@ -123,6 +140,12 @@ def limit(word):
     return int(word)
 
 
+def steps(word):
+    if not re.fullmatch(r"[0-9]+", word) or not int(word):
+        raise argparse.ArgumentTypeError(f"{word!r} is no count of steps; expected a whole number from 1")
+    return int(word)
+
+
 def add_command(commands, name, about, summary):
     return commands.add_parser(name, help=summary, description=about,
                                formatter_class=argparse.RawDescriptionHelpFormatter)
@@ -152,6 +175,9 @@ def parser():
     one.add_argument("--svg", metavar="FILE", help="the picture to be written")
     one.add_argument("job", metavar="JOBS")
     one.add_argument("answers", metavar="ANSWERS")
+    one = add_command(commands, "near", NEAR, "which shots lie beside another arm")
+    one.add_argument("--within", type=steps, default=1000, metavar="N", help="at most N steps from it; 1,000 if not given")
+    one.add_argument("file", nargs="?", metavar="FILE", help="the job; standard input if not given")
     return top
 
 
@@ -165,6 +191,8 @@ def run(arguments):
                     arguments.unusable)
     if arguments.command == "diff":
         return diff(arguments.old, arguments.new, arguments.limit)
+    if arguments.command == "near":
+        return near(arguments.file, arguments.within)
     return arms(arguments.job, arguments.answers, arguments.svg)
 
 

@@ -22,9 +22,10 @@ from .numbers import lent, number, over
 from .poses import Pose, expected, frames, numbers_of, room
 from .raw import LibraryMissing
 from .refusals import Refusal, explained, wrong_length
+from .near import Near, nearest_arm
 from .square_root import Root, nearest_root, root
 
-__all__ = ["LibraryMissing", "Pose", "Refusal", "Root", "host", "nearest_root", "root", *raw.FUNCTIONS]
+__all__ = ["LibraryMissing", "Near", "Pose", "Refusal", "Root", "host", "nearest_arm", "nearest_root", "root", *raw.FUNCTIONS]
 
 
 # ---- asking the C functions

@@ -65,6 +65,9 @@ FUNCTIONS = {
 # sim3_root stands apart from the table: after z it writes three lists, each of its own type and count.
 ROOT_WRITES = {"whole": (ctypes.c_uint64, 2), "exponent": (ctypes.c_int64, 1), "nearest": (ctypes.c_double, 1)}
 
+# So does sim3_nearest_arm: after sigma and z it writes one list of whole numbers.
+NEAR_WRITES = {"out": (ctypes.c_uint64, 3)}
+
 
 class LibraryMissing(OSError):
     """The shared library is not there or is none of this engine; the text says what to do."""
@@ -87,7 +90,8 @@ def library():
     try:
         loaded = ctypes.CDLL(str(path.resolve()))
         found = {name: declared(loaded["sim3_" + name], made) for name, made in FUNCTIONS.items()}
-        return {**found, "root": declared_root(loaded["sim3_root"])}
+        return {**found, "root": declared_root(loaded["sim3_root"]),
+                "nearest_arm": declared_near(loaded["sim3_nearest_arm"])}
     except (OSError, AttributeError) as error:
         raise LibraryMissing(f"sim3: {path} is no library of this engine: {error}; "
                              "remove it and run bindings/build") from None
@@ -113,6 +117,14 @@ def declared_root(symbol):
     """sim3_root with the types of its arguments."""
     lists = [word for kind, _ in ROOT_WRITES.values() for word in (ctypes.POINTER(kind), ctypes.c_size_t)]
     symbol.argtypes = [ctypes.c_double, *lists]
+    symbol.restype = ctypes.c_uint32
+    return symbol
+
+
+def declared_near(symbol):
+    """sim3_nearest_arm with the types of its arguments."""
+    lists = [word for kind, _ in NEAR_WRITES.values() for word in (ctypes.POINTER(kind), ctypes.c_size_t)]
+    symbol.argtypes = [ctypes.c_double, ctypes.c_double, *lists]
     symbol.restype = ctypes.c_uint32
     return symbol
 

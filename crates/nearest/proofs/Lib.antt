@@ -1,0 +1,11 @@
+pub mod Sums
+pub mod Rising
+pub mod Halving
+pub mod Steps
+pub mod Tried
+pub mod Only
+pub mod Sides
+pub mod Starts
+pub mod Answers
+pub mod Theorem
+pub mod Examples

@@ -1,0 +1,23 @@
+//! Calls `nearest_arm` of bindings/rust for tests/near: reads patterns of sigma and z from standard
+//! input, 8 bytes each, and for each pair writes four words: the refusal's number or 0, the count, the
+//! direction and the arm.
+
+use sim3::{nearest_arm, Direction};
+use std::io::{Read, Write};
+
+fn main() -> std::io::Result<()> {
+    let mut given = Vec::new();
+    std::io::stdin().read_to_end(&mut given)?;
+    let words: Vec<u64> = given.chunks_exact(8).map(|b| u64::from_le_bytes(b.try_into().unwrap())).collect();
+    let answer = |sigma: f64, z: f64| match nearest_arm(sigma, z) {
+        Ok(Some(near)) => [0, near.count, (near.direction == Direction::Up) as u64, near.arm.into()],
+        Ok(None) => [0; 4],
+        Err(refusal) => [refusal.number().into(), 0, 0, 0],
+    };
+    let told: Vec<u8> = words
+        .chunks_exact(2)
+        .flat_map(|w| answer(f64::from_bits(w[0]), f64::from_bits(w[1])))
+        .flat_map(u64::to_le_bytes)
+        .collect();
+    std::io::stdout().write_all(&told)
+}
