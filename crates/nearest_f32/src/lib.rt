@@ -1,4 +1,4 @@
-// Written by tools/widths from crates/nearest/src/lib.rt: edit that one. Digest 4f5cfd41435a26e4.
+// Written by tools/widths from crates/nearest/src/lib.rt: edit that one. Digest cd3717705225b552.
 // How near another arm of the coefficients is: the fewest neighbouring values that z must move, down
 // or up, for the arm at (sigma, z) to change. Neighbouring values have neighbouring bit patterns, and
 // the arm does not fall as z grows; so the two ends of z's arm are found by halving the patterns.
@@ -104,7 +104,7 @@ fn nearest_from(sigma: f32, p: u64) -> NearestAnswer
     if high == END {
         return downward(sigma, p, low);
     }
-    if high - p < p - low + 1 {
+    if high - p <= p - low + 1 {
         upward(sigma, p, high)
     } else {
         downward(sigma, p, low)
@@ -120,7 +120,7 @@ fn both_finite(x: f32, y: f32) -> bool
 }
 
 // How many neighbouring values z must move for the arm at (sigma, z) to change; where both directions
-// need the same count, down is given.
+// need the same count, up is given.
 pub fn nearest_arm(sigma: f32, z: f32) -> NearestAnswer
     ensures { λ r. ⌜ nearestTold r ≡ nearestOf binary32 firstTold sigma z ⌝ }
 {
