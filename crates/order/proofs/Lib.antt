@@ -5,3 +5,5 @@ pub mod Tangents
 pub mod Merging
 pub mod Flat
 pub mod Turns
+pub mod Counts
+pub mod Theorem
