@@ -14,6 +14,8 @@ pub enum Refusal {
     PointsLength { pts: usize, out: usize },
     /// 8: z is a NaN or +infinity.
     NotFinite,
+    /// 5: there are more than 1,024 tangents.
+    TooManyTangents { tangents: usize },
 }
 
 impl Refusal {
@@ -24,6 +26,7 @@ impl Refusal {
             Refusal::EIsZero => 2,
             Refusal::PointsLength { .. } => 5,
             Refusal::NotFinite => 8,
+            Refusal::TooManyTangents { .. } => 5,
         }
     }
 }
@@ -52,6 +55,9 @@ impl fmt::Display for Refusal {
             }
             Refusal::NotFinite => {
                 write!(f, "z is a NaN or infinite; such a z has no root with what is left, so look at z first")
+            }
+            Refusal::TooManyTangents { tangents } => {
+                write!(f, "there are {tangents} tangents; at most 1024 are put in order at once, so hand in fewer")
             }
         }
     }

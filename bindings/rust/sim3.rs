@@ -16,9 +16,11 @@ pub mod host;
 mod raw;
 mod refusal;
 mod square_root;
+mod tangents;
 
 pub use refusal::Refusal;
 pub use square_root::{root, Root};
+pub use tangents::{compare_tangents, sort_tangents};
 
 /// Quaternion w x y z, translation x y z, sigma.
 pub type Pose = [f64; 8];

@@ -7,7 +7,8 @@ from sim3 import raw
 
 TYPES = {"const double *": "in", "double *": "out", "size_t": "count", "double": "number",
          "*const f64": "in", "*mut f64": "out", "usize": "count", "f64": "number",
-         "uint64_t *": "whole out", "int64_t *": "signed out", "*mut u64": "whole out", "*mut i64": "signed out"}
+         "uint64_t *": "whole out", "int64_t *": "signed out", "*mut u64": "whole out", "*mut i64": "signed out",
+         "const uint64_t *": "whole in", "*const u64": "whole in"}
 WRITTEN = {ctypes.c_uint64: "whole out", ctypes.c_int64: "signed out", ctypes.c_double: "out"}
 
 
@@ -42,6 +43,10 @@ def of_python():
     found["root"] = [("z", "number")]
     for argument, (kind, _) in raw.ROOT_WRITES.items():
         found["root"] += [(argument, WRITTEN[kind]), (argument + "_n", "count")]
+    for name, made in raw.PATTERNS.items():
+        found[name] = []
+        for i, (argument, kind) in enumerate(made, 1):
+            found[name] += [(argument, WRITTEN[kind] if i == len(made) else "whole in"), (argument + "_n", "count")]
     return found
 
 

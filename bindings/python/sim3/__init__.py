@@ -19,8 +19,9 @@ from .numbers import lent, number, over
 from .raw import LibraryMissing
 from .refusals import Refusal, explained, wrong_length
 from .square_root import Root, nearest_root, root
+from .tangents import compare_tangents, sort_tangents
 
-__all__ = ["LibraryMissing", "Refusal", "Root", "host", "nearest_root", "root", *raw.FUNCTIONS]
+__all__ = ["LibraryMissing", "Refusal", "Root", "host", "nearest_root", "root", *raw.FUNCTIONS, *raw.PATTERNS]
 
 
 # ---- asking the C functions

@@ -63,6 +63,12 @@ FUNCTIONS = {
 # sim3_root stands apart from the table: after z it writes three lists, each of its own type and count.
 ROOT_WRITES = {"whole": (ctypes.c_uint64, 2), "exponent": (ctypes.c_int64, 1), "nearest": (ctypes.c_double, 1)}
 
+# So do those of tangents by their bit patterns: their lists in order, each a name and a type; what is read before what is written.
+PATTERNS = {
+    "compare_tangents": (("a", ctypes.c_uint64), ("b", ctypes.c_uint64), ("out", ctypes.c_int64)),
+    "sort_tangents": (("list", ctypes.c_uint64),),
+}
+
 
 class LibraryMissing(OSError):
     """The shared library is not there or is none of this engine; the text says what to do."""
@@ -85,6 +91,7 @@ def library():
     try:
         loaded = ctypes.CDLL(str(path.resolve()))
         found = {name: declared(loaded["sim3_" + name], made) for name, made in FUNCTIONS.items()}
+        found.update((name, declared_lists(loaded["sim3_" + name], made)) for name, made in PATTERNS.items())
         return {**found, "root": declared_root(loaded["sim3_root"])}
     except (OSError, AttributeError) as error:
         raise LibraryMissing(f"sim3: {path} is no library of this engine: {error}; "
@@ -105,6 +112,13 @@ def declared_root(symbol):
     """sim3_root with the types of its arguments."""
     lists = [word for kind, _ in ROOT_WRITES.values() for word in (ctypes.POINTER(kind), ctypes.c_size_t)]
     symbol.argtypes = [ctypes.c_double, *lists]
+    symbol.restype = ctypes.c_uint32
+    return symbol
+
+
+def declared_lists(symbol, made):
+    """A C function of lists alone, each with its own type."""
+    symbol.argtypes = [word for _, kind in made for word in (ctypes.POINTER(kind), ctypes.c_size_t)]
     symbol.restype = ctypes.c_uint32
     return symbol
 
