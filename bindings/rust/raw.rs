@@ -357,7 +357,7 @@ pub fn compare_tangents(a: &[f64; 7], b: &[f64; 7], out: &mut [i64]) -> u32 {
 }
 
 pub fn sort_tangents(list: &mut [[f64; 7]]) -> u32 {
-    // SAFETY: LISTS, and patterns as above; the arrays of a slice stand in a row, so there are seven
-    // times as many numbers.
+    // The arrays of a slice stand in a row, so there are seven times as many numbers.
+    // SAFETY: LISTS, and patterns as above.
     unsafe { sim3_sort_tangents(list.as_mut_ptr().cast(), list.len() * 7) }
 }

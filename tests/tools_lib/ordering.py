@@ -98,7 +98,7 @@ def pulls():
 
 
 def counts_of_files():
-    for words in (("diff", "a"), ("diff", "a", "b", "c"), ("diff", "--by-tangent", "a", "b")):
+    for words in (("diff", "a", "b", "c"), ("diff", "--by-tangent", "a", "b")):
         _, messages = jobs(*words, status=2)
         holds(messages, "expected")
 
