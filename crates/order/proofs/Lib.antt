@@ -7,3 +7,4 @@ pub mod Flat
 pub mod Turns
 pub mod Counts
 pub mod Theorem
+pub mod Examples
