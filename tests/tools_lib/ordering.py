@@ -97,10 +97,26 @@ def pulls():
     holds(text, f"record {lost + 1}  in OLD alone\n", f"in both: {len(found) - 1} records\n")
 
 
+@with_program
+def another_answer():
+    """A number that differs is told with the record's number in both files, and a job without its own answers is named."""
+    first, second = record(b"EX", [0x3FF0_0000_0000_0000] * 7, 0), record(b"EX", [0x4000_0000_0000_0000] * 7, 0)
+    told = bytearray(program(second + first))
+    told[2 + 8 * 7] ^= 1  # the last bit of sigma in the first answer
+    old = [file("old", first + second), file("old-answers", program(first + second))]
+    new = [file("new", second + first), file("new-answers", bytes(told))]
+    text, _ = jobs("diff", "--by-tangent", *old, *new, status=1)
+    holds(text.decode(), "record 2/1  EX  pose.sigma  2.0  ->  2.0000000000000004  1 ulp\n", "in both: 2 records\n")
+    text, _ = jobs("diff", "--by-tangent", "--limit", "0", *old, *new, status=1)
+    holds(text.decode(), "1 more difference not printed\n")
+    _, messages = jobs("diff", "--by-tangent", *old, new[0], file("short", program(first)), status=2)
+    holds(messages, "is not the answer to")
+
+
 def counts_of_files():
     for words in (("diff", "a", "b", "c"), ("diff", "--by-tangent", "a", "b")):
         _, messages = jobs(*words, status=2)
         holds(messages, "expected")
 
 
-TESTS = [in_order, damaged, pulls, counts_of_files]
+TESTS = [in_order, damaged, pulls, another_answer, counts_of_files]
