@@ -158,7 +158,8 @@ def parser():
                      help="match the shots of two jobs: JOBS ANSWERS JOBS ANSWERS")
     one.add_argument("old", metavar="OLD", help="the older answers; with --by-tangent the older job")
     one.add_argument("new", metavar="NEW", help="the newer answers; with --by-tangent the older answers")
-    one.add_argument("more", nargs="*", metavar="FILE", help="with --by-tangent the newer job and its answers")
+    one.add_argument("more", nargs="*", metavar="FILE",
+                     help="with --by-tangent the newer job and its answers")
     one = add_command(commands, "arms", ARMS, "count and draw the arms of AR records")
     one.add_argument("--svg", metavar="FILE", help="the picture to be written")
     one.add_argument("job", metavar="JOBS")
@@ -185,7 +186,8 @@ def run(arguments):
         return show(arguments.file, arguments.table, arguments.record, arguments.hex,
                     arguments.unusable)
     if arguments.command == "diff":
-        return run_diff([arguments.old, arguments.new, *arguments.more], arguments.by_tangent, arguments.limit)
+        files = [arguments.old, arguments.new, *arguments.more]
+        return run_diff(files, arguments.by_tangent, arguments.limit)
     if arguments.command == "sort":
         return sort(arguments.job)
     return arms(arguments.job, arguments.answers, arguments.svg)

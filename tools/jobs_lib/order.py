@@ -1,4 +1,6 @@
-"""`jobs sort`, and `jobs diff --by-tangent`: the records that hold a tangent in a fixed order, so that two files with the same shots in another order can be compared."""
+"""`jobs sort` and `jobs diff --by-tangent`: records that hold a tangent in a fixed order, so that two
+files with the same shots in another order can be compared.
+"""
 import sys
 
 from .diff import DIFFERENT, EQUAL, Report, differing, kind
@@ -31,12 +33,13 @@ def whole(path, table, what):
     data = load(path)
     found = scan(data, table, "reading")
     if found.damages:
-        raise Failure(f"jobs: {name_of(path)}: byte {found.damages[0].at}: {found.damages[0].text}; expected a whole {what}")
+        damage = found.damages[0]
+        raise Failure(f"jobs: {name_of(path)}: byte {damage.at}: {damage.text}; expected a whole {what}")
     return data, found
 
 
 def split(data):
-    """The records of a job file: those with a tangent, in its order, and the others as they stand, as (number, bytes)."""
+    """The records of a job file: those with a tangent, in its order; the others, as (number, bytes)."""
     shots, others = [], []
     for number, (at, layout) in enumerate(walk(data, JOB), 1):
         if layout.mark in WITH_TANGENT:
@@ -47,7 +50,7 @@ def split(data):
 
 
 def sort(path):
-    """The command: the job file with its EX and PA records in order, in the places where such records stand; all others keep theirs."""
+    """The command: EX and PA records in order, in the places where such records stand."""
     data, _ = whole(path, JOB, "job file")
     shots, others = split(data)
     kept, rest = dict(others), iter(shots)
@@ -86,13 +89,16 @@ def compare(old, before, new, after, report):
     """The answers to one shot, by its numbers in both files."""
     (old_at, first), (new_at, second) = old.answer(before), new.answer(after)
     if first is not second:
-        report.other_kind(f"{before}/{after}", first.mark, kind(old.data, old_at, first), kind(new.data, new_at, second))
+        report.other_kind(f"{before}/{after}", first.mark, kind(old.data, old_at, first),
+                          kind(new.data, new_at, second))
     elif old.data[old_at:old_at + first.size] != new.data[new_at:new_at + first.size]:
-        report.changed(f"record {before}/{after}", first, differing(first, old.data, old_at, new.data, new_at))
+        found = differing(first, old.data, old_at, new.data, new_at)
+        report.changed(f"record {before}/{after}", first, found)
 
 
 def matched(old, new):
-    """Pairs of numbers of the same shot in both files, None where one file has none; both lists of (key, number) rise."""
+    """Pairs of numbers of the same shot in both files, None where one has none; both lists of (key,
+    number) rise."""
     i = j = 0
     while i < len(old) or j < len(new):
         if j == len(new) or i < len(old) and old[i][0] < new[j][0]:
@@ -107,7 +113,7 @@ def matched(old, new):
 
 
 def paired(old, new):
-    """The shots by their tangents; then the other records, first to first, which are the same or stand alone."""
+    """The shots by their tangents; then the other records, first to first, the same or alone."""
     yield from matched(*([(shot.key, shot.number) for shot in pull.shots] for pull in (old, new)))
     longest = max(len(old.others), len(new.others))
     for i in range(longest):
@@ -132,6 +138,7 @@ def diff_by_tangent(paths, limit):
             same += 1
             compare(old, before, new, after, report)
     report.out.add(*report.summary())
-    report.out.add(f"in both: {count(same, 'record')}" + ("" if report.differences else ", equally answered"))
+    ending = "" if report.differences else ", equally answered"
+    report.out.add(f"in both: {count(same, 'record')}{ending}")
     report.out.flush()
     return DIFFERENT if report.differences else EQUAL

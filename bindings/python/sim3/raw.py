@@ -63,7 +63,8 @@ FUNCTIONS = {
 # sim3_root stands apart from the table: after z it writes three lists, each of its own type and count.
 ROOT_WRITES = {"whole": (ctypes.c_uint64, 2), "exponent": (ctypes.c_int64, 1), "nearest": (ctypes.c_double, 1)}
 
-# So do those of tangents by their bit patterns: their lists in order, each a name and a type; what is read before what is written.
+# So do those of tangents by their bit patterns: their lists in order, each a name and a type, the
+# last of which is written.
 PATTERNS = {
     "compare_tangents": (("a", ctypes.c_uint64), ("b", ctypes.c_uint64), ("out", ctypes.c_int64)),
     "sort_tangents": (("list", ctypes.c_uint64),),

@@ -5,7 +5,7 @@ import ctypes
 
 from . import raw
 from .numbers import lent
-from .refusals import refusal, wrong_length
+from .refusals import explained, refusal, wrong_length
 
 TANGENT, MOST = raw.KINDS["tangent"][0], 7_168
 PATTERNS = ("Q", "<Q", "=Q", "@Q", "L", "=L", "@L")  # formats of a buffer of 64-bit patterns
@@ -43,7 +43,7 @@ def compare_tangents(a, b):
     out = (ctypes.c_int64 * 1)()
     refused = raw.call("compare_tangents", tangent("a", a), tangent("b", b), out)
     if refused:
-        raise refusal(refused, "compare_tangents", "the library refused what this package takes for right; run bindings/build")
+        raise explained(refused, "compare_tangents", {})
     return out[0]
 
 
@@ -54,6 +54,7 @@ def sort_tangents(tangents):
     words, of_patterns = patterns("sim3.sort_tangents: tangents", tangents)
     refused = raw.call("sort_tangents", over(words))
     if refused:
-        raise refusal(refused, "sort_tangents", f"tangents has {len(words):,} numbers; hand in seven of every tangent, "
-                                                f"flat, and at most {MOST:,} ({MOST // TANGENT:,} tangents) at once")
+        raise refusal(refused, "sort_tangents",
+                      f"tangents has {len(words):,} numbers; hand in seven of every tangent, flat, "
+                      f"and at most {MOST:,} ({MOST // TANGENT:,} tangents) at once")
     return words if of_patterns else array.array("d", words.tobytes())
