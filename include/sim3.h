@@ -137,7 +137,7 @@ uint32_t sim3_root(double z, uint64_t *whole, size_t whole_n, int64_t *exponent,
 /* ---- how near another arm is */
 
 /* The least number of neighbouring doubles that z must move, up or down, staying finite and not below zero, for the arm of sim3_coeffs_armed to change: out [3]
- * holds that count, the direction, 0 for down and 1 for up, and the new arm. Where both directions need the same count, down is given. -0 counts as +0. Three
+ * holds that count, the direction, 0 for down and 1 for up, and the new arm. Where both directions need the same count, up is given. -0 counts as +0. Three
  * zeros say that there is none: every such z has the same arm. Refusal 1 where z is below zero, then 8 where sigma or z is a NaN or an infinity. */
 uint32_t sim3_nearest_arm(double sigma, double z, uint64_t *out, size_t out_n);
 

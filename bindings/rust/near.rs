@@ -19,7 +19,7 @@ pub struct Near {
 
 /// The least number of neighbouring doubles that z must move, staying finite and not below zero, for the
 /// arm to change; None where every such z has the same arm. Where both directions need the same count,
-/// down is given. Refused where z is below zero, then where sigma or z is a NaN or infinite.
+/// up is given. Refused where z is below zero, then where sigma or z is a NaN or infinite.
 pub fn nearest_arm(sigma: f64, z: f64) -> Result<Option<Near>, Refusal> {
     let mut near = [0; 3];
     match raw::nearest_arm(sigma, z, &mut near) {

@@ -6,10 +6,10 @@ from .exact import DOUBLE
 SIGN = 1 << 63
 # Where sigma sigma reaches the closed limit, and the number before it.
 CLOSED = 0x3FF684F9AAB51FDC
-# sigma, z, and what is due where down is first: the tie, both directions; one step below the closed limit and at it.
+# sigma, z, and what is due: the tie, where up is first; one step below the closed limit and at it.
 TIE = (0, 0x3FE84D09AC60CC82)
 KNOWN = {
-    TIE: (0, 0x1764F60FC9D00A, 0, 3),
+    TIE: (0, 0x1764F60FC9D00A, 1, 5),
     (CLOSED - 1, 0): (0, 0x3CA0000000000000, 1, 5),
     (CLOSED, 0): (0, 0, 0, 0),
     (CLOSED | SIGN, 0x7FEFFFFFFFFFFFFF): (0, 0, 0, 0),

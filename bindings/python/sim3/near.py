@@ -20,7 +20,7 @@ class Near(NamedTuple):
 def nearest_arm(sigma, z) -> Optional[Near]:
     """The least number of neighbouring doubles that z must move, staying finite and not below zero, for
     the arm to change, a Near; None where every such z has the same arm. Where both directions need the
-    same count, down is given. Refusal 1 where z is below zero, then 8 where sigma or z is a NaN or
+    same count, up is given. Refusal 1 where z is below zero, then 8 where sigma or z is a NaN or
     infinite."""
     sigma, z = number("sim3.nearest_arm: sigma", sigma), number("sim3.nearest_arm: z", z)
     (kind, size), = raw.NEAR_WRITES.values()

@@ -8,4 +8,5 @@ pub mod Sides
 pub mod Starts
 pub mod Answers
 pub mod Theorem
+pub mod Ties
 pub mod Examples

@@ -70,7 +70,7 @@ nearestFrom arm end first p = leastFrom arm end first p end 1
 
 -- the direction that is given where both need the same count
 abbrev pub firstTold : Way
-firstTold = down
+firstTold = up
 
 -- the arm at σ and the value with the pattern p
 unfoldable pub armAt : Format → Float → ℕ → ℕ

@@ -102,7 +102,7 @@ fn nearest_from(sigma: f64, p: u64) -> NearestAnswer
     if high == END {
         return downward(sigma, p, low);
     }
-    if high - p < p - low + 1 {
+    if high - p <= p - low + 1 {
         upward(sigma, p, high)
     } else {
         downward(sigma, p, low)
@@ -118,7 +118,7 @@ fn both_finite(x: f64, y: f64) -> bool
 }
 
 // How many neighbouring values z must move for the arm at (sigma, z) to change; where both directions
-// need the same count, down is given.
+// need the same count, up is given.
 pub fn nearest_arm(sigma: f64, z: f64) -> NearestAnswer
     ensures { λ r. ⌜ nearestTold r ≡ nearestOf binary64 firstTold sigma z ⌝ }
 {
