@@ -141,6 +141,16 @@ uint32_t sim3_root(double z, uint64_t *whole, size_t whole_n, int64_t *exponent,
  * zeros say that there is none: every such z has the same arm. Refusal 1 where z is below zero, then 8 where sigma or z is a NaN or an infinity. */
 uint32_t sim3_nearest_arm(double sigma, double z, uint64_t *out, size_t out_n);
 
+/* ---- tangents in a fixed order. Each number goes by IEEE 754's totalOrder: NaNs with the sign, -infinity, .., -0, +0, .., +infinity, NaNs without; the first
+ * difference from phi to sigma decides. A number is its 64-bit pattern here, the bytes of a double as they are, so that NaNs with different bits differ. */
+
+/* The tangent a against b. a [7], b [7]; out [1]: -1 where a stands before b, 0 where all bits are the same, 1 where a stands after b. */
+uint32_t sim3_compare_tangents(const uint64_t *a, size_t a_n, const uint64_t *b, size_t b_n, int64_t *out, size_t out_n);
+
+/* The tangents of a list, seven numbers each, put in order in their place, smallest first; bit-equal ones are alike. Refusal 5 where list_n is above 7,168 or no
+ * multiple of seven. */
+uint32_t sim3_sort_tangents(uint64_t *list, size_t list_n);
+
 #ifdef __cplusplus
 }
 #endif

@@ -13,7 +13,8 @@ static inline const char *sim3_refusal_text(uint32_t number) {
     case SIM3_E_IS_ZERO:
         return "e, the last number of the block, is zero; such a block has no inverse, so leave it out or look at e first";
     case SIM3_POINTS_LENGTH:
-        return "a list of points has a wrong length; hand in x y z of every point, at most 65,535 numbers, and an out as long as pts";
+        return "a list of points or tangents has a wrong length; hand in x y z of every point, at most 65,535 numbers, and an out as long as pts; or seven numbers of every "
+               "tangent, at most 7,168";
     case SIM3_NOT_FINITE:
         return "z, or sigma where sim3_nearest_arm was asked, is a NaN or infinite; it has no root with what is left and no neighbours, so look at it first";
     case SIM3_FRAMES:

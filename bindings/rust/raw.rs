@@ -186,6 +186,15 @@ extern "C" {
         nearest_n: usize,
     ) -> u32;
     fn sim3_nearest_arm(sigma: f64, z: f64, out: *mut u64, out_n: usize) -> u32;
+    fn sim3_compare_tangents(
+        a: *const u64,
+        a_n: usize,
+        b: *const u64,
+        b_n: usize,
+        out: *mut i64,
+        out_n: usize,
+    ) -> u32;
+    fn sim3_sort_tangents(list: *mut u64, list_n: usize) -> u32;
 }
 
 // LISTS, the reason why each call below is sound. The C functions ask of their caller that no pointer is
@@ -462,4 +471,27 @@ pub fn root(z: f64, whole: &mut [u64], exponent: &mut [i64], nearest: &mut [f64]
 pub fn nearest_arm(sigma: f64, z: f64, out: &mut [u64]) -> u32 {
     // SAFETY: LISTS.
     unsafe { sim3_nearest_arm(sigma, z, out.as_mut_ptr(), out.len()) }
+}
+
+// The bytes of an f64 are those of a u64, its pattern: the two functions below hand them over as they
+// are. Both types have the same size and place in memory, and every pattern is a value of each.
+
+pub fn compare_tangents(a: &[f64; 7], b: &[f64; 7], out: &mut [i64]) -> u32 {
+    // SAFETY: LISTS, and patterns as above.
+    unsafe {
+        sim3_compare_tangents(
+            a.as_ptr().cast(),
+            a.len(),
+            b.as_ptr().cast(),
+            b.len(),
+            out.as_mut_ptr(),
+            out.len(),
+        )
+    }
+}
+
+pub fn sort_tangents(list: &mut [[f64; 7]]) -> u32 {
+    // The arrays of a slice stand in a row, so there are seven times as many numbers.
+    // SAFETY: LISTS, and patterns as above.
+    unsafe { sim3_sort_tangents(list.as_mut_ptr().cast(), list.len() * 7) }
 }

@@ -14,6 +14,8 @@ pub enum Refusal {
     PointsLength { pts: usize, out: usize },
     /// 8: z is a NaN or +infinity; of `nearest_arm`, also sigma is a NaN or an infinity.
     NotFinite,
+    /// 5: there are more than 1,024 tangents.
+    TooManyTangents { tangents: usize },
     /// 9: the frames do not meet. `x` and `y` are the two that would have to be one: X's from and Y's
     /// to in X Y, both froms in X Y⁻¹, both tos in Y⁻¹ X.
     Frames { join: Join, x: u16, y: u16 },
@@ -36,6 +38,7 @@ impl Refusal {
             Refusal::PointsLength { .. } => 5,
             Refusal::NotFinite => 8,
             Refusal::Frames { .. } => 9,
+            Refusal::TooManyTangents { .. } => 5,
         }
     }
 }
@@ -73,6 +76,9 @@ impl fmt::Display for Refusal {
             }
             Refusal::Frames { join: Join::InvMul, x, y } => {
                 write!(f, "x goes to frame {x}, and y to frame {y}; Y^-1 X wants one frame there, so hand in two poses that go to it")
+            }
+            Refusal::TooManyTangents { tangents } => {
+                write!(f, "there are {tangents} tangents; at most 1024 are put in order at once, so hand in fewer")
             }
         }
     }

@@ -19,10 +19,12 @@ mod near;
 mod raw;
 mod refusal;
 mod square_root;
+mod tangents;
 
 pub use near::{nearest_arm, Direction, Near};
 pub use refusal::{Join, Refusal};
 pub use square_root::{root, Root};
+pub use tangents::{compare_tangents, sort_tangents};
 
 /// A pose, which maps points of the frame `from` to points of the frame `to`.
 #[derive(Clone, Copy, Debug, PartialEq)]

@@ -8,7 +8,8 @@ from sim3 import raw
 TYPES = {"const double *": "in", "double *": "out", "size_t": "count", "double": "number",
          "*const f64": "in", "*mut f64": "out", "usize": "count", "f64": "number",
          "const uint16_t *": "frames in", "uint16_t *": "frames out", "*const u16": "frames in", "*mut u16": "frames out",
-         "uint64_t *": "whole out", "int64_t *": "signed out", "*mut u64": "whole out", "*mut i64": "signed out"}
+         "uint64_t *": "whole out", "int64_t *": "signed out", "*mut u64": "whole out", "*mut i64": "signed out",
+         "const uint64_t *": "whole in", "*const u64": "whole in"}
 WRITTEN = {ctypes.c_uint64: "whole out", ctypes.c_int64: "signed out", ctypes.c_double: "out"}
 
 
@@ -47,6 +48,10 @@ def of_python():
     found["nearest_arm"] = [("sigma", "number"), ("z", "number")]
     for argument, (kind, _) in raw.NEAR_WRITES.items():
         found["nearest_arm"] += [(argument, WRITTEN[kind]), (argument + "_n", "count")]
+    for name, made in raw.PATTERNS.items():
+        found[name] = []
+        for i, (argument, kind) in enumerate(made, 1):
+            found[name] += [(argument, WRITTEN[kind] if i == len(made) else "whole in"), (argument + "_n", "count")]
     return found
 
 

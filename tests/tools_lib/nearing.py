@@ -2,7 +2,8 @@
 import struct
 
 from .arming import ENDS, VALUES
-from .common import doubles, file, holds, jobs, same, with_library
+from .common import file, holds, jobs, same, with_library
+from jobs_lib.floats import DOUBLE
 
 BESIDE = [(2, 3), (1, 0), (4, -1), (3, -700), (1, 40_000)]  # the arm that ends there, and how many patterns behind its end z lies
 
@@ -12,7 +13,7 @@ def job(mark, points):
 
 
 def shots():
-    return [(0.0, doubles.from_bits(ENDS[arm] + away)) for arm, away in BESIDE]
+    return [(0.0, DOUBLE.from_bits(ENDS[arm] + away)) for arm, away in BESIDE]
 
 
 def steps_of(text):

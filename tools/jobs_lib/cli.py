@@ -10,6 +10,7 @@ from .floats import DOUBLE, SINGLE
 from .layout import ANSWER, JOB
 from .make import MAY_MISS, groups_text, make
 from .near import near
+from .order import diff_by_tangent, sort
 from .show import show
 from .terminal import Failure, say
 
@@ -25,6 +26,7 @@ example:
   tools/jobs diff last-answers.bin answers.bin
   tools/jobs arms --svg arms.svg jobs.bin answers.bin
   tools/jobs near --within 1000 jobs.bin
+  tools/jobs sort jobs.bin > sorted-jobs.bin
 """
 
 MAKE = """\
@@ -72,10 +74,28 @@ mark has small letters; frames differ or are equal. A NaN equals every NaN; zero
 differ. A file that does not end in ZZ is named first. At the end stands which answers are not usable,
 since they hold a NaN or an infinity.
 
+With --by-tangent four files are given, two jobs each with its answers, and the same shots may stand
+in another order: EX and PA records are matched by their tangents (and all their other numbers), by
+bits. A record's number is then that in the first job, a stroke, and that in the second; what one job
+has alone is named. Records of other marks are compared in the order in which they stand.
+
 Exit status: 0 equal and whole, 1 different or not whole, 2 not to be read.
 
 example:
   tools/jobs diff --limit 20 last-answers.bin answers.bin
+  tools/jobs diff --by-tangent last-jobs.bin last-answers.bin jobs.bin answers.bin
+"""
+
+SORT = """\
+A job file in a fixed order, to standard output: its EX and PA records by their tangents, smallest
+first, in the places where such records stand. A number goes by IEEE 754's totalOrder: NaNs with the
+sign, -inf, .., -0, 0, .., inf, other NaNs; the first difference from phi to sigma decides, and then
+the mark and the record's other numbers. Records of other marks keep their places.
+
+Exit status: 0, or 2 where the file cannot be read or is damaged or cut (the byte is named).
+
+example:
+  tools/jobs sort jobs.bin > sorted-jobs.bin
 """
 
 
@@ -169,8 +189,12 @@ def parser():
     one.add_argument("file", nargs="?", metavar="FILE", help="the file; standard input if not given")
     one = add_command(commands, "diff", DIFF, "compare two answer files")
     one.add_argument("--limit", type=limit, metavar="N", help="print at most N differences")
-    one.add_argument("old", metavar="OLD")
-    one.add_argument("new", metavar="NEW")
+    one.add_argument("--by-tangent", action="store_true",
+                     help="match the shots of two jobs: JOBS ANSWERS JOBS ANSWERS")
+    one.add_argument("old", metavar="OLD", help="the older answers; with --by-tangent the older job")
+    one.add_argument("new", metavar="NEW", help="the newer answers; with --by-tangent the older answers")
+    one.add_argument("more", nargs="*", metavar="FILE",
+                     help="with --by-tangent the newer job and its answers")
     one = add_command(commands, "arms", ARMS, "count and draw the arms of AR records")
     one.add_argument("--svg", metavar="FILE", help="the picture to be written")
     one.add_argument("job", metavar="JOBS")
@@ -178,7 +202,17 @@ def parser():
     one = add_command(commands, "near", NEAR, "which shots lie beside another arm")
     one.add_argument("--within", type=steps, default=1000, metavar="N", help="at most N steps from it; 1,000 if not given")
     one.add_argument("file", nargs="?", metavar="FILE", help="the job; standard input if not given")
+    one = add_command(commands, "sort", SORT, "a job file in the order of its tangents")
+    one.add_argument("job", nargs="?", metavar="JOBS", help="the job file; standard input if not given")
     return top
+
+
+def run_diff(files, by_tangent, most):
+    """Two answer files, or two jobs each with its answers."""
+    if len(files) != (4 if by_tangent else 2):
+        expected = "JOBS ANSWERS JOBS ANSWERS with --by-tangent" if by_tangent else "OLD NEW"
+        raise Failure(f"jobs: diff got {len(files)} files; expected {expected}")
+    return diff_by_tangent(files, most) if by_tangent else diff(*files, most)
 
 
 def run(arguments):
@@ -190,9 +224,12 @@ def run(arguments):
         return show(arguments.file, arguments.table, arguments.record, arguments.hex,
                     arguments.unusable)
     if arguments.command == "diff":
-        return diff(arguments.old, arguments.new, arguments.limit)
+        files = [arguments.old, arguments.new, *arguments.more]
+        return run_diff(files, arguments.by_tangent, arguments.limit)
     if arguments.command == "near":
         return near(arguments.file, arguments.within)
+    if arguments.command == "sort":
+        return sort(arguments.job)
     return arms(arguments.job, arguments.answers, arguments.svg)
 
 

@@ -1,7 +1,7 @@
 """`jobs near`: which shots of a job lie beside another arm, nearest first, by the library's `nearest_arm`."""
 from . import host  # so that the binding is found
 from .arms import limits_give
-from .doubles import text
+from .floats import DOUBLE
 from .layout import ARMS, JOB
 from .records import guess, load, name_of, older, scan, walk
 from .terminal import Failure, Lines, Progress, count
@@ -40,7 +40,7 @@ def lines(found):
     for steps, number, mark, sigma, z, near in sorted(found.near, key=lambda shot: shot[:2]):
         arm = limits_give(sigma, z)[0]
         yield f"record {number}  {mark}  {count(steps, 'step')} {near.direction} to arm {near.arm} ({ARMS[near.arm]}) " \
-              f"from arm {arm} ({ARMS[arm]})  sigma {text(sigma)}; z {text(z)}"
+              f"from arm {arm} ({ARMS[arm]})  sigma {DOUBLE.text(DOUBLE.to_bits(sigma))}; z {DOUBLE.text(DOUBLE.to_bits(z))}"
     yield f"{len(found.near):,} of {count(found.asked, 'shot')} within {count(found.within, 'step')} of another arm"
     if found.alone:
         yield f"{count(found.alone, 'shot')} with the same arm at every z"

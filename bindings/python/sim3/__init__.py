@@ -24,8 +24,9 @@ from .raw import LibraryMissing
 from .refusals import Refusal, explained, wrong_length
 from .near import Near, nearest_arm
 from .square_root import Root, nearest_root, root
+from .tangents import compare_tangents, sort_tangents
 
-__all__ = ["LibraryMissing", "Near", "Pose", "Refusal", "Root", "host", "nearest_arm", "nearest_root", "root", *raw.FUNCTIONS]
+__all__ = ["LibraryMissing", "Near", "Pose", "Refusal", "Root", "host", "nearest_arm", "nearest_root", "root", *raw.FUNCTIONS, *raw.PATTERNS]
 
 
 # ---- asking the C functions

@@ -68,6 +68,13 @@ ROOT_WRITES = {"whole": (ctypes.c_uint64, 2), "exponent": (ctypes.c_int64, 1), "
 # So does sim3_nearest_arm: after sigma and z it writes one list of whole numbers.
 NEAR_WRITES = {"out": (ctypes.c_uint64, 3)}
 
+# So do those of tangents by their bit patterns: their lists in order, each a name and a type, the
+# last of which is written.
+PATTERNS = {
+    "compare_tangents": (("a", ctypes.c_uint64), ("b", ctypes.c_uint64), ("out", ctypes.c_int64)),
+    "sort_tangents": (("list", ctypes.c_uint64),),
+}
+
 
 class LibraryMissing(OSError):
     """The shared library is not there or is none of this engine; the text says what to do."""
@@ -90,6 +97,7 @@ def library():
     try:
         loaded = ctypes.CDLL(str(path.resolve()))
         found = {name: declared(loaded["sim3_" + name], made) for name, made in FUNCTIONS.items()}
+        found.update((name, declared_lists(loaded["sim3_" + name], made)) for name, made in PATTERNS.items())
         return {**found, "root": declared_root(loaded["sim3_root"]),
                 "nearest_arm": declared_near(loaded["sim3_nearest_arm"])}
     except (OSError, AttributeError) as error:
@@ -125,6 +133,13 @@ def declared_near(symbol):
     """sim3_nearest_arm with the types of its arguments."""
     lists = [word for kind, _ in NEAR_WRITES.values() for word in (ctypes.POINTER(kind), ctypes.c_size_t)]
     symbol.argtypes = [ctypes.c_double, ctypes.c_double, *lists]
+    symbol.restype = ctypes.c_uint32
+    return symbol
+
+
+def declared_lists(symbol, made):
+    """A C function of lists alone, each with its own type."""
+    symbol.argtypes = [word for _, kind in made for word in (ctypes.POINTER(kind), ctypes.c_size_t)]
     symbol.restype = ctypes.c_uint32
     return symbol
 

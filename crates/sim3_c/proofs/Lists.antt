@@ -30,8 +30,8 @@ sets-all {A} out l h =
     let d : drop (length l) out ≡ [] = ap (λ (k : ℕ). drop k out) (sym h) ∙ drop-length out in
     sets-front l out (omega arith) ∙ ap (λ (k : List A). l ++ k) d ∙ append-nil l
 
--- ---- points that are refused leave `out` alone
-alone : {A : Type 0} (a : A) (t : Bool) (l out : List Float) (n : ℕ) → cond t (answers a) (refuses 5) ≡ refuses n → cond t l out ≡ out
+-- ---- what is refused leaves `out` alone
+pub alone : {A B : Type 0} (a : A) (t : Bool) (l out : B) (n : ℕ) → cond t (answers a) (refuses 5) ≡ refuses n → cond t l out ≡ out
 alone a true l out n h = never a n h
 alone a false l out n h = refl
 

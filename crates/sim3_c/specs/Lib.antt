@@ -1,3 +1,4 @@
 pub mod Lists
 pub mod Calls
 pub mod Near
+pub mod Order

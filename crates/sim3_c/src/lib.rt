@@ -10,6 +10,7 @@ pub mod arms; // the coefficients with their arms
 pub mod jacobians; // inverse, adjoint, and the Jacobians of the group's operations
 pub mod square_root; // the square root with what is left
 pub mod near; // how near another arm is
+pub mod tangents; // the order of tangents, and of a list of them
 
 // A list has not the length that is due. No refusal of the engine has this number or one near it.
 const LIST_LENGTH: u32 = 100;

@@ -1,0 +1,4 @@
+pub mod TotalOrder
+pub mod Order
+pub mod Theorem
+pub mod Merge
