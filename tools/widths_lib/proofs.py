@@ -103,10 +103,11 @@ def turned_tests(block, rules):
 def with_rules(sources, crate, text, function, used):
     """Each `simp` with the rules of the structs; where a declaration has none, the structs open. Gives the imports of the rules too.
 
-    A function over numbers in a row that is given no struct reads one, hands it to the engine and writes the answer: what its calls ensure fits as it stands, closed."""
+    A function over numbers in a row that is given no struct reads one, hands it to the engine and writes the answer: what its calls ensure fits as it stands, closed,
+    but for the structs that it makes itself."""
     sets, names, opens = sources.below(crate), sources.named_in(function), OPENS
     if "layout" in sources.rests_on[crate]:
-        names, opens = names if sources.given(function) else set(), f"{OPENS}|{NUMBERS}"
+        names, opens = names if sources.given(function) else sources.made_in(function), f"{OPENS}|{NUMBERS}"
     rules = ", ".join(f"{c.replace('_', '-')}-singles" for c in sets)
     blocks, simps = text.split("\n\n"), False
     for k, block in enumerate(blocks):
@@ -145,7 +146,15 @@ def proof(sources, crate, function, text):
     text = re.sub(r"\((\(as\w+ \([^()]*\)\))\)", r"\1", text)
     name = twin(crate).replace("_", "-")
     text = text.replace(f"calls-{crate}·{crate}·", f"calls-{name}·{name}·").replace(f"calls-{crate}·", f"calls-{name}·")
-    return text.replace(f"`{crate}::", f"`{twin(crate)}::")
+    text = text.replace(f"`{crate}::", f"`{twin(crate)}::")
+    return exported(text, function) if function.exported else text
+
+
+def exported(text, function):
+    """The proof with the name that the function has at the other width."""
+    old, new = function.name, twin(function.name)
+    text = text.replace(f".{old}.", f".{new}.").replace(f"::{old}`", f"::{new}`")
+    return text.replace(f"{old.replace('_', '-')}-spec", f"{new.replace('_', '-')}-spec")
 
 
 def computed(sources, crate, function):

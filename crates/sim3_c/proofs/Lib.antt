@@ -1,3 +1,3 @@
 -- The laws of lists that are read and written whole.
-mod Lists
-mod Stores
+pub mod Lists
+pub mod Stores
