@@ -134,6 +134,37 @@ uint32_t sim3_inverse_jacobian_left(const double *x, size_t x_n, double down, do
  * zeros, and nearest keeps its sign. Refusal 1 where z is below zero, -infinity too, and 8 where it is a NaN or +infinity. */
 uint32_t sim3_root(double z, uint64_t *whole, size_t whole_n, int64_t *exponent, size_t exponent_n, double *nearest, size_t nearest_n);
 
+/* ---- the same at f32: each function above but sim3_root, on singles, with the ending _f32. Arguments, orders, counts, refusals and the numbers of the arms are
+ * as above; the arms' series have 4, 7, 9 and 11 terms. The answers are those of the engine at binary32, and not the doubles' rounded; where a number is a NaN,
+ * so are those that are computed from it. The function values are the caller's here too; sim3_host_f32.h computes them in double and rounds each once. */
+
+uint32_t sim3_exp_f32(const float *tau, size_t tau_n, const float *values, size_t values_n, const uint16_t *frames, size_t frames_n, float *out, size_t out_n,
+                      uint16_t *out_frames, size_t out_frames_n);
+uint32_t sim3_mul_f32(const float *x, size_t x_n, const uint16_t *x_frames, size_t x_frames_n, const float *y, size_t y_n, const uint16_t *y_frames,
+                      size_t y_frames_n, float up, float *out, size_t out_n, uint16_t *out_frames, size_t out_frames_n);
+uint32_t sim3_inverse_f32(const float *x, size_t x_n, const uint16_t *x_frames, size_t x_frames_n, float down, float *out, size_t out_n, uint16_t *out_frames,
+                          size_t out_frames_n);
+uint32_t sim3_mul_inv_f32(const float *x, size_t x_n, const uint16_t *x_frames, size_t x_frames_n, const float *y, size_t y_n, const uint16_t *y_frames,
+                          size_t y_frames_n, float ds, float *out, size_t out_n, uint16_t *out_frames, size_t out_frames_n);
+uint32_t sim3_inv_mul_f32(const float *x, size_t x_n, const uint16_t *x_frames, size_t x_frames_n, const float *y, size_t y_n, const uint16_t *y_frames,
+                          size_t y_frames_n, float down, float *out, size_t out_n, uint16_t *out_frames, size_t out_frames_n);
+uint32_t sim3_renormalize_f32(float *x, size_t x_n);
+uint32_t sim3_act_many_f32(const float *x, size_t x_n, float up, const float *pts, size_t pts_n, float *out, size_t out_n);
+uint32_t sim3_act_each_f32(const float *x, size_t x_n, float up, const float *pts, size_t pts_n, float *out, size_t out_n);
+uint32_t sim3_scaled_pair_f32(float sigma, float z, const float *values, size_t values_n, float *out, size_t out_n);
+uint32_t sim3_coeffs_armed_f32(float sigma, float z, const float *values, size_t values_n, float *out, size_t out_n);
+uint32_t sim3_armed_pair_f32(float sigma, float z, const float *values, size_t values_n, float *out, size_t out_n);
+uint32_t sim3_block_pair_f32(const float *tau, size_t tau_n, const float *values, size_t values_n, const float *jl, size_t jl_n, const float *jl_inv,
+                             size_t jl_inv_n, float *out, size_t out_n);
+uint32_t sim3_block_inverse_f32(const float *j, size_t j_n, float *out, size_t out_n);
+uint32_t sim3_adjoint_f32(const float *x, size_t x_n, float up, float *out, size_t out_n);
+uint32_t sim3_act_jacobians_right_f32(const float *x, size_t x_n, float up, const float *p, size_t p_n, float *out, size_t out_n);
+uint32_t sim3_act_jacobians_left_f32(const float *x, size_t x_n, float up, const float *p, size_t p_n, float *out, size_t out_n);
+uint32_t sim3_compose_jacobians_right_f32(const float *y, size_t y_n, float down, float *out, size_t out_n);
+uint32_t sim3_compose_jacobians_left_f32(const float *x, size_t x_n, float up, float *out, size_t out_n);
+uint32_t sim3_inverse_jacobian_right_f32(const float *x, size_t x_n, float up, float *out, size_t out_n);
+uint32_t sim3_inverse_jacobian_left_f32(const float *x, size_t x_n, float down, float *out, size_t out_n);
+
 #ifdef __cplusplus
 }
 #endif

@@ -1,5 +1,6 @@
-//! The C functions of include/sim3.h, and the only unsafe code of this crate: each is called through a
-//! function over slices. The declarations are trusted; tests/bindings compares them with the header.
+//! The C functions of include/sim3.h at one width, each called through a function over slices. Outside of
+//! raw.rs and raw_f32.rs this crate has no unsafe code. The declarations are trusted; tests/bindings
+//! compares them with the header.
 
 #![allow(unsafe_code)]
 

@@ -6,7 +6,9 @@ from .words import after_uses, as_lines, home, imports, place, twin, width
 
 # what a proof by computing is made of, and the laws about a thing's numbers in a row: there the structs stand open
 OPENS = r"\b(?:refl|cc|rw|sym|ap)\b|∙"
-NUMBERS = r"-(?:zero|parts|run)\b"
+NUMBERS = r"-(?:zero|parts|run|stored)\b"
+# a need that is about a list's length and no number of it
+LENGTH = r"= simp length-set\b"
 # a proof that walks the code by itself, statement by statement
 WALK = "ghost.Atoms"
 
@@ -112,6 +114,8 @@ def with_rules(sources, crate, text, function, used):
     blocks, simps = text.split("\n\n"), False
     for k, block in enumerate(blocks):
         if not re.search(r"(?m)^\S+( \S+)* =", block) or "tie.close" in block or block.startswith(("use ", "-- ", "abbrev")):
+            continue
+        if sources.given(function) and re.search(LENGTH, block):
             continue
         if rules and re.search(r"\bsimp\b", block):
             simps = True

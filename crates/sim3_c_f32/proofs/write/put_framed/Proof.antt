@@ -1,4 +1,4 @@
--- Written by tools/widths from crates/sim3_c/proofs/write/put_framed/Proof.antt: edit that one. Digest f41686024a586de7.
+-- Written by tools/widths from crates/sim3_c/proofs/write/put_framed/Proof.antt: edit that one. Digest 88f506e30be3c0fd.
 -- `sim3_c_f32::write::put_framed` meets its contract: lists of the lengths that are due have the numbers and the frames written, and any other two are left as they were. Assumes nothing.
 use borrow.Author.Needs.{needs}
 use borrow.Author.Tests.{eq-eqb, ne-eqb}
@@ -16,16 +16,6 @@ use Rattle.linalg_f32.specs.As.{asVec3}
 use Rattle.so3_f32.specs.As.{asQuat}
 use Rattle.sim3_f32.specs.As.{asSim3}
 use Rattle.frames_f32.specs.As.{asPose}
-use Rattle.linalg_f32.proofs.As.{linalg-singles}
-use Rattle.circle_f32.proofs.As.{circle-singles}
-use Rattle.series_f32.proofs.As.{series-singles}
-use Rattle.coeffs_f32.proofs.As.{coeffs-singles}
-use Rattle.so3_f32.proofs.As.{so3-singles}
-use Rattle.sim3_f32.proofs.As.{sim3-singles}
-use Rattle.jacobian_f32.proofs.As.{jacobian-singles}
-use Rattle.sides_f32.proofs.As.{sides-singles}
-use Rattle.frames_f32.proofs.As.{frames-singles}
-use Rattle.sim3_c_f32.proofs.As.{sim3-c-singles}
 
 returns : tie.Need-returns
 unfolding status written framedFitting asPose asQuat asSim3 asVec3
@@ -46,7 +36,7 @@ returns-3 c =
     rw (eq-eqb _ _ (c1 .if1 .left), eq-eqb _ _ (c .before .before .before .before .if2 .left)) (refl, λ i. poseLists (numbers i) (frames i))
 
 slice-write-out-frames-2 : tie.Need-slice-write-out-frames-2
-slice-write-out-frames-2 c = simp (linalg-singles, circle-singles, series-singles, coeffs-singles, so3-singles, sim3-singles, jacobian-singles, sides-singles, frames-singles, sim3-c-singles, length-set) (search needs)
+slice-write-out-frames-2 c = simp length-set (search needs)
 
 pub put-framed-spec : {M : Type 1} → statement M
 put-framed-spec =

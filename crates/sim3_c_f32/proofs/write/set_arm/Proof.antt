@@ -1,4 +1,4 @@
--- Written by tools/widths from crates/sim3_c/proofs/write/set_arm/Proof.antt: edit that one. Digest e11e1719fd5fe695.
+-- Written by tools/widths from crates/sim3_c/proofs/write/set_arm/Proof.antt: edit that one. Digest b1392877ef012be5.
 -- `sim3_c_f32::write::set_arm` meets its contract: two stores are the run of the arm and its ends. Assumes nothing.
 use borrow.Author.Needs.{needs}
 use native.Mathlib.Omega.{arith}
@@ -9,16 +9,6 @@ use Rattle.sim3_c_f32.proofs.write.set_arm.Statement.{statement}
 use Rattle.sim3_c_f32.proofs.write.set_arm.Tie as tie
 use Rattle.series_f32.specs.As.{asSim3Coeffs}
 use Rattle.coeffs_f32.specs.As.{asArmed, asScaled}
-use Rattle.linalg_f32.proofs.As.{linalg-singles}
-use Rattle.circle_f32.proofs.As.{circle-singles}
-use Rattle.series_f32.proofs.As.{series-singles}
-use Rattle.coeffs_f32.proofs.As.{coeffs-singles}
-use Rattle.so3_f32.proofs.As.{so3-singles}
-use Rattle.sim3_f32.proofs.As.{sim3-singles}
-use Rattle.jacobian_f32.proofs.As.{jacobian-singles}
-use Rattle.sides_f32.proofs.As.{sides-singles}
-use Rattle.frames_f32.proofs.As.{frames-singles}
-use Rattle.sim3_c_f32.proofs.As.{sim3-c-singles}
 
 returns : tie.Need-returns
 unfolding ofBits asArmed asScaled asSim3Coeffs
@@ -27,10 +17,10 @@ returns c =
     rw (c .pick .ensures) (arm-stored binary32 (asArmed (a .a)) (a .out .now) (a .at))
 
 slice-write-out-2 : tie.Need-slice-write-out-2
-slice-write-out-2 c = simp (linalg-singles, circle-singles, series-singles, coeffs-singles, so3-singles, sim3-singles, jacobian-singles, sides-singles, frames-singles, sim3-c-singles, length-set) (omega arith)
+slice-write-out-2 c = simp length-set (omega arith)
 
 same-length : tie.Need-same-length
-same-length c = simp (linalg-singles, circle-singles, series-singles, coeffs-singles, so3-singles, sim3-singles, jacobian-singles, sides-singles, frames-singles, sim3-c-singles, length-set)
+same-length c = simp length-set
 
 pub set-arm-spec : {M : Type 1} → statement M
 set-arm-spec =

@@ -1,4 +1,4 @@
--- Written by tools/widths from crates/sim3_c/proofs/write/set_block/Proof.antt: edit that one. Digest 0113ea911615a45c.
+-- Written by tools/widths from crates/sim3_c/proofs/write/set_block/Proof.antt: edit that one. Digest 97e6651a4b4fae39.
 -- `sim3_c_f32::write::set_block` meets its contract: the runs of its parts are its run. Assumes nothing.
 use borrow.Author.Needs.{needs}
 use lib.ListN.{length-set}
@@ -7,16 +7,6 @@ use Rattle.sim3_c_f32.proofs.write.set_block.Statement.{statement}
 use Rattle.sim3_c_f32.proofs.write.set_block.Tie as tie
 use Rattle.linalg_f32.specs.As.{asMat3, asVec3}
 use Rattle.jacobian_f32.specs.As.{asSim3Jac}
-use Rattle.linalg_f32.proofs.As.{linalg-singles}
-use Rattle.circle_f32.proofs.As.{circle-singles}
-use Rattle.series_f32.proofs.As.{series-singles}
-use Rattle.coeffs_f32.proofs.As.{coeffs-singles}
-use Rattle.so3_f32.proofs.As.{so3-singles}
-use Rattle.sim3_f32.proofs.As.{sim3-singles}
-use Rattle.jacobian_f32.proofs.As.{jacobian-singles}
-use Rattle.sides_f32.proofs.As.{sides-singles}
-use Rattle.frames_f32.proofs.As.{frames-singles}
-use Rattle.sim3_c_f32.proofs.As.{sim3-c-singles}
 
 returns : tie.Need-returns
 unfolding asMat3 asSim3Jac asVec3
@@ -33,7 +23,7 @@ returns c =
     ) (block-stored (asSim3Jac (a .j)) (a .out .now) (a .at))
 
 same-length : tie.Need-same-length
-same-length c = simp (linalg-singles, circle-singles, series-singles, coeffs-singles, so3-singles, sim3-singles, jacobian-singles, sides-singles, frames-singles, sim3-c-singles, length-set) (search needs)
+same-length c = simp length-set (search needs)
 
 pub set-block-spec : {M : Type 1} → statement M
 set-block-spec =

@@ -1,4 +1,4 @@
--- Written by tools/widths from crates/sim3_c/proofs/write/set_quat/Proof.antt: edit that one. Digest bb5eba5908a80f9e.
+-- Written by tools/widths from crates/sim3_c/proofs/write/set_quat/Proof.antt: edit that one. Digest 5a26d0bbe209b42b.
 -- `sim3_c_f32::write::set_quat` meets its contract: four stores are the run of the quaternion. Assumes nothing.
 use borrow.Author.Needs.{needs}
 use native.Mathlib.Omega.{arith}
@@ -7,33 +7,24 @@ use Rattle.sim3_c.proofs.Stores.{quat-stored}
 use Rattle.sim3_c_f32.proofs.write.set_quat.Statement.{statement}
 use Rattle.sim3_c_f32.proofs.write.set_quat.Tie as tie
 use Rattle.so3_f32.specs.As.{asQuat}
-use Rattle.linalg_f32.proofs.As.{linalg-singles}
-use Rattle.circle_f32.proofs.As.{circle-singles}
-use Rattle.series_f32.proofs.As.{series-singles}
-use Rattle.coeffs_f32.proofs.As.{coeffs-singles}
-use Rattle.so3_f32.proofs.As.{so3-singles}
-use Rattle.sim3_f32.proofs.As.{sim3-singles}
-use Rattle.jacobian_f32.proofs.As.{jacobian-singles}
-use Rattle.sides_f32.proofs.As.{sides-singles}
-use Rattle.frames_f32.proofs.As.{frames-singles}
-use Rattle.sim3_c_f32.proofs.As.{sim3-c-singles}
 
 returns : tie.Need-returns
+unfolding asQuat
 returns c =
     let a = c .args in
     quat-stored (asQuat (a .q)) (a .out .now) (a .at)
 
 slice-write-out-2 : tie.Need-slice-write-out-2
-slice-write-out-2 c = simp (linalg-singles, circle-singles, series-singles, coeffs-singles, so3-singles, sim3-singles, jacobian-singles, sides-singles, frames-singles, sim3-c-singles, length-set) (omega arith)
+slice-write-out-2 c = simp length-set (omega arith)
 
 slice-write-out-3 : tie.Need-slice-write-out-3
-slice-write-out-3 c = simp (linalg-singles, circle-singles, series-singles, coeffs-singles, so3-singles, sim3-singles, jacobian-singles, sides-singles, frames-singles, sim3-c-singles, length-set) (omega arith)
+slice-write-out-3 c = simp length-set (omega arith)
 
 slice-write-out-4 : tie.Need-slice-write-out-4
-slice-write-out-4 c = simp (linalg-singles, circle-singles, series-singles, coeffs-singles, so3-singles, sim3-singles, jacobian-singles, sides-singles, frames-singles, sim3-c-singles, length-set) (omega arith)
+slice-write-out-4 c = simp length-set (omega arith)
 
 same-length : tie.Need-same-length
-same-length c = simp (linalg-singles, circle-singles, series-singles, coeffs-singles, so3-singles, sim3-singles, jacobian-singles, sides-singles, frames-singles, sim3-c-singles, length-set)
+same-length c = simp length-set
 
 pub set-quat-spec : {M : Type 1} → statement M
 set-quat-spec =

@@ -1,4 +1,4 @@
--- Written by tools/widths from crates/sim3_c/proofs/write/set_scaled/Proof.antt: edit that one. Digest 459dd77f7aea7d8d.
+-- Written by tools/widths from crates/sim3_c/proofs/write/set_scaled/Proof.antt: edit that one. Digest 7d3a7df7adae2d56.
 -- `sim3_c_f32::write::set_scaled` meets its contract: ten stores are the run of the coefficients and the flag. Assumes nothing.
 use borrow.Author.Needs.{needs}
 use native.Mathlib.Omega.{arith}
@@ -8,16 +8,6 @@ use Rattle.sim3_c.proofs.Stores.{scaled-stored}
 use Rattle.sim3_c_f32.proofs.write.set_scaled.Statement.{statement}
 use Rattle.sim3_c_f32.proofs.write.set_scaled.Tie as tie
 use Rattle.series_f32.specs.As.{asSim3Coeffs}
-use Rattle.linalg_f32.proofs.As.{linalg-singles}
-use Rattle.circle_f32.proofs.As.{circle-singles}
-use Rattle.series_f32.proofs.As.{series-singles}
-use Rattle.coeffs_f32.proofs.As.{coeffs-singles}
-use Rattle.so3_f32.proofs.As.{so3-singles}
-use Rattle.sim3_f32.proofs.As.{sim3-singles}
-use Rattle.jacobian_f32.proofs.As.{jacobian-singles}
-use Rattle.sides_f32.proofs.As.{sides-singles}
-use Rattle.frames_f32.proofs.As.{frames-singles}
-use Rattle.sim3_c_f32.proofs.As.{sim3-c-singles}
 
 returns : tie.Need-returns
 unfolding ofBits asSim3Coeffs
@@ -26,34 +16,34 @@ returns c =
     rw (c .pick .ensures) (scaled-stored (record { c = (asSim3Coeffs (a .c)); scaled = a .scaled }) (a .out .now) (a .at))
 
 slice-write-out-2 : tie.Need-slice-write-out-2
-slice-write-out-2 c = simp (linalg-singles, circle-singles, series-singles, coeffs-singles, so3-singles, sim3-singles, jacobian-singles, sides-singles, frames-singles, sim3-c-singles, length-set) (omega arith)
+slice-write-out-2 c = simp length-set (omega arith)
 
 slice-write-out-3 : tie.Need-slice-write-out-3
-slice-write-out-3 c = simp (linalg-singles, circle-singles, series-singles, coeffs-singles, so3-singles, sim3-singles, jacobian-singles, sides-singles, frames-singles, sim3-c-singles, length-set) (omega arith)
+slice-write-out-3 c = simp length-set (omega arith)
 
 slice-write-out-4 : tie.Need-slice-write-out-4
-slice-write-out-4 c = simp (linalg-singles, circle-singles, series-singles, coeffs-singles, so3-singles, sim3-singles, jacobian-singles, sides-singles, frames-singles, sim3-c-singles, length-set) (omega arith)
+slice-write-out-4 c = simp length-set (omega arith)
 
 slice-write-out-5 : tie.Need-slice-write-out-5
-slice-write-out-5 c = simp (linalg-singles, circle-singles, series-singles, coeffs-singles, so3-singles, sim3-singles, jacobian-singles, sides-singles, frames-singles, sim3-c-singles, length-set) (omega arith)
+slice-write-out-5 c = simp length-set (omega arith)
 
 slice-write-out-6 : tie.Need-slice-write-out-6
-slice-write-out-6 c = simp (linalg-singles, circle-singles, series-singles, coeffs-singles, so3-singles, sim3-singles, jacobian-singles, sides-singles, frames-singles, sim3-c-singles, length-set) (omega arith)
+slice-write-out-6 c = simp length-set (omega arith)
 
 slice-write-out-7 : tie.Need-slice-write-out-7
-slice-write-out-7 c = simp (linalg-singles, circle-singles, series-singles, coeffs-singles, so3-singles, sim3-singles, jacobian-singles, sides-singles, frames-singles, sim3-c-singles, length-set) (omega arith)
+slice-write-out-7 c = simp length-set (omega arith)
 
 slice-write-out-8 : tie.Need-slice-write-out-8
-slice-write-out-8 c = simp (linalg-singles, circle-singles, series-singles, coeffs-singles, so3-singles, sim3-singles, jacobian-singles, sides-singles, frames-singles, sim3-c-singles, length-set) (omega arith)
+slice-write-out-8 c = simp length-set (omega arith)
 
 slice-write-out-9 : tie.Need-slice-write-out-9
-slice-write-out-9 c = simp (linalg-singles, circle-singles, series-singles, coeffs-singles, so3-singles, sim3-singles, jacobian-singles, sides-singles, frames-singles, sim3-c-singles, length-set) (omega arith)
+slice-write-out-9 c = simp length-set (omega arith)
 
 slice-write-out-10 : tie.Need-slice-write-out-10
-slice-write-out-10 c = simp (linalg-singles, circle-singles, series-singles, coeffs-singles, so3-singles, sim3-singles, jacobian-singles, sides-singles, frames-singles, sim3-c-singles, length-set) (omega arith)
+slice-write-out-10 c = simp length-set (omega arith)
 
 same-length : tie.Need-same-length
-same-length c = simp (linalg-singles, circle-singles, series-singles, coeffs-singles, so3-singles, sim3-singles, jacobian-singles, sides-singles, frames-singles, sim3-c-singles, length-set)
+same-length c = simp length-set
 
 pub set-scaled-spec : {M : Type 1} → statement M
 set-scaled-spec =

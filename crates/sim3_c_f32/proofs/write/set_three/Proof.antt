@@ -1,4 +1,4 @@
--- Written by tools/widths from crates/sim3_c/proofs/write/set_three/Proof.antt: edit that one. Digest fc2c68fc19624f52.
+-- Written by tools/widths from crates/sim3_c/proofs/write/set_three/Proof.antt: edit that one. Digest a902f17ab7184431.
 -- `sim3_c_f32::write::set_three` meets its contract: three stores are the run of the vector. Assumes nothing.
 use borrow.Author.Needs.{needs}
 use native.Mathlib.Omega.{arith}
@@ -7,27 +7,18 @@ use Rattle.sim3_c.proofs.Stores.{three-stored}
 use Rattle.sim3_c_f32.proofs.write.set_three.Statement.{statement}
 use Rattle.sim3_c_f32.proofs.write.set_three.Tie as tie
 use Rattle.linalg_f32.specs.As.{asVec3}
-use Rattle.linalg_f32.proofs.As.{linalg-singles}
-use Rattle.circle_f32.proofs.As.{circle-singles}
-use Rattle.series_f32.proofs.As.{series-singles}
-use Rattle.coeffs_f32.proofs.As.{coeffs-singles}
-use Rattle.so3_f32.proofs.As.{so3-singles}
-use Rattle.sim3_f32.proofs.As.{sim3-singles}
-use Rattle.jacobian_f32.proofs.As.{jacobian-singles}
-use Rattle.sides_f32.proofs.As.{sides-singles}
-use Rattle.frames_f32.proofs.As.{frames-singles}
-use Rattle.sim3_c_f32.proofs.As.{sim3-c-singles}
 
 returns : tie.Need-returns
+unfolding asVec3
 returns c =
     let a = c .args in
     three-stored (asVec3 (a .v)) (a .out .now) (a .at)
 
 slice-write-out-2 : tie.Need-slice-write-out-2
-slice-write-out-2 c = simp (linalg-singles, circle-singles, series-singles, coeffs-singles, so3-singles, sim3-singles, jacobian-singles, sides-singles, frames-singles, sim3-c-singles, length-set) (omega arith)
+slice-write-out-2 c = simp length-set (omega arith)
 
 slice-write-out-3 : tie.Need-slice-write-out-3
-slice-write-out-3 c = simp (linalg-singles, circle-singles, series-singles, coeffs-singles, so3-singles, sim3-singles, jacobian-singles, sides-singles, frames-singles, sim3-c-singles, length-set) (omega arith)
+slice-write-out-3 c = simp length-set (omega arith)
 
 pub set-three-spec : {M : Type 1} → statement M
 set-three-spec =
