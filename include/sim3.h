@@ -1,4 +1,5 @@
-/* sim3.h: the proved Sim(3) engine for C. Link target/staticlib/libsim3_c.a, which `rt staticlib sim3_c` makes (x86-64).
+/* sim3.h: the proved Sim(3) engine for C. Link target/staticlib/libsim3_c.a, and libsim3_c_f32.a for the functions at f32; bindings/build makes them
+ * (x86-64).
  *
  * Lists. Every list is a pointer and the count of its numbers. A pointer is never null, points to that many numbers of its type, and a list that is written
  * overlaps no other list of the call. That is all that is asked of a caller: every count and every number is taken, NaN and infinities included.

@@ -38,7 +38,7 @@ pub struct Arm {
 
 /// An answer that the proofs rule out.
 fn foreign(refused: u32) -> ! {
-    panic!("sim3: refusal {refused}: libsim3_c.a does not belong to this crate; bindings/build makes it")
+    panic!("sim3: refusal {refused}: the archive does not belong to this crate; bindings/build makes it")
 }
 
 /// The engine at f32: the functions of this crate over singles. The answers are those of the engine at

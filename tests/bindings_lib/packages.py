@@ -262,7 +262,8 @@ def build_without_tools():
         environment = {"PATH": f"{work}/bin"}
         done = subprocess.run(build, env=environment, stderr=subprocess.PIPE, text=True)
         assert done.returncode == 2 and "'rt'" in done.stderr, f"without rt: {done}"
-        shutil.copy(ROOT / "target/staticlib/libsim3_c.a", f"{work}/target/staticlib")
+        for archive in ("libsim3_c.a", "libsim3_c_f32.a"):
+            shutil.copy(ROOT / "target/staticlib" / archive, f"{work}/target/staticlib")
         done = subprocess.run(build, env=environment, stderr=subprocess.PIPE, text=True)
         assert done.returncode == 2 and "'cc'" in done.stderr, f"without cc: {done}"
         done = subprocess.run([*build, "archives"], env=environment, stderr=subprocess.PIPE, text=True)

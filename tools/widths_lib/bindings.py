@@ -12,4 +12,4 @@ ALONE = r"(?ms)^    fn sim3_root\(.*?;\n|^pub fn root\(.*?^\}\n"
 def binding(text):
     text = width(re.sub(ALONE, "", text)).rstrip("\n") + "\n"
     text = re.sub(r"\bsim3_\w+(?=\()", lambda m: twin(m.group(0)), text)
-    return text.replace("use crate::raw;", "use crate::raw_f32 as raw;")
+    return text.replace('name = "sim3_c"', 'name = "sim3_c_f32"').replace("use crate::raw;", "use crate::raw_f32 as raw;")
