@@ -1,4 +1,5 @@
-/* sim3.h: the proved Sim(3) engine for C. Link target/staticlib/libsim3_c.a, which `rt staticlib sim3_c` makes (x86-64).
+/* sim3.h: the proved Sim(3) engine for C. Link target/staticlib/libsim3_c.a, and libsim3_c_f32.a for the functions at f32; bindings/build makes them
+ * (x86-64).
  *
  * Lists. Every list is a pointer and the count of its numbers. A pointer is never null, points to that many numbers of its type, and a list that is written
  * overlaps no other list of the call. That is all that is asked of a caller: every count and every number is taken, NaN and infinities included.
@@ -150,6 +151,37 @@ uint32_t sim3_compare_tangents(const uint64_t *a, size_t a_n, const uint64_t *b,
 /* The tangents of a list, seven numbers each, put in order in their place, smallest first; bit-equal ones are alike. Refusal 5 where list_n is above 7,168 or no
  * multiple of seven. */
 uint32_t sim3_sort_tangents(uint64_t *list, size_t list_n);
+
+/* ---- the same at f32: each function above but sim3_root, sim3_nearest_arm and those of tangents in order, on singles, with the ending _f32. Arguments, orders, counts, refusals and the numbers of the arms are
+ * as above; the arms' series have 4, 7, 9 and 11 terms. The answers are those of the engine at binary32, and not the doubles' rounded; where a number is a NaN,
+ * so are those that are computed from it. The function values are the caller's here too; sim3_host_f32.h computes them in double and rounds each once. */
+
+uint32_t sim3_exp_f32(const float *tau, size_t tau_n, const float *values, size_t values_n, const uint16_t *frames, size_t frames_n, float *out, size_t out_n,
+                      uint16_t *out_frames, size_t out_frames_n);
+uint32_t sim3_mul_f32(const float *x, size_t x_n, const uint16_t *x_frames, size_t x_frames_n, const float *y, size_t y_n, const uint16_t *y_frames,
+                      size_t y_frames_n, float up, float *out, size_t out_n, uint16_t *out_frames, size_t out_frames_n);
+uint32_t sim3_inverse_f32(const float *x, size_t x_n, const uint16_t *x_frames, size_t x_frames_n, float down, float *out, size_t out_n, uint16_t *out_frames,
+                          size_t out_frames_n);
+uint32_t sim3_mul_inv_f32(const float *x, size_t x_n, const uint16_t *x_frames, size_t x_frames_n, const float *y, size_t y_n, const uint16_t *y_frames,
+                          size_t y_frames_n, float ds, float *out, size_t out_n, uint16_t *out_frames, size_t out_frames_n);
+uint32_t sim3_inv_mul_f32(const float *x, size_t x_n, const uint16_t *x_frames, size_t x_frames_n, const float *y, size_t y_n, const uint16_t *y_frames,
+                          size_t y_frames_n, float down, float *out, size_t out_n, uint16_t *out_frames, size_t out_frames_n);
+uint32_t sim3_renormalize_f32(float *x, size_t x_n);
+uint32_t sim3_act_many_f32(const float *x, size_t x_n, float up, const float *pts, size_t pts_n, float *out, size_t out_n);
+uint32_t sim3_act_each_f32(const float *x, size_t x_n, float up, const float *pts, size_t pts_n, float *out, size_t out_n);
+uint32_t sim3_scaled_pair_f32(float sigma, float z, const float *values, size_t values_n, float *out, size_t out_n);
+uint32_t sim3_coeffs_armed_f32(float sigma, float z, const float *values, size_t values_n, float *out, size_t out_n);
+uint32_t sim3_armed_pair_f32(float sigma, float z, const float *values, size_t values_n, float *out, size_t out_n);
+uint32_t sim3_block_pair_f32(const float *tau, size_t tau_n, const float *values, size_t values_n, const float *jl, size_t jl_n, const float *jl_inv,
+                             size_t jl_inv_n, float *out, size_t out_n);
+uint32_t sim3_block_inverse_f32(const float *j, size_t j_n, float *out, size_t out_n);
+uint32_t sim3_adjoint_f32(const float *x, size_t x_n, float up, float *out, size_t out_n);
+uint32_t sim3_act_jacobians_right_f32(const float *x, size_t x_n, float up, const float *p, size_t p_n, float *out, size_t out_n);
+uint32_t sim3_act_jacobians_left_f32(const float *x, size_t x_n, float up, const float *p, size_t p_n, float *out, size_t out_n);
+uint32_t sim3_compose_jacobians_right_f32(const float *y, size_t y_n, float down, float *out, size_t out_n);
+uint32_t sim3_compose_jacobians_left_f32(const float *x, size_t x_n, float up, float *out, size_t out_n);
+uint32_t sim3_inverse_jacobian_right_f32(const float *x, size_t x_n, float up, float *out, size_t out_n);
+uint32_t sim3_inverse_jacobian_left_f32(const float *x, size_t x_n, float down, float *out, size_t out_n);
 
 #ifdef __cplusplus
 }

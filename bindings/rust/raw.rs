@@ -1,5 +1,6 @@
-//! The C functions of include/sim3.h, and the only unsafe code of this crate: each is called through a
-//! function over slices. The declarations are trusted; tests/bindings compares them with the header.
+//! The C functions of include/sim3.h at one width, each called through a function over slices. Outside of
+//! raw.rs and raw_f32.rs this crate has no unsafe code. The declarations are trusted; tests/bindings
+//! compares them with the header.
 
 #![allow(unsafe_code)]
 
@@ -475,7 +476,6 @@ pub fn nearest_arm(sigma: f64, z: f64, out: &mut [u64]) -> u32 {
 
 // The bytes of an f64 are those of a u64, its pattern: the two functions below hand them over as they
 // are. Both types have the same size and place in memory, and every pattern is a value of each.
-
 pub fn compare_tangents(a: &[f64; 7], b: &[f64; 7], out: &mut [i64]) -> u32 {
     // SAFETY: LISTS, and patterns as above.
     unsafe {

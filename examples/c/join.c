@@ -1,10 +1,11 @@
 /* The engine from C: two runs of shots are joined by a similarity, which frames keep from being done the wrong way round; a staff line's points are moved,
- * Jacobian blocks are taken, a root is taken with what is left, and refusals are shown. Every answer is compared with numbers known by hand; exit status 1
- * and a message where one is wrong. examples/c/run builds and runs it. */
+ * Jacobian blocks are taken, a root is taken with what is left, a line is moved in singles, and refusals are shown. Every answer is compared with numbers known
+ * by hand; exit status 1 and a message where one is wrong. examples/c/run builds and runs it. */
 #include <stdio.h>
 
 #include "sim3.h"
 #include "sim3_host.h"
+#include "sim3_host_f32.h"
 #include "sim3_host_root.h"
 #include "sim3_refusal.h"
 
@@ -23,17 +24,20 @@ static void asked(const char *what, uint32_t refused) {
     wrong = 1;
 }
 
-/* Prints a list, and says where it is not the one known by hand. */
-static void known(const char *what, const double *found, const double *due, size_t count) {
+/* Prints a list, and says where it is further than `most` from the one known by hand. */
+static void known_within(double most, const char *what, const double *found, const double *due, size_t count) {
     printf("%s:", what);
     for (size_t i = 0; i < count; i++) printf(" %.6g", found[i]);
     printf("\n");
     for (size_t i = 0; i < count; i++)
-        if (!(fabs(found[i] - due[i]) <= 1e-12)) {
+        if (!(fabs(found[i] - due[i]) <= most)) {
             printf("%s: WRONG: number %zu is %.17g and not %.17g\n", what, i, found[i], due[i]);
             wrong = 1;
         }
 }
+
+/* The same for doubles. */
+static void known(const char *what, const double *found, const double *due, size_t count) { known_within(1e-12, what, found, due, count); }
 
 /* The same of a pose's frames. */
 static void known_frames(const char *what, const uint16_t found[2], uint16_t from, uint16_t to) {
@@ -155,12 +159,29 @@ static void refusals(const double join[8]) {
     refused("root of infinity", sim3_root(INFINITY, whole, 2, exponent, 1, out, 1), SIM3_NOT_FINITE);
 }
 
+/* The second camera, whose board sends singles: a line is turned and moved by the engine at f32. */
+static void in_singles(void) {
+    const float turn[7] = {0, 0, (float)QUARTER, 0, 0, 0, (float)DOUBLE}, line[6] = {1, 0, 0, 2, 0, 0};
+    const uint16_t frames[2] = {SHOT, FIRST};
+    float values[10], turned[8], moved[6];
+    uint16_t turned_frames[2];
+    double found[6];
+
+    sim3_host_tangent_values_f32(turn, values);
+    asked("exp at f32", sim3_exp_f32(turn, 7, values, 10, frames, 2, turned, 8, turned_frames, 2));
+    asked("act_many at f32", sim3_act_many_f32(turned, 8, sim3_host_up_f32(turned), line, 6, moved, 6));
+    sim3_host_widened_f32(moved, 6, found);
+    known_within(1e-6, "line at f32", found, (const double[]){0, 2, 0, 0, 4, 0}, 6);
+    known_frames("line at f32", turned_frames, SHOT, FIRST);
+}
+
 int main(void) {
     double join[8];
     join_runs(join);
     move_line(join);
     adjust(join);
     root_left();
+    in_singles();
     refusals(join);
     printf(wrong ? "example: WRONG, see above\n" : "example: every answer is the one known by hand\n");
     return wrong;

@@ -1,7 +1,7 @@
 #!/usr/bin/env python3
 """The engine from Python: two runs of shots are joined by a similarity, which frames keep from being
 done the wrong way round; a staff line's points are moved, Jacobian blocks are taken, a root is taken
-with what is left, and refusals are shown. Every answer is compared with numbers known by hand; exit
+with what is left, a line is moved in singles, and refusals are shown. Every answer is compared with numbers known by hand; exit
 status 1 and a message where one is wrong. examples/python/run builds what it needs.
 """
 import array
@@ -20,13 +20,13 @@ SHOT, NEXT = 10, 11  # a shot that stands in both, and one of the second's
 wrong = []
 
 
-def known(what, found, due):
-    """Prints a list, and says where it is not the one known by hand."""
+def known(what, found, due, most=1e-12):
+    """Prints a list, and says where it is further than `most` from the one known by hand."""
     print(f"{what}:", *(f"{x:.6g}" for x in found))
     if len(found) != len(due):
         wrong.append(f"{what}: {len(found)} numbers and not {len(due)}")
     for i, (x, y) in enumerate(zip(found, due)):
-        if not abs(x - y) <= 1e-12:
+        if not abs(x - y) <= most:
             wrong.append(f"{what}: number {i} is {x!r} and not {y!r}")
 
 
@@ -95,6 +95,13 @@ def root_left():
     known("exp by that root", turned.numbers, [HALF_ROOT, 0, 0, HALF_ROOT, 0, 0, 0, DOUBLE])
 
 
+def in_singles():
+    """The second camera, whose board sends singles: a line is turned and moved by the engine at f32."""
+    turned = sim3.f32.exp([0, 0, math.pi / 2, 0, 0, 0, DOUBLE], from_=SHOT, to=FIRST)
+    moved = sim3.f32.act_many(turned, array.array("f", [1, 0, 0, 2, 0, 0]))
+    known("line at f32", moved, [0, 2, 0, 0, 4, 0], most=1e-6)
+
+
 def refused(number, function, *arguments):
     """A call that must be refused, with this number."""
     try:
@@ -112,6 +119,7 @@ def main():
     move_line(join)
     adjust(join)
     root_left()
+    in_singles()
     refused(100, sim3.exp, [0] * 6, SHOT, FIRST)
     refused(2, sim3.block_inverse, [0] * 31)
     refused(1, sim3.scaled_pair, 0, -1)

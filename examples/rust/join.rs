@@ -1,9 +1,9 @@
 //! The engine from Rust: two runs of shots are joined by a similarity, which frames keep from being done
 //! the wrong way round; a staff line's points are moved, Jacobian blocks are taken, a root is taken with
-//! what is left, and refusals are shown. Every answer is compared with numbers known by hand; exit status
+//! what is left, a line is moved in singles, and refusals are shown. Every answer is compared with numbers known by hand; exit status
 //! 1 and a message where one is wrong. examples/rust/run builds and runs it.
 
-use sim3::{host, Block, Pose, Refusal, Tangent};
+use sim3::{f32 as single, host, Block, Pose, Refusal, Tangent};
 use std::f64::consts::{FRAC_1_SQRT_2 as HALF_ROOT, FRAC_PI_2, LN_2};
 use std::process::ExitCode;
 
@@ -13,11 +13,16 @@ const SECOND: u16 = 2;
 const SHOT: u16 = 10;
 const NEXT: u16 = 11;
 
-/// Prints a list; whether it is the one known by hand.
+/// Prints a list; whether it is the one known by hand, as near as doubles are.
 fn known(what: &str, found: &[f64], due: &[f64]) -> bool {
+    known_within(1e-12, what, found, due)
+}
+
+/// The same, where no number is further off than `most`.
+fn known_within(most: f64, what: &str, found: &[f64], due: &[f64]) -> bool {
     println!("{what}: {found:.6?}");
     let good =
-        found.len() == due.len() && found.iter().zip(due).all(|(x, y)| (x - y).abs() <= 1e-12);
+        found.len() == due.len() && found.iter().zip(due).all(|(x, y)| (x - y).abs() <= most);
     if !good {
         println!("{what}: WRONG: {found:?} and not {due:?}");
     }
@@ -115,6 +120,16 @@ fn root_left() -> Result<bool, Refusal> {
     Ok(known("root of 2", &found, &due) & known("exp by that root", &turned.numbers, &pose))
 }
 
+/// The second camera, whose board sends singles: a line is turned and moved by the engine at f32.
+fn in_singles() -> Result<bool, Refusal> {
+    let turn = [0.0, 0.0, FRAC_PI_2 as f32, 0.0, 0.0, 0.0, LN_2 as f32];
+    let turned = single::exp(&turn, &single::host::tangent_values(&turn), SHOT, FIRST);
+    let mut moved = [0.0; 6];
+    single::act_many(&turned, single::host::up(&turned), &[1.0, 0.0, 0.0, 2.0, 0.0, 0.0], &mut moved)?;
+    let due = [0.0, 2.0, 0.0, 0.0, 4.0, 0.0];
+    Ok(known_within(1e-6, "line at f32", &moved.map(f64::from), &due))
+}
+
 /// Shows a call that must be refused with this number.
 fn refused<T>(what: &str, number: u32, answer: Result<T, Refusal>) -> bool {
     let found = match answer {
@@ -153,7 +168,8 @@ fn refusals(join: &Pose) -> bool {
 /// Everything in turn; whether every answer is the one known by hand.
 fn example() -> Result<bool, Refusal> {
     let (join, joined) = join_runs()?;
-    let good = [joined, move_line(&join)?, adjust(&join), root_left()?, refusals(&join)];
+    let good =
+        [joined, move_line(&join)?, adjust(&join), root_left()?, in_singles()?, refusals(&join)];
     Ok(good.iter().all(|&x| x))
 }
 

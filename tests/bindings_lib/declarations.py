@@ -4,9 +4,12 @@ import re
 
 from .common import ROOT, same
 from sim3 import raw
+from sim3.widths import SINGLE, WIDTHS
 
 TYPES = {"const double *": "in", "double *": "out", "size_t": "count", "double": "number",
          "*const f64": "in", "*mut f64": "out", "usize": "count", "f64": "number",
+         "const float *": "singles in", "float *": "singles out", "float": "single",
+         "*const f32": "singles in", "*mut f32": "singles out", "f32": "single",
          "const uint16_t *": "frames in", "uint16_t *": "frames out", "*const u16": "frames in", "*mut u16": "frames out",
          "uint64_t *": "whole out", "int64_t *": "signed out", "*mut u64": "whole out", "*mut i64": "signed out",
          "const uint64_t *": "whole in", "*const u64": "whole in"}
@@ -24,12 +27,21 @@ def of_header():
 
 
 def of_rust():
-    text = (ROOT / "bindings/rust/raw.rs").read_text()
     found = {}
-    for name, arguments in re.findall(r"^ +fn sim3_(\w+)\(([^)]*)\) -> u32;", text, re.M):
-        words = [a.split(":") for a in arguments.split(",") if a.strip()]
-        found[name] = [(argument.strip(), TYPES[kind.strip()]) for argument, kind in words]
+    for file in ("raw.rs", "raw_f32.rs"):
+        text = (ROOT / "bindings/rust" / file).read_text()
+        for name, arguments in re.findall(r"^ +fn sim3_(\w+)\(([^)]*)\) -> u32;", text, re.M):
+            words = [a.split(":") for a in arguments.split(",") if a.strip()]
+            found[name] = [(argument.strip(), TYPES[kind.strip()]) for argument, kind in words]
     return found
+
+
+def at_width(arguments, width):
+    """A function's arguments in numbers of a width."""
+    if width is not SINGLE:
+        return arguments
+    turned = {"in": "singles in", "out": "singles out", "number": "single"}
+    return [(argument, turned.get(kind, kind)) for argument, kind in arguments]
 
 
 def of_python():
@@ -41,7 +53,8 @@ def of_python():
             place = "frames in" if kind == raw.FRAMES else "in" if made.gives else "out"
             arguments += [(argument, "number")] if kind == raw.NUMBER else [(argument, place), (argument + "_n", "count")]
         arguments += [("out", "out"), ("out_n", "count")] if made.gives else []
-        found[name] = arguments + ([("out_frames", "frames out"), ("out_frames_n", "count")] if raw.FRAMES in made.gives else [])
+        arguments += [("out_frames", "frames out"), ("out_frames_n", "count")] if raw.FRAMES in made.gives else []
+        found.update({name + width.ending: at_width(arguments, width) for width in WIDTHS})
     found["root"] = [("z", "number")]
     for argument, (kind, _) in raw.ROOT_WRITES.items():
         found["root"] += [(argument, WRITTEN[kind]), (argument + "_n", "count")]
@@ -64,12 +77,12 @@ def header_and_rust():
 
 
 def unsafe_in_one_file():
-    """Each unsafe block has its reason on the line before, and there is none outside raw.rs."""
+    """Each unsafe block has its reason on the line before, and there is none outside raw.rs and its twin."""
     for path in sorted((ROOT / "bindings/rust").glob("*.rs")):
         lines = path.read_text().splitlines()
         for number, line in enumerate(lines, 1):
             if re.search(r"\bunsafe\b", line.split("//")[0]):
-                assert path.name == "raw.rs", f"{path.name}:{number}: unsafe outside raw.rs"
+                assert path.stem in ("raw", "raw_f32"), f"{path.name}:{number}: unsafe outside raw.rs and raw_f32.rs"
                 assert "// SAFETY:" in lines[number - 2], f"{path.name}:{number}: unsafe without its reason"
 
 

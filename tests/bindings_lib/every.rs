@@ -1,12 +1,23 @@
 //! Every function of bindings/rust for tests/bindings: reads records of 102 doubles from standard
 //! input, the arguments in the order of `Arguments`, calls each function once, and writes their
 //! numbers in the order of include/sim3.h, a pose's frames as doubles behind its own. All frames are 0.
+//! With `--cfg single` the same in singles.
 
+#[cfg(single)]
+use sim3::f32::*;
+#[cfg(not(single))]
 use sim3::*;
+#[cfg(single)]
+use sim3::{Arm, Refusal};
 use std::io::{self, Read, Write};
 
+#[cfg(single)]
+type Number = f32;
+#[cfg(not(single))]
+type Number = f64;
+
 /// Takes the next N numbers.
-fn next<const N: usize>(from: &mut &[f64]) -> [f64; N] {
+fn next<const N: usize>(from: &mut &[Number]) -> [Number; N] {
     let (found, rest) = from.split_at(N);
     *from = rest;
     found.try_into().unwrap()
@@ -21,11 +32,11 @@ struct Arguments {
     jl_inv: Matrix,
     j: Block,
     p: Vector,
-    pts: [f64; 12],
-    numbers: [f64; 5],
+    pts: [Number; 12],
+    numbers: [Number; 5],
 }
 
-fn read(mut from: &[f64]) -> Arguments {
+fn read(mut from: &[Number]) -> Arguments {
     let from = &mut from;
     Arguments {
         tau: next(from),
@@ -41,7 +52,7 @@ fn read(mut from: &[f64]) -> Arguments {
     }
 }
 
-fn poses(a: &Arguments, out: &mut Vec<f64>) -> Result<(), Refusal> {
+fn poses(a: &Arguments, out: &mut Vec<Number>) -> Result<(), Refusal> {
     let [up, down, ds, ..] = a.numbers;
     let given = [
         exp(&a.tau, &a.values, 0, 0),
@@ -52,7 +63,7 @@ fn poses(a: &Arguments, out: &mut Vec<f64>) -> Result<(), Refusal> {
     ];
     for pose in given {
         out.extend(pose.numbers);
-        out.extend([f64::from(pose.from), f64::from(pose.to)]);
+        out.extend([Number::from(pose.from), Number::from(pose.to)]);
     }
     let mut near = a.x;
     renormalize(&mut near);
@@ -66,11 +77,11 @@ fn poses(a: &Arguments, out: &mut Vec<f64>) -> Result<(), Refusal> {
 }
 
 /// An arm as the bare call writes it.
-fn told(at: Arm) -> [f64; 2] {
+fn told(at: Arm) -> [Number; 2] {
     [at.number.into(), u8::from(at.ends).into()]
 }
 
-fn blocks(a: &Arguments, out: &mut Vec<f64>) -> Result<(), Refusal> {
+fn blocks(a: &Arguments, out: &mut Vec<Number>) -> Result<(), Refusal> {
     let [up, down, _, sigma, z] = a.numbers;
     let (pos, neg) = scaled_pair(sigma, z, &a.values)?;
     out.extend([pos, neg].as_flattened());
@@ -100,8 +111,10 @@ fn blocks(a: &Arguments, out: &mut Vec<f64>) -> Result<(), Refusal> {
 fn main() -> io::Result<()> {
     let mut bytes = Vec::new();
     io::stdin().read_to_end(&mut bytes)?;
-    let numbers: Vec<f64> =
-        bytes.chunks_exact(8).map(|b| f64::from_le_bytes(b.try_into().unwrap())).collect();
+    let numbers: Vec<Number> = bytes
+        .chunks_exact(size_of::<Number>())
+        .map(|b| Number::from_le_bytes(b.try_into().unwrap()))
+        .collect();
     let mut out = Vec::new();
     for record in numbers.chunks_exact(102) {
         let a = read(record);

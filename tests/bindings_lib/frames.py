@@ -9,6 +9,7 @@ import tempfile
 import sim3
 from .common import answered, bits, packed, run, rust_program, same
 from sim3 import raw
+from sim3.widths import WIDTHS
 
 # Frames that agree in one byte and differ in the other, neighbours, and the ends.
 NUMBERS = (0, 1, 255, 256, 257, 511, 0x8000, 0xFF00, 65_535)
@@ -41,26 +42,26 @@ def cases():
     return [(case[:2], case[2:]) for case in found]
 
 
-def numbers(name, source):
-    """Ordinary doubles for a function's arguments."""
+def numbers(name, source, width):
+    """Ordinary numbers for a function's arguments."""
     count = sum(1 if kind == raw.NUMBER else raw.KINDS[kind][0] for _, kind in raw.FUNCTIONS[name].takes if kind != raw.FRAMES)
-    return packed([source.uniform(0.1, 1.5) for _ in range(count)])
+    return packed([source.uniform(0.1, 1.5) for _ in range(count)], width)
 
 
 def at_bare_calls():
     source, answers, refusals = random.Random(18), 0, 0
-    for name in NAMES:
-        data = numbers(name, source)
-        status, plain = answered(name, data)
-        same(status, 0, f"sim3_{name} with all frames 0")
+    for name, width in itertools.product(NAMES, WIDTHS):
+        data, what = numbers(name, source, width), f"sim3_{name}{width.ending}"
+        status, plain = answered(name, data, width=width)
+        same(status, 0, f"{what} with all frames 0")
         for x, y in cases():
             due = given(name, x, y)
-            status, out = answered(name, data, [x, y])
-            same(status, REFUSED if due is None else 0, f"sim3_{name}, frames {x} and {y}")
+            status, out = answered(name, data, [x, y], width)
+            same(status, REFUSED if due is None else 0, f"{what}, frames {x} and {y}")
             if due is not None:
-                same(bits(out), bits(plain[:64] + packed(due)), f"sim3_{name}, frames {x} and {y}")
+                same(bits(out, width), bits(plain[:8 * width.size] + packed(due, width), width), f"{what}, frames {x} and {y}")
             answers, refusals = answers + (due is not None), refusals + (due is None)
-    assert answers > 10_000 and refusals > 10_000, f"{answers} answered and {refusals} refused"
+    assert answers > 20_000 and refusals > 20_000, f"{answers} answered and {refusals} refused"
 
 
 # ---- the package

@@ -1,18 +1,26 @@
 /* The values of bindings/c/sim3_host.h for tests/bindings: reads records of 23 doubles from standard input, tangent, pose and pose, and writes 31 for each:
- * the ten values, the rotation Jacobian and its inverse, up and down of the first pose, ds of both. */
+ * the ten values, the rotation Jacobian and its inverse, up and down of the first pose, ds of both. With -DSINGLE the same in singles, by sim3_host_f32.h. */
 #include <stdio.h>
 
+#ifdef SINGLE
+#include "sim3_host_f32.h"
+typedef float number;
+#define HOST(name) sim3_host_##name##_f32
+#else
 #include "sim3_host.h"
+typedef double number;
+#define HOST(name) sim3_host_##name
+#endif
 
 int main(void) {
-    double in[23], out[31];
+    number in[23], out[31];
     while (fread(in, sizeof in, 1, stdin) == 1) {
-        const double *tau = in, *x = in + 7, *y = in + 15;
-        sim3_host_tangent_values(tau, out);
-        sim3_host_rotation_jacobians(tau, out + 10, out + 19);
-        out[28] = sim3_host_up(x);
-        out[29] = sim3_host_down(x);
-        out[30] = sim3_host_ds(x, y);
+        const number *tau = in, *x = in + 7, *y = in + 15;
+        HOST(tangent_values)(tau, out);
+        HOST(rotation_jacobians)(tau, out + 10, out + 19);
+        out[28] = HOST(up)(x);
+        out[29] = HOST(down)(x);
+        out[30] = HOST(ds)(x, y);
         if (fwrite(out, sizeof out, 1, stdout) != 1) return 1;
     }
     return 0;

@@ -9,23 +9,22 @@ import sys
 import tempfile
 
 import sim3
-from .common import ROOT, answered, bits, doubles, packed, same
-from sim3 import host, numbers, raw
+from .common import ROOT, answered, bits, floats, packed, same
+from sim3 import f32, host, host_f32, numbers, raw
 from sim3.poses import numbers_of
+from sim3.widths import DOUBLE, SINGLE, WIDTHS
 
+# Of each width: the package's functions, and the host's.
+MODULES, HOSTS = {DOUBLE: sim3, SINGLE: f32}, {DOUBLE: host, SINGLE: host_f32}
 FRAME = 3  # the frame from which and to which every pose goes here; frames.py has others
 
 
-def sigma(x):
-    return numbers_of(x)[7]
-
-
-# What an argument is where it is left out, by the arguments that are there.
+# What an argument is where it is left out, by the host and the arguments that are there.
 LEFT_OUT = {
-    "values": lambda a: host.tangent_values(a["tau"]) if "tau" in a else host.values(a["sigma"], a["z"]),
-    "jl": lambda a: host.rotation_jacobians(a["tau"][:3])[0], "jl_inv": lambda a: host.rotation_jacobians(a["tau"][:3])[1],
-    "ds": lambda a: host.exponential(sigma(a["x"]) - sigma(a["y"])), "up": lambda a: host.exponential(sigma(a["x"])),
-    "down": lambda a: host.exponential(-sigma(a["y" if "y" in a else "x"])),
+    "values": lambda host, a: host.tangent_values(a["tau"]) if "tau" in a else host.values(a["sigma"], a["z"]),
+    "jl": lambda host, a: host.rotation_jacobians(a["tau"][:3])[0], "jl_inv": lambda host, a: host.rotation_jacobians(a["tau"][:3])[1],
+    "ds": lambda host, a: host.ds(numbers_of(a["x"]), numbers_of(a["y"])), "up": lambda host, a: host.up(numbers_of(a["x"])),
+    "down": lambda host, a: host.down(numbers_of(a["y" if "y" in a else "x"])),
 }
 
 
@@ -34,46 +33,48 @@ def gives_pose(name):
     return raw.FRAMES in raw.FUNCTIONS[name].gives or name == "renormalize"
 
 
-def arguments(name, source):
-    """Ordinary arguments by name."""
+def arguments(name, source, width=DOUBLE):
+    """Ordinary arguments by name, of the width's numbers."""
     found = {}
     for argument, kind in raw.FUNCTIONS[name].takes:
         if kind == raw.FRAMES:
             found.update({"from_": FRAME, "to": FRAME} if argument == "frames" else {})
             continue
         count = 12 if kind == raw.POINTS else 1 if kind == raw.NUMBER else raw.KINDS[kind][0]
-        some = [source.uniform(0.1, 1.5) for _ in range(count)]
+        some = [width.number(source.uniform(0.1, 1.5)).value for _ in range(count)]
         pose = kind == "pose" and gives_pose(name)
         found[argument] = some[0] if kind == raw.NUMBER else sim3.Pose(some, FRAME, FRAME) if pose else some
     return found
 
 
-def flat(answer):
+def flat(answer, width):
     if isinstance(answer, sim3.Pose):
-        return bits(answer.numbers.tobytes() + packed(answer[1:]))
+        return bits(answer.numbers.tobytes() + packed(answer[1:], width), width)
     parts = answer if isinstance(answer, tuple) else (answer,)
-    return bits(b"".join(part.tobytes() for part in parts))
+    return bits(b"".join(part.tobytes() for part in parts), width)
 
 
-def bare(name, given):
-    """The bits of the bare call's answer, frames as doubles behind the numbers."""
+def bare(name, given, width):
+    """The bits of the bare call's answer, frames as floats behind the numbers."""
     lists = [numbers_of(given[argument]) for argument, kind in raw.FUNCTIONS[name].takes if kind != raw.FRAMES]
-    data = b"".join(packed(x if isinstance(x, list) else [x]) for x in lists)
-    status, out = answered(name, data, [(FRAME, FRAME)] * 2)
-    same(status, 0, f"sim3_{name}")
-    return bits(out + (packed([FRAME, FRAME]) if name == "renormalize" else b""))
+    data = b"".join(packed(x if isinstance(x, list) else [x], width) for x in lists)
+    status, out = answered(name, data, [(FRAME, FRAME)] * 2, width)
+    same(status, 0, f"sim3_{name}{width.ending}")
+    return bits(out + (packed([FRAME, FRAME], width) if name == "renormalize" else b""), width)
 
 
 def same_as_bare_calls():
-    """Every argument given, and then those left out that the host computes."""
+    """At both widths: every argument given, and then those left out that the host computes."""
     source = random.Random(7)
-    for name in raw.FUNCTIONS:
-        for _ in range(20):
-            given = arguments(name, source)
-            same(flat(getattr(sim3, name)(**given)), bare(name, given), f"sim3.{name}")
-            kept = {argument: x for argument, x in given.items() if argument not in LEFT_OUT}
-            full = {argument: LEFT_OUT[argument](given) if argument in LEFT_OUT else x for argument, x in given.items()}
-            same(flat(getattr(sim3, name)(**kept)), bare(name, full), f"sim3.{name} with the host's values")
+    for width in WIDTHS:
+        for name in raw.FUNCTIONS:
+            function, what = getattr(MODULES[width], name), f"{width.package}.{name}"
+            for _ in range(20):
+                given = arguments(name, source, width)
+                same(flat(function(**given), width), bare(name, given, width), what)
+                kept = {argument: x for argument, x in given.items() if argument not in LEFT_OUT}
+                full = {argument: LEFT_OUT[argument](HOSTS[width], given) if argument in LEFT_OUT else x for argument, x in given.items()}
+                same(flat(function(**kept), width), bare(name, full, width), f"{what} with the host's values")
 
 
 def parts_of_answers():
@@ -98,10 +99,27 @@ def forms_of_a_list():
     for what, form in [("tuple", tuple(points)), ("ints", [int(p) for p in points]), ("array", packed), ("floats of C", array.array("f", points)),
                        ("view", memoryview(packed)), ("rows", memoryview(packed).cast("B").cast("d", [4, 3])),
                        ("read-only", memoryview(packed.tobytes()).cast("d")), ("odd place", memoryview(shifted)[1:].cast("d")),
-                       ("ctypes", doubles(packed.tobytes()))]:
+                       ("ctypes", floats(packed.tobytes()))]:
         same(sim3.act_many(x, form), due, f"sim3.act_many of {what}")
     same(sim3.act_many(x, []), array.array("d"), "no points")
     same(sim3.act_many(sim3.Pose(x, 3, 7), points), due, "sim3.act_many of a Pose")
+
+
+def lists_of_singles():
+    """At f32 a list or a buffer of doubles is rounded once, a buffer of singles goes as it is, and answers are arrays of singles."""
+    x, points = [1.0, 0.5, 0.25, 0.125, 1.0, 2.0, 3.0, 0.5], [0.1 * i for i in range(12)]
+    single = array.array("f", points)
+    due = f32.act_many(x, single)
+    same(due.typecode, "f", "type of the answer of sim3.f32.act_many")
+    for what, form in [("list", points), ("doubles", array.array("d", points)), ("read-only", memoryview(single.tobytes()).cast("f")),
+                       ("ctypes", floats(single.tobytes(), SINGLE))]:
+        same(f32.act_many(x, form), due, f"sim3.f32.act_many of {what}")
+    same(ctypes.addressof(numbers.lent("single", single, SINGLE)), single.buffer_info()[0], "address of a lent array of singles")
+    fails(TypeError, ["sim3.f32.act_many: pts", "array('f')", "buffer of singles"], f32.act_many, x, "1")
+    same(fails(sim3.Refusal, ["sim3.f32.scaled_pair: refusal 1", "sim3.f32.host.norm_sq"], f32.scaled_pair, 0, -1).number, 1, "number for z = -1 at f32")
+    same(fails(sim3.Refusal, ["sim3.f32.exp: refusal 100", "tau has 6"], f32.exp, [0] * 6, 1, 2).number, 100, "number for a short tau at f32")
+    poses = sim3.Pose(x, 3, 7), sim3.Pose(x, 5, 9)
+    same(fails(sim3.Refusal, ["sim3.f32.mul: refusal 9"], f32.mul, *poses).number, 9, "number for frames apart at f32")
 
 
 def in_array(x):
@@ -244,12 +262,13 @@ def build_without_tools():
         environment = {"PATH": f"{work}/bin"}
         done = subprocess.run(build, env=environment, stderr=subprocess.PIPE, text=True)
         assert done.returncode == 2 and "'rt'" in done.stderr, f"without rt: {done}"
-        shutil.copy(ROOT / "target/staticlib/libsim3_c.a", f"{work}/target/staticlib")
+        for archive in ("libsim3_c.a", "libsim3_c_f32.a"):
+            shutil.copy(ROOT / "target/staticlib" / archive, f"{work}/target/staticlib")
         done = subprocess.run(build, env=environment, stderr=subprocess.PIPE, text=True)
         assert done.returncode == 2 and "'cc'" in done.stderr, f"without cc: {done}"
         done = subprocess.run([*build, "archives"], env=environment, stderr=subprocess.PIPE, text=True)
         assert done.returncode == 2 and "'archives'" in done.stderr, f"with a wrong word: {done}"
 
 
-TESTS = [same_as_bare_calls, parts_of_answers, forms_of_a_list, nothing_lent_is_changed, refused_lists_are_let_go, buffers_are_not_copied, wrong_lists,
+TESTS = [same_as_bare_calls, parts_of_answers, forms_of_a_list, lists_of_singles, nothing_lent_is_changed, refused_lists_are_let_go, buffers_are_not_copied, wrong_lists,
          wrong_poses, wrong_numbers, refusals_in_words, other_library, build_without_tools]

@@ -8,10 +8,11 @@ import struct
 import tempfile
 
 import sim3
-from .common import MARKED, bits, compiler, packed, run, rust_program, same
+from .common import BITS, bits, compiler, packed, run, rust_program, same
 from root_lib import samples
 from root_lib.exact import due, value
 from sim3 import host, raw
+from sim3.widths import DOUBLE
 
 FEW, FEWER = 20_000, 2_000  # tangents for C and Rust, and for Python, which is slower
 ODD = [0.0, -0.0, 5e-324, 2.0 ** -537, 1e-154, 1.0, 1e154, 1.3407807929942596e154, 1e200, float("inf"), float("nan")]
@@ -27,7 +28,7 @@ def patterns():
 def lists(counts=(2, 1, 1)):
     """What sim3_root writes to, of these counts, with numbers that no answer has."""
     kinds = [kind for kind, _ in raw.ROOT_WRITES.values()]
-    return [(kind * count).from_buffer_copy(struct.pack("<Q", MARKED) * count) for kind, count in zip(kinds, counts)]
+    return [(kind * count).from_buffer_copy(struct.pack("<Q", BITS[DOUBLE][-1]) * count) for kind, count in zip(kinds, counts)]
 
 
 def bare(z):

@@ -50,4 +50,5 @@ def code(sources, crate, module, text):
         text = re.sub(rf"(?<![\w:·]){c}::", f"{twin(c)}::", text)
         text = re.sub(rf"\b{twin(c)}::{c}::", f"{twin(c)}::{twin(c)}::", text)
     text = re.sub(rf"\bcrate::{crate}\b", f"crate::{twin(crate)}", text)
+    text = re.sub(r'(?<=extern "C" fn )\w+', lambda m: twin(m.group(0)), text)
     return re.sub(rf"(?m)^((?:pub )?mod ){crate};", lambda m: f"{m.group(1)}{twin(crate)};", text)

@@ -6,7 +6,9 @@ from .words import after_uses, as_lines, home, imports, place, twin, width
 
 # what a proof by computing is made of, and the laws about a thing's numbers in a row: there the structs stand open
 OPENS = r"\b(?:refl|cc|rw|sym|ap)\b|∙"
-NUMBERS = r"-(?:zero|parts|run)\b"
+NUMBERS = r"-(?:zero|parts|run|stored)\b"
+# a need that is about a list's length and no number of it
+LENGTH = r"= simp length-set\b"
 # a proof that walks the code by itself, statement by statement
 WALK = "ghost.Atoms"
 
@@ -103,14 +105,17 @@ def turned_tests(block, rules):
 def with_rules(sources, crate, text, function, used):
     """Each `simp` with the rules of the structs; where a declaration has none, the structs open. Gives the imports of the rules too.
 
-    A function over numbers in a row that is given no struct reads one, hands it to the engine and writes the answer: what its calls ensure fits as it stands, closed."""
+    A function over numbers in a row that is given no struct reads one, hands it to the engine and writes the answer: what its calls ensure fits as it stands, closed,
+    but for the structs that it makes itself."""
     sets, names, opens = sources.below(crate), sources.named_in(function), OPENS
     if "layout" in sources.rests_on[crate]:
-        names, opens = names if sources.given(function) else set(), f"{OPENS}|{NUMBERS}"
+        names, opens = names if sources.given(function) else sources.made_in(function), f"{OPENS}|{NUMBERS}"
     rules = ", ".join(f"{c.replace('_', '-')}-singles" for c in sets)
     blocks, simps = text.split("\n\n"), False
     for k, block in enumerate(blocks):
         if not re.search(r"(?m)^\S+( \S+)* =", block) or "tie.close" in block or block.startswith(("use ", "-- ", "abbrev")):
+            continue
+        if sources.given(function) and re.search(LENGTH, block):
             continue
         if rules and re.search(r"\bsimp\b", block):
             simps = True
@@ -145,7 +150,15 @@ def proof(sources, crate, function, text):
     text = re.sub(r"\((\(as\w+ \([^()]*\)\))\)", r"\1", text)
     name = twin(crate).replace("_", "-")
     text = text.replace(f"calls-{crate}·{crate}·", f"calls-{name}·{name}·").replace(f"calls-{crate}·", f"calls-{name}·")
-    return text.replace(f"`{crate}::", f"`{twin(crate)}::")
+    text = text.replace(f"`{crate}::", f"`{twin(crate)}::")
+    return exported(text, function) if function.exported else text
+
+
+def exported(text, function):
+    """The proof with the name that the function has at the other width."""
+    old, new = function.name, twin(function.name)
+    text = text.replace(f".{old}.", f".{new}.").replace(f"::{old}`", f"::{new}`")
+    return text.replace(f"{old.replace('_', '-')}-spec", f"{new.replace('_', '-')}-spec")
 
 
 def computed(sources, crate, function):

@@ -43,6 +43,8 @@ class Function:
         result = (result or "").strip()
         self.result = owner if result == "Self" else result
         self.place = "/".join(part for part in ("" if module == "lib" else module, owner, name) if part)
+        # what callers in C link has another name at the other width
+        self.exported = 'extern "C"' in text.partition("fn ")[0]
         self.contract = bool(re.search(r"(?m)^ *(?:ensures|requires)\b", text))
 
 
@@ -60,10 +62,10 @@ def functions(module, text):
 
 
 class Sources:
-    """All that the tool knows of the crates at f64."""
+    """All that the tool knows of the crates at f64: all but `alone`, the modules that have no twin."""
 
-    def __init__(self, top, by_hand):
-        self.top, self.by_hand = top, by_hand
+    def __init__(self, top, by_hand, alone):
+        self.top, self.by_hand, self.alone = top, by_hand, alone
         listed = dict(re.findall(r"(?m)^(\w+):(.*)$", (top / "crates.txt").read_text(encoding="utf-8")))
         self.rests_on = {name: words.split() for name, words in listed.items()}
         self.twins = [name for name in listed if name + "_f32" in listed]
@@ -78,9 +80,11 @@ class Sources:
                 self.read_specs(crate, path.stem, path.read_text(encoding="utf-8"))
 
     def code(self, crate):
-        """The source files of a crate: module -> text."""
-        src = self.top / "crates" / crate / "src"
-        return {path.stem: path.read_text(encoding="utf-8") for path in sorted(src.glob("*.rt"))}
+        """The source files of a crate that have a twin: module -> text."""
+        src, alone = self.top / "crates" / crate / "src", self.alone.get(crate, [])
+        named = re.compile(rf"(?m)^(?:pub )?mod (?:{'|'.join(alone)});.*\n") if alone else None
+        found = {path.stem: path.read_text(encoding="utf-8") for path in sorted(src.glob("*.rt")) if path.stem not in alone}
+        return {module: named.sub("", text) if named else text for module, text in found.items()}
 
     def declared(self, crate):
         """The types of a crate, but for those of modules that a twin has by hand."""
@@ -100,12 +104,13 @@ class Sources:
                 self.told[name] = (crate, module, keep, taken, rest.removeprefix(" → "), body)
 
     def floating(self, name):
-        """Whether a type is a struct of floats, which the definitions have as a record of their own."""
+        """Whether a type is a struct of numbers, which the definitions have as a record of their own."""
         t = self.types.get(name)
-        return t is not None and t.kind == "struct" and not self.mixed(name) and any(self.has_float(held) for _, held in t.fields)
+        return t is not None and t.kind == "struct" and not self.mixed(name)
 
-    def has_float(self, held):
-        return held == "f64" or self.floating(held)
+    def whole(self, name):
+        """Whether a struct of numbers has no float, nor a struct in it."""
+        return not any(held == "f64" or self.floating(held) for _, held in self.types[name].fields)
 
     def mixed(self, name):
         """Whether a struct holds an enum, so that a definition tells what it says."""
@@ -126,6 +131,11 @@ class Sources:
         words = set(re.findall(r"\b[A-Z]\w+\b", function.text)) | {held for _, held in function.parameters}
         words |= {held for word in list(words) if word in self.types for held in self.types[word].cases.values()}
         return self.nested(words)
+
+    def made_in(self, function):
+        """The structs of numbers that a function makes itself, and those without a float that it names."""
+        made = re.findall(r"\b([A-Z]\w+) \{\n", function.text.partition("\n{\n")[2])
+        return {name for name in self.named_in(function) if name in made or self.whole(name)}
 
     def given(self, function):
         """Whether a struct of floats is among a function's parameters."""

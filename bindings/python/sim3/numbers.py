@@ -1,59 +1,60 @@
-"""Numbers on their way to C. A buffer of doubles goes as it is, without a copy or a loop in Python;
-a list or tuple is copied once.
+"""Numbers on their way to C. A buffer of the width's own numbers goes as it is, without a copy or a loop in
+Python; a list or tuple is copied once, and its numbers rounded to the width.
 """
 import array
 import collections.abc
 import ctypes
 
-EXPECTED = "expected a list, a tuple, array('d') or another buffer of doubles"
-DOUBLES = ("d", "<d", "=d", "@d")  # formats of a buffer; the engine is for x86-64
+from .widths import DOUBLE
+
+ORDERS = ("", "<", "=", "@")  # before the code in a buffer's format; the engine is for x86-64
 TEXT = (str, bytes, bytearray, memoryview)
 
 
-def number(where, x):
-    """A double."""
+def number(where, x, width=DOUBLE):
+    """A number of the width."""
     try:
-        return ctypes.c_double(x).value
+        return width.number(x).value
     except TypeError:
         raise TypeError(f"{where} is {type(x).__name__}; expected a number") from None
     except OverflowError:
         raise OverflowError(f"{where} is beyond the largest double") from None
 
 
-def over(buffer, count):
+def over(buffer, count, width=DOUBLE):
     """A ctypes array over a buffer's own bytes, or over a copy where C must not look at them: read-only
-    ones, which ctypes does not lend, and those that stand across the places of doubles."""
-    doubles = ctypes.c_double * count
+    ones, which ctypes does not lend, and those that stand across the places of such numbers."""
+    numbers = width.number * count
     if count == 0:
-        return doubles()  # an empty buffer may have no address
+        return numbers()  # an empty buffer may have no address
     if memoryview(buffer).readonly:
-        return doubles.from_buffer_copy(buffer)
-    lent = doubles.from_buffer(buffer)
-    return lent if ctypes.addressof(lent) % 8 == 0 else doubles.from_buffer_copy(buffer)
+        return numbers.from_buffer_copy(buffer)
+    lent = numbers.from_buffer(buffer)
+    return lent if ctypes.addressof(lent) % width.size == 0 else numbers.from_buffer_copy(buffer)
 
 
-def of_sequence(where, x):
+def of_sequence(where, x, width):
     """A sequence's numbers in an array."""
     try:
-        return array.array("d", x)
+        return array.array(width.code, x)
     except (TypeError, OverflowError):
         for i, entry in enumerate(x):
-            number(f"{where}[{i}]", entry)
+            number(f"{where}[{i}]", entry, width)
         raise
 
 
-def lent(where, x):
+def lent(where, x, width=DOUBLE):
     """The numbers of x as a ctypes array; TypeError where it holds none."""
     try:
         view = memoryview(x)
     except TypeError:
         view = None
-    if view is not None and view.format in DOUBLES:
+    if view is not None and view.format in [order + width.code for order in ORDERS]:
         if not view.c_contiguous:
-            raise TypeError(f"{where} is a buffer with gaps; expected doubles without gaps: copy it first")
-        return over(x, view.nbytes // 8)
+            raise TypeError(f"{where} is a buffer with gaps; expected {width.word}s without gaps: copy it first")
+        return over(x, view.nbytes // width.size, width)
     if isinstance(x, (array.array, collections.abc.Sequence)) and not isinstance(x, TEXT):
-        copy = of_sequence(where, x)
-        return over(copy, len(copy))
+        copy = of_sequence(where, x, width)
+        return over(copy, len(copy), width)
     what = type(x).__name__ + ("" if view is None else f", a buffer of format {view.format!r}")
-    raise TypeError(f"{where} is {what}; {EXPECTED}")
+    raise TypeError(f"{where} is {what}; expected a list, a tuple, array({width.code!r}) or another buffer of {width.word}s")

@@ -46,6 +46,6 @@ def expected(where, x):
     return x
 
 
-def room():
+def room(width):
     """The two lists that a pose is written to."""
-    return array("d", bytes(64)), (ctypes.c_uint16 * 2)()
+    return array(width.code, bytes(8 * width.size)), (ctypes.c_uint16 * 2)()

@@ -1,6 +1,6 @@
-"""The C functions of include/sim3.h as ctypes sees them: one table of their arguments, the shared
-library that has them, and the bare call. What the table says is trusted; tests/bindings compares it
-with the header.
+"""The C functions of include/sim3.h as ctypes sees them: one table of their arguments at both widths, the
+shared library that has them, and the bare call. What the table says is trusted; tests/bindings compares
+it with the header.
 """
 import ctypes
 import functools
@@ -8,9 +8,11 @@ import os
 import pathlib
 from typing import NamedTuple, Tuple
 
+from .widths import DOUBLE, WIDTHS
+
 NUMBER, POINTS, FRAMES = "number", "points", "frames"
 
-# How many numbers a list of each kind has, and what they are: doubles, and 16-bit numbers for frames.
+# How many numbers a list of each kind has, and what they are: floats of a width, and 16-bit numbers for frames.
 KINDS = {
     "pose": (8, "quaternion w x y z, translation x y z, sigma"),
     FRAMES: (2, "from, to"),
@@ -96,7 +98,8 @@ def library():
                              "or SIM3_LIBRARY names another place")
     try:
         loaded = ctypes.CDLL(str(path.resolve()))
-        found = {name: declared(loaded["sim3_" + name], made) for name, made in FUNCTIONS.items()}
+        found = {name + width.ending: declared(loaded["sim3_" + name + width.ending], made, width)
+                 for width in WIDTHS for name, made in FUNCTIONS.items()}
         found.update((name, declared_lists(loaded["sim3_" + name], made)) for name, made in PATTERNS.items())
         return {**found, "root": declared_root(loaded["sim3_root"]),
                 "nearest_arm": declared_near(loaded["sim3_nearest_arm"])}
@@ -105,18 +108,18 @@ def library():
                              "remove it and run bindings/build") from None
 
 
-def words(kind):
+def words(kind, width):
     """The C types of an argument: a list is a pointer and a count."""
     if kind == NUMBER:
-        return [ctypes.c_double]
-    return [ctypes.POINTER(ctypes.c_uint16 if kind == FRAMES else ctypes.c_double), ctypes.c_size_t]
+        return [width.number]
+    return [ctypes.POINTER(ctypes.c_uint16 if kind == FRAMES else width.number), ctypes.c_size_t]
 
 
-def declared(symbol, made):
+def declared(symbol, made, width):
     """A C function with the types of its arguments."""
     written = ["out", FRAMES] if FRAMES in made.gives else ["out"] if made.gives else []
     kinds = [*(kind for _, kind in made.takes), *written]
-    symbol.argtypes = [word for kind in kinds for word in words(kind)]
+    symbol.argtypes = [word for kind in kinds for word in words(kind, width)]
     symbol.restype = ctypes.c_uint32
     return symbol
 
@@ -144,10 +147,10 @@ def declared_lists(symbol, made):
     return symbol
 
 
-def call(name, *arguments):
+def call(name, *arguments, width=DOUBLE):
     """What a C function returns: 0, or the number of a refusal. A list is a ctypes array of its type,
     and one that is written must share no bytes with another."""
     words = []
     for argument in arguments:
         words += (argument, len(argument)) if isinstance(argument, ctypes.Array) else (argument,)
-    return library()[name](*words)
+    return library()[name + width.ending](*words)

@@ -1,5 +1,6 @@
 """What the engine does not answer, as an exception that says which argument and what to do."""
 from .raw import KINDS
+from .widths import DOUBLE
 
 MOST_NUMBERS = 65_535  # of a list of points
 LIST_LENGTH = 100  # the number of sim3.h for a list of a wrong length, the boundary's own
@@ -16,17 +17,17 @@ class Refusal(ValueError):
         return self.args[1]
 
 
-def refusal(number, name, text):
-    return Refusal(number, f"sim3.{name}: refusal {number}: {text}")
+def refusal(number, name, text, width=DOUBLE):
+    return Refusal(number, f"{width.package}.{name}: refusal {number}: {text}")
 
 
 def numbers(count):
     return f"{count:,} number" + ("" if count == 1 else "s")
 
 
-def wrong_length(name, argument, kind, found):
+def wrong_length(name, argument, kind, found, width):
     due, order = KINDS[kind]
-    return refusal(LIST_LENGTH, name, f"{argument} has {numbers(found)}; expected {due} ({kind}: {order})")
+    return refusal(LIST_LENGTH, name, f"{argument} has {numbers(found)}; expected {due} ({kind}: {order})", width)
 
 
 def points_text(found):
@@ -51,20 +52,21 @@ def frames_text(name, x_frames, y_frames):
     return f"{of_x} {x_frames[i]}, and {of_y} {y_frames[j]}; {joined} wants one frame there, so {remedy}"
 
 
-def explained(number, name, given):
+def explained(number, name, given, width=DOUBLE):
     """The exception for a number that a C function returned; `given` has its arguments by name."""
+    return refusal(number, name, text_of(number, name, given, width), width)
+
+
+def text_of(number, name, given, width):
     if number == 1:
-        return refusal(1, name, f"z is {given['z']!r}, below zero; hand in a squared angle, "
-                                "as sim3.host.norm_sq(phi) gives it")
+        return f"z is {given['z']!r}, below zero; hand in a squared angle, as {width.package}.host.norm_sq(phi) gives it"
     if number == 2:
-        return refusal(2, name, f"e, the last number of j, is {given['j'][30]!r}; such a block has no "
-                                "inverse, so leave it out or look at e first")
+        return f"e, the last number of j, is {given['j'][30]!r}; such a block has no inverse, so leave it " \
+               "out or look at e first"
     if number == 5:
-        return refusal(5, name, points_text(len(given["pts"])))
+        return points_text(len(given["pts"]))
     if number == 8:
-        return refusal(8, name, f"z is {given['z']!r}; such a z has no root with what is left, so look "
-                                "at z first")
+        return f"z is {given['z']!r}; such a z has no root with what is left, so look at z first"
     if number == 9:
-        return refusal(9, name, frames_text(name, given["x_frames"], given["y_frames"]))
-    return refusal(number, name, "the library refused what this package takes for right; they do not "
-                                 "belong together, so run bindings/build")
+        return frames_text(name, given["x_frames"], given["y_frames"])
+    return "the library refused what this package takes for right; they do not belong together, so run bindings/build"

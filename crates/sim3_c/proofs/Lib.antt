@@ -1,4 +1,4 @@
 -- The laws of lists that are read and written whole.
-mod Lists
-mod Stores
+pub mod Lists
+pub mod Stores
 mod Patterns

@@ -9,7 +9,7 @@ use native.Mathlib.Numerals.{towards-suc}
 use lib.ListN.{set, length, length-append}
 use lib.Seq.{sets}
 use lib.IntN.{pos}
-use lib.Ieee.{Float, binary64, ofInt}
+use lib.Ieee.{Float, Format, ofInt}
 use Rattle.ieee.specs.Numbers.{f0, f1}
 use Rattle.linalg.specs.declared.vector.Vec3.{Vec3}
 use Rattle.linalg.specs.declared.matrix.Mat3.{Mat3}
@@ -29,9 +29,9 @@ use Rattle.sim3_c.specs.Calls.{armNumbers, armedNumbers, armedPairNumber
 use Rattle.layout.specs.Layout.{matNumbers, quatNumbers, poseNumbers, blockNumbers, blockPairNumbers, coeffsNumbers, scaledNumbers, scaledPairNumbers, twoNumbers, actNumbers}
 use Rattle.layout.proofs.Numbers.{quat-count, vec-count, mat-count, block-count, scaled-count}
 
-arm-count : (a : Armed) → length (armNumbers a) ≡ 2
+arm-count : (f : Format) (a : Armed) → length (armNumbers f a) ≡ 2
 unfolding armNumbers
-arm-count a = refl
+arm-count f a = refl
 
 ruleset runs = (sets-split, add-assoc, length-append, quat-count, vec-count, mat-count, block-count, scaled-count, arm-count)
 
@@ -110,24 +110,24 @@ unfolding actNumbers
 act-stored j l = simp runs
 
 -- ---- with the arms before them
-pub arm-stored : (a : Armed) (l : List Float) (i : ℕ) → set (set l i (ofInt binary64 (pos (a .arm)))) (i + 1) (cond (a .ends) f1 f0) ≡ sets l i (armNumbers a)
+pub arm-stored : (f : Format) (a : Armed) (l : List Float) (i : ℕ) → set (set l i (ofInt f (pos (a .arm)))) (i + 1) (cond (a .ends) f1 f0) ≡ sets l i (armNumbers f a)
 unfolding armNumbers
-arm-stored a l i = simp towards-suc
+arm-stored f a l i = simp towards-suc
 
-pub armed-count : (a : Armed) → length (armedNumbers a) ≡ 12
+pub armed-count : (f : Format) (a : Armed) → length (armedNumbers f a) ≡ 12
 unfolding armedNumbers
-armed-count a = simp (length-append, arm-count, scaled-count)
+armed-count f a = simp (length-append, arm-count, scaled-count)
 
-pub armed-stored : (a : Armed) (l : List Float) → sets (sets l 0 (armNumbers a)) 2 (scaledNumbers (a .s)) ≡ sets l 0 (armedNumbers a)
+pub armed-stored : (f : Format) (a : Armed) (l : List Float) → sets (sets l 0 (armNumbers f a)) 2 (scaledNumbers (a .s)) ≡ sets l 0 (armedNumbers f a)
 unfolding armedNumbers
-armed-stored a l = simp runs
+armed-stored f a l = simp runs
 
-pub armed-pair-count : (p : ArmedPair) → length (armedPairNumbers p) ≡ 24
+pub armed-pair-count : (f : Format) (p : ArmedPair) → length (armedPairNumbers f p) ≡ 24
 unfolding armedPairNumbers scaledPairNumbers
-armed-pair-count p = simp (length-append, arm-count, scaled-count)
+armed-pair-count f p = simp (length-append, arm-count, scaled-count)
 
 pub armed-pair-stored :
-    (p : ArmedPair) (l : List Float) →
-    sets (sets (sets (sets l 0 (armNumbers (p .pos))) 2 (armNumbers (p .neg))) 4 (scaledNumbers (p .pos .s))) 14 (scaledNumbers (p .neg .s)) ≡ sets l 0 (armedPairNumbers p)
+    (f : Format) (p : ArmedPair) (l : List Float) →
+    sets (sets (sets (sets l 0 (armNumbers f (p .pos))) 2 (armNumbers f (p .neg))) 4 (scaledNumbers (p .pos .s))) 14 (scaledNumbers (p .neg .s)) ≡ sets l 0 (armedPairNumbers f p)
 unfolding armedPairNumbers scaledPairNumbers
-armed-pair-stored p l = simp runs
+armed-pair-stored f p l = simp runs

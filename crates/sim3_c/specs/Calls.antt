@@ -6,7 +6,7 @@ use lib.Dec.{eqb}
 use lib.IntN.{ℤ}
 use lib.ListN.{length}
 use lib.IntN.{pos}
-use lib.Ieee.{Float, binary64, ofInt}
+use lib.Ieee.{Float, Format, ofInt}
 use Rattle.ieee.specs.Numbers.{f0, f1}
 use Rattle.linalg.specs.Answer.{Answer, answers, refuses, andThen}
 use Rattle.linalg.specs.declared.vector.Vec3.{Vec3}
@@ -55,86 +55,86 @@ framedFitting out x = cond (eqb (length (out .numbers)) poseCount && eqb (length
 unfoldable pub joinedFitting : PoseLists → Answer Pose → Answer PoseLists
 joinedFitting out a = andThen a (framedFitting out)
 
-unfoldable pub expCall : List Float → List Float → List ℕ → PoseLists → Answer PoseLists
-expCall tau values frames out =
-    andThen (tangentFrom tau) (λ t. andThen (valuesFrom values) (λ v. andThen (framesFrom frames) (λ k. framedFitting out (framedExp binary64 t v (k .from) (k .to)))))
+unfoldable pub expCall : Format → List Float → List Float → List ℕ → PoseLists → Answer PoseLists
+expCall f tau values frames out =
+    andThen (tangentFrom tau) (λ t. andThen (valuesFrom values) (λ v. andThen (framesFrom frames) (λ k. framedFitting out (framedExp f t v (k .from) (k .to)))))
 
-unfoldable pub mulCall : PoseLists → PoseLists → Float → PoseLists → Answer PoseLists
-mulCall x y up out = andThen (framedFrom x) (λ a. andThen (framedFrom y) (λ b. joinedFitting out (framedMul binary64 a b up)))
+unfoldable pub mulCall : Format → PoseLists → PoseLists → Float → PoseLists → Answer PoseLists
+mulCall f x y up out = andThen (framedFrom x) (λ a. andThen (framedFrom y) (λ b. joinedFitting out (framedMul f a b up)))
 
-unfoldable pub inverseCall : PoseLists → Float → PoseLists → Answer PoseLists
-inverseCall x down out = andThen (framedFrom x) (λ a. framedFitting out (framedInverse binary64 a down))
+unfoldable pub inverseCall : Format → PoseLists → Float → PoseLists → Answer PoseLists
+inverseCall f x down out = andThen (framedFrom x) (λ a. framedFitting out (framedInverse f a down))
 
-unfoldable pub mulInvCall : PoseLists → PoseLists → Float → PoseLists → Answer PoseLists
-mulInvCall x y ds out = andThen (framedFrom x) (λ a. andThen (framedFrom y) (λ b. joinedFitting out (framedMulInv binary64 a b ds)))
+unfoldable pub mulInvCall : Format → PoseLists → PoseLists → Float → PoseLists → Answer PoseLists
+mulInvCall f x y ds out = andThen (framedFrom x) (λ a. andThen (framedFrom y) (λ b. joinedFitting out (framedMulInv f a b ds)))
 
-unfoldable pub invMulCall : PoseLists → PoseLists → Float → PoseLists → Answer PoseLists
-invMulCall x y down out = andThen (framedFrom x) (λ a. andThen (framedFrom y) (λ b. joinedFitting out (framedInvMul binary64 a b down)))
+unfoldable pub invMulCall : Format → PoseLists → PoseLists → Float → PoseLists → Answer PoseLists
+invMulCall f x y down out = andThen (framedFrom x) (λ a. andThen (framedFrom y) (λ b. joinedFitting out (framedInvMul f a b down)))
 
 -- ---- the rotation's Newton step, which reads no frame: in place, the list is read and then written
-unfoldable pub renormalizeCall : List Float → Answer (List Float)
-renormalizeCall x = andThen (poseFrom x) (λ a. fitting x (poseNumbers (poseRenormalized binary64 a)))
+unfoldable pub renormalizeCall : Format → List Float → Answer (List Float)
+renormalizeCall f x = andThen (poseFrom x) (λ a. fitting x (poseNumbers (poseRenormalized f a)))
 
 -- ---- lists of points: every point moved
 unfoldable pub actCall : (Vec3 → Vec3) → List Float → List Float → Answer (List Float)
 actCall g pts out = andThen (pointsAnswer pts out) (λ done. answers (pointsOut g pts out))
 
-unfoldable pub actManyCall : List Float → Float → List Float → List Float → Answer (List Float)
-actManyCall x up pts out = andThen (poseFrom x) (λ a. actCall (poseActMany binary64 a up) pts out)
+unfoldable pub actManyCall : Format → List Float → Float → List Float → List Float → Answer (List Float)
+actManyCall f x up pts out = andThen (poseFrom x) (λ a. actCall (poseActMany f a up) pts out)
 
-unfoldable pub actEachCall : List Float → Float → List Float → List Float → Answer (List Float)
-actEachCall x up pts out = andThen (poseFrom x) (λ a. actCall (poseActEach binary64 a up) pts out)
+unfoldable pub actEachCall : Format → List Float → Float → List Float → List Float → Answer (List Float)
+actEachCall f x up pts out = andThen (poseFrom x) (λ a. actCall (poseActEach f a up) pts out)
 
 -- ---- the pairs
-unfoldable pub scaledPairCall : Float → Float → List Float → List Float → Answer (List Float)
-scaledPairCall sigma z values out = andThen (valuesFrom values) (λ v. andThen (pairAnswer binary64 sigma z v) (λ p. fitting out (scaledPairNumbers p)))
+unfoldable pub scaledPairCall : Format → Float → Float → List Float → List Float → Answer (List Float)
+scaledPairCall f sigma z values out = andThen (valuesFrom values) (λ v. andThen (pairAnswer f sigma z v) (λ p. fitting out (scaledPairNumbers p)))
 
-unfoldable pub blockPairCall : List Float → List Float → List Float → List Float → List Float → Answer (List Float)
-blockPairCall tau values jl jlInv out =
-    andThen (tangentFrom tau) (λ t. andThen (valuesFrom values) (λ v. andThen (matFrom jl) (λ j. andThen (matFrom jlInv) (λ i. fitting out (blockPairNumbers (blockPair binary64 t v j i))))))
+unfoldable pub blockPairCall : Format → List Float → List Float → List Float → List Float → List Float → Answer (List Float)
+blockPairCall f tau values jl jlInv out =
+    andThen (tangentFrom tau) (λ t. andThen (valuesFrom values) (λ v. andThen (matFrom jl) (λ j. andThen (matFrom jlInv) (λ i. fitting out (blockPairNumbers (blockPair f t v j i))))))
 
 -- ---- the coefficients with their arms
 -- the arm of one sign, and 1 where v₀ and w₀ of the closed arm come from series of their own, else 0
-unfoldable pub armNumbers : Armed → List Float
-armNumbers a = ofInt binary64 (pos (a .arm)) ∷ cond (a .ends) f1 f0 ∷ []
+unfoldable pub armNumbers : Format → Armed → List Float
+armNumbers f a = ofInt f (pos (a .arm)) ∷ cond (a .ends) f1 f0 ∷ []
 
 -- before the numbers of that sign; and those of both signs before the scaled pair, as AR answers them
-unfoldable pub armedNumbers : Armed → List Float
-armedNumbers a = armNumbers a ++ scaledNumbers (a .s)
+unfoldable pub armedNumbers : Format → Armed → List Float
+armedNumbers f a = armNumbers f a ++ scaledNumbers (a .s)
 
-unfoldable pub armedPairNumbers : ArmedPair → List Float
-armedPairNumbers p = armNumbers (p .pos) ++ (armNumbers (p .neg) ++ scaledPairNumbers (armedScaled p))
+unfoldable pub armedPairNumbers : Format → ArmedPair → List Float
+armedPairNumbers f p = armNumbers f (p .pos) ++ (armNumbers f (p .neg) ++ scaledPairNumbers (armedScaled p))
 
-unfoldable pub armedCall : Float → Float → List Float → List Float → Answer (List Float)
-armedCall sigma z values out = andThen (valuesFrom values) (λ v. andThen (armedAnswer binary64 sigma z v) (λ a. fitting out (armedNumbers a)))
+unfoldable pub armedCall : Format → Float → Float → List Float → List Float → Answer (List Float)
+armedCall f sigma z values out = andThen (valuesFrom values) (λ v. andThen (armedAnswer f sigma z v) (λ a. fitting out (armedNumbers f a)))
 
-unfoldable pub armedPairCall : Float → Float → List Float → List Float → Answer (List Float)
-armedPairCall sigma z values out = andThen (valuesFrom values) (λ v. andThen (armedPairAnswer binary64 sigma z v) (λ p. fitting out (armedPairNumbers p)))
+unfoldable pub armedPairCall : Format → Float → Float → List Float → List Float → Answer (List Float)
+armedPairCall f sigma z values out = andThen (valuesFrom values) (λ v. andThen (armedPairAnswer f sigma z v) (λ p. fitting out (armedPairNumbers f p)))
 
 -- ---- blocks
-unfoldable pub blockInverseCall : List Float → List Float → Answer (List Float)
-blockInverseCall j out = andThen (blockFrom j) (λ b. andThen (jacInverseAnswer binary64 b) (λ i. fitting out (blockNumbers i)))
+unfoldable pub blockInverseCall : Format → List Float → List Float → Answer (List Float)
+blockInverseCall f j out = andThen (blockFrom j) (λ b. andThen (jacInverseAnswer f b) (λ i. fitting out (blockNumbers i)))
 
-unfoldable pub adjointCall : List Float → Float → List Float → Answer (List Float)
-adjointCall x up out = andThen (poseFrom x) (λ a. fitting out (blockNumbers (poseAdjoint binary64 a up)))
+unfoldable pub adjointCall : Format → List Float → Float → List Float → Answer (List Float)
+adjointCall f x up out = andThen (poseFrom x) (λ a. fitting out (blockNumbers (poseAdjoint f a up)))
 
-unfoldable pub actJacobiansRightCall : List Float → Float → List Float → List Float → Answer (List Float)
-actJacobiansRightCall x up p out = andThen (poseFrom x) (λ a. andThen (vecFrom p) (λ b. fitting out (actNumbers (actJacobiansRight binary64 a up b))))
+unfoldable pub actJacobiansRightCall : Format → List Float → Float → List Float → List Float → Answer (List Float)
+actJacobiansRightCall f x up p out = andThen (poseFrom x) (λ a. andThen (vecFrom p) (λ b. fitting out (actNumbers (actJacobiansRight f a up b))))
 
-unfoldable pub actJacobiansLeftCall : List Float → Float → List Float → List Float → Answer (List Float)
-actJacobiansLeftCall x up p out = andThen (poseFrom x) (λ a. andThen (vecFrom p) (λ b. fitting out (actNumbers (actJacobiansLeft binary64 a up b))))
+unfoldable pub actJacobiansLeftCall : Format → List Float → Float → List Float → List Float → Answer (List Float)
+actJacobiansLeftCall f x up p out = andThen (poseFrom x) (λ a. andThen (vecFrom p) (λ b. fitting out (actNumbers (actJacobiansLeft f a up b))))
 
-unfoldable pub composeJacobiansRightCall : List Float → Float → List Float → Answer (List Float)
-composeJacobiansRightCall y down out = andThen (poseFrom y) (λ b. fitting out (twoNumbers (composeJacobiansRight binary64 b down)))
+unfoldable pub composeJacobiansRightCall : Format → List Float → Float → List Float → Answer (List Float)
+composeJacobiansRightCall f y down out = andThen (poseFrom y) (λ b. fitting out (twoNumbers (composeJacobiansRight f b down)))
 
-unfoldable pub composeJacobiansLeftCall : List Float → Float → List Float → Answer (List Float)
-composeJacobiansLeftCall x up out = andThen (poseFrom x) (λ a. fitting out (twoNumbers (composeJacobiansLeft binary64 a up)))
+unfoldable pub composeJacobiansLeftCall : Format → List Float → Float → List Float → Answer (List Float)
+composeJacobiansLeftCall f x up out = andThen (poseFrom x) (λ a. fitting out (twoNumbers (composeJacobiansLeft f a up)))
 
-unfoldable pub inverseJacobianRightCall : List Float → Float → List Float → Answer (List Float)
-inverseJacobianRightCall x up out = andThen (poseFrom x) (λ a. fitting out (blockNumbers (inverseJacobianRight binary64 a up)))
+unfoldable pub inverseJacobianRightCall : Format → List Float → Float → List Float → Answer (List Float)
+inverseJacobianRightCall f x up out = andThen (poseFrom x) (λ a. fitting out (blockNumbers (inverseJacobianRight f a up)))
 
-unfoldable pub inverseJacobianLeftCall : List Float → Float → List Float → Answer (List Float)
-inverseJacobianLeftCall x down out = andThen (poseFrom x) (λ a. fitting out (blockNumbers (inverseJacobianLeft binary64 a down)))
+unfoldable pub inverseJacobianLeftCall : Format → List Float → Float → List Float → Answer (List Float)
+inverseJacobianLeftCall f x down out = andThen (poseFrom x) (λ a. fitting out (blockNumbers (inverseJacobianLeft f a down)))
 
 -- ---- the square root with what is left: three lists, since not every remainder is a double
 pub record RootLists : Type 0 where

@@ -82,34 +82,34 @@ unfoldable pub framedFrom : PoseLists → Answer Pose
 framedFrom l = andThen (poseFrom (l .numbers)) (λ x. andThen (framesFrom (l .frames)) (λ k. answers (framed x (k .from) (k .to))))
 
 -- ---- what each case of a reading says
-unfoldable pub vecTold : VecRead → Answer Vec3
-vecTold (vecs.Got v) = answers v
-vecTold vecs.Wrong = refuses wrongLength
+unfoldable pub vecReadTold : VecRead → Answer Vec3
+vecReadTold (vecs.Got v) = answers v
+vecReadTold vecs.Wrong = refuses wrongLength
 
-unfoldable pub matTold : MatRead → Answer Mat3
-matTold (mats.Got m) = answers m
-matTold mats.Wrong = refuses wrongLength
+unfoldable pub matReadTold : MatRead → Answer Mat3
+matReadTold (mats.Got m) = answers m
+matReadTold mats.Wrong = refuses wrongLength
 
-unfoldable pub poseTold : PoseRead → Answer Sim3
-poseTold (poses.Got x) = answers x
-poseTold poses.Wrong = refuses wrongLength
+unfoldable pub poseReadTold : PoseRead → Answer Sim3
+poseReadTold (poses.Got x) = answers x
+poseReadTold poses.Wrong = refuses wrongLength
 
-unfoldable pub framesTold : FramesRead → Answer Frames
-framesTold (pairs.Got k) = answers k
-framesTold pairs.Wrong = refuses wrongLength
+unfoldable pub framesReadTold : FramesRead → Answer Frames
+framesReadTold (pairs.Got k) = answers k
+framesReadTold pairs.Wrong = refuses wrongLength
 
-unfoldable pub framedTold : FramedRead → Answer Pose
-framedTold (framedPoses.Got x) = answers x
-framedTold framedPoses.Wrong = refuses wrongLength
+unfoldable pub framedReadTold : FramedRead → Answer Pose
+framedReadTold (framedPoses.Got x) = answers x
+framedReadTold framedPoses.Wrong = refuses wrongLength
 
-unfoldable pub tangentTold : TangentRead → Answer Sim3Tangent
-tangentTold (tangents.Got t) = answers t
-tangentTold tangents.Wrong = refuses wrongLength
+unfoldable pub tangentReadTold : TangentRead → Answer Sim3Tangent
+tangentReadTold (tangents.Got t) = answers t
+tangentReadTold tangents.Wrong = refuses wrongLength
 
-unfoldable pub valuesTold : ValuesRead → Answer Values
-valuesTold (tens.Got v) = answers v
-valuesTold tens.Wrong = refuses wrongLength
+unfoldable pub valuesReadTold : ValuesRead → Answer Values
+valuesReadTold (tens.Got v) = answers v
+valuesReadTold tens.Wrong = refuses wrongLength
 
-unfoldable pub blockTold : BlockRead → Answer Sim3Jac
-blockTold (jacs.Got j) = answers j
-blockTold jacs.Wrong = refuses wrongLength
+unfoldable pub blockReadTold : BlockRead → Answer Sim3Jac
+blockReadTold (jacs.Got j) = answers j
+blockReadTold jacs.Wrong = refuses wrongLength

@@ -1,5 +1,6 @@
 // The coefficients with the arms that formed them: at sigma, and at both signs.
 ghost use mathlib.Core.Path.{_≡_};
+ghost use lib.Ieee.{binary64};
 ghost use Rattle.sim3_c.specs.Calls.{status, written, armedCall, armedPairCall};
 use crate::LIST_LENGTH;
 use crate::read::ValuesRead;
@@ -13,8 +14,8 @@ use coeffs::sim3::sim3_coeffs_armed_pair;
 // At sigma; z is the squared angle.
 #[no_mangle]
 pub extern "C" fn sim3_coeffs_armed(sigma: f64, z: f64, values: &[f64], out: &mut [f64]) -> u32
-    ensures { λ r. ⌜ r ≡ status (armedCall sigma z (now (values .entry)) (now (out .entry))) ⌝ }
-    ensures { λ _. ⌜ now (out .exit) ≡ written (armedCall sigma z (now (values .entry)) (now (out .entry))) (now (out .entry)) ⌝ }
+    ensures { λ r. ⌜ r ≡ status (armedCall binary64 sigma z (now (values .entry)) (now (out .entry))) ⌝ }
+    ensures { λ _. ⌜ now (out .exit) ≡ written (armedCall binary64 sigma z (now (values .entry)) (now (out .entry))) (now (out .entry)) ⌝ }
 {
     let ValuesRead::Got(v) = values_from(values) else {
         return LIST_LENGTH;
@@ -28,8 +29,8 @@ pub extern "C" fn sim3_coeffs_armed(sigma: f64, z: f64, values: &[f64], out: &mu
 // At sigma and at -sigma.
 #[no_mangle]
 pub extern "C" fn sim3_armed_pair(sigma: f64, z: f64, values: &[f64], out: &mut [f64]) -> u32
-    ensures { λ r. ⌜ r ≡ status (armedPairCall sigma z (now (values .entry)) (now (out .entry))) ⌝ }
-    ensures { λ _. ⌜ now (out .exit) ≡ written (armedPairCall sigma z (now (values .entry)) (now (out .entry))) (now (out .entry)) ⌝ }
+    ensures { λ r. ⌜ r ≡ status (armedPairCall binary64 sigma z (now (values .entry)) (now (out .entry))) ⌝ }
+    ensures { λ _. ⌜ now (out .exit) ≡ written (armedPairCall binary64 sigma z (now (values .entry)) (now (out .entry))) (now (out .entry)) ⌝ }
 {
     let ValuesRead::Got(v) = values_from(values) else {
         return LIST_LENGTH;

@@ -1,6 +1,7 @@
 // Jacobian blocks, as a, b, c, f, e: the matrix with the rows (a, 0, 0), (b, c, f), (0, 0, e). Right is
 // X Exp(tau), left Exp(tau) X.
 ghost use mathlib.Core.Path.{_≡_};
+ghost use lib.Ieee.{binary64};
 ghost use Rattle.sim3_c.specs.Calls.{status, written, blockInverseCall, adjointCall, actJacobiansRightCall, actJacobiansLeftCall, composeJacobiansRightCall, composeJacobiansLeftCall, inverseJacobianRightCall, inverseJacobianLeftCall};
 use crate::LIST_LENGTH;
 use crate::read::BlockRead;
@@ -24,8 +25,8 @@ use sides::side::inverse_jacobian_right;
 // The inverse of a block; refusal 2 where e is a zero.
 #[no_mangle]
 pub extern "C" fn sim3_block_inverse(j: &[f64], out: &mut [f64]) -> u32
-    ensures { λ r. ⌜ r ≡ status (blockInverseCall (now (j .entry)) (now (out .entry))) ⌝ }
-    ensures { λ _. ⌜ now (out .exit) ≡ written (blockInverseCall (now (j .entry)) (now (out .entry))) (now (out .entry)) ⌝ }
+    ensures { λ r. ⌜ r ≡ status (blockInverseCall binary64 (now (j .entry)) (now (out .entry))) ⌝ }
+    ensures { λ _. ⌜ now (out .exit) ≡ written (blockInverseCall binary64 (now (j .entry)) (now (out .entry))) (now (out .entry)) ⌝ }
 {
     let BlockRead::Got(b) = block_from(j) else {
         return LIST_LENGTH;
@@ -39,8 +40,8 @@ pub extern "C" fn sim3_block_inverse(j: &[f64], out: &mut [f64]) -> u32
 // Ad_X; up is e^sigma of X.
 #[no_mangle]
 pub extern "C" fn sim3_adjoint(x: &[f64], up: f64, out: &mut [f64]) -> u32
-    ensures { λ r. ⌜ r ≡ status (adjointCall (now (x .entry)) up (now (out .entry))) ⌝ }
-    ensures { λ _. ⌜ now (out .exit) ≡ written (adjointCall (now (x .entry)) up (now (out .entry))) (now (out .entry)) ⌝ }
+    ensures { λ r. ⌜ r ≡ status (adjointCall binary64 (now (x .entry)) up (now (out .entry))) ⌝ }
+    ensures { λ _. ⌜ now (out .exit) ≡ written (adjointCall binary64 (now (x .entry)) up (now (out .entry))) (now (out .entry)) ⌝ }
 {
     let PoseRead::Got(a) = pose_from(x) else {
         return LIST_LENGTH;
@@ -51,8 +52,8 @@ pub extern "C" fn sim3_adjoint(x: &[f64], up: f64, out: &mut [f64]) -> u32
 // Of X p, right: by phi, rho, sigma and by p; up is e^sigma of X.
 #[no_mangle]
 pub extern "C" fn sim3_act_jacobians_right(x: &[f64], up: f64, p: &[f64], out: &mut [f64]) -> u32
-    ensures { λ r. ⌜ r ≡ status (actJacobiansRightCall (now (x .entry)) up (now (p .entry)) (now (out .entry))) ⌝ }
-    ensures { λ _. ⌜ now (out .exit) ≡ written (actJacobiansRightCall (now (x .entry)) up (now (p .entry)) (now (out .entry))) (now (out .entry)) ⌝ }
+    ensures { λ r. ⌜ r ≡ status (actJacobiansRightCall binary64 (now (x .entry)) up (now (p .entry)) (now (out .entry))) ⌝ }
+    ensures { λ _. ⌜ now (out .exit) ≡ written (actJacobiansRightCall binary64 (now (x .entry)) up (now (p .entry)) (now (out .entry))) (now (out .entry)) ⌝ }
 {
     let PoseRead::Got(a) = pose_from(x) else {
         return LIST_LENGTH;
@@ -66,8 +67,8 @@ pub extern "C" fn sim3_act_jacobians_right(x: &[f64], up: f64, p: &[f64], out: &
 // Of X p, left: by phi, rho, sigma and by p; up is e^sigma of X.
 #[no_mangle]
 pub extern "C" fn sim3_act_jacobians_left(x: &[f64], up: f64, p: &[f64], out: &mut [f64]) -> u32
-    ensures { λ r. ⌜ r ≡ status (actJacobiansLeftCall (now (x .entry)) up (now (p .entry)) (now (out .entry))) ⌝ }
-    ensures { λ _. ⌜ now (out .exit) ≡ written (actJacobiansLeftCall (now (x .entry)) up (now (p .entry)) (now (out .entry))) (now (out .entry)) ⌝ }
+    ensures { λ r. ⌜ r ≡ status (actJacobiansLeftCall binary64 (now (x .entry)) up (now (p .entry)) (now (out .entry))) ⌝ }
+    ensures { λ _. ⌜ now (out .exit) ≡ written (actJacobiansLeftCall binary64 (now (x .entry)) up (now (p .entry)) (now (out .entry))) (now (out .entry)) ⌝ }
 {
     let PoseRead::Got(a) = pose_from(x) else {
         return LIST_LENGTH;
@@ -81,8 +82,8 @@ pub extern "C" fn sim3_act_jacobians_left(x: &[f64], up: f64, p: &[f64], out: &m
 // Of X Y, right: by X and by Y, which read Y alone; down is e^-sigma of Y.
 #[no_mangle]
 pub extern "C" fn sim3_compose_jacobians_right(y: &[f64], down: f64, out: &mut [f64]) -> u32
-    ensures { λ r. ⌜ r ≡ status (composeJacobiansRightCall (now (y .entry)) down (now (out .entry))) ⌝ }
-    ensures { λ _. ⌜ now (out .exit) ≡ written (composeJacobiansRightCall (now (y .entry)) down (now (out .entry))) (now (out .entry)) ⌝ }
+    ensures { λ r. ⌜ r ≡ status (composeJacobiansRightCall binary64 (now (y .entry)) down (now (out .entry))) ⌝ }
+    ensures { λ _. ⌜ now (out .exit) ≡ written (composeJacobiansRightCall binary64 (now (y .entry)) down (now (out .entry))) (now (out .entry)) ⌝ }
 {
     let PoseRead::Got(a) = pose_from(y) else {
         return LIST_LENGTH;
@@ -93,8 +94,8 @@ pub extern "C" fn sim3_compose_jacobians_right(y: &[f64], down: f64, out: &mut [
 // Of X Y, left: by X and by Y, which read X alone; up is e^sigma of X.
 #[no_mangle]
 pub extern "C" fn sim3_compose_jacobians_left(x: &[f64], up: f64, out: &mut [f64]) -> u32
-    ensures { λ r. ⌜ r ≡ status (composeJacobiansLeftCall (now (x .entry)) up (now (out .entry))) ⌝ }
-    ensures { λ _. ⌜ now (out .exit) ≡ written (composeJacobiansLeftCall (now (x .entry)) up (now (out .entry))) (now (out .entry)) ⌝ }
+    ensures { λ r. ⌜ r ≡ status (composeJacobiansLeftCall binary64 (now (x .entry)) up (now (out .entry))) ⌝ }
+    ensures { λ _. ⌜ now (out .exit) ≡ written (composeJacobiansLeftCall binary64 (now (x .entry)) up (now (out .entry))) (now (out .entry)) ⌝ }
 {
     let PoseRead::Got(a) = pose_from(x) else {
         return LIST_LENGTH;
@@ -105,8 +106,8 @@ pub extern "C" fn sim3_compose_jacobians_left(x: &[f64], up: f64, out: &mut [f64
 // Of X^-1, right; up is e^sigma of X.
 #[no_mangle]
 pub extern "C" fn sim3_inverse_jacobian_right(x: &[f64], up: f64, out: &mut [f64]) -> u32
-    ensures { λ r. ⌜ r ≡ status (inverseJacobianRightCall (now (x .entry)) up (now (out .entry))) ⌝ }
-    ensures { λ _. ⌜ now (out .exit) ≡ written (inverseJacobianRightCall (now (x .entry)) up (now (out .entry))) (now (out .entry)) ⌝ }
+    ensures { λ r. ⌜ r ≡ status (inverseJacobianRightCall binary64 (now (x .entry)) up (now (out .entry))) ⌝ }
+    ensures { λ _. ⌜ now (out .exit) ≡ written (inverseJacobianRightCall binary64 (now (x .entry)) up (now (out .entry))) (now (out .entry)) ⌝ }
 {
     let PoseRead::Got(a) = pose_from(x) else {
         return LIST_LENGTH;
@@ -117,8 +118,8 @@ pub extern "C" fn sim3_inverse_jacobian_right(x: &[f64], up: f64, out: &mut [f64
 // Of X^-1, left; down is e^-sigma of X.
 #[no_mangle]
 pub extern "C" fn sim3_inverse_jacobian_left(x: &[f64], down: f64, out: &mut [f64]) -> u32
-    ensures { λ r. ⌜ r ≡ status (inverseJacobianLeftCall (now (x .entry)) down (now (out .entry))) ⌝ }
-    ensures { λ _. ⌜ now (out .exit) ≡ written (inverseJacobianLeftCall (now (x .entry)) down (now (out .entry))) (now (out .entry)) ⌝ }
+    ensures { λ r. ⌜ r ≡ status (inverseJacobianLeftCall binary64 (now (x .entry)) down (now (out .entry))) ⌝ }
+    ensures { λ _. ⌜ now (out .exit) ≡ written (inverseJacobianLeftCall binary64 (now (x .entry)) down (now (out .entry))) (now (out .entry)) ⌝ }
 {
     let PoseRead::Got(a) = pose_from(x) else {
         return LIST_LENGTH;

@@ -1,6 +1,6 @@
 // The engine for callers in C, Rust and Python: exported functions over numbers and lists of numbers,
-// each returning 0, or the number of a refusal, where `out` stays as it was. 1, 2, 5, 8 and 9 are the
-// engine's; LIST_LENGTH is this boundary's own. include/sim3.h has the order of every number.
+// each returning 0, or the number of a refusal, where `out` stays as it was. LIST_LENGTH is this
+// boundary's own, the others are the engine's. include/sim3.h has the order of every number.
 mod read; // the things in a list's numbers
 mod write; // the numbers of a thing, to a list
 pub mod pose; // exponential, composition, inverse, with the frames

@@ -1,5 +1,6 @@
 // The paired evaluations: the coefficients for both signs of sigma, the Jacobian blocks of both sides.
 ghost use mathlib.Core.Path.{_≡_};
+ghost use lib.Ieee.{binary64};
 ghost use Rattle.sim3_c.specs.Calls.{status, written, scaledPairCall, blockPairCall};
 use crate::LIST_LENGTH;
 use crate::read::MatRead;
@@ -17,8 +18,8 @@ use sides::pair::block_pair;
 // The scaled-form coefficients at sigma and at -sigma; z is the squared angle.
 #[no_mangle]
 pub extern "C" fn sim3_scaled_pair(sigma: f64, z: f64, values: &[f64], out: &mut [f64]) -> u32
-    ensures { λ r. ⌜ r ≡ status (scaledPairCall sigma z (now (values .entry)) (now (out .entry))) ⌝ }
-    ensures { λ _. ⌜ now (out .exit) ≡ written (scaledPairCall sigma z (now (values .entry)) (now (out .entry))) (now (out .entry)) ⌝ }
+    ensures { λ r. ⌜ r ≡ status (scaledPairCall binary64 sigma z (now (values .entry)) (now (out .entry))) ⌝ }
+    ensures { λ _. ⌜ now (out .exit) ≡ written (scaledPairCall binary64 sigma z (now (values .entry)) (now (out .entry))) (now (out .entry)) ⌝ }
 {
     let ValuesRead::Got(v) = values_from(values) else {
         return LIST_LENGTH;
@@ -38,8 +39,13 @@ pub extern "C" fn sim3_block_pair(
     jl_inv: &[f64],
     out: &mut [f64],
 ) -> u32
-    ensures { λ r. ⌜ r ≡ status (blockPairCall (now (tau .entry)) (now (values .entry)) (now (jl .entry)) (now («jl_inv» .entry)) (now (out .entry))) ⌝ }
-    ensures { λ _. ⌜ now (out .exit) ≡ written (blockPairCall (now (tau .entry)) (now (values .entry)) (now (jl .entry)) (now («jl_inv» .entry)) (now (out .entry))) (now (out .entry)) ⌝ }
+    ensures { λ r. ⌜
+        r ≡ status (blockPairCall binary64 (now (tau .entry)) (now (values .entry)) (now (jl .entry)) (now («jl_inv» .entry)) (now (out .entry)))
+        ⌝ }
+    ensures { λ _. ⌜
+        now (out .exit)
+        ≡ written (blockPairCall binary64 (now (tau .entry)) (now (values .entry)) (now (jl .entry)) (now («jl_inv» .entry)) (now (out .entry))) (now (out .entry))
+        ⌝ }
 {
     let TangentRead::Got(t) = tangent_from(tau) else {
         return LIST_LENGTH;

@@ -1,6 +1,7 @@
 // The action of a pose on a list of points, three numbers each. sim3_act_many has the bits of the
 // Rust's act_many; sim3_act_each moves each point as the mark AC does.
 ghost use mathlib.Core.Path.{_≡_};
+ghost use lib.Ieee.{binary64};
 ghost use Rattle.sim3_c.specs.Calls.{status, written, actManyCall, actEachCall};
 use crate::LIST_LENGTH;
 use crate::read::PoseRead;
@@ -12,8 +13,8 @@ use sim3::points::act_many;
 // Every point by the matrix s R; up is e^sigma of X.
 #[no_mangle]
 pub extern "C" fn sim3_act_many(x: &[f64], up: f64, pts: &[f64], out: &mut [f64]) -> u32
-    ensures { λ r. ⌜ r ≡ status (actManyCall (now (x .entry)) up (now (pts .entry)) (now (out .entry))) ⌝ }
-    ensures { λ _. ⌜ now (out .exit) ≡ written (actManyCall (now (x .entry)) up (now (pts .entry)) (now (out .entry))) (now (out .entry)) ⌝ }
+    ensures { λ r. ⌜ r ≡ status (actManyCall binary64 (now (x .entry)) up (now (pts .entry)) (now (out .entry))) ⌝ }
+    ensures { λ _. ⌜ now (out .exit) ≡ written (actManyCall binary64 (now (x .entry)) up (now (pts .entry)) (now (out .entry))) (now (out .entry)) ⌝ }
 {
     let PoseRead::Got(a) = pose_from(x) else {
         return LIST_LENGTH;
@@ -27,8 +28,8 @@ pub extern "C" fn sim3_act_many(x: &[f64], up: f64, pts: &[f64], out: &mut [f64]
 // Every point by itself; up is e^sigma of X.
 #[no_mangle]
 pub extern "C" fn sim3_act_each(x: &[f64], up: f64, pts: &[f64], out: &mut [f64]) -> u32
-    ensures { λ r. ⌜ r ≡ status (actEachCall (now (x .entry)) up (now (pts .entry)) (now (out .entry))) ⌝ }
-    ensures { λ _. ⌜ now (out .exit) ≡ written (actEachCall (now (x .entry)) up (now (pts .entry)) (now (out .entry))) (now (out .entry)) ⌝ }
+    ensures { λ r. ⌜ r ≡ status (actEachCall binary64 (now (x .entry)) up (now (pts .entry)) (now (out .entry))) ⌝ }
+    ensures { λ _. ⌜ now (out .exit) ≡ written (actEachCall binary64 (now (x .entry)) up (now (pts .entry)) (now (out .entry))) (now (out .entry)) ⌝ }
 {
     let PoseRead::Got(a) = pose_from(x) else {
         return LIST_LENGTH;

@@ -1,6 +1,7 @@
 // Poses: quaternion w x y z, t, sigma, and in a list beside these the frames: from, to. A pose that is
 // the result has its numbers and its frames written to two lists; both or none.
 ghost use mathlib.Core.Path.{_≡_};
+ghost use lib.Ieee.{binary64};
 ghost use Rattle.sim3_c.specs.Lists.{poseLists};
 ghost use Rattle.sim3_c.specs.Calls.{status, written, framedWritten, expCall, mulCall, inverseCall, mulInvCall, invMulCall, renormalizeCall};
 use crate::LIST_LENGTH;
@@ -29,12 +30,12 @@ pub extern "C" fn sim3_exp(
     out_frames: &mut [u16],
 ) -> u32
     ensures { λ r. ⌜
-        r ≡ status (expCall (now (tau .entry)) (now (values .entry)) (now (frames .entry))
+        r ≡ status (expCall binary64 (now (tau .entry)) (now (values .entry)) (now (frames .entry))
         (poseLists (now (out .entry)) (now («out_frames» .entry))))
         ⌝ }
     ensures { λ _. ⌜
         poseLists (now (out .exit)) (now («out_frames» .exit))
-        ≡ framedWritten (expCall (now (tau .entry)) (now (values .entry)) (now (frames .entry)))
+        ≡ framedWritten (expCall binary64 (now (tau .entry)) (now (values .entry)) (now (frames .entry)))
         (poseLists (now (out .entry)) (now («out_frames» .entry)))
         ⌝ }
 {
@@ -62,12 +63,12 @@ pub extern "C" fn sim3_mul(
     out_frames: &mut [u16],
 ) -> u32
     ensures { λ r. ⌜
-        r ≡ status (mulCall (poseLists (now (x .entry)) (now («x_frames» .entry))) (poseLists (now (y .entry)) (now («y_frames» .entry))) up
+        r ≡ status (mulCall binary64 (poseLists (now (x .entry)) (now («x_frames» .entry))) (poseLists (now (y .entry)) (now («y_frames» .entry))) up
         (poseLists (now (out .entry)) (now («out_frames» .entry))))
         ⌝ }
     ensures { λ _. ⌜
         poseLists (now (out .exit)) (now («out_frames» .exit))
-        ≡ framedWritten (mulCall (poseLists (now (x .entry)) (now («x_frames» .entry))) (poseLists (now (y .entry)) (now («y_frames» .entry))) up)
+        ≡ framedWritten (mulCall binary64 (poseLists (now (x .entry)) (now («x_frames» .entry))) (poseLists (now (y .entry)) (now («y_frames» .entry))) up)
         (poseLists (now (out .entry)) (now («out_frames» .entry)))
         ⌝ }
 {
@@ -90,12 +91,12 @@ pub extern "C" fn sim3_inverse(
     out_frames: &mut [u16],
 ) -> u32
     ensures { λ r. ⌜
-        r ≡ status (inverseCall (poseLists (now (x .entry)) (now («x_frames» .entry))) down
+        r ≡ status (inverseCall binary64 (poseLists (now (x .entry)) (now («x_frames» .entry))) down
         (poseLists (now (out .entry)) (now («out_frames» .entry))))
         ⌝ }
     ensures { λ _. ⌜
         poseLists (now (out .exit)) (now («out_frames» .exit))
-        ≡ framedWritten (inverseCall (poseLists (now (x .entry)) (now («x_frames» .entry))) down)
+        ≡ framedWritten (inverseCall binary64 (poseLists (now (x .entry)) (now («x_frames» .entry))) down)
         (poseLists (now (out .entry)) (now («out_frames» .entry)))
         ⌝ }
 {
@@ -117,12 +118,12 @@ pub extern "C" fn sim3_mul_inv(
     out_frames: &mut [u16],
 ) -> u32
     ensures { λ r. ⌜
-        r ≡ status (mulInvCall (poseLists (now (x .entry)) (now («x_frames» .entry))) (poseLists (now (y .entry)) (now («y_frames» .entry))) ds
+        r ≡ status (mulInvCall binary64 (poseLists (now (x .entry)) (now («x_frames» .entry))) (poseLists (now (y .entry)) (now («y_frames» .entry))) ds
         (poseLists (now (out .entry)) (now («out_frames» .entry))))
         ⌝ }
     ensures { λ _. ⌜
         poseLists (now (out .exit)) (now («out_frames» .exit))
-        ≡ framedWritten (mulInvCall (poseLists (now (x .entry)) (now («x_frames» .entry))) (poseLists (now (y .entry)) (now («y_frames» .entry))) ds)
+        ≡ framedWritten (mulInvCall binary64 (poseLists (now (x .entry)) (now («x_frames» .entry))) (poseLists (now (y .entry)) (now («y_frames» .entry))) ds)
         (poseLists (now (out .entry)) (now («out_frames» .entry)))
         ⌝ }
 {
@@ -147,12 +148,12 @@ pub extern "C" fn sim3_inv_mul(
     out_frames: &mut [u16],
 ) -> u32
     ensures { λ r. ⌜
-        r ≡ status (invMulCall (poseLists (now (x .entry)) (now («x_frames» .entry))) (poseLists (now (y .entry)) (now («y_frames» .entry))) down
+        r ≡ status (invMulCall binary64 (poseLists (now (x .entry)) (now («x_frames» .entry))) (poseLists (now (y .entry)) (now («y_frames» .entry))) down
         (poseLists (now (out .entry)) (now («out_frames» .entry))))
         ⌝ }
     ensures { λ _. ⌜
         poseLists (now (out .exit)) (now («out_frames» .exit))
-        ≡ framedWritten (invMulCall (poseLists (now (x .entry)) (now («x_frames» .entry))) (poseLists (now (y .entry)) (now («y_frames» .entry))) down)
+        ≡ framedWritten (invMulCall binary64 (poseLists (now (x .entry)) (now («x_frames» .entry))) (poseLists (now (y .entry)) (now («y_frames» .entry))) down)
         (poseLists (now (out .entry)) (now («out_frames» .entry)))
         ⌝ }
 {
@@ -168,8 +169,8 @@ pub extern "C" fn sim3_inv_mul(
 // A Newton step towards a unit quaternion, in place. It reads no frame: X keeps those that it has.
 #[no_mangle]
 pub extern "C" fn sim3_renormalize(x: &mut [f64]) -> u32
-    ensures { λ r. ⌜ r ≡ status (renormalizeCall (now (x .entry))) ⌝ }
-    ensures { λ _. ⌜ now (x .exit) ≡ written (renormalizeCall (now (x .entry))) (now (x .entry)) ⌝ }
+    ensures { λ r. ⌜ r ≡ status (renormalizeCall binary64 (now (x .entry))) ⌝ }
+    ensures { λ _. ⌜ now (x .exit) ≡ written (renormalizeCall binary64 (now (x .entry))) (now (x .entry)) ⌝ }
 {
     let PoseRead::Got(a) = pose_from(x) else {
         return LIST_LENGTH;

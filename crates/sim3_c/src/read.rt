@@ -5,7 +5,7 @@ ghost use Prim.Native.Nat.{_+_, _≤_};
 ghost use lib.ListN.{length};
 ghost use Rattle.layout.specs.Layout.{vecIn, matIn};
 ghost use Rattle.sim3_c.specs.Lists.{numberIn, vecFrom, matFrom, poseFrom, tangentFrom, valuesFrom, blockFrom, poseLists, framesFrom, framedFrom};
-ghost use Rattle.sim3_c.specs.Lists.{vecTold, matTold, poseTold, framesTold, framedTold, tangentTold, valuesTold, blockTold};
+ghost use Rattle.sim3_c.specs.Lists.{vecReadTold, matReadTold, poseReadTold, framesReadTold, framedReadTold, tangentReadTold, valuesReadTold, blockReadTold};
 use crate::FRAMES;
 use coeffs::values::Values;
 use frames::Pose;
@@ -91,7 +91,7 @@ fn mat_in(l: &[f64], at: usize) -> Mat3
 }
 
 pub(crate) fn vec_from(l: &[f64]) -> VecRead
-    ensures { λ r. ⌜ vecTold r ≡ vecFrom (now (l .entry)) ⌝ }
+    ensures { λ r. ⌜ vecReadTold r ≡ vecFrom (now (l .entry)) ⌝ }
 {
     if l.len() != VEC {
         return VecRead::Wrong;
@@ -100,7 +100,7 @@ pub(crate) fn vec_from(l: &[f64]) -> VecRead
 }
 
 pub(crate) fn mat_from(l: &[f64]) -> MatRead
-    ensures { λ r. ⌜ matTold r ≡ matFrom (now (l .entry)) ⌝ }
+    ensures { λ r. ⌜ matReadTold r ≡ matFrom (now (l .entry)) ⌝ }
 {
     if l.len() != MAT {
         return MatRead::Wrong;
@@ -110,7 +110,7 @@ pub(crate) fn mat_from(l: &[f64]) -> MatRead
 
 // Quaternion w x y z, t, sigma.
 pub(crate) fn pose_from(l: &[f64]) -> PoseRead
-    ensures { λ r. ⌜ poseTold r ≡ poseFrom (now (l .entry)) ⌝ }
+    ensures { λ r. ⌜ poseReadTold r ≡ poseFrom (now (l .entry)) ⌝ }
 {
     if l.len() != POSE {
         return PoseRead::Wrong;
@@ -130,7 +130,7 @@ pub(crate) fn pose_from(l: &[f64]) -> PoseRead
 
 // From, to.
 pub(crate) fn frames_from(l: &[u16]) -> FramesRead
-    ensures { λ r. ⌜ framesTold r ≡ framesFrom (now (l .entry)) ⌝ }
+    ensures { λ r. ⌜ framesReadTold r ≡ framesFrom (now (l .entry)) ⌝ }
 {
     if l.len() != FRAMES {
         return FramesRead::Wrong;
@@ -143,7 +143,7 @@ pub(crate) fn frames_from(l: &[u16]) -> FramesRead
 
 // A pose's numbers, and its frames from a list beside them.
 pub(crate) fn framed_from(l: &[f64], k: &[u16]) -> FramedRead
-    ensures { λ r. ⌜ framedTold r ≡ framedFrom (poseLists (now (l .entry)) (now (k .entry))) ⌝ }
+    ensures { λ r. ⌜ framedReadTold r ≡ framedFrom (poseLists (now (l .entry)) (now (k .entry))) ⌝ }
 {
     let PoseRead::Got(x) = pose_from(l) else {
         return FramedRead::Wrong;
@@ -160,7 +160,7 @@ pub(crate) fn framed_from(l: &[f64], k: &[u16]) -> FramedRead
 
 // phi, rho, sigma.
 pub(crate) fn tangent_from(l: &[f64]) -> TangentRead
-    ensures { λ r. ⌜ tangentTold r ≡ tangentFrom (now (l .entry)) ⌝ }
+    ensures { λ r. ⌜ tangentReadTold r ≡ tangentFrom (now (l .entry)) ⌝ }
 {
     if l.len() != TANGENT {
         return TangentRead::Wrong;
@@ -174,7 +174,7 @@ pub(crate) fn tangent_from(l: &[f64]) -> TangentRead
 
 // The ten function values.
 pub(crate) fn values_from(l: &[f64]) -> ValuesRead
-    ensures { λ r. ⌜ valuesTold r ≡ valuesFrom (now (l .entry)) ⌝ }
+    ensures { λ r. ⌜ valuesReadTold r ≡ valuesFrom (now (l .entry)) ⌝ }
 {
     if l.len() != VALUES {
         return ValuesRead::Wrong;
@@ -195,7 +195,7 @@ pub(crate) fn values_from(l: &[f64]) -> ValuesRead
 
 // a, b, c, f, e.
 pub(crate) fn block_from(l: &[f64]) -> BlockRead
-    ensures { λ r. ⌜ blockTold r ≡ blockFrom (now (l .entry)) ⌝ }
+    ensures { λ r. ⌜ blockReadTold r ≡ blockFrom (now (l .entry)) ⌝ }
 {
     if l.len() != BLOCK {
         return BlockRead::Wrong;

@@ -1,6 +1,7 @@
 // The numbers of a thing, written to a list that has just their length: 0, or LIST_LENGTH and nothing
 // written.
 ghost use mathlib.Core.Path.{_≡_};
+ghost use lib.Ieee.{binary64};
 ghost use Prim.Native.Nat.{_+_, _≤_};
 ghost use lib.ListN.{length};
 ghost use lib.Seq.{sets};
@@ -164,15 +165,15 @@ pub(crate) fn put_scaled_pair(out: &mut [f64], p: ScaledPair) -> u32
 // The arm, and 1 or 0 for whether v0 and w0 of the closed arm come from series of their own.
 fn set_arm(out: &mut [f64], at: usize, a: Armed)
     requires { ⌜ at + 2 ≤ length (now out) ⌝ }
-    ensures { λ _. ⌜ now (out .exit) ≡ sets (now (out .entry)) at (armNumbers a) ⌝ }
+    ensures { λ _. ⌜ now (out .exit) ≡ sets (now (out .entry)) at (armNumbers binary64 a) ⌝ }
 {
     out[at] = a.arm as f64;
     out[at + 1] = ieee::pick(a.ends, 1.0, 0.0);
 }
 
 pub(crate) fn put_armed(out: &mut [f64], a: Armed) -> u32
-    ensures { λ r. ⌜ r ≡ status (fitting (now (out .entry)) (armedNumbers a)) ⌝ }
-    ensures { λ _. ⌜ now (out .exit) ≡ written (fitting (now (out .entry)) (armedNumbers a)) (now (out .entry)) ⌝ }
+    ensures { λ r. ⌜ r ≡ status (fitting (now (out .entry)) (armedNumbers binary64 a)) ⌝ }
+    ensures { λ _. ⌜ now (out .exit) ≡ written (fitting (now (out .entry)) (armedNumbers binary64 a)) (now (out .entry)) ⌝ }
 {
     if out.len() != ARMED {
         return LIST_LENGTH;
@@ -184,8 +185,8 @@ pub(crate) fn put_armed(out: &mut [f64], a: Armed) -> u32
 
 // The arms at sigma and at -sigma, then the coefficients of both.
 pub(crate) fn put_armed_pair(out: &mut [f64], p: ArmedPair) -> u32
-    ensures { λ r. ⌜ r ≡ status (fitting (now (out .entry)) (armedPairNumbers p)) ⌝ }
-    ensures { λ _. ⌜ now (out .exit) ≡ written (fitting (now (out .entry)) (armedPairNumbers p)) (now (out .entry)) ⌝ }
+    ensures { λ r. ⌜ r ≡ status (fitting (now (out .entry)) (armedPairNumbers binary64 p)) ⌝ }
+    ensures { λ _. ⌜ now (out .exit) ≡ written (fitting (now (out .entry)) (armedPairNumbers binary64 p)) (now (out .entry)) ⌝ }
 {
     if out.len() != ARMED_PAIR {
         return LIST_LENGTH;

@@ -1,19 +1,19 @@
--- Written by tools/proofs from Proof.template: edit that one. Digest d3c12c44911fa1cb.
+-- Written by tools/proofs from Proof.template: edit that one. Digest fb8c8195fe7cb5e4.
 -- `sim3_c::arms::sim3_armed_pair` meets its contract: the lists are read, the engine is asked, and its answer is written or the refusal handed on. Assumes nothing.
 use borrow.Author.Needs.{needs}
 use mathlib.Core.Path.{refl}
 use Rattle.coeffs.specs.Entries.{armedPairTold}
-use Rattle.sim3_c.specs.Lists.{valuesTold}
+use Rattle.sim3_c.specs.Lists.{valuesReadTold}
 use Rattle.sim3_c.specs.Calls.{status, written, armedPairCall}
 use Rattle.sim3_c.proofs.arms.sim3_armed_pair.Statement.{statement}
 use Rattle.sim3_c.proofs.arms.sim3_armed_pair.Tie as tie
 
 returns : tie.Need-returns
-unfolding status written armedPairCall valuesTold
+unfolding status written armedPairCall valuesReadTold
 returns c = rw (← (c .before .before .values-from .ensures), c .enum-told .given .1) (refl, refl)
 
 returns-2 : tie.Need-returns-2
-unfolding status written armedPairCall armedPairTold valuesTold
+unfolding status written armedPairCall armedPairTold valuesReadTold
 returns-2 c =
     let c1 = c .before .before .before .before .before in
     let c2 = c1 .before .before .before .before .before in
@@ -25,7 +25,7 @@ returns-2 c =
     ) (c .before .before .put-armed-pair .ensures)
 
 returns-3 : tie.Need-returns-3
-unfolding status written armedPairCall armedPairTold valuesTold
+unfolding status written armedPairCall armedPairTold valuesReadTold
 returns-3 c =
     let c1 = c .before .before .before .before .before in
     rw (

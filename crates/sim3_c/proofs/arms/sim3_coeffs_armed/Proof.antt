@@ -1,19 +1,19 @@
--- Written by tools/proofs from Proof.template: edit that one. Digest e46abc1d25083f90.
+-- Written by tools/proofs from Proof.template: edit that one. Digest f6e7c61ad0d2fe7b.
 -- `sim3_c::arms::sim3_coeffs_armed` meets its contract: the lists are read, the engine is asked, and its answer is written or the refusal handed on. Assumes nothing.
 use borrow.Author.Needs.{needs}
 use mathlib.Core.Path.{refl}
 use Rattle.coeffs.specs.Entries.{armedTold}
-use Rattle.sim3_c.specs.Lists.{valuesTold}
+use Rattle.sim3_c.specs.Lists.{valuesReadTold}
 use Rattle.sim3_c.specs.Calls.{status, written, armedCall}
 use Rattle.sim3_c.proofs.arms.sim3_coeffs_armed.Statement.{statement}
 use Rattle.sim3_c.proofs.arms.sim3_coeffs_armed.Tie as tie
 
 returns : tie.Need-returns
-unfolding status written armedCall valuesTold
+unfolding status written armedCall valuesReadTold
 returns c = rw (← (c .before .before .values-from .ensures), c .enum-told .given .1) (refl, refl)
 
 returns-2 : tie.Need-returns-2
-unfolding status written armedCall armedTold valuesTold
+unfolding status written armedCall armedTold valuesReadTold
 returns-2 c =
     let c1 = c .before .before .before .before .before in
     let c2 = c1 .before .before .before .before .before in
@@ -25,7 +25,7 @@ returns-2 c =
     ) (c .before .before .put-armed .ensures)
 
 returns-3 : tie.Need-returns-3
-unfolding status written armedCall armedTold valuesTold
+unfolding status written armedCall armedTold valuesReadTold
 returns-3 c =
     let c1 = c .before .before .before .before .before in
     rw (

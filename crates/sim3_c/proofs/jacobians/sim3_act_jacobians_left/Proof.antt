@@ -1,18 +1,18 @@
--- Written by tools/proofs from Proof.template: edit that one. Digest aa8dbd7f85e46c63.
+-- Written by tools/proofs from Proof.template: edit that one. Digest 7ae63c2564ceae18.
 -- `sim3_c::jacobians::sim3_act_jacobians_left` meets its contract: the lists are read, the engine is asked, and its answer is written or the refusal handed on. Assumes nothing.
 use borrow.Author.Needs.{needs}
 use mathlib.Core.Path.{refl}
-use Rattle.sim3_c.specs.Lists.{vecTold, poseTold}
+use Rattle.sim3_c.specs.Lists.{vecReadTold, poseReadTold}
 use Rattle.sim3_c.specs.Calls.{status, written, actJacobiansLeftCall}
 use Rattle.sim3_c.proofs.jacobians.sim3_act_jacobians_left.Statement.{statement}
 use Rattle.sim3_c.proofs.jacobians.sim3_act_jacobians_left.Tie as tie
 
 returns : tie.Need-returns
-unfolding status written actJacobiansLeftCall poseTold
+unfolding status written actJacobiansLeftCall poseReadTold
 returns c = rw (← (c .before .before .pose-from .ensures), c .enum-told .given .1) (refl, refl)
 
 returns-2 : tie.Need-returns-2
-unfolding status written actJacobiansLeftCall poseTold vecTold
+unfolding status written actJacobiansLeftCall poseReadTold vecReadTold
 returns-2 c =
     let c1 = c .before .before .before .before .before in
     rw (
@@ -23,7 +23,7 @@ returns-2 c =
     ) (refl, refl)
 
 returns-3 : tie.Need-returns-3
-unfolding status written actJacobiansLeftCall poseTold vecTold
+unfolding status written actJacobiansLeftCall poseReadTold vecReadTold
 returns-3 c =
     let c1 = c .before .before .before .before .before in
     let c2 = c1 .before .before .before .before .before in

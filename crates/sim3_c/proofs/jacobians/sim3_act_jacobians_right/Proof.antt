@@ -1,18 +1,18 @@
--- Written by tools/proofs from Proof.template: edit that one. Digest a245ef7b03e44037.
+-- Written by tools/proofs from Proof.template: edit that one. Digest e440c77f538f3caa.
 -- `sim3_c::jacobians::sim3_act_jacobians_right` meets its contract: the lists are read, the engine is asked, and its answer is written or the refusal handed on. Assumes nothing.
 use borrow.Author.Needs.{needs}
 use mathlib.Core.Path.{refl}
-use Rattle.sim3_c.specs.Lists.{vecTold, poseTold}
+use Rattle.sim3_c.specs.Lists.{vecReadTold, poseReadTold}
 use Rattle.sim3_c.specs.Calls.{status, written, actJacobiansRightCall}
 use Rattle.sim3_c.proofs.jacobians.sim3_act_jacobians_right.Statement.{statement}
 use Rattle.sim3_c.proofs.jacobians.sim3_act_jacobians_right.Tie as tie
 
 returns : tie.Need-returns
-unfolding status written actJacobiansRightCall poseTold
+unfolding status written actJacobiansRightCall poseReadTold
 returns c = rw (← (c .before .before .pose-from .ensures), c .enum-told .given .1) (refl, refl)
 
 returns-2 : tie.Need-returns-2
-unfolding status written actJacobiansRightCall poseTold vecTold
+unfolding status written actJacobiansRightCall poseReadTold vecReadTold
 returns-2 c =
     let c1 = c .before .before .before .before .before in
     rw (
@@ -23,7 +23,7 @@ returns-2 c =
     ) (refl, refl)
 
 returns-3 : tie.Need-returns-3
-unfolding status written actJacobiansRightCall poseTold vecTold
+unfolding status written actJacobiansRightCall poseReadTold vecReadTold
 returns-3 c =
     let c1 = c .before .before .before .before .before in
     let c2 = c1 .before .before .before .before .before in

@@ -1,19 +1,19 @@
--- Written by tools/proofs from Proof.template: edit that one. Digest 173af3a259cace0f.
+-- Written by tools/proofs from Proof.template: edit that one. Digest 66be5e51a2864169.
 -- `sim3_c::jacobians::sim3_block_inverse` meets its contract: the lists are read, the engine is asked, and its answer is written or the refusal handed on. Assumes nothing.
 use borrow.Author.Needs.{needs}
 use mathlib.Core.Path.{refl}
 use Rattle.jacobian.specs.Jac.{jacTold}
-use Rattle.sim3_c.specs.Lists.{blockTold}
+use Rattle.sim3_c.specs.Lists.{blockReadTold}
 use Rattle.sim3_c.specs.Calls.{status, written, blockInverseCall}
 use Rattle.sim3_c.proofs.jacobians.sim3_block_inverse.Statement.{statement}
 use Rattle.sim3_c.proofs.jacobians.sim3_block_inverse.Tie as tie
 
 returns : tie.Need-returns
-unfolding status written blockInverseCall blockTold
+unfolding status written blockInverseCall blockReadTold
 returns c = rw (← (c .before .before .block-from .ensures), c .enum-told .given .1) (refl, refl)
 
 returns-2 : tie.Need-returns-2
-unfolding status written blockInverseCall blockTold jacTold
+unfolding status written blockInverseCall blockReadTold jacTold
 returns-2 c =
     let c1 = c .before .before .before .before .before in
     let c2 = c1 .before .before .before .before .before in
@@ -25,7 +25,7 @@ returns-2 c =
     ) (c .before .before .put-block .ensures)
 
 returns-3 : tie.Need-returns-3
-unfolding status written blockInverseCall blockTold jacTold
+unfolding status written blockInverseCall blockReadTold jacTold
 returns-3 c =
     let c1 = c .before .before .before .before .before in
     rw (

@@ -1,18 +1,18 @@
--- Written by tools/proofs from Proof.template: edit that one. Digest 71a89a9b7bc1b542.
+-- Written by tools/proofs from Proof.template: edit that one. Digest 03b9a8a26b27579b.
 -- `sim3_c::jacobians::sim3_compose_jacobians_left` meets its contract: the lists are read, the engine is asked, and its answer is written or the refusal handed on. Assumes nothing.
 use borrow.Author.Needs.{needs}
 use mathlib.Core.Path.{refl}
-use Rattle.sim3_c.specs.Lists.{poseTold}
+use Rattle.sim3_c.specs.Lists.{poseReadTold}
 use Rattle.sim3_c.specs.Calls.{status, written, composeJacobiansLeftCall}
 use Rattle.sim3_c.proofs.jacobians.sim3_compose_jacobians_left.Statement.{statement}
 use Rattle.sim3_c.proofs.jacobians.sim3_compose_jacobians_left.Tie as tie
 
 returns : tie.Need-returns
-unfolding status written composeJacobiansLeftCall poseTold
+unfolding status written composeJacobiansLeftCall poseReadTold
 returns c = rw (← (c .before .before .pose-from .ensures), c .enum-told .given .1) (refl, refl)
 
 returns-2 : tie.Need-returns-2
-unfolding status written composeJacobiansLeftCall poseTold
+unfolding status written composeJacobiansLeftCall poseReadTold
 returns-2 c =
     let c1 = c .before .before .before .before .before in
     rw (

@@ -1,18 +1,18 @@
--- Written by tools/proofs from Proof.template: edit that one. Digest 41d425c8650d7f1f.
+-- Written by tools/proofs from Proof.template: edit that one. Digest 7a780c33339ce6e1.
 -- `sim3_c::jacobians::sim3_inverse_jacobian_right` meets its contract: the lists are read, the engine is asked, and its answer is written or the refusal handed on. Assumes nothing.
 use borrow.Author.Needs.{needs}
 use mathlib.Core.Path.{refl}
-use Rattle.sim3_c.specs.Lists.{poseTold}
+use Rattle.sim3_c.specs.Lists.{poseReadTold}
 use Rattle.sim3_c.specs.Calls.{status, written, inverseJacobianRightCall}
 use Rattle.sim3_c.proofs.jacobians.sim3_inverse_jacobian_right.Statement.{statement}
 use Rattle.sim3_c.proofs.jacobians.sim3_inverse_jacobian_right.Tie as tie
 
 returns : tie.Need-returns
-unfolding status written inverseJacobianRightCall poseTold
+unfolding status written inverseJacobianRightCall poseReadTold
 returns c = rw (← (c .before .before .pose-from .ensures), c .enum-told .given .1) (refl, refl)
 
 returns-2 : tie.Need-returns-2
-unfolding status written inverseJacobianRightCall poseTold
+unfolding status written inverseJacobianRightCall poseReadTold
 returns-2 c =
     let c1 = c .before .before .before .before .before in
     rw (

@@ -1,18 +1,18 @@
--- Written by tools/proofs from Proof.template: edit that one. Digest ab6e950b890818db.
+-- Written by tools/proofs from Proof.template: edit that one. Digest e5bfefff562eddc9.
 -- `sim3_c::pairs::sim3_block_pair` meets its contract: the lists are read, the engine is asked, and its answer is written or the refusal handed on. Assumes nothing.
 use borrow.Author.Needs.{needs}
 use mathlib.Core.Path.{refl}
-use Rattle.sim3_c.specs.Lists.{matTold, tangentTold, valuesTold}
+use Rattle.sim3_c.specs.Lists.{matReadTold, tangentReadTold, valuesReadTold}
 use Rattle.sim3_c.specs.Calls.{status, written, blockPairCall}
 use Rattle.sim3_c.proofs.pairs.sim3_block_pair.Statement.{statement}
 use Rattle.sim3_c.proofs.pairs.sim3_block_pair.Tie as tie
 
 returns : tie.Need-returns
-unfolding status written blockPairCall tangentTold
+unfolding status written blockPairCall tangentReadTold
 returns c = rw (← (c .before .before .tangent-from .ensures), c .enum-told .given .1) (refl, refl)
 
 returns-2 : tie.Need-returns-2
-unfolding status written blockPairCall tangentTold valuesTold
+unfolding status written blockPairCall tangentReadTold valuesReadTold
 returns-2 c =
     let c1 = c .before .before .before .before .before in
     rw (
@@ -23,7 +23,7 @@ returns-2 c =
     ) (refl, refl)
 
 returns-3 : tie.Need-returns-3
-unfolding status written blockPairCall matTold tangentTold valuesTold
+unfolding status written blockPairCall matReadTold tangentReadTold valuesReadTold
 returns-3 c =
     let c1 = c .before .before .before .before .before in
     let c2 = c1 .before .before .before .before .before in
@@ -37,7 +37,7 @@ returns-3 c =
     ) (refl, refl)
 
 returns-4 : tie.Need-returns-4
-unfolding status written blockPairCall matTold tangentTold valuesTold
+unfolding status written blockPairCall matReadTold tangentReadTold valuesReadTold
 returns-4 c =
     let c1 = c .before .before .before .before .before in
     let c2 = c1 .before .before .before .before .before in
@@ -53,7 +53,7 @@ returns-4 c =
     ) (refl, refl)
 
 returns-5 : tie.Need-returns-5
-unfolding status written blockPairCall matTold tangentTold valuesTold
+unfolding status written blockPairCall matReadTold tangentReadTold valuesReadTold
 returns-5 c =
     let c1 = c .before .before .before .before .before in
     let c2 = c1 .before .before .before .before .before in

@@ -1,19 +1,19 @@
--- Written by tools/proofs from Proof.template: edit that one. Digest 5fabcb2dc973e705.
+-- Written by tools/proofs from Proof.template: edit that one. Digest c7352282378e4f09.
 -- `sim3_c::pairs::sim3_scaled_pair` meets its contract: the lists are read, the engine is asked, and its answer is written or the refusal handed on. Assumes nothing.
 use borrow.Author.Needs.{needs}
 use mathlib.Core.Path.{refl}
 use Rattle.coeffs.specs.Entries.{pairTold}
-use Rattle.sim3_c.specs.Lists.{valuesTold}
+use Rattle.sim3_c.specs.Lists.{valuesReadTold}
 use Rattle.sim3_c.specs.Calls.{status, written, scaledPairCall}
 use Rattle.sim3_c.proofs.pairs.sim3_scaled_pair.Statement.{statement}
 use Rattle.sim3_c.proofs.pairs.sim3_scaled_pair.Tie as tie
 
 returns : tie.Need-returns
-unfolding status written scaledPairCall valuesTold
+unfolding status written scaledPairCall valuesReadTold
 returns c = rw (← (c .before .before .values-from .ensures), c .enum-told .given .1) (refl, refl)
 
 returns-2 : tie.Need-returns-2
-unfolding status written scaledPairCall pairTold valuesTold
+unfolding status written scaledPairCall pairTold valuesReadTold
 returns-2 c =
     let c1 = c .before .before .before .before .before in
     let c2 = c1 .before .before .before .before .before in
@@ -25,7 +25,7 @@ returns-2 c =
     ) (c .before .before .put-scaled-pair .ensures)
 
 returns-3 : tie.Need-returns-3
-unfolding status written scaledPairCall pairTold valuesTold
+unfolding status written scaledPairCall pairTold valuesReadTold
 returns-3 c =
     let c1 = c .before .before .before .before .before in
     rw (

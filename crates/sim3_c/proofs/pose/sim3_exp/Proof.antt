@@ -1,18 +1,18 @@
--- Written by tools/proofs from Proof.template: edit that one. Digest e817e05f3860015b.
+-- Written by tools/proofs from Proof.template: edit that one. Digest bfc1e98e6a0419be.
 -- `sim3_c::pose::sim3_exp` meets its contract: the lists are read, the engine is asked, and its answer is written or the refusal handed on. Assumes nothing.
 use borrow.Author.Needs.{needs}
 use mathlib.Core.Path.{refl}
-use Rattle.sim3_c.specs.Lists.{tangentTold, valuesTold, framesTold}
+use Rattle.sim3_c.specs.Lists.{tangentReadTold, valuesReadTold, framesReadTold}
 use Rattle.sim3_c.specs.Calls.{status, written, expCall}
 use Rattle.sim3_c.proofs.pose.sim3_exp.Statement.{statement}
 use Rattle.sim3_c.proofs.pose.sim3_exp.Tie as tie
 
 returns : tie.Need-returns
-unfolding status written expCall tangentTold
+unfolding status written expCall tangentReadTold
 returns c = rw (← (c .before .before .tangent-from .ensures), c .enum-told .given .1) (refl, refl)
 
 returns-2 : tie.Need-returns-2
-unfolding status written expCall tangentTold valuesTold
+unfolding status written expCall tangentReadTold valuesReadTold
 returns-2 c =
     let c1 = c .before .before .before .before .before in
     rw (
@@ -23,7 +23,7 @@ returns-2 c =
     ) (refl, refl)
 
 returns-3 : tie.Need-returns-3
-unfolding status written expCall tangentTold valuesTold framesTold
+unfolding status written expCall tangentReadTold valuesReadTold framesReadTold
 returns-3 c =
     let c1 = c .before .before .before .before .before in
     let c2 = c1 .before .before .before .before .before in
@@ -37,7 +37,7 @@ returns-3 c =
     ) (refl, refl)
 
 returns-4 : tie.Need-returns-4
-unfolding status written expCall tangentTold valuesTold framesTold
+unfolding status written expCall tangentReadTold valuesReadTold framesReadTold
 returns-4 c =
     let c1 = c .before .before .before .before .before in
     let c2 = c1 .before .before .before .before .before in

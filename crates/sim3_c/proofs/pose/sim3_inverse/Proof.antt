@@ -1,18 +1,18 @@
--- Written by tools/proofs from Proof.template: edit that one. Digest a2511fc537a4ecd0.
+-- Written by tools/proofs from Proof.template: edit that one. Digest ca466a0a59b0cc73.
 -- `sim3_c::pose::sim3_inverse` meets its contract: the lists are read, the engine is asked, and its answer is written or the refusal handed on. Assumes nothing.
 use borrow.Author.Needs.{needs}
 use mathlib.Core.Path.{refl}
-use Rattle.sim3_c.specs.Lists.{framedTold}
+use Rattle.sim3_c.specs.Lists.{framedReadTold}
 use Rattle.sim3_c.specs.Calls.{status, written, inverseCall}
 use Rattle.sim3_c.proofs.pose.sim3_inverse.Statement.{statement}
 use Rattle.sim3_c.proofs.pose.sim3_inverse.Tie as tie
 
 returns : tie.Need-returns
-unfolding status written inverseCall framedTold
+unfolding status written inverseCall framedReadTold
 returns c = rw (← (c .before .before .framed-from .ensures), c .enum-told .given .1) (refl, refl)
 
 returns-2 : tie.Need-returns-2
-unfolding status written inverseCall framedTold
+unfolding status written inverseCall framedReadTold
 returns-2 c =
     let c1 = c .before .before .before .before .before in
     let c2 = c1 .before .before .before .before .before in

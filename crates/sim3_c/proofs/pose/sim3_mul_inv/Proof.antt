@@ -1,18 +1,18 @@
--- Written by tools/proofs from Proof.template: edit that one. Digest fcac30b3359e400f.
+-- Written by tools/proofs from Proof.template: edit that one. Digest ae045d42e9242bd3.
 -- `sim3_c::pose::sim3_mul_inv` meets its contract: the lists are read, the engine is asked, and its answer is written or the refusal handed on. Assumes nothing.
 use borrow.Author.Needs.{needs}
 use mathlib.Core.Path.{refl}
-use Rattle.sim3_c.specs.Lists.{framedTold}
+use Rattle.sim3_c.specs.Lists.{framedReadTold}
 use Rattle.sim3_c.specs.Calls.{status, written, mulInvCall}
 use Rattle.sim3_c.proofs.pose.sim3_mul_inv.Statement.{statement}
 use Rattle.sim3_c.proofs.pose.sim3_mul_inv.Tie as tie
 
 returns : tie.Need-returns
-unfolding status written mulInvCall framedTold
+unfolding status written mulInvCall framedReadTold
 returns c = rw (← (c .before .before .framed-from .ensures), c .enum-told .given .1) (refl, refl)
 
 returns-2 : tie.Need-returns-2
-unfolding status written mulInvCall framedTold
+unfolding status written mulInvCall framedReadTold
 returns-2 c =
     let c1 = c .before .before .before .before .before in
     rw (
@@ -23,7 +23,7 @@ returns-2 c =
     ) (refl, refl)
 
 returns-3 : tie.Need-returns-3
-unfolding status written mulInvCall framedTold
+unfolding status written mulInvCall framedReadTold
 returns-3 c =
     let c1 = c .before .before .before .before .before in
     let c2 = c1 .before .before .before .before .before in

@@ -1,18 +1,18 @@
--- Written by tools/proofs from Proof.template: edit that one. Digest 9a75501d9f802361.
+-- Written by tools/proofs from Proof.template: edit that one. Digest 349570920e709639.
 -- `sim3_c::pose::sim3_renormalize` meets its contract: the lists are read, the engine is asked, and its answer is written or the refusal handed on. Assumes nothing.
 use borrow.Author.Needs.{needs}
 use mathlib.Core.Path.{refl}
-use Rattle.sim3_c.specs.Lists.{poseTold}
+use Rattle.sim3_c.specs.Lists.{poseReadTold}
 use Rattle.sim3_c.specs.Calls.{status, written, renormalizeCall}
 use Rattle.sim3_c.proofs.pose.sim3_renormalize.Statement.{statement}
 use Rattle.sim3_c.proofs.pose.sim3_renormalize.Tie as tie
 
 returns : tie.Need-returns
-unfolding status written renormalizeCall poseTold
+unfolding status written renormalizeCall poseReadTold
 returns c = rw (← (c .before .before .pose-from .ensures), c .enum-told .given .1) (refl, refl)
 
 returns-2 : tie.Need-returns-2
-unfolding status written renormalizeCall poseTold
+unfolding status written renormalizeCall poseReadTold
 returns-2 c =
     let c1 = c .before .before .before .before .before in
     rw (

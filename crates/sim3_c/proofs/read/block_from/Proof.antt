@@ -1,19 +1,19 @@
--- Written by tools/proofs from Proof.template: edit that one. Digest c75520f070878109.
+-- Written by tools/proofs from Proof.template: edit that one. Digest a30145cca587c3f3.
 -- `sim3_c::read::block_from` meets its contract: a list of the length that is due is read, and any other is told. Assumes nothing.
 use borrow.Author.Needs.{needs}
 use mathlib.Core.Path.{sym}
 use Rattle.layout.specs.Layout.{blockIn}
-use Rattle.sim3_c.specs.Lists.{blockFrom, blockTold}
+use Rattle.sim3_c.specs.Lists.{blockFrom, blockReadTold}
 use Rattle.sim3_c.proofs.Lists.{sized-right, sized-wrong}
 use Rattle.sim3_c.proofs.read.block_from.Statement.{statement}
 use Rattle.sim3_c.proofs.read.block_from.Tie as tie
 
 returns : tie.Need-returns
-unfolding blockFrom blockTold
+unfolding blockFrom blockReadTold
 returns c = sym (sized-wrong _ _ _ (c .if1 .taken))
 
 returns-2 : tie.Need-returns-2
-unfolding blockIn blockFrom blockTold
+unfolding blockIn blockFrom blockReadTold
 returns-2 c =
     let c1 = c .before .before .before .before .before in
     rw (

@@ -1,23 +1,23 @@
--- Written by tools/proofs from Proof.template: edit that one. Digest 54ab3116c898cfec.
+-- Written by tools/proofs from Proof.template: edit that one. Digest 4699450624760d2e.
 -- `sim3_c::read::framed_from` meets its contract: the numbers and the frames are read, each from its list, or a wrong length is told. Assumes nothing.
 use borrow.Author.Needs.{needs}
 use mathlib.Core.Path.{refl}
-use Rattle.sim3_c.specs.Lists.{poseTold, framesTold, framedFrom, framedTold}
+use Rattle.sim3_c.specs.Lists.{poseReadTold, framesReadTold, framedFrom, framedReadTold}
 use Rattle.sim3_c.proofs.read.framed_from.Statement.{statement}
 use Rattle.sim3_c.proofs.read.framed_from.Tie as tie
 
 returns : tie.Need-returns
-unfolding framedFrom framedTold poseTold
+unfolding framedFrom framedReadTold poseReadTold
 returns c = rw (← (c .before .before .pose-from .ensures), c .enum-told .given .1) refl
 
 returns-2 : tie.Need-returns-2
-unfolding framedFrom framedTold poseTold framesTold
+unfolding framedFrom framedReadTold poseReadTold framesReadTold
 returns-2 c =
     let c1 = c .before .before .before .before .before in
     rw (← (c1 .before .pose-from .ensures), c .before .before .before .before .x .given .1, ← (c .before .before .frames-from .ensures), c .enum-told2 .given .1) refl
 
 returns-3 : tie.Need-returns-3
-unfolding framedFrom framedTold poseTold framesTold
+unfolding framedFrom framedReadTold poseReadTold framesReadTold
 returns-3 c =
     let c1 = c .before .before .before .before .before in
     rw (← (c1 .before .before .pose-from .ensures), c1 .x .given .1, ← (c .before .before .before .frames-from .ensures), c .before .f .given .1) refl

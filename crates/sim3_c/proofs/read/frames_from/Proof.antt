@@ -1,18 +1,18 @@
--- Written by tools/proofs from Proof.template: edit that one. Digest 18f3c68696c8bc37.
+-- Written by tools/proofs from Proof.template: edit that one. Digest 9282c14a105393bd.
 -- `sim3_c::read::frames_from` meets its contract: a list of the length that is due is read, and any other is told. Assumes nothing.
 use borrow.Author.Needs.{needs}
 use mathlib.Core.Path.{sym}
-use Rattle.sim3_c.specs.Lists.{framesFrom, framesTold}
+use Rattle.sim3_c.specs.Lists.{framesFrom, framesReadTold}
 use Rattle.sim3_c.proofs.Lists.{sized-right, sized-wrong}
 use Rattle.sim3_c.proofs.read.frames_from.Statement.{statement}
 use Rattle.sim3_c.proofs.read.frames_from.Tie as tie
 
 returns : tie.Need-returns
-unfolding framesFrom framesTold
+unfolding framesFrom framesReadTold
 returns c = sym (sized-wrong _ _ _ (c .if1 .taken))
 
 returns-2 : tie.Need-returns-2
-unfolding framesFrom framesTold
+unfolding framesFrom framesReadTold
 returns-2 c = sym (sized-right _ _ _ (c .before .before .if1 .left))
 
 pub frames-from-spec : {M : Type 1} → statement M

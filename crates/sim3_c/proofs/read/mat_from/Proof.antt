@@ -1,17 +1,17 @@
 -- `sim3_c::read::mat_from` meets its contract: a list of the length that is due is read, and any other is told. Assumes nothing.
 use borrow.Author.Needs.{needs}
 use mathlib.Core.Path.{sym}
-use Rattle.sim3_c.specs.Lists.{matFrom, matTold}
+use Rattle.sim3_c.specs.Lists.{matFrom, matReadTold}
 use Rattle.sim3_c.proofs.Lists.{sized-right, sized-wrong}
 use Rattle.sim3_c.proofs.read.mat_from.Statement.{statement}
 use Rattle.sim3_c.proofs.read.mat_from.Tie as tie
 
 returns : tie.Need-returns
-unfolding matFrom matTold
+unfolding matFrom matReadTold
 returns c = sym (sized-wrong _ _ _ (c .if1 .taken))
 
 returns-2 : tie.Need-returns-2
-unfolding matFrom matTold
+unfolding matFrom matReadTold
 returns-2 c = rw (c .mat-in .ensures) (sym (sized-right _ _ _ (c .before .if1 .left)))
 
 pub mat-from-spec : {M : Type 1} → statement M

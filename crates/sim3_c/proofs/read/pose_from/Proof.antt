@@ -2,17 +2,17 @@
 use borrow.Author.Needs.{needs}
 use mathlib.Core.Path.{sym}
 use Rattle.layout.specs.Layout.{poseIn, quatIn}
-use Rattle.sim3_c.specs.Lists.{poseFrom, poseTold}
+use Rattle.sim3_c.specs.Lists.{poseFrom, poseReadTold}
 use Rattle.sim3_c.proofs.Lists.{sized-right, sized-wrong}
 use Rattle.sim3_c.proofs.read.pose_from.Statement.{statement}
 use Rattle.sim3_c.proofs.read.pose_from.Tie as tie
 
 returns : tie.Need-returns
-unfolding poseFrom poseTold
+unfolding poseFrom poseReadTold
 returns c = sym (sized-wrong _ _ _ (c .if1 .taken))
 
 returns-2 : tie.Need-returns-2
-unfolding poseIn quatIn poseFrom poseTold
+unfolding poseIn quatIn poseFrom poseReadTold
 returns-2 c = rw (c .before .vec-in .ensures) (sym (sized-right _ _ _ (c .before .before .before .before .before .before .if1 .left)))
 
 pub pose-from-spec : {M : Type 1} → statement M

@@ -2,17 +2,17 @@
 use borrow.Author.Needs.{needs}
 use mathlib.Core.Path.{sym}
 use Rattle.layout.specs.Layout.{tangentIn}
-use Rattle.sim3_c.specs.Lists.{tangentFrom, tangentTold}
+use Rattle.sim3_c.specs.Lists.{tangentFrom, tangentReadTold}
 use Rattle.sim3_c.proofs.Lists.{sized-right, sized-wrong}
 use Rattle.sim3_c.proofs.read.tangent_from.Statement.{statement}
 use Rattle.sim3_c.proofs.read.tangent_from.Tie as tie
 
 returns : tie.Need-returns
-unfolding tangentFrom tangentTold
+unfolding tangentFrom tangentReadTold
 returns c = sym (sized-wrong _ _ _ (c .if1 .taken))
 
 returns-2 : tie.Need-returns-2
-unfolding tangentIn tangentFrom tangentTold
+unfolding tangentIn tangentFrom tangentReadTold
 returns-2 c = rw (c .before .vec-in2 .ensures, c .before .before .vec-in .ensures) (sym (sized-right _ _ _ (c .before .before .before .if1 .left)))
 
 pub tangent-from-spec : {M : Type 1} → statement M

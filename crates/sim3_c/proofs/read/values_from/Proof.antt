@@ -1,19 +1,19 @@
--- Written by tools/proofs from Proof.template: edit that one. Digest e7a285ab8a4dd37c.
+-- Written by tools/proofs from Proof.template: edit that one. Digest 02a20686ea1a066c.
 -- `sim3_c::read::values_from` meets its contract: a list of the length that is due is read, and any other is told. Assumes nothing.
 use borrow.Author.Needs.{needs}
 use mathlib.Core.Path.{sym}
 use Rattle.layout.specs.Layout.{valuesIn}
-use Rattle.sim3_c.specs.Lists.{valuesFrom, valuesTold}
+use Rattle.sim3_c.specs.Lists.{valuesFrom, valuesReadTold}
 use Rattle.sim3_c.proofs.Lists.{sized-right, sized-wrong}
 use Rattle.sim3_c.proofs.read.values_from.Statement.{statement}
 use Rattle.sim3_c.proofs.read.values_from.Tie as tie
 
 returns : tie.Need-returns
-unfolding valuesFrom valuesTold
+unfolding valuesFrom valuesReadTold
 returns c = sym (sized-wrong _ _ _ (c .if1 .taken))
 
 returns-2 : tie.Need-returns-2
-unfolding valuesIn valuesFrom valuesTold
+unfolding valuesIn valuesFrom valuesReadTold
 returns-2 c =
     let c1 = c .before .before .before .before .before in
     let c2 = c1 .before .before .before .before .before in

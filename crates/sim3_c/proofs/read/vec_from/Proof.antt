@@ -1,17 +1,17 @@
 -- `sim3_c::read::vec_from` meets its contract: a list of the length that is due is read, and any other is told. Assumes nothing.
 use borrow.Author.Needs.{needs}
 use mathlib.Core.Path.{sym}
-use Rattle.sim3_c.specs.Lists.{vecFrom, vecTold}
+use Rattle.sim3_c.specs.Lists.{vecFrom, vecReadTold}
 use Rattle.sim3_c.proofs.Lists.{sized-right, sized-wrong}
 use Rattle.sim3_c.proofs.read.vec_from.Statement.{statement}
 use Rattle.sim3_c.proofs.read.vec_from.Tie as tie
 
 returns : tie.Need-returns
-unfolding vecFrom vecTold
+unfolding vecFrom vecReadTold
 returns c = sym (sized-wrong _ _ _ (c .if1 .taken))
 
 returns-2 : tie.Need-returns-2
-unfolding vecFrom vecTold
+unfolding vecFrom vecReadTold
 returns-2 c = rw (c .vec-in .ensures) (sym (sized-right _ _ _ (c .before .if1 .left)))
 
 pub vec-from-spec : {M : Type 1} → statement M

@@ -1,7 +1,8 @@
--- Written by tools/proofs from Proof.template: edit that one. Digest acab458372e44e3c.
+-- Written by tools/proofs from Proof.template: edit that one. Digest b7432a4ba959ca87.
 -- `sim3_c::write::put_armed` meets its contract: an `out` of the length that is due has the numbers written, and any other is left as it was. Assumes nothing.
 use borrow.Author.Needs.{needs}
 use mathlib.Core.Path.{_∙_}
+use lib.Ieee.{binary64}
 use Rattle.sim3_c.specs.Calls.{armedNumbers}
 use Rattle.sim3_c.proofs.Lists.{fits, misfits}
 use Rattle.sim3_c.proofs.Stores.{armed-count, armed-stored}
@@ -11,19 +12,19 @@ use Rattle.sim3_c.proofs.write.put_armed.Tie as tie
 returns : tie.Need-returns
 returns c =
     let a = c .before .before .args in
-    misfits (a .out .now) (armedNumbers (a .a)) 12 (c .if1 .taken) (armed-count (a .a))
+    misfits (a .out .now) (armedNumbers binary64 (a .a)) 12 (c .if1 .taken) (armed-count binary64 (a .a))
 
 returns-2 : tie.Need-returns-2
 returns-2 c =
     let c1 = c .before .before .before .before .before in
     let c2 = c1 .before .before .before .before .before in
     let a = c2 .args in
-    let f = fits (a .out .now) (armedNumbers (a .a)) 12 (c1 .before .before .before .if1 .left) (armed-count (a .a)) in (
+    let f = fits (a .out .now) (armedNumbers binary64 (a .a)) 12 (c1 .before .before .before .if1 .left) (armed-count binary64 (a .a)) in (
       f .0,
       rw (
         c .before .before .set-scaled .ensures,
         c1 .before .set-arm .ensures,
-      ) (armed-stored (a .a) (a .out .now)) ∙ f .1,
+      ) (armed-stored binary64 (a .a) (a .out .now)) ∙ f .1,
     )
 
 pub put-armed-spec : {M : Type 1} → statement M

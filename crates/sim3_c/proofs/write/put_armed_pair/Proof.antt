@@ -1,7 +1,8 @@
--- Written by tools/proofs from Proof.template: edit that one. Digest c2de2cd9da54a0dd.
+-- Written by tools/proofs from Proof.template: edit that one. Digest 335d9bac03092b43.
 -- `sim3_c::write::put_armed_pair` meets its contract: an `out` of the length that is due has the numbers written, and any other is left as it was. Assumes nothing.
 use borrow.Author.Needs.{needs}
 use mathlib.Core.Path.{_∙_}
+use lib.Ieee.{binary64}
 use Rattle.sim3_c.specs.Calls.{armedPairNumbers}
 use Rattle.sim3_c.proofs.Lists.{fits, misfits}
 use Rattle.sim3_c.proofs.Stores.{armed-pair-count, armed-pair-stored}
@@ -11,7 +12,7 @@ use Rattle.sim3_c.proofs.write.put_armed_pair.Tie as tie
 returns : tie.Need-returns
 returns c =
     let a = c .before .before .args in
-    misfits (a .out .now) (armedPairNumbers (a .p)) 24 (c .if1 .taken) (armed-pair-count (a .p))
+    misfits (a .out .now) (armedPairNumbers binary64 (a .p)) 24 (c .if1 .taken) (armed-pair-count binary64 (a .p))
 
 returns-2 : tie.Need-returns-2
 returns-2 c =
@@ -19,14 +20,14 @@ returns-2 c =
     let c2 = c1 .before .before .before .before .before in
     let c3 = c2 .before .before .before .before .before in
     let a = c3 .before .before .before .args in
-    let f = fits (a .out .now) (armedPairNumbers (a .p)) 24 (c3 .before .if1 .left) (armed-pair-count (a .p)) in (
+    let f = fits (a .out .now) (armedPairNumbers binary64 (a .p)) 24 (c3 .before .if1 .left) (armed-pair-count binary64 (a .p)) in (
       f .0,
       rw (
         c .before .before .set-scaled2 .ensures,
         c1 .before .set-scaled .ensures,
         c2 .set-arm2 .ensures,
         c2 .before .before .before .before .set-arm .ensures,
-      ) (armed-pair-stored (a .p) (a .out .now)) ∙ f .1,
+      ) (armed-pair-stored binary64 (a .p) (a .out .now)) ∙ f .1,
     )
 
 pub put-armed-pair-spec : {M : Type 1} → statement M

@@ -1,9 +1,9 @@
--- Written by tools/proofs from Proof.template: edit that one. Digest ee487984c6af560c.
+-- Written by tools/proofs from Proof.template: edit that one. Digest 181219aca80d9e6a.
 -- `sim3_c::write::set_arm` meets its contract: two stores are the run of the arm and its ends. Assumes nothing.
 use borrow.Author.Needs.{needs}
 use native.Mathlib.Omega.{arith}
 use lib.ListN.{length-set}
-use lib.Ieee.{ofBits}
+use lib.Ieee.{ofBits, binary64}
 use Rattle.sim3_c.proofs.Stores.{arm-stored}
 use Rattle.sim3_c.proofs.write.set_arm.Statement.{statement}
 use Rattle.sim3_c.proofs.write.set_arm.Tie as tie
@@ -12,7 +12,7 @@ returns : tie.Need-returns
 unfolding ofBits
 returns c =
     let a = c .before .before .before .args in
-    rw (c .pick .ensures) (arm-stored (a .a) (a .out .now) (a .at))
+    rw (c .pick .ensures) (arm-stored binary64 (a .a) (a .out .now) (a .at))
 
 slice-write-out-2 : tie.Need-slice-write-out-2
 slice-write-out-2 c = simp length-set (omega arith)

@@ -1,0 +1,34 @@
+-- Written by tools/widths from crates/sim3_c/proofs/jacobians/sim3_inverse_jacobian_right/Proof.antt: edit that one. Digest b7fc89e3f6aaaa4c.
+-- `sim3_c_f32::jacobians::sim3_inverse_jacobian_right_f32` meets its contract: the lists are read, the engine is asked, and its answer is written or the refusal handed on. Assumes nothing.
+use borrow.Author.Needs.{needs}
+use mathlib.Core.Path.{refl}
+use Rattle.sim3_c_f32.specs.Told.{poseReadTold}
+use Rattle.sim3_c.specs.Calls.{status, written, inverseJacobianRightCall}
+use Rattle.sim3_c_f32.proofs.jacobians.sim3_inverse_jacobian_right_f32.Statement.{statement}
+use Rattle.sim3_c_f32.proofs.jacobians.sim3_inverse_jacobian_right_f32.Tie as tie
+
+returns : tie.Need-returns
+unfolding status written inverseJacobianRightCall poseReadTold
+returns c = rw (← (c .before .before .pose-from .ensures), c .enum-told .given .1) (refl, refl)
+
+returns-2 : tie.Need-returns-2
+unfolding status written inverseJacobianRightCall poseReadTold
+returns-2 c =
+    let c1 = c .before .before .before .before .before in
+    rw (
+      ← (c1 .before .before .before .pose-from .ensures),
+      c1 .before .a .given .1,
+    ) (rw (c .before .before .before .inverse-jacobian-right .ensures) at (c .before .before .put-block .ensures))
+
+pub sim3-inverse-jacobian-right-f32-spec : {M : Type 1} → statement M
+sim3-inverse-jacobian-right-f32-spec =
+    tie.close
+    (tie.spec
+    (λ c κs. search needs)
+    (λ c. search needs)
+    (λ c. search needs)
+    returns
+    (λ c κs. search needs)
+    (λ c κs. search needs)
+    (λ c. search needs)
+    returns-2)

@@ -1,0 +1,134 @@
+// Written by tools/widths from crates/sim3_c/src/jacobians.rt: edit that one. Digest 87910355829de795.
+// Jacobian blocks, as a, b, c, f, e: the matrix with the rows (a, 0, 0), (b, c, f), (0, 0, e). Right is
+// X Exp(tau), left Exp(tau) X.
+ghost use mathlib.Core.Path.{_≡_};
+ghost use lib.Ieee.{binary32};
+ghost use Rattle.sim3_c.specs.Calls.{status, written, blockInverseCall, adjointCall, actJacobiansRightCall, actJacobiansLeftCall, composeJacobiansRightCall, composeJacobiansLeftCall, inverseJacobianRightCall, inverseJacobianLeftCall};
+use crate::LIST_LENGTH;
+use crate::read::BlockRead;
+use crate::read::PoseRead;
+use crate::read::VecRead;
+use crate::read::block_from;
+use crate::read::pose_from;
+use crate::read::vec_from;
+use crate::write::put_act;
+use crate::write::put_block;
+use crate::write::put_two;
+use jacobian_f32::jac::JacAnswer;
+use sides_f32::side::act_jacobians_left;
+use sides_f32::side::act_jacobians_right;
+use sides_f32::side::adjoint;
+use sides_f32::side::compose_jacobians_left;
+use sides_f32::side::compose_jacobians_right;
+use sides_f32::side::inverse_jacobian_left;
+use sides_f32::side::inverse_jacobian_right;
+
+// The inverse of a block; refusal 2 where e is a zero.
+#[no_mangle]
+pub extern "C" fn sim3_block_inverse_f32(j: &[f32], out: &mut [f32]) -> u32
+    ensures { λ r. ⌜ r ≡ status (blockInverseCall binary32 (now (j .entry)) (now (out .entry))) ⌝ }
+    ensures { λ _. ⌜ now (out .exit) ≡ written (blockInverseCall binary32 (now (j .entry)) (now (out .entry))) (now (out .entry)) ⌝ }
+{
+    let BlockRead::Got(b) = block_from(j) else {
+        return LIST_LENGTH;
+    };
+    match b.inverse() {
+        JacAnswer::Block(i) => put_block(out, i),
+        JacAnswer::Refused(n) => n as u32,
+    }
+}
+
+// Ad_X; up is e^sigma of X.
+#[no_mangle]
+pub extern "C" fn sim3_adjoint_f32(x: &[f32], up: f32, out: &mut [f32]) -> u32
+    ensures { λ r. ⌜ r ≡ status (adjointCall binary32 (now (x .entry)) up (now (out .entry))) ⌝ }
+    ensures { λ _. ⌜ now (out .exit) ≡ written (adjointCall binary32 (now (x .entry)) up (now (out .entry))) (now (out .entry)) ⌝ }
+{
+    let PoseRead::Got(a) = pose_from(x) else {
+        return LIST_LENGTH;
+    };
+    put_block(out, adjoint(a, up))
+}
+
+// Of X p, right: by phi, rho, sigma and by p; up is e^sigma of X.
+#[no_mangle]
+pub extern "C" fn sim3_act_jacobians_right_f32(
+    x: &[f32],
+    up: f32,
+    p: &[f32],
+    out: &mut [f32],
+) -> u32
+    ensures { λ r. ⌜ r ≡ status (actJacobiansRightCall binary32 (now (x .entry)) up (now (p .entry)) (now (out .entry))) ⌝ }
+    ensures { λ _. ⌜ now (out .exit) ≡ written (actJacobiansRightCall binary32 (now (x .entry)) up (now (p .entry)) (now (out .entry))) (now (out .entry)) ⌝ }
+{
+    let PoseRead::Got(a) = pose_from(x) else {
+        return LIST_LENGTH;
+    };
+    let VecRead::Got(b) = vec_from(p) else {
+        return LIST_LENGTH;
+    };
+    put_act(out, act_jacobians_right(a, up, b))
+}
+
+// Of X p, left: by phi, rho, sigma and by p; up is e^sigma of X.
+#[no_mangle]
+pub extern "C" fn sim3_act_jacobians_left_f32(x: &[f32], up: f32, p: &[f32], out: &mut [f32]) -> u32
+    ensures { λ r. ⌜ r ≡ status (actJacobiansLeftCall binary32 (now (x .entry)) up (now (p .entry)) (now (out .entry))) ⌝ }
+    ensures { λ _. ⌜ now (out .exit) ≡ written (actJacobiansLeftCall binary32 (now (x .entry)) up (now (p .entry)) (now (out .entry))) (now (out .entry)) ⌝ }
+{
+    let PoseRead::Got(a) = pose_from(x) else {
+        return LIST_LENGTH;
+    };
+    let VecRead::Got(b) = vec_from(p) else {
+        return LIST_LENGTH;
+    };
+    put_act(out, act_jacobians_left(a, up, b))
+}
+
+// Of X Y, right: by X and by Y, which read Y alone; down is e^-sigma of Y.
+#[no_mangle]
+pub extern "C" fn sim3_compose_jacobians_right_f32(y: &[f32], down: f32, out: &mut [f32]) -> u32
+    ensures { λ r. ⌜ r ≡ status (composeJacobiansRightCall binary32 (now (y .entry)) down (now (out .entry))) ⌝ }
+    ensures { λ _. ⌜ now (out .exit) ≡ written (composeJacobiansRightCall binary32 (now (y .entry)) down (now (out .entry))) (now (out .entry)) ⌝ }
+{
+    let PoseRead::Got(a) = pose_from(y) else {
+        return LIST_LENGTH;
+    };
+    put_two(out, compose_jacobians_right(a, down))
+}
+
+// Of X Y, left: by X and by Y, which read X alone; up is e^sigma of X.
+#[no_mangle]
+pub extern "C" fn sim3_compose_jacobians_left_f32(x: &[f32], up: f32, out: &mut [f32]) -> u32
+    ensures { λ r. ⌜ r ≡ status (composeJacobiansLeftCall binary32 (now (x .entry)) up (now (out .entry))) ⌝ }
+    ensures { λ _. ⌜ now (out .exit) ≡ written (composeJacobiansLeftCall binary32 (now (x .entry)) up (now (out .entry))) (now (out .entry)) ⌝ }
+{
+    let PoseRead::Got(a) = pose_from(x) else {
+        return LIST_LENGTH;
+    };
+    put_two(out, compose_jacobians_left(a, up))
+}
+
+// Of X^-1, right; up is e^sigma of X.
+#[no_mangle]
+pub extern "C" fn sim3_inverse_jacobian_right_f32(x: &[f32], up: f32, out: &mut [f32]) -> u32
+    ensures { λ r. ⌜ r ≡ status (inverseJacobianRightCall binary32 (now (x .entry)) up (now (out .entry))) ⌝ }
+    ensures { λ _. ⌜ now (out .exit) ≡ written (inverseJacobianRightCall binary32 (now (x .entry)) up (now (out .entry))) (now (out .entry)) ⌝ }
+{
+    let PoseRead::Got(a) = pose_from(x) else {
+        return LIST_LENGTH;
+    };
+    put_block(out, inverse_jacobian_right(a, up))
+}
+
+// Of X^-1, left; down is e^-sigma of X.
+#[no_mangle]
+pub extern "C" fn sim3_inverse_jacobian_left_f32(x: &[f32], down: f32, out: &mut [f32]) -> u32
+    ensures { λ r. ⌜ r ≡ status (inverseJacobianLeftCall binary32 (now (x .entry)) down (now (out .entry))) ⌝ }
+    ensures { λ _. ⌜ now (out .exit) ≡ written (inverseJacobianLeftCall binary32 (now (x .entry)) down (now (out .entry))) (now (out .entry)) ⌝ }
+{
+    let PoseRead::Got(a) = pose_from(x) else {
+        return LIST_LENGTH;
+    };
+    put_block(out, inverse_jacobian_left(a, down))
+}

@@ -1,0 +1,42 @@
+// Written by tools/widths from crates/sim3_c/src/points.rt: edit that one. Digest 04d622f21ad846ed.
+// The action of a pose on a list of points, three numbers each. sim3_act_many has the bits of the
+// Rust's act_many; sim3_act_each moves each point as the mark AC does.
+ghost use mathlib.Core.Path.{_≡_};
+ghost use lib.Ieee.{binary32};
+ghost use Rattle.sim3_c.specs.Calls.{status, written, actManyCall, actEachCall};
+use crate::LIST_LENGTH;
+use crate::read::PoseRead;
+use crate::read::pose_from;
+use sim3_f32::points::Listed;
+use sim3_f32::points::act_each;
+use sim3_f32::points::act_many;
+
+// Every point by the matrix s R; up is e^sigma of X.
+#[no_mangle]
+pub extern "C" fn sim3_act_many_f32(x: &[f32], up: f32, pts: &[f32], out: &mut [f32]) -> u32
+    ensures { λ r. ⌜ r ≡ status (actManyCall binary32 (now (x .entry)) up (now (pts .entry)) (now (out .entry))) ⌝ }
+    ensures { λ _. ⌜ now (out .exit) ≡ written (actManyCall binary32 (now (x .entry)) up (now (pts .entry)) (now (out .entry))) (now (out .entry)) ⌝ }
+{
+    let PoseRead::Got(a) = pose_from(x) else {
+        return LIST_LENGTH;
+    };
+    match act_many(a, up, pts, out) {
+        Listed::Written => 0,
+        Listed::Refused(n) => n as u32,
+    }
+}
+
+// Every point by itself; up is e^sigma of X.
+#[no_mangle]
+pub extern "C" fn sim3_act_each_f32(x: &[f32], up: f32, pts: &[f32], out: &mut [f32]) -> u32
+    ensures { λ r. ⌜ r ≡ status (actEachCall binary32 (now (x .entry)) up (now (pts .entry)) (now (out .entry))) ⌝ }
+    ensures { λ _. ⌜ now (out .exit) ≡ written (actEachCall binary32 (now (x .entry)) up (now (pts .entry)) (now (out .entry))) (now (out .entry)) ⌝ }
+{
+    let PoseRead::Got(a) = pose_from(x) else {
+        return LIST_LENGTH;
+    };
+    match act_each(a, up, pts, out) {
+        Listed::Written => 0,
+        Listed::Refused(n) => n as u32,
+    }
+}

@@ -1,0 +1,16 @@
+"""The Rust binding at the other width: the same text, with the C functions of that width."""
+import re
+
+from .words import twin, width
+
+# What stands in bindings/rust for both widths: the C functions, and the safe functions over them.
+FILES = {"bindings/rust/raw.rs": "bindings/rust/raw_f32.rs", "bindings/rust/functions.rs": "bindings/rust/functions_f32.rs"}
+# The C functions that are about doubles alone: their declarations, and the functions over them with the lines of comment on top.
+NAMES = "root|nearest_arm|compare_tangents|sort_tangents"
+ALONE = rf"(?ms)^    fn sim3_(?:{NAMES})\(.*?;\n|^(?://[^\n]*\n)*pub fn (?:{NAMES})\(.*?^\}}\n\n?"
+
+
+def binding(text):
+    text = width(re.sub(ALONE, "", text)).rstrip("\n") + "\n"
+    text = re.sub(r"\bsim3_\w+(?=\()", lambda m: twin(m.group(0)), text)
+    return text.replace('name = "sim3_c"', 'name = "sim3_c_f32"').replace("use crate::raw;", "use crate::raw_f32 as raw;")
