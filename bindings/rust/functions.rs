@@ -165,8 +165,8 @@ pub fn act_many(x: &Pose, up: f64, pts: &[f64], out: &mut [f64]) -> Result<(), R
     listed(raw::act_many(&x.numbers, up, pts, out), pts.len(), out.len())
 }
 
-/// Every point moved by itself: the bits of the job's mark AC. `up` is e^sigma of X. A refusal leaves
-/// `out` as it was.
+/// Every point moved by itself: the bits of the job's mark AC, `ac` at f32. `up` is e^sigma of X. A
+/// refusal leaves `out` as it was.
 pub fn act_each(x: &Pose, up: f64, pts: &[f64], out: &mut [f64]) -> Result<(), Refusal> {
     listed(raw::act_each(&x.numbers, up, pts, out), pts.len(), out.len())
 }

@@ -1,4 +1,4 @@
-// Written by tools/widths from bindings/rust/functions.rs: edit that one. Digest eecd4d38c717c941.
+// Written by tools/widths from bindings/rust/functions.rs: edit that one. Digest 54024043dbd1906e.
 //! The functions over `f32`, each by one C function.
 
 use crate::raw_f32 as raw;
@@ -166,8 +166,8 @@ pub fn act_many(x: &Pose, up: f32, pts: &[f32], out: &mut [f32]) -> Result<(), R
     listed(raw::act_many(&x.numbers, up, pts, out), pts.len(), out.len())
 }
 
-/// Every point moved by itself: the bits of the job's mark AC. `up` is e^sigma of X. A refusal leaves
-/// `out` as it was.
+/// Every point moved by itself: the bits of the job's mark AC, `ac` at f32. `up` is e^sigma of X. A
+/// refusal leaves `out` as it was.
 pub fn act_each(x: &Pose, up: f32, pts: &[f32], out: &mut [f32]) -> Result<(), Refusal> {
     listed(raw::act_each(&x.numbers, up, pts, out), pts.len(), out.len())
 }

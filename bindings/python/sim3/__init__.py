@@ -30,4 +30,5 @@ from .widths import DOUBLE
 __all__ = ["LibraryMissing", "Near", "Pose", "Refusal", "Root", "f32", "host", "nearest_arm", "nearest_root", "root", *raw.FUNCTIONS, *raw.PATTERNS]
 
 # Each function of the table, by the method of its name.
-globals().update((name, getattr(Engine(DOUBLE, host), name)) for name in raw.FUNCTIONS)
+ENGINE = Engine(DOUBLE, host)
+globals().update({name: getattr(ENGINE, name) for name in raw.FUNCTIONS})

@@ -129,7 +129,7 @@ class Engine:
         return self.ask("act_many", x, or_host(up, self.host.up, x), pts)
 
     def act_each(self, x, pts, up=None):
-        """Every point moved by itself: the bits of the job's mark AC."""
+        """Every point moved by itself: the bits of the job's mark AC, ac at f32."""
         x = self.read("act_each", "x", x)
         return self.ask("act_each", x, or_host(up, self.host.up, x), pts)
 

@@ -2,7 +2,7 @@
 
     import sim3
     x = sim3.f32.exp([0, 0, 1.5707964, 0, 0, 0, 0.6931472], from_=3, to=7)
-    line = sim3.f32.act_many(x, array("f", [1, 0, 0, 2, 0, 0]))
+    line = sim3.f32.act_many(x, [1, 0, 0, 2, 0, 0])
 
 All is as in sim3, but that a list is any sequence of numbers, each rounded to the nearest single, or
 array('f') or another buffer of singles; and that answers are array('f'). A NaN handed in is a NaN. The
@@ -15,4 +15,5 @@ from .widths import SINGLE
 __all__ = ["host", *raw.FUNCTIONS]
 
 # Each function of the table, by the method of its name.
-globals().update((name, getattr(Engine(SINGLE, host), name)) for name in raw.FUNCTIONS)
+ENGINE = Engine(SINGLE, host)
+globals().update({name: getattr(ENGINE, name) for name in raw.FUNCTIONS})
