@@ -15,7 +15,8 @@ use Rattle.wire.specs.Wire.{wordOf, wordAt, wordBytes, numberOf, numberAt, numb
 use Rattle.outcome.specs.Outcome.{markBytes, noBytes, replyOf, Found, took, ended, unknown, cut, recordFound}
 use Rattle.frames.specs.Joins.{framedMul}
 use Rattle.replies.specs.Table.{framedIn, acOf, muOf, answerOf, entryReply}
-use Rattle.marks.specs.Marks.{markKnown, markOf, foundAt, foundOf}
+use Rattle.marks.specs.State.{stateNone}
+use Rattle.marks.specs.Marks.{markKnown, markOf, stepOf, foundAt, foundOf}
 use Rattle.job.specs.Counts.{countsMore}
 use Rattle.job.specs.Job.{trailer, jobOn, jobFrom, jobOf, jobLimit}
 
@@ -48,7 +49,7 @@ record-in =
     ++ (zero ++ (one ++ (double 0x00 0x40 ++ (double 0x08 0x40 ++ (zero ++ (frames 0 0 ++ (one ++ (double 0x10 0x40 ++ (double 0x14 0x40 ++ double 0x18 0x40))))))))))))
 
 answered : jobOf jobLimit record-in ≡ 0x41 ∷ 0x43 ∷ (double 0x14 0x40 ++ (double 0x1c 0x40 ++ (double 0x22 0x40 ++ counts 1 1 0 0)))
-unfolding ofBits toBits add sub mul vecScale vecCross vecAdd so3Act poseAct vecIn quatIn poseIn vecNumbers wordOf wordBytes numberOf numberAt numberBytes itemBytes itemsBytes allFinite isFinite numbers countBytes markKnown markOf markBytes replyOf acOf answerOf entryReply countsMore recordFound foundAt foundOf trailer jobOn jobFrom double zero one counts frames record-in
+unfolding ofBits toBits add sub mul vecScale vecCross vecAdd so3Act poseAct vecIn quatIn poseIn vecNumbers wordOf wordBytes numberOf numberAt numberBytes itemBytes itemsBytes allFinite isFinite numbers countBytes markKnown markOf markBytes replyOf acOf answerOf entryReply countsMore recordFound stepOf foundAt foundOf trailer jobOn jobFrom double zero one counts frames record-in
 answered = refl
 
 -- the same with an infinite point: it is answered, and counted last
@@ -62,7 +63,7 @@ unfinite-in =
     ++ (zero ++ (zero ++ (zero ++ (zero ++ (zero ++ (frames 0 0 ++ (one ++ (zero ++ (zero ++ double 0xf0 0x7f))))))))))))
 
 unfinite : jobOf jobLimit unfinite-in ≡ 0x41 ∷ 0x43 ∷ (double 0xf8 0x7f ++ (double 0xf8 0x7f ++ (double 0xf8 0x7f ++ counts 1 0 0 1)))
-unfolding ofBits toBits add sub mul vecScale vecCross vecAdd so3Act poseAct vecIn quatIn poseIn vecNumbers wordOf wordBytes numberOf numberAt numberBytes itemBytes itemsBytes allFinite isFinite numbers countBytes markKnown markOf markBytes replyOf acOf answerOf entryReply countsMore recordFound foundAt foundOf trailer jobOn jobFrom double zero one counts frames unfinite-in
+unfolding ofBits toBits add sub mul vecScale vecCross vecAdd so3Act poseAct vecIn quatIn poseIn vecNumbers wordOf wordBytes numberOf numberAt numberBytes itemBytes itemsBytes allFinite isFinite numbers countBytes markKnown markOf markBytes replyOf acOf answerOf entryReply countsMore recordFound stepOf foundAt foundOf trailer jobOn jobFrom double zero one counts frames unfinite-in
 unfinite = refl
 
 -- nothing at all
@@ -77,12 +78,12 @@ half = refl
 
 -- a record that is cut after its mark
 cut-short : jobOf jobLimit (0x41 ∷ 0x43 ∷ 0 ∷ []) ≡ 0x4e ∷ 0x4f ∷ 7 ∷ counts 1 0 1 0
-unfolding wordBytes countBytes markKnown markOf markBytes noBytes countsMore recordFound foundAt foundOf trailer jobOn jobFrom counts
+unfolding wordBytes countBytes markKnown markOf markBytes noBytes countsMore recordFound stepOf foundAt foundOf trailer jobOn jobFrom counts
 cut-short = refl
 
 -- a mark that is not in the table, with nothing behind it
 unlisted : jobOf jobLimit (0x51 ∷ 0x51 ∷ []) ≡ 0x4e ∷ 0x4f ∷ 6 ∷ counts 1 0 1 0
-unfolding wordBytes countBytes markKnown markOf markBytes noBytes countsMore recordFound foundAt foundOf trailer jobOn jobFrom counts
+unfolding wordBytes countBytes markKnown markOf markBytes noBytes countsMore recordFound stepOf foundAt foundOf trailer jobOn jobFrom counts
 unlisted = refl
 
 -- a product of poses from 3 to 5 and from 3 to 7: whole it is refused, since 3 is not 7; and cut by its last byte it is a cut record
@@ -90,11 +91,11 @@ mu-in : ℕ → List ℕ
 mu-in n = 0x4d ∷ 0x55 ∷ (replicate 64 0 ++ (frames 3 5 ++ (replicate 64 0 ++ (frames 3 7 ++ replicate n 0))))
 
 apart : jobOf jobLimit (mu-in 8) ≡ 0x4e ∷ 0x4f ∷ 9 ∷ counts 1 0 1 0
-unfolding wordOf wordAt wordBytes countBytes markKnown markOf markBytes noBytes replyOf framedIn framedMul muOf answerOf entryReply countsMore recordFound foundAt foundOf trailer jobOn jobFrom counts frames mu-in
+unfolding wordOf wordAt wordBytes countBytes markKnown markOf markBytes noBytes replyOf framedIn framedMul muOf answerOf entryReply countsMore recordFound stepOf foundAt foundOf trailer jobOn jobFrom counts frames mu-in
 apart = refl
 
 apart-cut : jobOf jobLimit (mu-in 7) ≡ 0x4e ∷ 0x4f ∷ 7 ∷ counts 1 0 1 0
-unfolding wordBytes countBytes markKnown markOf markBytes noBytes countsMore recordFound foundAt foundOf trailer jobOn jobFrom counts frames mu-in
+unfolding wordBytes countBytes markKnown markOf markBytes noBytes countsMore recordFound stepOf foundAt foundOf trailer jobOn jobFrom counts frames mu-in
 apart-cut = refl
 
 -- at the limit no mark is looked at
@@ -134,12 +135,12 @@ table =
     ∷ []
 
 found : Row → ℕ → Found
-found r n = foundOf (r .first ∷ r .second ∷ replicate n 0)
+found r n = foundOf stateNone (r .first ∷ r .second ∷ replicate n 0)
 
 right : List Row → Bool
 right [] = true
 right (r ∷ rs) = eqb (taken (found r (r .bytes))) (2 + r .bytes) && (isCut (found r (r .bytes - 1)) && right rs)
 
 lengths : right table ≡ true
-unfolding right table found taken isCut foundOf foundAt recordFound markOf markKnown
+unfolding right table found taken isCut foundOf foundAt stepOf recordFound markOf markKnown
 lengths = refl

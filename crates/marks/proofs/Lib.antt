@@ -1,2 +1,3 @@
--- What stands at the head of the input.
+-- What stands at the head of the input, and the state behind it.
 pub mod Heads
+pub mod State

@@ -2,13 +2,15 @@
 use Prim.Native.Nat.{ℕ, _+_, _*_}
 use mathlib.Core.Bool.{cond}
 use mathlib.Core.List.{List, [], _∷_}
-use lib.Dec.{eqb}
+use lib.ListN.{length, take}
+use lib.Dec.{eqb, ltb}
 use lib.Ieee.{binary64}
 use Rattle.linalg.specs.Answer.{Answer, answers, refuses}
 use Rattle.outcome.specs.declared.Entry.{Entry}
 use Rattle.outcome.specs.declared.Entry.the-variants.{Ex, Co, Pa, Ac, Mu, In, Ji, Ar}
-use Rattle.outcome.specs.Outcome.{unknownMark, Found, ended, unknown, cut}
-use Rattle.replies.specs.Table.{widthOf, entryFound}
+use Rattle.outcome.specs.Outcome.{longest, unknownMark, Reply, Found, ended, unknown, cut, recordFound, Became, roomless, becameOf, writtenOf}
+use Rattle.replies.specs.Table.{widthOf, entryReply}
+use Rattle.marks.specs.State.{State, stateOf, holds}
 use Rattle.marks.specs.declared.Look.{Look}
 use Rattle.marks.specs.declared.Look.the-variants.{Known, Unknown}
 
@@ -37,12 +39,44 @@ lookTold Unknown = refuses unknownMark
 abbrev pub longestRecord : ℕ
 longestRecord = 2 + widthOf binary64 Pa
 
--- ---- what stands at the head of the input s, by its mark
-unfoldable pub foundAt : Answer Entry → List ℕ → Found
-foundAt (answers e) s = entryFound binary64 e s
-foundAt (refuses k) s = unknown
+-- ---- a whole record: the state behind it, and its reply
+pub record Stepped : Type 0 where
+  pub state : State
+  pub reply : Reply
 
-unfoldable pub foundOf : List ℕ → Found
-foundOf [] = ended
-foundOf (a ∷ []) = cut
-foundOf (a ∷ b ∷ rest) = foundAt (markOf a b) (a ∷ b ∷ rest)
+-- how many bytes it has, its mark among them
+abbrev pub sizeOf : Entry → ℕ
+sizeOf e = 2 + widthOf binary64 e
+
+-- an entry of the engine leaves the state as it is
+unfoldable pub stepOf : Entry → State → List ℕ → Stepped
+stepOf e z r = record { state = z; reply = entryReply binary64 e r }
+
+-- ---- what stands at the head of the input s, by its mark, where z is the state; and the state behind it, which is z where no whole record stands there
+unfoldable pub foundAt : Answer Entry → State → List ℕ → Found
+foundAt (answers m) z s = recordFound (sizeOf m) (λ r. stepOf m z r .reply) s
+foundAt (refuses k) z s = unknown
+
+unfoldable pub nextAt : Answer Entry → State → List ℕ → State
+nextAt (answers m) z s = cond (ltb (length s) (sizeOf m)) z (stepOf m z (take (sizeOf m) s) .state)
+nextAt (refuses k) z s = z
+
+unfoldable pub foundOf : State → List ℕ → Found
+foundOf z [] = ended
+foundOf z (a ∷ []) = cut
+foundOf z (a ∷ b ∷ rest) = foundAt (markOf a b) z (a ∷ b ∷ rest)
+
+unfoldable pub nextOf : State → List ℕ → State
+nextOf z [] = z
+nextOf z (a ∷ []) = z
+nextOf z (a ∷ b ∷ rest) = nextAt (markOf a b) z (a ∷ b ∷ rest)
+
+-- ---- what becomes of it, where the bytes m are lent for the state and the output has some room: without room for the state or for the longest answer nothing changes
+unfoldable pub metOf : List ℕ → List ℕ → ℕ → Became
+metOf m s room = cond (holds m) (becameOf (foundOf (stateOf m) s) room) roomless
+
+unfoldable pub metBytes : List ℕ → List ℕ → ℕ → List ℕ
+metBytes m s room = cond (holds m) (writtenOf (foundOf (stateOf m) s) room) []
+
+unfoldable pub metState : List ℕ → List ℕ → ℕ → State
+metState m s room = cond (holds m) (cond (ltb room longest) (stateOf m) (nextOf (stateOf m) s)) (stateOf m)
