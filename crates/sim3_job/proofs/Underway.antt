@@ -62,7 +62,7 @@ module _
       let k₁ : kept₁ ≡ drop (F .used) kept = rw e at k in
       record {
         same =
-            rw (e, w, k₁)
+            rw (w, k₁)
             (append-assoc (take sent sink) (F .bytes) _
             ∙ ap (λ (l : List ℕ). take sent sink ++ l) (sym (stream limit (drop at tape) last alone j kept room s ∙ rw g₁))
             ∙ p .same);
