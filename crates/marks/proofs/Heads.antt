@@ -4,7 +4,7 @@ use mathlib.Core.Path.{_≡_, refl, sym, ap, _∙_}
 use mathlib.Core.Bool.{Bool, true, false, cond}
 use mathlib.Core.List.{List, [], _∷_, _++_}
 use native.Mathlib.Omega.{arith}
-use borrow.Author.Tests.{le-ltb, ltb-false, eq-eqb, ne-eqb}
+use borrow.Author.Tests.{lt-ltb, le-ltb, ltb-false, eq-eqb, ne-eqb}
 use lib.ListN.{length, take, getD, length-append}
 use lib.Seq.{sets, take-append-le}
 use lib.Dec.{ltb}
@@ -14,21 +14,40 @@ use Rattle.outcome.specs.declared.Kind.{Kind}
 use Rattle.outcome.specs.declared.Entry.{Entry}
 use Rattle.outcome.specs.declared.Step.{Step}
 use Rattle.outcome.specs.declared.Step.the-variants as step
-use Rattle.outcome.specs.Outcome.{longest, unknownMark, Reply, Found, took, ended, unknown, cut, recordFound, becameOf, writtenOf, stepTold}
+use Rattle.outcome.specs.Outcome.{longest, unknownMark, markBytes, replyOf, Reply, Found, took, ended, unknown, cut, recordFound, becameOf, writtenOf, stepTold}
 use Rattle.outcome.proofs.Never.{never, untrue}
-use Rattle.outcome.proofs.Record.{settled, record-by, record-whole, record-taken, record-few, record-not-ended, record-more}
-use Rattle.replies.specs.Table.{widthOf, entryReply, entryFound}
+use Rattle.outcome.proofs.Record.{settled, record-by, record-whole, record-taken, record-few, record-not-ended, record-more, mark-length, no-length, reply-cut, reply-roomless}
+use Rattle.frames.specs.declared.Pose.{Pose}
+use Rattle.wire.specs.Wire.{wordBytes, itemBytes, itemsBytes}
+use Rattle.replies.specs.Table.{framedItems, entryFound}
+use Rattle.replies.proofs.Frames.{framed-length}
 use Rattle.replies.proofs.Replies.{width-most, entry-most}
 use Rattle.marks.specs.State.{State, stateOf, memory, holds}
-use Rattle.marks.specs.Marks.{markOf, longestRecord, sizeOf, stepOf, foundAt, nextAt, foundOf, nextOf, metOf, metBytes, metState}
+use Rattle.marks.specs.Chain.{chReply, rnReply, tookOf}
+use Rattle.marks.specs.declared.Mark.{Mark}
+use Rattle.marks.specs.declared.Mark.the-variants.{Of, Ch, Rn}
+use Rattle.marks.specs.Marks.{markOf, longestRecord, sizeOf, stepOf, markFound, markNext, foundAt, nextAt, foundOf, nextOf, metOf, metBytes, metState}
 
 -- ---- no record and no reply is longer than the longest
-size-most : (m : Entry) → sizeOf m ≤ longestRecord
-size-most m = omega (arith, width-most binary64 m)
+size-most : (m : Mark) → sizeOf m ≤ longestRecord
+size-most (Of e) = omega (arith, width-most binary64 e)
+size-most Ch = omega arith
+size-most Rn = omega arith
 
-step-most : (m : Entry) (z : State) (r : List ℕ) → length (stepOf m z r .reply .bytes) ≤ longest
+ch-most : (a : Answer Pose) → length (chReply a .bytes) ≤ longest
+unfolding chReply replyOf
+ch-most (answers x) = rw (length-append (markBytes 0x43 0x48) (itemsBytes binary64 (framedItems x)), mark-length 0x43 0x48, framed-length binary64 x) (omega arith)
+ch-most (refuses k) = rw (no-length k) (omega arith)
+
+rn-most : (n : ℕ) → length (rnReply n .bytes) ≤ longest
+unfolding rnReply replyOf markBytes itemsBytes itemBytes wordBytes
+rn-most n = omega arith
+
+step-most : (m : Mark) (z : State) (r : List ℕ) → length (stepOf m z r .reply .bytes) ≤ longest
 unfolding stepOf
-step-most m z r = entry-most binary64 m r
+step-most (Of e) z r = entry-most binary64 e r
+step-most Ch z r = ch-most _
+step-most Rn z r = rn-most _
 
 -- ---- by the length and the mark
 abbrev pub Meets : State → List ℕ → Found → State → Type 0
@@ -55,21 +74,25 @@ pub found-unknown : (z : State) (s : List ℕ) → 2 ≤ length s → markOf (ge
 unfolding foundAt nextAt
 found-unknown z s h e = let t = found-two z s h in (t .0 ∙ rw e, t .1 ∙ rw e)
 
-same : {A : Type 0} (t : Bool) (z : A) → cond t z z ≡ z
+pub same : {A : Type 0} (t : Bool) (z : A) → cond t z z ≡ z
 same true z = refl
 same false z = refl
 
-pub found-entry : (z : State) (s : List ℕ) (e : Entry) → 2 ≤ length s → markOf (getD s 0 0) (getD s 1 0) ≡ answers e → Meets z s (entryFound binary64 e s) z
-unfolding foundAt nextAt stepOf
-found-entry z s e h q = let t = found-two z s h in (t .0 ∙ rw q, t .1 ∙ rw q (same (ltb (length s) (sizeOf e)) z))
+pub found-mark : (z : State) (s : List ℕ) (m : Mark) → 2 ≤ length s → markOf (getD s 0 0) (getD s 1 0) ≡ answers m → Meets z s (markFound m z s) (markNext m z s)
+unfolding foundAt nextAt
+found-mark z s m h q = let t = found-two z s h in (t .0 ∙ rw q, t .1 ∙ rw q)
+
+pub entry-meets : (z : State) (s : List ℕ) (e : Entry) → (markFound (Of e) z s ≡ entryFound binary64 e s) × (markNext (Of e) z s ≡ z)
+unfolding markFound markNext stepOf
+entry-meets z s e = (refl, same (ltb (length s) (sizeOf (Of e))) z)
 
 -- ---- a record lies within the input, and its answer within the room of the longest
 pub record Taken (s : List ℕ) (k : ℕ) (b : List ℕ) : Type 0 where
   pub whole : k ≤ length s
   pub short : length b ≤ longest
 
-taken-at : (v : Answer Entry) (z : State) (s : List ℕ) (how : Kind) (k : ℕ) (b : List ℕ) → foundAt v z s ≡ took how k b → Taken s k b
-unfolding foundAt
+taken-at : (v : Answer Mark) (z : State) (s : List ℕ) (how : Kind) (k : ℕ) (b : List ℕ) → foundAt v z s ≡ took how k b → Taken s k b
+unfolding foundAt markFound
 taken-at (answers m) z s how k b q =
     let t = record-taken (sizeOf m) (λ r. stepOf m z r .reply) (step-most m z) s how k b q in
     record { whole = t .0; short = t .1 }
@@ -82,8 +105,8 @@ taken z (x ∷ []) how k b q = never (cc)
 taken z (x ∷ y ∷ s) how k b q = taken-at (markOf x y) z (x ∷ y ∷ s) how k b q
 
 -- ---- a cut record is shorter than the longest
-at-few : (v : Answer Entry) (z : State) (s : List ℕ) → foundAt v z s ≡ cut → length s < longestRecord
-unfolding foundAt
+at-few : (v : Answer Mark) (z : State) (s : List ℕ) → foundAt v z s ≡ cut → length s < longestRecord
+unfolding foundAt markFound
 at-few (answers m) z s q = omega (arith, record-few (sizeOf m) (λ r. stepOf m z r .reply) s q, size-most m)
 at-few (refuses n) z s q = never (cc)
 
@@ -94,8 +117,8 @@ cut-few z (x ∷ []) q = omega arith
 cut-few z (x ∷ y ∷ s) q = at-few (markOf x y) z (x ∷ y ∷ s) q
 
 -- ---- behind a mark the input does not end
-at-not-ended : (v : Answer Entry) (z : State) (s : List ℕ) → foundAt v z s ≡ ended → ⊥
-unfolding foundAt
+at-not-ended : (v : Answer Mark) (z : State) (s : List ℕ) → foundAt v z s ≡ ended → ⊥
+unfolding foundAt markFound
 at-not-ended (answers m) z s q = record-not-ended (sizeOf m) (λ r. stepOf m z r .reply) s q
 at-not-ended (refuses n) z s q = never (cc)
 
@@ -106,8 +129,8 @@ ended-none z (x ∷ []) q = never (cc)
 ended-none z (x ∷ y ∷ s) q = absurd (at-not-ended (markOf x y) z (x ∷ y ∷ s) q)
 
 -- ---- a record is what it is, whatever follows it
-at-more : (v : Answer Entry) (z : State) (s ys : List ℕ) (f : Found) → foundAt v z s ≡ f → settled f ≡ true → foundAt v z (s ++ ys) ≡ f
-unfolding foundAt
+at-more : (v : Answer Mark) (z : State) (s ys : List ℕ) (f : Found) → foundAt v z s ≡ f → settled f ≡ true → foundAt v z (s ++ ys) ≡ f
+unfolding foundAt markFound
 at-more (answers m) z s ys f q k = record-more (sizeOf m) (λ r. stepOf m z r .reply) s ys f q k
 at-more (refuses n) z s ys f q k = q
 
@@ -121,8 +144,8 @@ found-more z (x ∷ y ∷ s) ys f q k = at-more (markOf x y) z (x ∷ y ∷ s) y
 took-whole : (n : ℕ) (reply : List ℕ → Reply) (s : List ℕ) (how : Kind) (k : ℕ) (b : List ℕ) → recordFound n reply s ≡ took how k b → n ≤ length s
 took-whole n reply s how k b = record-by n reply s (λ f. f ≡ took how k b → n ≤ length s) (λ h e. never (cc)) (λ h e. h)
 
-next-at-more : (v : Answer Entry) (z : State) (s ys : List ℕ) (how : Kind) (k : ℕ) (b : List ℕ) → foundAt v z s ≡ took how k b → nextAt v z (s ++ ys) ≡ nextAt v z s
-unfolding foundAt nextAt
+next-at-more : (v : Answer Mark) (z : State) (s ys : List ℕ) (how : Kind) (k : ℕ) (b : List ℕ) → foundAt v z s ≡ took how k b → nextAt v z (s ++ ys) ≡ nextAt v z s
+unfolding foundAt nextAt markFound markNext
 next-at-more (answers m) z s ys how k b q =
     let t = took-whole (sizeOf m) (λ r. stepOf m z r .reply) s how k b q in
     let l : sizeOf m ≤ length (s ++ ys) = simp length-append (omega arith) in
@@ -178,8 +201,8 @@ taking ended = false
 taking unknown = false
 taking cut = false
 
-still-at : (v : Answer Entry) (z : State) (s : List ℕ) (f : Found) → foundAt v z s ≡ f → taking f ≡ false → nextAt v z s ≡ z
-unfolding foundAt nextAt
+still-at : (v : Answer Mark) (z : State) (s : List ℕ) (f : Found) → foundAt v z s ≡ f → taking f ≡ false → nextAt v z s ≡ z
+unfolding foundAt nextAt markFound markNext
 still-at (answers m) z s f q k = by (ltb (length s) (sizeOf m)) refl
   where
     by : (t : Bool) → ltb (length s) (sizeOf m) ≡ t → cond (ltb (length s) (sizeOf m)) z (stepOf m z (take (sizeOf m) s) .state) ≡ z
@@ -192,3 +215,35 @@ unfolding foundOf nextOf
 still z [] f q k = refl
 still z (x ∷ []) f q k = refl
 still z (x ∷ y ∷ s) f q k = still-at (markOf x y) z (x ∷ y ∷ s) f q k
+
+-- ---- a record of the mark m: cut, without room for its answer, and answered
+module _ (m : Mark) (z : State) (s out : List ℕ) where
+  pub mark-cut :
+      length s < sizeOf m →
+      (stepTold step.Cut ≡ becameOf (markFound m z s) (length out))
+      × ((out ≡ sets out 0 (writtenOf (markFound m z s) (length out))) × (z ≡ cond (ltb (length out) longest) z (markNext m z s)))
+  unfolding markFound markNext
+  mark-cut h =
+      let t = reply-cut (length out) (sizeOf m) (λ r. stepOf m z r .reply) s h in
+      (t .0, (ap (sets out 0) (t .1), sym (rw (lt-ltb (length s) (sizeOf m) h) (same (ltb (length out) longest) z))))
+
+  pub mark-roomless :
+      sizeOf m ≤ length s → length out < longest →
+      (stepTold step.Room ≡ becameOf (markFound m z s) (length out))
+      × ((out ≡ sets out 0 (writtenOf (markFound m z s) (length out))) × (z ≡ cond (ltb (length out) longest) z (markNext m z s)))
+  unfolding markFound
+  mark-roomless h r =
+      let t = reply-roomless (length out) (sizeOf m) (λ r. stepOf m z r .reply) s h r in
+      (t .0, (ap (sets out 0) (t .1), sym (rw (lt-ltb (length out) longest r) refl)))
+
+  pub mark-whole :
+      sizeOf m ≤ length s → longest ≤ length out → let k = stepOf m z (take (sizeOf m) s) in
+      (becameOf (markFound m z s) (length out) ≡ tookOf (sizeOf m) (k .reply))
+      × (writtenOf (markFound m z s) (length out) ≡ k .reply .bytes)
+      × (cond (ltb (length out) longest) z (markNext m z s) ≡ k .state)
+  unfolding markFound markNext becameOf writtenOf
+  mark-whole h r = (
+    rw (record-whole (sizeOf m) (λ r. stepOf m z r .reply) s h, le-ltb (length out) longest r) refl,
+    rw (record-whole (sizeOf m) (λ r. stepOf m z r .reply) s h, le-ltb (length out) longest r) refl,
+    rw (le-ltb (length out) longest r, le-ltb (length s) (sizeOf m) h) refl,
+  )

@@ -2,37 +2,43 @@
 use Prim.Native.Nat.{ℕ, _+_, _*_}
 use mathlib.Core.Bool.{cond}
 use mathlib.Core.List.{List, [], _∷_}
-use lib.ListN.{length, take}
+use lib.ListN.{length, take, drop}
 use lib.Dec.{eqb, ltb}
 use lib.Ieee.{binary64}
 use Rattle.linalg.specs.Answer.{Answer, answers, refuses}
-use Rattle.outcome.specs.declared.Entry.{Entry}
 use Rattle.outcome.specs.declared.Entry.the-variants.{Ex, Co, Pa, Ac, Mu, In, Ji, Ar}
 use Rattle.outcome.specs.Outcome.{longest, unknownMark, Reply, Found, ended, unknown, cut, recordFound, Became, roomless, becameOf, writtenOf}
 use Rattle.replies.specs.Table.{widthOf, entryReply}
+use Rattle.running.specs.Running.{everyOf}
+use Rattle.wire.specs.Wire.{wordAt}
 use Rattle.marks.specs.State.{State, stateOf, holds}
+use Rattle.marks.specs.Chain.{chSize, rnSize, chOf, chReply, rnReply}
+use Rattle.marks.specs.declared.Mark.{Mark}
+use Rattle.marks.specs.declared.Mark.the-variants.{Of, Ch, Rn}
 use Rattle.marks.specs.declared.Look.{Look}
 use Rattle.marks.specs.declared.Look.the-variants.{Known, Unknown}
 
 -- ---- the two bytes
 -- by the two bytes as one number, the first times 256 and the second
-unfoldable pub markKnown : ℕ → Answer Entry
+unfoldable pub markKnown : ℕ → Answer Mark
 markKnown k =
-    cond (eqb k 0x4558) (answers Ex)
-    (cond (eqb k 0x434f) (answers Co)
-    (cond (eqb k 0x5041) (answers Pa)
-    (cond (eqb k 0x4143) (answers Ac)
-    (cond (eqb k 0x4d55) (answers Mu)
-    (cond (eqb k 0x494e) (answers In)
-    (cond (eqb k 0x4a49) (answers Ji)
-    (cond (eqb k 0x4152) (answers Ar) (refuses unknownMark))))))))
+    cond (eqb k 0x4558) (answers (Of Ex))
+    (cond (eqb k 0x434f) (answers (Of Co))
+    (cond (eqb k 0x5041) (answers (Of Pa))
+    (cond (eqb k 0x4143) (answers (Of Ac))
+    (cond (eqb k 0x4d55) (answers (Of Mu))
+    (cond (eqb k 0x494e) (answers (Of In))
+    (cond (eqb k 0x4a49) (answers (Of Ji))
+    (cond (eqb k 0x4152) (answers (Of Ar))
+    (cond (eqb k 0x4348) (answers Ch)
+    (cond (eqb k 0x524e) (answers Rn) (refuses unknownMark))))))))))
 
-unfoldable pub markOf : ℕ → ℕ → Answer Entry
+unfoldable pub markOf : ℕ → ℕ → Answer Mark
 markOf a b = markKnown (a * 256 + b)
 
 -- what each case of `Look` says
-abbrev pub lookTold : Look → Answer Entry
-lookTold (Known e) = answers e
+abbrev pub lookTold : Look → Answer Mark
+lookTold (Known m) = answers m
 lookTold Unknown = refuses unknownMark
 
 -- the bytes of the longest record: PA's mark and its numbers
@@ -45,20 +51,31 @@ pub record Stepped : Type 0 where
   pub reply : Reply
 
 -- how many bytes it has, its mark among them
-abbrev pub sizeOf : Entry → ℕ
-sizeOf e = 2 + widthOf binary64 e
+abbrev pub sizeOf : Mark → ℕ
+sizeOf (Of e) = 2 + widthOf binary64 e
+sizeOf Ch = chSize
+sizeOf Rn = rnSize
 
 -- an entry of the engine leaves the state as it is
-unfoldable pub stepOf : Entry → State → List ℕ → Stepped
-stepOf e z r = record { state = z; reply = entryReply binary64 e r }
+unfoldable pub stepOf : Mark → State → List ℕ → Stepped
+stepOf (Of e) z r = record { state = z; reply = entryReply binary64 e r }
+stepOf Ch z r = let j = chOf (z .running) (drop 2 r) in record { state = record { running = j .running }; reply = chReply (j .answer) }
+stepOf Rn z r = let n = wordAt 2 (drop 2 r) 0 in record { state = record { running = everyOf (z .running) n }; reply = rnReply n }
 
--- ---- what stands at the head of the input s, by its mark, where z is the state; and the state behind it, which is z where no whole record stands there
-unfoldable pub foundAt : Answer Entry → State → List ℕ → Found
-foundAt (answers m) z s = recordFound (sizeOf m) (λ r. stepOf m z r .reply) s
+-- ---- what stands at the head of the input s, where z is the state; and the state behind it, which is z where no whole record stands there
+unfoldable pub markFound : Mark → State → List ℕ → Found
+markFound m z s = recordFound (sizeOf m) (λ r. stepOf m z r .reply) s
+
+unfoldable pub markNext : Mark → State → List ℕ → State
+markNext m z s = cond (ltb (length s) (sizeOf m)) z (stepOf m z (take (sizeOf m) s) .state)
+
+-- by its mark
+unfoldable pub foundAt : Answer Mark → State → List ℕ → Found
+foundAt (answers m) z s = markFound m z s
 foundAt (refuses k) z s = unknown
 
-unfoldable pub nextAt : Answer Entry → State → List ℕ → State
-nextAt (answers m) z s = cond (ltb (length s) (sizeOf m)) z (stepOf m z (take (sizeOf m) s) .state)
+unfoldable pub nextAt : Answer Mark → State → List ℕ → State
+nextAt (answers m) z s = markNext m z s
 nextAt (refuses k) z s = z
 
 unfoldable pub foundOf : State → List ℕ → Found

@@ -7,6 +7,8 @@ ghost use mathlib.Core.Bool.{cond};
 ghost use Rattle.outcome.specs.Outcome.{stepTold};
 ghost use Rattle.marks.specs.State.{stateNone, stateOf, holds};
 ghost use Rattle.marks.specs.Marks.{markKnown, markOf, lookTold, metOf, metBytes, metState};
+use crate::chain::ch;
+use crate::chain::rn;
 use outcome::Entry;
 use outcome::Step;
 
@@ -14,9 +16,18 @@ use outcome::Step;
 // a pose, and the pose with its frames.
 pub const MEMORY: usize = 2 + 2 + 1 + 8 * 8 + 2 * 2;
 
-// A mark of the table, by the entry that it asks for; or none.
+mod chain; // the running join
+
+// A mark of the table: it asks for an entry of the engine, or for the running join.
+pub enum Mark {
+    Of(Entry),
+    Ch,
+    Rn,
+}
+
+// A mark of the table; or none.
 pub enum Look {
-    Known(Entry),
+    Known(Mark),
     Unknown,
 }
 
@@ -32,14 +43,16 @@ fn known(k: u16) -> Look
     ensures { λ r. ⌜ lookTold r ≡ markKnown k ⌝ }
 {
     match k {
-        0x4558 => Look::Known(Entry::Ex),
-        0x434f => Look::Known(Entry::Co),
-        0x5041 => Look::Known(Entry::Pa),
-        0x4143 => Look::Known(Entry::Ac),
-        0x4d55 => Look::Known(Entry::Mu),
-        0x494e => Look::Known(Entry::In),
-        0x4a49 => Look::Known(Entry::Ji),
-        0x4152 => Look::Known(Entry::Ar),
+        0x4558 => Look::Known(Mark::Of(Entry::Ex)),
+        0x434f => Look::Known(Mark::Of(Entry::Co)),
+        0x5041 => Look::Known(Mark::Of(Entry::Pa)),
+        0x4143 => Look::Known(Mark::Of(Entry::Ac)),
+        0x4d55 => Look::Known(Mark::Of(Entry::Mu)),
+        0x494e => Look::Known(Mark::Of(Entry::In)),
+        0x4a49 => Look::Known(Mark::Of(Entry::Ji)),
+        0x4152 => Look::Known(Mark::Of(Entry::Ar)),
+        0x4348 => Look::Known(Mark::Ch),
+        0x524e => Look::Known(Mark::Rn),
         _ => Look::Unknown,
     }
 }
@@ -81,8 +94,12 @@ pub fn reply(s: &[u8], mem: &mut [u8], out: &mut [u8]) -> Step
     if s.len() == 1 {
         return Step::Cut;
     }
-    let Look::Known(e) = look_up(s[0], s[1]) else {
+    let Look::Known(m) = look_up(s[0], s[1]) else {
         return Step::Unknown;
     };
-    replies::reply(e, s, out)
+    match m {
+        Mark::Of(e) => replies::reply(e, s, out),
+        Mark::Ch => ch(s, mem, out),
+        Mark::Rn => rn(s, mem, out),
+    }
 }

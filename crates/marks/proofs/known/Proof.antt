@@ -1,4 +1,4 @@
--- Written by tools/proofs from Proof.template: edit that one. Digest c2f69c22bf57c247.
+-- Written by tools/proofs from Proof.template: edit that one. Digest 06f5d0f93a2cac91.
 -- `marks::known` meets its contract: by the number, and by its being none of the table's. Assumes nothing.
 use borrow.Author.Tests.{ne-eqb}
 use Rattle.marks.specs.Marks.{markKnown}
@@ -39,7 +39,15 @@ returns-8 c = simp (c .match .keys8)
 
 returns-9 : tie.Need-returns-9
 unfolding markKnown
-returns-9 c =
+returns-9 c = simp (c .match .keys9)
+
+returns-10 : tie.Need-returns-10
+unfolding markKnown
+returns-10 c = simp (c .match .keys10)
+
+returns-11 : tie.Need-returns-11
+unfolding markKnown
+returns-11 c =
     simp (
       ne-eqb _ _ (c .match .rest .1),
       ne-eqb _ _ (c .match .rest .0 .1),
@@ -49,6 +57,8 @@ returns-9 c =
       ne-eqb _ _ (c .match .rest .0 .0 .0 .0 .0 .1),
       ne-eqb _ _ (c .match .rest .0 .0 .0 .0 .0 .0 .1),
       ne-eqb _ _ (c .match .rest .0 .0 .0 .0 .0 .0 .0 .1),
+      ne-eqb _ _ (c .match .rest .0 .0 .0 .0 .0 .0 .0 .0 .1),
+      ne-eqb _ _ (c .match .rest .0 .0 .0 .0 .0 .0 .0 .0 .0 .1),
     )
 
 pub known-spec : {M : Type 1} → statement M
@@ -63,4 +73,6 @@ known-spec =
     returns-6
     returns-7
     returns-8
-    returns-9)
+    returns-9
+    returns-10
+    returns-11)

@@ -1,12 +1,15 @@
--- Written by tools/proofs from Proof.template: edit that one. Digest e02fc3fee77980f1.
+-- Written by tools/proofs from Proof.template: edit that one. Digest 3335405030c00021.
 -- `marks::reply` meets its contract: by the lent bytes, by the length of the input, by its mark, and by the reply of its entry. Assumes nothing.
 use borrow.Author.Needs.{needs}
 use native.Mathlib.Omega.{arith}
 use mathlib.Core.Path.{refl, sym, ap, _∙_}
 use Rattle.outcome.specs.declared.Step.the-variants as step
 use Rattle.outcome.specs.Outcome.{ended, unknown, cut, becameOf, writtenOf}
+use Rattle.marks.specs.State.{stateOf}
 use Rattle.marks.specs.Marks.{lookTold}
-use Rattle.marks.proofs.Heads.{found-none, found-half, found-unknown, found-entry, met-unheld, met-still}
+use Rattle.marks.specs.declared.Mark.the-variants.{Ch, Rn}
+use Rattle.marks.specs.declared.Look.the-variants.{Known}
+use Rattle.marks.proofs.Heads.{found-none, found-half, found-unknown, found-mark, entry-meets, met-unheld, met-held, met-still}
 use Rattle.marks.proofs.reply.Statement.{statement}
 use Rattle.marks.proofs.reply.Tie as tie
 
@@ -41,9 +44,34 @@ returns-5 c =
     let c1 = c .before .before .before .before .before in
     let c2 = c1 .before .before .before .before .before in
     let c3 = c2 .before .before .before .before .before in
-    let a = c3 .before .args in
-    let known = sym (c1 .before .before .look-up .ensures) ∙ ap lookTold (c1 .e .given .1) in
-    met-still (a .mem .now) (a .s .now) (a .out .now) (c2 .before .before .if1 .left) _ (found-entry _ (a .s .now) (c1 .e .given .0 .0) (omega arith) known) (c .before .before .reply .result) _ (c .before .before .reply .ensures .0) (c .before .before .reply .ensures .1)
+    let a = c3 .before .before .before .before .args in
+    let known = sym (c2 .look-up .ensures) ∙ ap lookTold (c1 .before .before .before .m .given .1 ∙ ap Known (c1 .m2 .given .1)) in
+    let z = stateOf (a .mem .now) in
+    let k = entry-meets z (a .s .now) (c1 .m2 .given .0 .0) in
+    let f = found-mark z (a .s .now) _ (omega arith) known in
+    met-still (a .mem .now) (a .s .now) (a .out .now) (c3 .if1 .left) _ (f .0 ∙ k .0, f .1 ∙ k .1) (c .before .before .reply .result) _ (c .before .before .reply .ensures .0) (c .before .before .reply .ensures .1)
+
+returns-6 : tie.Need-returns-6
+returns-6 c =
+    let c1 = c .before .before .before .before .before in
+    let c2 = c1 .before .before .before .before .before in
+    let c3 = c2 .before .before .before .before .before in
+    let c4 = c3 .before .before .before .before .before in
+    let a = c4 .before .args in
+    let known = sym (c2 .before .before .look-up .ensures) ∙ ap lookTold (c2 .m .given .1 ∙ ap Known (c1 .before .before .enum-told2 .given .1)) in
+    let f = found-mark (stateOf (a .mem .now)) (a .s .now) Ch (omega arith) known in
+    met-held (a .mem .now) (a .s .now) (a .out .now) (c3 .before .before .if1 .left) _ _ f (c .before .before .before .before .ch .result) _ _ (c .before .before .before .before .ch .ensures .0) (c .before .before .before .before .ch .ensures .1 .0) (c .before .before .before .before .ch .ensures .1 .1)
+
+returns-7 : tie.Need-returns-7
+returns-7 c =
+    let c1 = c .before .before .before .before .before in
+    let c2 = c1 .before .before .before .before .before in
+    let c3 = c2 .before .before .before .before .before in
+    let c4 = c3 .before .before .before .before .before in
+    let a = c4 .before .args in
+    let known = sym (c2 .before .before .look-up .ensures) ∙ ap lookTold (c2 .m .given .1 ∙ ap Known (c1 .before .before .enum-told3 .given .1)) in
+    let f = found-mark (stateOf (a .mem .now)) (a .s .now) Rn (omega arith) known in
+    met-held (a .mem .now) (a .s .now) (a .out .now) (c3 .before .before .if1 .left) _ _ f (c .before .before .before .before .rn .result) _ _ (c .before .before .before .before .rn .ensures .0) (c .before .before .before .before .rn .ensures .1 .0) (c .before .before .before .before .rn .ensures .1 .1)
 
 pub reply-spec : {M : Type 1} → statement M
 reply-spec =
@@ -58,6 +86,17 @@ reply-spec =
     (λ c. search needs)
     (λ c. search needs)
     returns-4
+    (λ c. search needs)
     (λ c κs. search needs)
     (λ c. search needs)
-    returns-5)
+    (λ c κs. search needs)
+    (λ c. search needs)
+    (λ c κs. search needs)
+    (λ c. search needs)
+    returns-5
+    (λ c. search needs)
+    (λ c. search needs)
+    returns-6
+    (λ c. search needs)
+    (λ c. search needs)
+    returns-7)
