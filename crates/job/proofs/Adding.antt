@@ -37,7 +37,8 @@ ends (suc n) j xs = ends-on n j xs (foundOf (j .state) xs) (ends n)
 
 -- the counts stay those of a job of so many records and n more
 counts-on :
-    (n : ℕ) (j : Standing) (xs : List ℕ) (f : Found) → Sound (j .counts .begun + suc n) (j .counts) → ((j : Standing) (xs : List ℕ) → Sound (j .counts .begun + n) (j .counts) → Sound (j .counts .begun + n) (countsFrom n j xs)) →
+    (n : ℕ) (j : Standing) (xs : List ℕ) (f : Found) → Sound (j .counts .begun + suc n) (j .counts) →
+    ((j : Standing) (xs : List ℕ) → Sound (j .counts .begun + n) (j .counts) → Sound (j .counts .begun + n) (countsFrom n j xs)) →
     Sound (j .counts .begun + suc n) (countsOn f (j .counts) (λ how k. countsFrom n (moved how xs j) (drop k xs)))
 unfolding countsOn
 counts-on n j xs (took how k b) s ih =

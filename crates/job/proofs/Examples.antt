@@ -1,4 +1,5 @@
--- The whole output for one AC record, for a product whose frames do not meet, for a running join, each other way in which a job stops, and how long a record of each mark is, computed from the definition. Assumes nothing.
+-- The whole output for one AC record, for a product whose frames do not meet, for a running join, each other way in which a job stops, and how long a record of each mark
+-- is, computed from the definition. Assumes nothing.
 use Prim.Native.Nat.{ℕ, _+_, _-_}
 use mathlib.Core.Path.{_≡_, refl}
 use mathlib.Core.Bool.{Bool, true, false, _&&_}
@@ -51,7 +52,9 @@ record-in =
     ++ (zero ++ (one ++ (double 0x00 0x40 ++ (double 0x08 0x40 ++ (zero ++ (frames 0 0 ++ (one ++ (double 0x10 0x40 ++ (double 0x14 0x40 ++ double 0x18 0x40))))))))))))
 
 answered : jobOf jobLimit record-in ≡ 0x41 ∷ 0x43 ∷ (double 0x14 0x40 ++ (double 0x1c 0x40 ++ (double 0x22 0x40 ++ counts 1 1 0 0)))
-unfolding ofBits toBits add sub mul vecScale vecCross vecAdd so3Act poseAct vecIn quatIn poseIn vecNumbers wordOf wordBytes numberOf numberAt numberBytes itemBytes itemsBytes allFinite isFinite numbers countBytes markKnown markOf markBytes replyOf acOf answerOf entryReply countsMore recordFound stepOf markFound foundAt foundOf trailer jobOn jobFrom double zero one counts frames record-in
+unfolding ofBits toBits add sub mul vecScale vecCross vecAdd so3Act poseAct vecIn quatIn poseIn vecNumbers wordOf wordBytes numberOf numberAt numberBytes itemBytes itemsBytes
+    allFinite isFinite numbers countBytes markKnown markOf markBytes replyOf acOf answerOf entryReply countsMore recordFound stepOf markFound foundAt foundOf trailer jobOn jobFrom
+    double zero one counts frames record-in
 answered = refl
 
 -- the same with an infinite point: it is answered, and counted last
@@ -65,7 +68,9 @@ unfinite-in =
     ++ (zero ++ (zero ++ (zero ++ (zero ++ (zero ++ (frames 0 0 ++ (one ++ (zero ++ (zero ++ double 0xf0 0x7f))))))))))))
 
 unfinite : jobOf jobLimit unfinite-in ≡ 0x41 ∷ 0x43 ∷ (double 0xf8 0x7f ++ (double 0xf8 0x7f ++ (double 0xf8 0x7f ++ counts 1 0 0 1)))
-unfolding ofBits toBits add sub mul vecScale vecCross vecAdd so3Act poseAct vecIn quatIn poseIn vecNumbers wordOf wordBytes numberOf numberAt numberBytes itemBytes itemsBytes allFinite isFinite numbers countBytes markKnown markOf markBytes replyOf acOf answerOf entryReply countsMore recordFound stepOf markFound foundAt foundOf trailer jobOn jobFrom double zero one counts frames unfinite-in
+unfolding ofBits toBits add sub mul vecScale vecCross vecAdd so3Act poseAct vecIn quatIn poseIn vecNumbers wordOf wordBytes numberOf numberAt numberBytes itemBytes itemsBytes
+    allFinite isFinite numbers countBytes markKnown markOf markBytes replyOf acOf answerOf entryReply countsMore recordFound stepOf markFound foundAt foundOf trailer jobOn jobFrom
+    double zero one counts frames unfinite-in
 unfinite = refl
 
 -- nothing at all
@@ -93,7 +98,8 @@ mu-in : ℕ → List ℕ
 mu-in n = 0x4d ∷ 0x55 ∷ (replicate 64 0 ++ (frames 3 5 ++ (replicate 64 0 ++ (frames 3 7 ++ replicate n 0))))
 
 apart : jobOf jobLimit (mu-in 8) ≡ 0x4e ∷ 0x4f ∷ 9 ∷ counts 1 0 1 0
-unfolding wordOf wordAt wordBytes countBytes markKnown markOf markBytes noBytes replyOf framedIn framedMul muOf answerOf entryReply countsMore recordFound stepOf markFound foundAt foundOf trailer jobOn jobFrom counts frames mu-in
+unfolding wordOf wordAt wordBytes countBytes markKnown markOf markBytes noBytes replyOf framedIn framedMul muOf answerOf entryReply countsMore recordFound stepOf markFound foundAt
+    foundOf trailer jobOn jobFrom counts frames mu-in
 apart = refl
 
 apart-cut : jobOf jobLimit (mu-in 7) ≡ 0x4e ∷ 0x4f ∷ 7 ∷ counts 1 0 1 0
@@ -105,7 +111,9 @@ ch-in : ℕ → ℕ → List ℕ
 ch-in from to = 0x43 ∷ 0x48 ∷ (replicate 64 0 ++ (frames from to ++ replicate 8 0))
 
 joined : jobOf jobLimit (ch-in 3 5 ++ (ch-in 3 7 ++ (0x52 ∷ 0x4e ∷ 2 ∷ 1 ∷ []))) ≡ 0x43 ∷ 0x48 ∷ (replicate 64 0 ++ (frames 3 5 ++ (0x4e ∷ 0x4f ∷ 9 ∷ 0x52 ∷ 0x4e ∷ 2 ∷ 1 ∷ counts 3 2 1 0)))
-unfolding ofBits toBits vecIn quatIn poseIn vecNumbers quatNumbers poseNumbers wordOf wordAt wordBytes numberOf numberAt numberBytes itemBytes itemsBytes allFinite isFinite numbers countBytes markKnown markOf markBytes noBytes replyOf framedIn framedItems framedMul productOn joinOn chOf chReply rnReply countsMore recordFound stepOf markFound markNext foundAt nextAt foundOf nextOf trailer jobOn jobFrom counts frames ch-in
+unfolding ofBits toBits vecIn quatIn poseIn vecNumbers quatNumbers poseNumbers wordOf wordAt wordBytes numberOf numberAt numberBytes itemBytes itemsBytes allFinite isFinite numbers
+    countBytes markKnown markOf markBytes noBytes replyOf framedIn framedItems framedMul productOn joinOn chOf chReply rnReply countsMore recordFound stepOf markFound markNext
+    foundAt nextAt foundOf nextOf trailer jobOn jobFrom counts frames ch-in
 joined = refl
 
 -- at the limit no mark is looked at

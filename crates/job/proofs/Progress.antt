@@ -15,7 +15,8 @@ use Rattle.outcome.proofs.Never.{never}
 use Rattle.job.proofs.Turns.{Stops, at-end, at-pause, at-unknown, at-cut, at-part, records-by, counted-begun}
 use Rattle.job.proofs.Pieces.{feed-good}
 
--- what a call with the counts of a job does: it does not find them bad; it waits only where more may come; where it begins no record it uses nothing; and with room for an answer it stops for want of room only after a record
+-- what a call with the counts of a job does: it does not find them bad; it waits only where more may come; where it begins no record it uses nothing; and with room for
+-- an answer it stops for want of room only after a record
 pub record Progress (last : Bool) (j : Standing) (room : ℕ) (p : Part) : Type 0 where
   pub more : p .reason ≡ More → last ≡ false
   pub grows : j .counts .begun ≤ p .standing .counts .begun

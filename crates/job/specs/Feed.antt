@@ -44,8 +44,8 @@ recordsOf (suc n) j xs last room =
     cond (ltb room longest) (halt Room j)
     (partOn last (foundOf (j .state) xs) j (λ q k bytes. recordsOf n (moved q xs j) (drop k xs) last (room - length bytes)))
 
--- what a reason says: the caller is to call again, with more bytes or more room; the counts handed in are none of a job's, or the bytes lent for the state are not so many; the job has ended; or it has ended by a
--- refusal. The first two are no refusals: nothing is written for them.
+-- what a reason says: the caller is to call again, with more bytes or more room; the counts handed in are none of a job's, or the bytes lent for the state are not so many;
+-- the job has ended; or it has ended by a refusal. The first two are no refusals: nothing is written for them.
 pub data Told : Type 0 where
   again : Told
   unsound : Told

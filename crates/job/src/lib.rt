@@ -4,7 +4,7 @@
 ghost use mathlib.Core.Path.{_≡_};
 ghost use mathlib.Core.Bool.{true, false, cond};
 ghost use mathlib.Core.List.{_++_};
-ghost use Prim.Native.Nat.{_+_, _-_, _≤_};
+ghost use Prim.Native.Nat.{_+_, _≤_};
 ghost use lib.ListN.{length, drop};
 ghost use lib.Seq.{sets};
 ghost use Rattle.wire.specs.Wire.{countBytes};
@@ -12,9 +12,9 @@ ghost use Rattle.outcome.specs.declared.Kind.{Kind};
 ghost use Rattle.outcome.specs.Outcome.{longest, markBytes, noBytes};
 ghost use Rattle.job.specs.Counts.{countsNone, countsMore, countsSound};
 ghost use Rattle.marks.specs.State.{stateNone, stateOf, memory, holds};
-ghost use Rattle.job.specs.Job.{standing, standingNone, trailer, jobOf, jobLimit};
-ghost use Rattle.job.specs.Feed.{Part, recordsOf, closing, ends, feedOf, fedOf, toldPart};
-ghost use Rattle.job.specs.Inner.{Sound, stopOf, trailerLength};
+ghost use Rattle.job.specs.Job.{standingNone, trailer, jobOf, jobLimit};
+ghost use Rattle.job.specs.Feed.{Part, closing, ends, feedOf, fedOf, toldPart};
+ghost use Rattle.job.specs.Inner.{Sound, loopedOf, stopOf, trailerLength};
 use outcome::Kind;
 use outcome::LONGEST;
 use outcome::Step;
@@ -126,9 +126,9 @@ fn stop(reason: Reason, c: Counts, e: Counts, used: usize, written: usize, room:
 fn records(c0: Counts, mem: &mut [u8], input: &[u8], last: bool, out: &mut [u8]) -> Fed
     requires { ⌜ Sound jobLimit c0 ⌝ }
     requires { ⌜ length (now mem) ≡ memory ⌝ }
-    ensures { λ r. ⌜ r ≡ toldPart (recordsOf (jobLimit - c0 .begun) (standing c0 (stateOf (now (mem .entry)))) (now (input .entry)) last (length (now (out .entry)))) ⌝ }
-    ensures { λ _. ⌜ now (out .exit) ≡ sets (now (out .entry)) 0 (recordsOf (jobLimit - c0 .begun) (standing c0 (stateOf (now (mem .entry)))) (now (input .entry)) last (length (now (out .entry))) .bytes) ⌝ }
-    ensures { λ _. ⌜ stateOf (now (mem .exit)) ≡ recordsOf (jobLimit - c0 .begun) (standing c0 (stateOf (now (mem .entry)))) (now (input .entry)) last (length (now (out .entry))) .standing .state ⌝ }
+    ensures { λ r. ⌜ r ≡ toldPart (loopedOf c0 (now (mem .entry)) (now (input .entry)) last (length (now (out .entry)))) ⌝ }
+    ensures { λ _. ⌜ now (out .exit) ≡ sets (now (out .entry)) 0 (loopedOf c0 (now (mem .entry)) (now (input .entry)) last (length (now (out .entry))) .bytes) ⌝ }
+    ensures { λ _. ⌜ stateOf (now (mem .exit)) ≡ loopedOf c0 (now (mem .entry)) (now (input .entry)) last (length (now (out .entry))) .standing .state ⌝ }
 {
     let mut c = c0;
     let mut at = 0;

@@ -55,7 +55,8 @@ module _
 
   pub underway-feed :
       (sink₁ kept₁ : List ℕ) (sent₁ : ℕ) (f : Fed) → f ≡ toldPart (feedOf limit true j kept last room) → goesOn (f .reason) ≡ true →
-      take sent₁ sink₁ ≡ take sent sink ++ feedOf limit true j kept last room .bytes → kept₁ ≡ drop (f .used) kept → Underway limit tape sink₁ (feedOf limit true j kept last room .standing) kept₁ last at sent₁
+      take sent₁ sink₁ ≡ take sent sink ++ feedOf limit true j kept last room .bytes → kept₁ ≡ drop (f .used) kept →
+      Underway limit tape sink₁ (feedOf limit true j kept last room .standing) kept₁ last at sent₁
   underway-feed sink₁ kept₁ sent₁ f e g w k =
       let F = feedOf limit true j kept last room in
       let g₁ : goesOn (F .reason) ≡ true = rw e at g in

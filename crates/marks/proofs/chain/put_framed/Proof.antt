@@ -1,4 +1,4 @@
--- Written by tools/proofs from Proof.template: edit that one. Digest 05c819172dd41be8.
+-- Written by tools/proofs from Proof.template: edit that one. Digest 186e1eb591f35221.
 -- `marks::chain::put_framed` meets its contract: the ten stores are one run. Assumes nothing.
 use borrow.Author.Needs.{needs}
 use native.Mathlib.Omega.{arith}
@@ -59,7 +59,17 @@ put-number-requires-8 c κs =
     let c4 = c3 .before .before .before .before .before in
     let c5 = c4 .before .before .before .before .before in
     let c6 = c5 .before .before .before .before .before in
-    omega (arith, c6 .before .pre, c .before .before .before .put-number7 .kept .0, c1 .before .before .put-number6 .kept .0, c2 .before .put-number5 .kept .0, c3 .put-number4 .kept .0, c3 .before .before .before .before .put-number3 .kept .0, c4 .before .before .before .put-number2 .kept .0, c5 .before .before .put-number .kept .0)
+    omega (
+      arith,
+      c6 .before .pre,
+      c .before .before .before .put-number7 .kept .0,
+      c1 .before .before .put-number6 .kept .0,
+      c2 .before .put-number5 .kept .0,
+      c3 .put-number4 .kept .0,
+      c3 .before .before .before .before .put-number3 .kept .0,
+      c4 .before .before .before .put-number2 .kept .0,
+      c5 .before .before .put-number .kept .0,
+    )
 
 add-put-short : tie.Need-add-put-short
 add-put-short c =
@@ -81,7 +91,18 @@ put-short-requires c κs =
     let c5 = c4 .before .before .before .before .before in
     let c6 = c5 .before .before .before .before .before in
     let c7 = c6 .before .before .before .before .before in
-    omega (arith, c7 .pre, c .before .before .before .put-number8 .kept .0, c1 .before .before .put-number7 .kept .0, c2 .before .put-number6 .kept .0, c3 .put-number5 .kept .0, c3 .before .before .before .before .put-number4 .kept .0, c4 .before .before .before .put-number3 .kept .0, c5 .before .before .put-number2 .kept .0, c6 .before .put-number .kept .0)
+    omega (
+      arith,
+      c7 .pre,
+      c .before .before .before .put-number8 .kept .0,
+      c1 .before .before .put-number7 .kept .0,
+      c2 .before .put-number6 .kept .0,
+      c3 .put-number5 .kept .0,
+      c3 .before .before .before .before .put-number4 .kept .0,
+      c4 .before .before .before .put-number3 .kept .0,
+      c5 .before .before .put-number2 .kept .0,
+      c6 .before .put-number .kept .0,
+    )
 
 add-put-short-2 : tie.Need-add-put-short-2
 add-put-short-2 c =
@@ -103,7 +124,19 @@ put-short-requires-2 c κs =
     let c5 = c4 .before .before .before .before .before in
     let c6 = c5 .before .before .before .before .before in
     let c7 = c6 .before .before .before .before .before in
-    omega (arith, c7 .before .before .before .before .pre, c .before .before .before .put-short .kept .0, c1 .before .before .put-number8 .kept .0, c2 .before .put-number7 .kept .0, c3 .put-number6 .kept .0, c3 .before .before .before .before .put-number5 .kept .0, c4 .before .before .before .put-number4 .kept .0, c5 .before .before .put-number3 .kept .0, c6 .before .put-number2 .kept .0, c7 .put-number .kept .0)
+    omega (
+      arith,
+      c7 .before .before .before .before .pre,
+      c .before .before .before .put-short .kept .0,
+      c1 .before .before .put-number8 .kept .0,
+      c2 .before .put-number7 .kept .0,
+      c3 .put-number6 .kept .0,
+      c3 .before .before .before .before .put-number5 .kept .0,
+      c4 .before .before .before .put-number4 .kept .0,
+      c5 .before .before .put-number3 .kept .0,
+      c6 .before .put-number2 .kept .0,
+      c7 .put-number .kept .0,
+    )
 
 same-length : tie.Need-same-length
 same-length c =
@@ -114,7 +147,8 @@ same-length c =
     let c5 = c4 .before .before .before .before .before in
     let c6 = c5 .before .before .before .before .before in
     let c7 = c6 .before .before .before .before .before in
-    c .before .before .put-short2 .kept .0 ∙ c1 .before .put-short .kept .0 ∙ c2 .put-number8 .kept .0 ∙ c2 .before .before .before .before .put-number7 .kept .0 ∙ c3 .before .before .before .put-number6 .kept .0 ∙ c4 .before .before .put-number5 .kept .0 ∙ c5 .before .put-number4 .kept .0 ∙ c6 .put-number3 .kept .0 ∙ c6 .before .before .before .before .put-number2 .kept .0 ∙ c7 .before .before .before .put-number .kept .0
+    c .before .before .put-short2 .kept .0 ∙ c1 .before .put-short .kept .0 ∙ c2 .put-number8 .kept .0 ∙ c2 .before .before .before .before .put-number7 .kept .0 ∙ c3 .before .before .before .put-number6 .kept .0 ∙ c4 .before .before .put-number5 .kept .0
+    ∙ c5 .before .put-number4 .kept .0 ∙ c6 .put-number3 .kept .0 ∙ c6 .before .before .before .before .put-number2 .kept .0 ∙ c7 .before .before .before .put-number .kept .0
 
 returns : tie.Need-returns
 returns c =
