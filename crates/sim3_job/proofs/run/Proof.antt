@@ -1,4 +1,4 @@
--- Written by tools/proofs from Proof.template: edit that one. Digest 99d5f800bb68e547.
+-- Written by tools/proofs from Proof.template: edit that one. Digest 9819d8a51659ad2e.
 -- `sim3_job::run` meets its contract. From a tape, what the sink holds and what the job still writes are together what it writes for the whole tape; and each
 -- turn brings the end nearer, wherever it reads from.
 use borrow.Author.Needs.{needs}
@@ -36,8 +36,18 @@ loop-holds c =
     let c2 = c1 .before .before .before .before .before in
     let a = c2 .before .before .before .args in
     let z = c .no-counts .ensures in
-    let y : stateOf (c .before .before .before .fresh .last .0) ≡ stateNone = c .before .before .before .fresh .ensures in
-    (omega arith, sym (c1 .before .before .before .before .large-buffer .ensures), sym (c1 .before .before .large-buffer2 .ensures), λ e. omega arith, rw z none-sound, omega arith, omega arith, refl, λ e. rw (z, y) (underway-start jobLimit (a .tape .now) (a .sink .now)), c .before .before .before .fresh .kept .0)
+    let y : stateOf (c .before .before .before .fresh .last .0) ≡ stateNone = c .before .before .before .fresh .ensures in (
+      omega arith,
+      sym (c1 .before .before .before .before .large-buffer .ensures),
+      sym (c1 .before .before .large-buffer2 .ensures),
+      λ e. omega arith,
+      rw z none-sound,
+      omega arith,
+      omega arith,
+      refl,
+      λ e. rw (z, y) (underway-start jobLimit (a .tape .now) (a .sink .now)),
+      c .before .before .before .fresh .kept .0,
+    )
 
 fill-requires : tie.Need-fill-requires Inv-loop μ-loop
 fill-requires c κs = let i = c .before .loop .inv in (i .5, (omega (arith, i .0, i .1), λ e. omega (arith, i .3 e, i .1)))
@@ -56,7 +66,8 @@ turn-requires c κs =
     let c2 = c1 .before .before .before .before .before in
     let c3 = c2 .before .before .before .before .before in
     let c4 = c3 .before .before .before .before .before in
-    let h = within (c .before .before .before .before .n .given .1) (c2 .loop .have) (length (c2 .loop .buf)) (c2 .loop .asked) (length (c4 .before .before .before .before .args .tape .now)) (c1 .before .before .before .fill .ensures .0) in (omega (arith, h .0, c1 .before .before .before .fill .kept .1 .1 .1 .1 .0), (c2 .loop .inv .4, c2 .loop .inv .9))
+    let h = within (c .before .before .before .before .n .given .1) (c2 .loop .have) (length (c2 .loop .buf)) (c2 .loop .asked) (length (c4 .before .before .before .before .args .tape .now)) (c1 .before .before .before .fill .ensures .0) in
+    (omega (arith, h .0, c1 .before .before .before .fill .kept .1 .1 .1 .1 .0), (c2 .loop .inv .4, c2 .loop .inv .9))
 
 slice-reshare-prefix-put : tie.Need-slice-reshare-prefix-put Inv-loop μ-loop
 slice-reshare-prefix-put c =
@@ -101,7 +112,8 @@ loop-less c =
     let told = rw (held (l .mem) (l .inv .9)) at (t .ensures .0) in
     let on : goesOn (t .result .reason) ≡ true = sym (c .before .before .goes-on .ensures) ∙ not-false _ (c .before .if1 .left) in
     subst (λ (b : Bool). toGo (t .result .counts) (l .have + n - t .result .used) b < toGo (l .c) (l .have) (l .asked)) (sym (c .asks-for .ensures))
-    (nearer (standing (l .c) (stateOf (l .mem))) (take (l .have + n) (c5 .before .before .before .fill .last .1 .1 .1 .1 .0)) (l .asked) _ (l .have) n (length (l .out)) (t .result) (l .inv .4) room told on (λ u z. h .2 u ∙ rw z refl) fits)
+    (nearer (standing (l .c) (stateOf (l .mem))) (take (l .have + n) (c5 .before .before .before .fill .last .1 .1 .1 .1 .0)) (l .asked) _ (l .have) n (length (l .out)) (t .result)
+    (l .inv .4) room told on (λ u z. h .2 u ∙ rw z refl) fits)
 
 loop-again : tie.Need-loop-again Inv-loop μ-loop
 loop-again c =
@@ -145,7 +157,9 @@ loop-again c =
           let w : take end sink₁ ≡ take (l .sent) (l .sink) ++ F .bytes = sink-holds (c1 .before .end .given .1) _ (l .sink) sink₁ (l .sent) (p .ensures .1 e) ∙ ap (λ (x : List ℕ). take (l .sent) (l .sink) ++ x) b in
           let state : stateOf (t .last .1 .1 .1 .0) ≡ F .standing .state = rw held₁ at (t .ensures .1 .1 .0) in
           let stands : standing (t .result .counts) (stateOf (t .last .1 .1 .1 .0)) ≡ F .standing = λ i. standing (ap (λ (x : Fed). x .counts) told i) (state i) in
-          rw stands (underway-feed jobLimit (a .tape .now) (l .sink) (standing (l .c) (stateOf (l .mem))) (take (l .have + n) buf₁) ended next (l .sent) r (i .4) (length (l .out)) sink₁ _ end (t .result) told on w (t .ensures .1 .1 .1 .1 .1 .1)),
+          rw stands
+          (underway-feed jobLimit (a .tape .now) (l .sink) (standing (l .c) (stateOf (l .mem))) (take (l .have + n) buf₁) ended next (l .sent) r (i .4) (length (l .out)) sink₁ _ end
+          (t .result) told on w (t .ensures .1 .1 .1 .1 .1 .1)),
       t .kept .1 .1 .1 .0 ∙ i .9,
     )
 
@@ -202,7 +216,8 @@ returns-2 c =
           let r = tape-read (c4 .before .n .given .1) jobLimit (a .tape .now) (l .sink) (standing (l .c) (stateOf (l .mem))) (l .buf) buf₁ (l .last) (l .at) (l .have) (l .sent) (f .ensures .1 .1 e) (i .8 e) in
           let b = handed (F .bytes) (l .out) _ (t .result .written) (ap (λ (x : Fed). x .written) told) wrote in
           let w = sink-short (c .before .before .before .enum-told2 .given .1) _ (l .sink) _ (l .sent) (p .ensures .1 e) in
-          let s = underway-short jobLimit (a .tape .now) (l .sink) (standing (l .c) (stateOf (l .mem))) (take (l .have + n) buf₁) ended next (l .sent) r (i .4) (length (l .out)) (i .6) (omega (arith, w .1, ap length b)) in
+          let s = underway-short jobLimit (a .tape .now) (l .sink) (standing (l .c) (stateOf (l .mem))) (take (l .have + n) buf₁) ended next (l .sent) r (i .4) (length (l .out))
+          (i .6) (omega (arith, w .1, ap length b)) in
           (omega (arith, s .0, i .7), rw (w .0) (s .1)),
     )
 

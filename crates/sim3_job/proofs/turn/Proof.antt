@@ -1,4 +1,4 @@
--- Written by tools/proofs from Proof.template: edit that one. Digest a1cc7c48781b349a.
+-- Written by tools/proofs from Proof.template: edit that one. Digest 99f1beea447dd969.
 -- `sim3_job::turn` meets its contract: it is what `feed` ensures, with the bytes that are left moved to the front.
 use borrow.Author.Needs.{needs}
 use native.Mathlib.Omega.{arith}
@@ -38,7 +38,8 @@ returns c =
     let room = length (a .out .now) in
     let used : f .result .used ≤ a .have = omega (arith, simp length-take at (f .ensures .1 .1 .1 .0)) in
     let few : f .result .reason ≡ More → a .have - f .result .used < recordRoom = λ e.
-    let z : length xs - fedOf (a .c) (a .mem .now) xs (a .last) room .used < recordRoom = feed-few jobLimit (holds (a .mem .now)) (standing (a .c) (stateOf (a .mem .now))) _ (a .last) room (rw (f .ensures .0) at e) in
+    let z : length xs - fedOf (a .c) (a .mem .now) xs (a .last) room .used < recordRoom =
+    feed-few jobLimit (holds (a .mem .now)) (standing (a .c) (stateOf (a .mem .now))) _ (a .last) room (rw (f .ensures .0) at e) in
     let u : f .result .used ≡ fedOf (a .c) (a .mem .now) xs (a .last) room .used = ap (λ (x : Fed). x .used) (f .ensures .0) in
     let n : length xs ≡ a .have = length-take-le _ _ (c3 .pre .0) in
     omega (arith, z, u, n) in
