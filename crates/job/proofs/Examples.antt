@@ -1,4 +1,5 @@
--- The whole output for one AC record at either width, for a product whose frames do not meet, each other way in which a job stops, and how long a record of each mark is, computed from the definition. Assumes nothing.
+-- The whole output for one AC record at either width, for a product whose frames do not meet, for a running join, each other way in which a job stops, and how long a record of each mark
+-- is, computed from the definition. Assumes nothing.
 use Prim.Native.Nat.{ℕ, _+_, _-_}
 use mathlib.Core.Path.{_≡_, refl}
 use mathlib.Core.Bool.{Bool, true, false, _&&_}
@@ -10,12 +11,15 @@ use Rattle.ieee.specs.Finite.{isFinite}
 use Rattle.linalg.specs.Vector.{vecScale, vecCross, vecAdd, vecNumbers}
 use Rattle.so3.specs.So3.{so3Act}
 use Rattle.sim3.specs.Pose.{poseAct}
-use Rattle.layout.specs.Layout.{vecIn, quatIn, poseIn}
+use Rattle.layout.specs.Layout.{vecIn, quatIn, poseIn, quatNumbers, poseNumbers}
+use Rattle.running.specs.Running.{productOn, joinOn}
+use Rattle.marks.specs.Chain.{chOf, chReply, rnReply}
 use Rattle.wire.specs.Wire.{wordOf, wordAt, wordBytes, numberOf, numberAt, numberBytes, itemBytes, itemsBytes, allFinite, numbers, countBytes}
 use Rattle.outcome.specs.Outcome.{markBytes, noBytes, replyOf, Found, took, ended, unknown, cut, recordFound}
 use Rattle.frames.specs.Joins.{framedMul}
-use Rattle.replies.specs.Table.{framedIn, acOf, muOf, answerOf, entryReply}
-use Rattle.marks.specs.Marks.{markKnown, markOf, foundAt, foundOf}
+use Rattle.replies.specs.Table.{framedIn, framedItems, acOf, muOf, answerOf, entryReply}
+use Rattle.marks.specs.State.{stateNone}
+use Rattle.marks.specs.Marks.{markKnown, markOf, stepOf, markFound, markNext, foundAt, nextAt, foundOf, nextOf}
 use Rattle.job.specs.Counts.{countsMore}
 use Rattle.job.specs.Job.{trailer, jobOn, jobFrom, jobOf, jobLimit}
 
@@ -48,7 +52,9 @@ record-in =
     ++ (zero ++ (one ++ (double 0x00 0x40 ++ (double 0x08 0x40 ++ (zero ++ (frames 0 0 ++ (one ++ (double 0x10 0x40 ++ (double 0x14 0x40 ++ double 0x18 0x40))))))))))))
 
 answered : jobOf jobLimit record-in ≡ 0x41 ∷ 0x43 ∷ (double 0x14 0x40 ++ (double 0x1c 0x40 ++ (double 0x22 0x40 ++ counts 1 1 0 0)))
-unfolding ofBits toBits add sub mul vecScale vecCross vecAdd so3Act poseAct vecIn quatIn poseIn vecNumbers wordOf wordBytes numberOf numberAt numberBytes itemBytes itemsBytes allFinite isFinite numbers countBytes markKnown markOf markBytes replyOf acOf answerOf entryReply countsMore recordFound foundAt foundOf trailer jobOn jobFrom double zero one counts frames record-in
+unfolding ofBits toBits add sub mul vecScale vecCross vecAdd so3Act poseAct vecIn quatIn poseIn vecNumbers wordOf wordBytes numberOf numberAt numberBytes itemBytes itemsBytes
+    allFinite isFinite numbers countBytes markKnown markOf markBytes replyOf acOf answerOf entryReply countsMore recordFound stepOf markFound foundAt foundOf trailer jobOn jobFrom
+    double zero one counts frames record-in
 answered = refl
 
 -- the same record on singles, each by its two greatest bytes
@@ -71,7 +77,9 @@ small-in =
     ++ (nought ++ (unit ++ (single 0x00 0x40 ++ (single 0x40 0x40 ++ (nought ++ (frames 0 0 ++ (unit ++ (single 0x80 0x40 ++ (single 0xa0 0x40 ++ single 0xc0 0x40))))))))))))
 
 small : jobOf jobLimit small-in ≡ 0x61 ∷ 0x63 ∷ (single 0xa0 0x40 ++ (single 0xe0 0x40 ++ (single 0x10 0x41 ++ counts 1 1 0 0)))
-unfolding ofBits toBits add sub mul vecScale vecCross vecAdd so3Act poseAct vecIn quatIn poseIn vecNumbers wordOf wordBytes numberOf numberAt numberBytes itemBytes itemsBytes allFinite isFinite numbers countBytes markKnown markOf markBytes replyOf acOf answerOf entryReply countsMore recordFound foundAt foundOf trailer jobOn jobFrom single nought unit counts frames small-in
+unfolding ofBits toBits add sub mul vecScale vecCross vecAdd so3Act poseAct vecIn quatIn poseIn vecNumbers wordOf wordBytes numberOf numberAt numberBytes itemBytes itemsBytes
+    allFinite isFinite numbers countBytes markKnown markOf markBytes replyOf acOf answerOf entryReply countsMore recordFound stepOf markFound foundAt foundOf trailer jobOn jobFrom
+    single nought unit counts frames small-in
 small = refl
 
 -- the same with an infinite point: it is answered, and counted last
@@ -85,7 +93,9 @@ unfinite-in =
     ++ (zero ++ (zero ++ (zero ++ (zero ++ (zero ++ (frames 0 0 ++ (one ++ (zero ++ (zero ++ double 0xf0 0x7f))))))))))))
 
 unfinite : jobOf jobLimit unfinite-in ≡ 0x41 ∷ 0x43 ∷ (double 0xf8 0x7f ++ (double 0xf8 0x7f ++ (double 0xf8 0x7f ++ counts 1 0 0 1)))
-unfolding ofBits toBits add sub mul vecScale vecCross vecAdd so3Act poseAct vecIn quatIn poseIn vecNumbers wordOf wordBytes numberOf numberAt numberBytes itemBytes itemsBytes allFinite isFinite numbers countBytes markKnown markOf markBytes replyOf acOf answerOf entryReply countsMore recordFound foundAt foundOf trailer jobOn jobFrom double zero one counts frames unfinite-in
+unfolding ofBits toBits add sub mul vecScale vecCross vecAdd so3Act poseAct vecIn quatIn poseIn vecNumbers wordOf wordBytes numberOf numberAt numberBytes itemBytes itemsBytes
+    allFinite isFinite numbers countBytes markKnown markOf markBytes replyOf acOf answerOf entryReply countsMore recordFound stepOf markFound foundAt foundOf trailer jobOn jobFrom
+    double zero one counts frames unfinite-in
 unfinite = refl
 
 -- nothing at all
@@ -100,21 +110,21 @@ half = refl
 
 -- a record that is cut after its mark
 cut-short : jobOf jobLimit (0x41 ∷ 0x43 ∷ 0 ∷ []) ≡ 0x4e ∷ 0x4f ∷ 7 ∷ counts 1 0 1 0
-unfolding wordBytes countBytes markKnown markOf markBytes noBytes countsMore recordFound foundAt foundOf trailer jobOn jobFrom counts
+unfolding wordBytes countBytes markKnown markOf markBytes noBytes countsMore recordFound stepOf markFound foundAt foundOf trailer jobOn jobFrom counts
 cut-short = refl
 
 -- a mark that is not in the table, with nothing behind it
 unlisted : jobOf jobLimit (0x51 ∷ 0x51 ∷ []) ≡ 0x4e ∷ 0x4f ∷ 6 ∷ counts 1 0 1 0
-unfolding wordBytes countBytes markKnown markOf markBytes noBytes countsMore recordFound foundAt foundOf trailer jobOn jobFrom counts
+unfolding wordBytes countBytes markKnown markOf markBytes noBytes countsMore recordFound stepOf markFound foundAt foundOf trailer jobOn jobFrom counts
 unlisted = refl
 
 -- AR in small letters, and a capital with a small letter
 small-ar : jobOf jobLimit (0x61 ∷ 0x72 ∷ []) ≡ 0x4e ∷ 0x4f ∷ 6 ∷ counts 1 0 1 0
-unfolding wordBytes countBytes markKnown markOf markBytes noBytes countsMore recordFound foundAt foundOf trailer jobOn jobFrom counts
+unfolding wordBytes countBytes markKnown markOf markBytes noBytes countsMore recordFound stepOf markFound foundAt foundOf trailer jobOn jobFrom counts
 small-ar = refl
 
 mixed : jobOf jobLimit (0x41 ∷ 0x63 ∷ []) ≡ 0x4e ∷ 0x4f ∷ 6 ∷ counts 1 0 1 0
-unfolding wordBytes countBytes markKnown markOf markBytes noBytes countsMore recordFound foundAt foundOf trailer jobOn jobFrom counts
+unfolding wordBytes countBytes markKnown markOf markBytes noBytes countsMore recordFound stepOf markFound foundAt foundOf trailer jobOn jobFrom counts
 mixed = refl
 
 -- a product of poses from 3 to 5 and from 3 to 7: whole it is refused, since 3 is not 7; and cut by its last byte it is a cut record
@@ -122,12 +132,23 @@ mu-in : ℕ → List ℕ
 mu-in n = 0x4d ∷ 0x55 ∷ (replicate 64 0 ++ (frames 3 5 ++ (replicate 64 0 ++ (frames 3 7 ++ replicate n 0))))
 
 apart : jobOf jobLimit (mu-in 8) ≡ 0x4e ∷ 0x4f ∷ 9 ∷ counts 1 0 1 0
-unfolding wordOf wordAt wordBytes countBytes markKnown markOf markBytes noBytes replyOf framedIn framedMul muOf answerOf entryReply countsMore recordFound foundAt foundOf trailer jobOn jobFrom counts frames mu-in
+unfolding wordOf wordAt wordBytes countBytes markKnown markOf markBytes noBytes replyOf framedIn framedMul muOf answerOf entryReply countsMore recordFound stepOf markFound foundAt
+    foundOf trailer jobOn jobFrom counts frames mu-in
 apart = refl
 
 apart-cut : jobOf jobLimit (mu-in 7) ≡ 0x4e ∷ 0x4f ∷ 7 ∷ counts 1 0 1 0
-unfolding wordBytes countBytes markKnown markOf markBytes noBytes countsMore recordFound foundAt foundOf trailer jobOn jobFrom counts frames mu-in
+unfolding wordBytes countBytes markKnown markOf markBytes noBytes countsMore recordFound stepOf markFound foundAt foundOf trailer jobOn jobFrom counts frames mu-in
 apart-cut = refl
+
+-- the running join: the first pose, from 3 to 5, is answered as it came; one from 3 to 7 does not meet it; and n is answered
+ch-in : ℕ → ℕ → List ℕ
+ch-in from to = 0x43 ∷ 0x48 ∷ (replicate 64 0 ++ (frames from to ++ replicate 8 0))
+
+joined : jobOf jobLimit (ch-in 3 5 ++ (ch-in 3 7 ++ (0x52 ∷ 0x4e ∷ 2 ∷ 1 ∷ []))) ≡ 0x43 ∷ 0x48 ∷ (replicate 64 0 ++ (frames 3 5 ++ (0x4e ∷ 0x4f ∷ 9 ∷ 0x52 ∷ 0x4e ∷ 2 ∷ 1 ∷ counts 3 2 1 0)))
+unfolding ofBits toBits vecIn quatIn poseIn vecNumbers quatNumbers poseNumbers wordOf wordAt wordBytes numberOf numberAt numberBytes itemBytes itemsBytes allFinite isFinite numbers
+    countBytes markKnown markOf markBytes noBytes replyOf framedIn framedItems framedMul productOn joinOn chOf chReply rnReply countsMore recordFound stepOf markFound markNext
+    foundAt nextAt foundOf nextOf trailer jobOn jobFrom counts frames ch-in
+joined = refl
 
 -- at the limit no mark is looked at
 at-limit : jobOf 0 (0x51 ∷ 0x51 ∷ []) ≡ counts 0 0 0 0
@@ -170,15 +191,17 @@ table =
     ∷ record { first = 0x6d; second = 0x75; bytes = 76 }
     ∷ record { first = 0x69; second = 0x6e; bytes = 40 }
     ∷ record { first = 0x6a; second = 0x69; bytes = 124 }
+    ∷ record { first = 0x43; second = 0x48; bytes = 76 }
+    ∷ record { first = 0x52; second = 0x4e; bytes = 2 }
     ∷ []
 
 found : Row → ℕ → Found
-found r n = foundOf (r .first ∷ r .second ∷ replicate n 0)
+found r n = foundOf stateNone (r .first ∷ r .second ∷ replicate n 0)
 
 right : List Row → Bool
 right [] = true
 right (r ∷ rs) = eqb (taken (found r (r .bytes))) (2 + r .bytes) && (isCut (found r (r .bytes - 1)) && right rs)
 
 lengths : right table ≡ true
-unfolding right table found taken isCut foundOf foundAt recordFound markOf markKnown
+unfolding right table found taken isCut foundOf foundAt markFound stepOf recordFound markOf markKnown
 lengths = refl

@@ -16,6 +16,8 @@ use Rattle.job.specs.declared.Reason.{Reason}
 use Rattle.job.specs.Counts.{countsMore}
 use Rattle.outcome.specs.Outcome.{longest, took}
 use Rattle.marks.specs.Marks.{foundOf}
+use Rattle.marks.specs.State.{State}
+use Rattle.job.specs.Job.{Standing, moved}
 use Rattle.job.specs.Feed.{halt, after, recordsOf, toldPart}
 use Rattle.job.specs.Inner.{Sound}
 use Rattle.marks.proofs.Heads.{taken}
@@ -27,19 +29,19 @@ counted-sound Answered limit c s h = let a : c .begun ≤ limit = s .few in reco
 counted-sound Refused limit c s h = let a : c .begun ≤ limit = s .few in record { few = omega arith; sum = omega (arith, s .sum) }
 counted-sound Unusable limit c s h = let a : c .begun ≤ limit = s .few in record { few = omega arith; sum = omega (arith, s .sum) }
 
--- The loop began with the counts c₀ and the output out₀, of which it has c and out now; it is done with `at` bytes and has written `to`.
-pub record Going (limit : ℕ) (input : List ℕ) (last : Bool) (c₀ : Counts) (out₀ : List ℕ) (c : Counts) (out : List ℕ) (at to : ℕ) : Type 0 where
-  pub sound : Sound limit c
+-- The loop began with the standing j₀ and the output out₀, of which it has j and out now; it is done with `at` bytes and has written `to`.
+pub record Going (limit : ℕ) (input : List ℕ) (last : Bool) (j₀ : Standing) (out₀ : List ℕ) (j : Standing) (out : List ℕ) (at to : ℕ) : Type 0 where
+  pub sound : Sound limit (j .counts)
   pub inside : at ≤ length input
   pub room : to ≤ length out
   pub kept : length out ≡ length out₀
   pub rest : drop to out ≡ drop to out₀
   pub same :
-      recordsOf (limit - c₀ .begun) c₀ input last (length out₀) ≡
-      after at (take to out) (recordsOf (limit - c .begun) c (drop at input) last (length out₀ - to))
+      recordsOf (limit - j₀ .counts .begun) j₀ input last (length out₀) ≡
+      after at (take to out) (recordsOf (limit - j .counts .begun) j (drop at input) last (length out₀ - to))
 
-pub going-start : (limit : ℕ) (input : List ℕ) (last : Bool) (c : Counts) (out : List ℕ) → Sound limit c → Going limit input last c out c out 0 0
-going-start limit input last c out s = record {
+pub going-start : (limit : ℕ) (input : List ℕ) (last : Bool) (j : Standing) (out : List ℕ) → Sound limit (j .counts) → Going limit input last j out j out 0 0
+going-start limit input last j out s = record {
   sound = s;
   inside = omega arith;
   room = omega arith;
@@ -48,47 +50,48 @@ going-start limit input last c out s = record {
   same = rw (zero-add, sub-zero);
 }
 
--- what the loop answers and what the output holds then
-abbrev pub Left : ℕ → List ℕ → Bool → Counts → List ℕ → Fed → List ℕ → Type 0
-Left limit input last c₀ out₀ f out =
-    (f ≡ toldPart (recordsOf (limit - c₀ .begun) c₀ input last (length out₀)))
-    × (out ≡ sets out₀ 0 (recordsOf (limit - c₀ .begun) c₀ input last (length out₀) .bytes))
+-- what the loop answers, what the output holds then, and the state
+abbrev pub Left : ℕ → List ℕ → Bool → Standing → List ℕ → Fed → List ℕ → State → Type 0
+Left limit input last j₀ out₀ f out w =
+    (f ≡ toldPart (recordsOf (limit - j₀ .counts .begun) j₀ input last (length out₀)))
+    × ((out ≡ sets out₀ 0 (recordsOf (limit - j₀ .counts .begun) j₀ input last (length out₀) .bytes))
+    × (w ≡ recordsOf (limit - j₀ .counts .begun) j₀ input last (length out₀) .standing .state))
 
-module _ {limit : ℕ} {input : List ℕ} {last : Bool} {c₀ : Counts} {out₀ : List ℕ} {c : Counts} {out : List ℕ} {at to : ℕ} (g : Going limit input last c₀ out₀ c out at to) where
+module _ {limit : ℕ} {input : List ℕ} {last : Bool} {j₀ : Standing} {out₀ : List ℕ} {j : Standing} {out : List ℕ} {at to : ℕ} (g : Going limit input last j₀ out₀ j out at to) where
   -- out of the loop, with the output as it is
   pub going-halt :
-      (r : Reason) (e : Counts) (f : Fed) → f ≡ record { reason = r; counts = e; used = at; written = to } →
-      recordsOf (limit - c .begun) c (drop at input) last (length out₀ - to) ≡ halt r e → Left limit input last c₀ out₀ f out
+      (r : Reason) (e : Standing) (f : Fed) → f ≡ record { reason = r; counts = e .counts; used = at; written = to } →
+      recordsOf (limit - j .counts .begun) j (drop at input) last (length out₀ - to) ≡ halt r e → Left limit input last j₀ out₀ f out (e .state)
   going-halt r e f told h =
-      let whole : recordsOf (limit - c₀ .begun) c₀ input last (length out₀) ≡ record { reason = r; counts = e; used = at; bytes = take to out } =
+      let whole : recordsOf (limit - j₀ .counts .begun) j₀ input last (length out₀) ≡ record { reason = r; standing = e; used = at; bytes = take to out } =
       g .same ∙ ap (after at (take to out)) h ∙ simp (add-zero, append-nil) in
       let n : length (take to out) ≡ to = length-take-le to out (g .room) in
       let l : length (take to out) ≤ length out₀ = omega (arith, g .room, g .kept) in
-      rw whole (told ∙ simp n, sym (sets-front (take to out) out₀ l ∙ rw (n, ← (g .rest)) (take-append-drop to out)))
+      rw whole (told ∙ simp n, (sym (sets-front (take to out) out₀ l ∙ rw (n, ← (g .rest)) (take-append-drop to out)), refl))
 
   -- round it
   pub going-took :
-      (how : Kind) (k : ℕ) (b : List ℕ) → longest ≤ length out - to → (c .begun ≡ limit → ⊥) → foundOf (drop at input) ≡ took how k b →
-      Going limit input last c₀ out₀ (countsMore how c) (sets out to b) (at + k) (to + length b)
+      (how : Kind) (k : ℕ) (b : List ℕ) → longest ≤ length out - to → (j .counts .begun ≡ limit → ⊥) → foundOf (j .state) (drop at input) ≡ took how k b →
+      Going limit input last j₀ out₀ (moved how (drop at input) j) (sets out to b) (at + k) (to + length b)
   going-took how k b h few e =
-      let t = taken (drop at input) how k b e in
+      let t = taken (j .state) (drop at input) how k b e in
       let whole : k ≤ length input - at = simp length-drop at (t .whole) in
       let len : length out ≡ length out₀ = g .kept in
       let ins : at ≤ length input = g .inside in
       let short : length b ≤ longest = t .short in
-      let begun : c .begun ≤ limit = g .sound .few in
+      let begun : j .counts .begun ≤ limit = g .sound .few in
       let eq : sets out to b ≡ take to out ++ b ++ drop (to + length b) out = sets-eq b out to (omega arith) in
       let n : length (take to out ++ b) ≡ to + length b = length-append (take to out) b ∙ ap (λ (x : ℕ). x + length b) (length-take-le to out (g .room)) in
       let tk : take (to + length b) (sets out to b) ≡ take to out ++ b = ap (take (to + length b)) eq ∙ take-at (take to out ++ b) _ (to + length b) n in
-      let one-less : limit - c .begun ≡ suc (limit - (c .begun + 1)) = omega arith in
+      let one-less : limit - j .counts .begun ≡ suc (limit - (j .counts .begun + 1)) = omega arith in
       let room : length out₀ - to - length b ≡ length out₀ - (to + length b) = omega arith in
-      let P = recordsOf (limit - (c .begun + 1)) (countsMore how c) (drop (at + k) input) last (length out₀ - (to + length b)) in
-      let next : recordsOf (limit - c .begun) c (drop at input) last (length out₀ - to) ≡ after k b P =
-      ap (λ (x : ℕ). recordsOf x c (drop at input) last (length out₀ - to)) one-less
-      ∙ records-took (limit - (c .begun + 1)) c (drop at input) last (length out₀ - to) (omega arith) how k b e
+      let P = recordsOf (limit - (j .counts .begun + 1)) (moved how (drop at input) j) (drop (at + k) input) last (length out₀ - (to + length b)) in
+      let next : recordsOf (limit - j .counts .begun) j (drop at input) last (length out₀ - to) ≡ after k b P =
+      ap (λ (x : ℕ). recordsOf x j (drop at input) last (length out₀ - to)) one-less
+      ∙ records-took (limit - (j .counts .begun + 1)) j (drop at input) last (length out₀ - to) (omega arith) how k b e
       ∙ rw (room, drop-drop k at input) in
       record {
-        sound = counted-sound how limit c (g .sound) few;
+        sound = counted-sound how limit (j .counts) (g .sound) few;
         inside = omega arith;
         room = simp length-sets (omega arith);
         kept = length-sets out to b ∙ g .kept;
@@ -97,5 +100,5 @@ module _ {limit : ℕ} {input : List ℕ} {last : Bool} {c₀ : Counts} {out₀ 
             ∙ sym (drop-drop (length b) to out) ∙ ap (drop (length b)) (g .rest) ∙ drop-drop (length b) to out₀;
         same =
             g .same ∙ ap (after at (take to out)) next ∙ after-after at k (take to out) b P
-            ∙ (λ i. after (at + k) (sym tk i) (recordsOf (limit - sym (counted-begun how c) i) (countsMore how c) (drop (at + k) input) last (length out₀ - (to + length b))));
+            ∙ (λ i. after (at + k) (sym tk i) (recordsOf (limit - sym (counted-begun how (j .counts)) i) (moved how (drop at input) j) (drop (at + k) input) last (length out₀ - (to + length b))));
       }

@@ -15,6 +15,8 @@ use Rattle.job.specs.declared.Counts.{Counts}
 use Rattle.job.specs.declared.Fed.{Fed}
 use Rattle.job.specs.declared.Reason.the-variants.{Bad}
 use Rattle.job.specs.Counts.{countsSound}
+use Rattle.marks.specs.State.{State}
+use Rattle.job.specs.Job.{Standing}
 use Rattle.job.specs.Feed.{Part, halt, closed, closing, ends, recordsOf, feedOf, toldPart}
 use Rattle.job.specs.Inner.{Sound}
 use Rattle.outcome.proofs.Never.{untrue}
@@ -28,19 +30,19 @@ record Fits (xs : List ℕ) (room : ℕ) (p : Part) : Type 0 where
   within : length (p .bytes) ≤ room
   spare : ends (p .reason) ≡ true → length (p .bytes) + longest ≤ room
 
-records-fit : (n : ℕ) (c : Counts) (xs : List ℕ) (last : Bool) (room : ℕ) → Fits xs room (recordsOf n c xs last room)
-records-fit n c xs last room =
-    records-by last (λ n c xs room p. Fits xs room p)
-    (λ n c xs room h. record { uses = omega arith; within = omega arith; spare = λ u. untrue u })
-    (λ c xs room h. record { uses = omega arith; within = omega arith; spare = λ u. omega arith })
-    (λ n c xs room h f r e q s. record { uses = omega arith; within = omega arith; spare = λ u. omega arith })
-    (λ n c xs room h how k b q p i.
-    let t = taken xs how k b q in
+records-fit : (n : ℕ) (j : Standing) (xs : List ℕ) (last : Bool) (room : ℕ) → Fits xs room (recordsOf n j xs last room)
+records-fit n j xs last room =
+    records-by last (λ n j xs room p. Fits xs room p)
+    (λ n j xs room h. record { uses = omega arith; within = omega arith; spare = λ u. untrue u })
+    (λ j xs room h. record { uses = omega arith; within = omega arith; spare = λ u. omega arith })
+    (λ n j xs room h f r e q s. record { uses = omega arith; within = omega arith; spare = λ u. omega arith })
+    (λ n j xs room h how k b q p i.
+    let t = taken (j .state) xs how k b q in
     let whole : k ≤ length xs = t .whole in
     let short : length b ≤ longest = t .short in
     let u : p .used ≤ length xs - k = simp length-drop at (i .uses) in
     record { uses = omega arith; within = simp length-append (omega (arith, i .within)); spare = λ u. simp length-append (omega (arith, i .spare u)) })
-    n c xs room
+    n j xs room
 
 -- ---- the counts handed in
 and-left : (a b : Bool) → a && b ≡ true → a ≡ true
@@ -50,6 +52,16 @@ and-left false b e = untrue e
 and-right : (a b : Bool) → a && b ≡ true → b ≡ true
 and-right true b e = e
 and-right false b e = untrue e
+
+pub both : (a b : Bool) → a ≡ true → b ≡ true → a && b ≡ true
+both a b e f = rw (e, f)
+
+pub first-false : (a b : Bool) → a ≡ false → a && b ≡ false
+first-false a b e = rw e
+
+pub second-false : (a b : Bool) → b ≡ false → a && b ≡ false
+second-false true b e = e
+second-false false b e = refl
 
 pub sound-is : (limit : ℕ) (c : Counts) → countsSound limit c ≡ true → Sound limit c
 unfolding countsSound
@@ -73,49 +85,54 @@ is-sound limit c s =
       eq-eqb (c .unusable) (c .begun - c .answered - c .refused) (omega arith),
     )
 
-pub feed-bad : (limit : ℕ) (c : Counts) (xs : List ℕ) (last : Bool) (room : ℕ) → countsSound limit c ≡ false → feedOf limit c xs last room ≡ halt Bad c
+pub feed-bad : (limit : ℕ) (held : Bool) (j : Standing) (xs : List ℕ) (last : Bool) (room : ℕ) → held && countsSound limit (j .counts) ≡ false → feedOf limit held j xs last room ≡ halt Bad j
 unfolding feedOf
-feed-bad limit c xs last room e = rw e
+feed-bad limit held j xs last room e = rw e
 
 pub feed-good :
-    (limit : ℕ) (c : Counts) (xs : List ℕ) (last : Bool) (room : ℕ) → countsSound limit c ≡ true → feedOf limit c xs last room ≡ closed (recordsOf (limit - c .begun) c xs last room)
+    (limit : ℕ) (held : Bool) (j : Standing) (xs : List ℕ) (last : Bool) (room : ℕ) → held && countsSound limit (j .counts) ≡ true →
+    feedOf limit held j xs last room ≡ closed (recordsOf (limit - j .counts .begun) j xs last room)
 unfolding feedOf
-feed-good limit c xs last room e = rw e
+feed-good limit held j xs last room e = rw e
 
--- ---- the counts are a job's, and the loop has answered l and left the output out₁
-pub record Looped (limit : ℕ) (c : Counts) (xs : List ℕ) (last : Bool) (out : List ℕ) (l : Fed) (out₁ : List ℕ) : Type 0 where
-  pub good : countsSound limit c ≡ true
-  pub told : l ≡ toldPart (recordsOf (limit - c .begun) c xs last (length out))
-  pub wrote : out₁ ≡ sets out 0 (recordsOf (limit - c .begun) c xs last (length out) .bytes)
+-- ---- the counts are a job's, the bytes hold a state, and the loop has answered l and left the output out₁ and the state w
+pub record Looped (limit : ℕ) (held : Bool) (j : Standing) (xs : List ℕ) (last : Bool) (out : List ℕ) (l : Fed) (out₁ : List ℕ) (w : State) : Type 0 where
+  pub good : held && countsSound limit (j .counts) ≡ true
+  pub told : l ≡ toldPart (recordsOf (limit - j .counts .begun) j xs last (length out))
+  pub wrote : out₁ ≡ sets out 0 (recordsOf (limit - j .counts .begun) j xs last (length out) .bytes)
+  pub left : w ≡ recordsOf (limit - j .counts .begun) j xs last (length out) .standing .state
 
-module _ {limit : ℕ} {c : Counts} {xs : List ℕ} {last : Bool} {out : List ℕ} {l : Fed} {out₁ : List ℕ} (k : Looped limit c xs last out l out₁) where
+module _ {limit : ℕ} {held : Bool} {j : Standing} {xs : List ℕ} {last : Bool} {out : List ℕ} {l : Fed} {out₁ : List ℕ} {w : State} (k : Looped limit held j xs last out l out₁ w) where
   pub feed-room : ends (l .reason) ≡ true → l .written + longest ≤ length out₁
-  feed-room u = rw (k .told, k .wrote, length-sets) (records-fit (limit - c .begun) c xs last (length out) .spare (rw (k .told) at u))
+  feed-room u = rw (k .told, k .wrote, length-sets) (records-fit (limit - j .counts .begun) j xs last (length out) .spare (rw (k .told) at u))
 
   pub feed-uses : l .used ≤ length xs
-  feed-uses = rw (k .told) (records-fit (limit - c .begun) c xs last (length out) .uses)
+  feed-uses = rw (k .told) (records-fit (limit - j .counts .begun) j xs last (length out) .uses)
 
   pub feed-within : l .written + length (closing (l .reason) (l .counts)) ≤ length out
   feed-within =
-      let f = records-fit (limit - c .begun) c xs last (length out) in
-      let P = recordsOf (limit - c .begun) c xs last (length out) in
-      rw (k .told) (closing-fits (P .reason) (P .counts) _ _ (f .within) (f .spare))
+      let f = records-fit (limit - j .counts .begun) j xs last (length out) in
+      let P = recordsOf (limit - j .counts .begun) j xs last (length out) in
+      rw (k .told) (closing-fits (P .reason) (P .standing .counts) _ _ (f .within) (f .spare))
 
   pub feed-told :
       (n : ℕ) → n ≡ length (closing (l .reason) (l .counts)) →
-      record { reason = l .reason; counts = l .counts; used = l .used; written = l .written + n } ≡ toldPart (feedOf limit c xs last (length out))
-  feed-told n e = rw (e, k .told, feed-good limit c xs last (length out) (k .good), length-append)
+      record { reason = l .reason; counts = l .counts; used = l .used; written = l .written + n } ≡ toldPart (feedOf limit held j xs last (length out))
+  feed-told n e = rw (e, k .told, feed-good limit held j xs last (length out) (k .good), length-append)
 
   pub feed-wrote :
       (n : ℕ) (out₂ : List ℕ) → n ≡ length (closing (l .reason) (l .counts)) → out₂ ≡ sets out₁ (l .written) (closing (l .reason) (l .counts)) →
-      out₂ ≡ (feedOf limit c xs last (length out) .bytes) ++ drop (l .written + n) out
-  feed-wrote n out₂ e w =
-      let P = recordsOf (limit - c .begun) c xs last (length out) in
-      let B = closing (P .reason) (P .counts) in
+      out₂ ≡ (feedOf limit held j xs last (length out) .bytes) ++ drop (l .written + n) out
+  feed-wrote n out₂ e v =
+      let P = recordsOf (limit - j .counts .begun) j xs last (length out) in
+      let B = closing (P .reason) (P .standing .counts) in
       let h : length (P .bytes ++ B) ≤ length out = simp length-append (rw (k .told) at feed-within) in
-      w
-      ∙ rw (e, k .told, k .wrote, feed-good limit c xs last (length out) (k .good))
+      v
+      ∙ rw (e, k .told, k .wrote, feed-good limit held j xs last (length out) (k .good))
       (ap (λ (i : ℕ). sets (sets out 0 (P .bytes)) i B) (sym (zero-add (length (P .bytes))))
       ∙ sym (sets-split (P .bytes) B out 0)
       ∙ sets-front (P .bytes ++ B) out h
       ∙ ap (λ (i : ℕ). P .bytes ++ B ++ drop i out) (length-append (P .bytes) B))
+
+  pub feed-left : w ≡ feedOf limit held j xs last (length out) .standing .state
+  feed-left = rw (feed-good limit held j xs last (length out) (k .good)) (k .left)

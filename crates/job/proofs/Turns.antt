@@ -15,34 +15,35 @@ use Rattle.job.specs.declared.Reason.the-variants.{More, Room, Full, End
 use Rattle.job.specs.Counts.{countsMore}
 use Rattle.outcome.specs.Outcome.{longest, Found, took, ended, unknown, cut}
 use Rattle.marks.specs.Marks.{foundOf}
+use Rattle.job.specs.Job.{Standing, moved, lost}
 use Rattle.job.specs.Feed.{Part, halt, after, partOn, recordsOf}
 
-pub records-room : (n : ℕ) (c : Counts) (xs : List ℕ) (last : Bool) (room : ℕ) → room < longest → recordsOf n c xs last room ≡ halt Room c
+pub records-room : (n : ℕ) (j : Standing) (xs : List ℕ) (last : Bool) (room : ℕ) → room < longest → recordsOf n j xs last room ≡ halt Room j
 unfolding recordsOf
-records-room zero c xs last room h = rw (lt-ltb room longest h)
-records-room (suc n) c xs last room h = rw (lt-ltb room longest h)
+records-room zero j xs last room h = rw (lt-ltb room longest h)
+records-room (suc n) j xs last room h = rw (lt-ltb room longest h)
 
-pub records-full : (c : Counts) (xs : List ℕ) (last : Bool) (room : ℕ) → longest ≤ room → recordsOf 0 c xs last room ≡ halt Full c
+pub records-full : (j : Standing) (xs : List ℕ) (last : Bool) (room : ℕ) → longest ≤ room → recordsOf 0 j xs last room ≡ halt Full j
 unfolding recordsOf
-records-full c xs last room h = rw (le-ltb room longest h)
+records-full j xs last room h = rw (le-ltb room longest h)
 
 -- a turn with room for the longest answer, and another record to begin
-module _ (n : ℕ) (c : Counts) (xs : List ℕ) (last : Bool) (room : ℕ) (h : longest ≤ room) where
+module _ (n : ℕ) (j : Standing) (xs : List ℕ) (last : Bool) (room : ℕ) (h : longest ≤ room) where
   pub records-took :
-      (how : Kind) (k : ℕ) (b : List ℕ) → foundOf xs ≡ took how k b →
-      recordsOf (suc n) c xs last room ≡ after k b (recordsOf n (countsMore how c) (drop k xs) last (room - length b))
+      (how : Kind) (k : ℕ) (b : List ℕ) → foundOf (j .state) xs ≡ took how k b →
+      recordsOf (suc n) j xs last room ≡ after k b (recordsOf n (moved how xs j) (drop k xs) last (room - length b))
   unfolding recordsOf partOn
   records-took how k b e = rw (le-ltb room longest h, e)
 
-  pub records-ended : foundOf xs ≡ ended → recordsOf (suc n) c xs last room ≡ cond last (halt End c) (halt More c)
+  pub records-ended : foundOf (j .state) xs ≡ ended → recordsOf (suc n) j xs last room ≡ cond last (halt End j) (halt More j)
   unfolding recordsOf partOn
   records-ended e = rw (le-ltb room longest h, e)
 
-  pub records-unknown : foundOf xs ≡ unknown → recordsOf (suc n) c xs last room ≡ halt Unknown (countsMore Refused c)
+  pub records-unknown : foundOf (j .state) xs ≡ unknown → recordsOf (suc n) j xs last room ≡ halt Unknown (lost j)
   unfolding recordsOf partOn
   records-unknown e = rw (le-ltb room longest h, e)
 
-  pub records-cut : foundOf xs ≡ cut → recordsOf (suc n) c xs last room ≡ cond last (halt Cut (countsMore Refused c)) (halt More c)
+  pub records-cut : foundOf (j .state) xs ≡ cut → recordsOf (suc n) j xs last room ≡ cond last (halt Cut (lost j)) (halt More j)
   unfolding recordsOf partOn
   records-cut e = rw (le-ltb room longest h, e)
 
@@ -58,53 +59,53 @@ counted-begun Unusable c = refl
 -- ---- induction over the loop's turns
 
 -- what the loop answers at each stop
-pub data Stops (last : Bool) (c : Counts) : Found → Reason → Counts → Type 0 where
-  at-end : last ≡ true → Stops last c ended End c
-  at-pause : last ≡ false → Stops last c ended More c
-  at-unknown : Stops last c unknown Unknown (countsMore Refused c)
-  at-cut : last ≡ true → Stops last c cut Cut (countsMore Refused c)
-  at-part : last ≡ false → Stops last c cut More c
+pub data Stops (last : Bool) (j : Standing) : Found → Reason → Standing → Type 0 where
+  at-end : last ≡ true → Stops last j ended End j
+  at-pause : last ≡ false → Stops last j ended More j
+  at-unknown : Stops last j unknown Unknown (lost j)
+  at-cut : last ≡ true → Stops last j cut Cut (lost j)
+  at-part : last ≡ false → Stops last j cut More j
 
--- P n c xs room p, of the loop's value p where n more records may begin, holds always, if it holds out of room, at the limit and at each stop, and a record keeps it
+-- P n j xs room p, of the loop's value p where n more records may begin, holds always, if it holds out of room, at the limit and at each stop, and a record keeps it
 module _
-    (last : Bool) (P : ℕ → Counts → List ℕ → ℕ → Part → Type 0)
-    (roomless : (n : ℕ) (c : Counts) (xs : List ℕ) (room : ℕ) → room < longest → P n c xs room (halt Room c))
-    (full : (c : Counts) (xs : List ℕ) (room : ℕ) → longest ≤ room → P 0 c xs room (halt Full c))
+    (last : Bool) (P : ℕ → Standing → List ℕ → ℕ → Part → Type 0)
+    (roomless : (n : ℕ) (j : Standing) (xs : List ℕ) (room : ℕ) → room < longest → P n j xs room (halt Room j))
+    (full : (j : Standing) (xs : List ℕ) (room : ℕ) → longest ≤ room → P 0 j xs room (halt Full j))
     (stop :
-    (n : ℕ) (c : Counts) (xs : List ℕ) (room : ℕ) → longest ≤ room →
-    (f : Found) (r : Reason) (e : Counts) → foundOf xs ≡ f → Stops last c f r e → P (suc n) c xs room (halt r e))
+    (n : ℕ) (j : Standing) (xs : List ℕ) (room : ℕ) → longest ≤ room →
+    (f : Found) (r : Reason) (e : Standing) → foundOf (j .state) xs ≡ f → Stops last j f r e → P (suc n) j xs room (halt r e))
     (more :
-    (n : ℕ) (c : Counts) (xs : List ℕ) (room : ℕ) → longest ≤ room → (how : Kind) (k : ℕ) (b : List ℕ) → foundOf xs ≡ took how k b →
-    (p : Part) → P n (countsMore how c) (drop k xs) (room - length b) p → P (suc n) c xs room (after k b p)) where
-  zero-by : (c : Counts) (xs : List ℕ) (room : ℕ) (t : Bool) → ltb room longest ≡ t → P 0 c xs room (recordsOf 0 c xs last room)
-  zero-by c xs room true t = let h = ltb-true room longest t in rw (records-room 0 c xs last room h) (roomless 0 c xs room h)
-  zero-by c xs room false t = let h = ltb-false room longest t in rw (records-full c xs last room h) (full c xs room h)
+    (n : ℕ) (j : Standing) (xs : List ℕ) (room : ℕ) → longest ≤ room → (how : Kind) (k : ℕ) (b : List ℕ) → foundOf (j .state) xs ≡ took how k b →
+    (p : Part) → P n (moved how xs j) (drop k xs) (room - length b) p → P (suc n) j xs room (after k b p)) where
+  zero-by : (j : Standing) (xs : List ℕ) (room : ℕ) (t : Bool) → ltb room longest ≡ t → P 0 j xs room (recordsOf 0 j xs last room)
+  zero-by j xs room true t = let h = ltb-true room longest t in rw (records-room 0 j xs last room h) (roomless 0 j xs room h)
+  zero-by j xs room false t = let h = ltb-false room longest t in rw (records-full j xs last room h) (full j xs room h)
 
   ended-by :
-      (n : ℕ) (c : Counts) (xs : List ℕ) (room : ℕ) → longest ≤ room → foundOf xs ≡ ended → (l : Bool) → last ≡ l →
-      P (suc n) c xs room (cond last (halt End c) (halt More c))
-  ended-by n c xs room h q true l = rw l (stop n c xs room h ended End c q (at-end l))
-  ended-by n c xs room h q false l = rw l (stop n c xs room h ended More c q (at-pause l))
+      (n : ℕ) (j : Standing) (xs : List ℕ) (room : ℕ) → longest ≤ room → foundOf (j .state) xs ≡ ended → (l : Bool) → last ≡ l →
+      P (suc n) j xs room (cond last (halt End j) (halt More j))
+  ended-by n j xs room h q true l = rw l (stop n j xs room h ended End j q (at-end l))
+  ended-by n j xs room h q false l = rw l (stop n j xs room h ended More j q (at-pause l))
 
   cut-by :
-      (n : ℕ) (c : Counts) (xs : List ℕ) (room : ℕ) → longest ≤ room → foundOf xs ≡ cut → (l : Bool) → last ≡ l →
-      P (suc n) c xs room (cond last (halt Cut (countsMore Refused c)) (halt More c))
-  cut-by n c xs room h q true l = rw l (stop n c xs room h cut Cut (countsMore Refused c) q (at-cut l))
-  cut-by n c xs room h q false l = rw l (stop n c xs room h cut More c q (at-part l))
+      (n : ℕ) (j : Standing) (xs : List ℕ) (room : ℕ) → longest ≤ room → foundOf (j .state) xs ≡ cut → (l : Bool) → last ≡ l →
+      P (suc n) j xs room (cond last (halt Cut (lost j)) (halt More j))
+  cut-by n j xs room h q true l = rw l (stop n j xs room h cut Cut (lost j) q (at-cut l))
+  cut-by n j xs room h q false l = rw l (stop n j xs room h cut More j q (at-part l))
 
   suc-by :
-      (n : ℕ) (c : Counts) (xs : List ℕ) (room : ℕ) (t : Bool) → ltb room longest ≡ t → (f : Found) → foundOf xs ≡ f →
-      ((c : Counts) (xs : List ℕ) (room : ℕ) → P n c xs room (recordsOf n c xs last room)) → P (suc n) c xs room (recordsOf (suc n) c xs last room)
-  suc-by n c xs room true t f q ih = let h = ltb-true room longest t in rw (records-room (suc n) c xs last room h) (roomless (suc n) c xs room h)
-  suc-by n c xs room false t (took how k b) q ih =
+      (n : ℕ) (j : Standing) (xs : List ℕ) (room : ℕ) (t : Bool) → ltb room longest ≡ t → (f : Found) → foundOf (j .state) xs ≡ f →
+      ((j : Standing) (xs : List ℕ) (room : ℕ) → P n j xs room (recordsOf n j xs last room)) → P (suc n) j xs room (recordsOf (suc n) j xs last room)
+  suc-by n j xs room true t f q ih = let h = ltb-true room longest t in rw (records-room (suc n) j xs last room h) (roomless (suc n) j xs room h)
+  suc-by n j xs room false t (took how k b) q ih =
       let h = ltb-false room longest t in
-      rw (records-took n c xs last room h how k b q) (more n c xs room h how k b q _ (ih (countsMore how c) (drop k xs) (room - length b)))
-  suc-by n c xs room false t ended q ih = let h = ltb-false room longest t in rw (records-ended n c xs last room h q) (ended-by n c xs room h q last refl)
-  suc-by n c xs room false t unknown q ih =
+      rw (records-took n j xs last room h how k b q) (more n j xs room h how k b q _ (ih (moved how xs j) (drop k xs) (room - length b)))
+  suc-by n j xs room false t ended q ih = let h = ltb-false room longest t in rw (records-ended n j xs last room h q) (ended-by n j xs room h q last refl)
+  suc-by n j xs room false t unknown q ih =
       let h = ltb-false room longest t in
-      rw (records-unknown n c xs last room h q) (stop n c xs room h unknown Unknown (countsMore Refused c) q at-unknown)
-  suc-by n c xs room false t cut q ih = let h = ltb-false room longest t in rw (records-cut n c xs last room h q) (cut-by n c xs room h q last refl)
+      rw (records-unknown n j xs last room h q) (stop n j xs room h unknown Unknown (lost j) q at-unknown)
+  suc-by n j xs room false t cut q ih = let h = ltb-false room longest t in rw (records-cut n j xs last room h q) (cut-by n j xs room h q last refl)
 
-  pub records-by : (n : ℕ) (c : Counts) (xs : List ℕ) (room : ℕ) → P n c xs room (recordsOf n c xs last room)
-  records-by zero c xs room = zero-by c xs room (ltb room longest) refl
-  records-by (suc n) c xs room = suc-by n c xs room (ltb room longest) refl (foundOf xs) refl (λ c xs room. records-by n c xs room)
+  pub records-by : (n : ℕ) (j : Standing) (xs : List ℕ) (room : ℕ) → P n j xs room (recordsOf n j xs last room)
+  records-by zero j xs room = zero-by j xs room (ltb room longest) refl
+  records-by (suc n) j xs room = suc-by n j xs room (ltb room longest) refl (foundOf (j .state) xs) refl (λ j xs room. records-by n j xs room)

@@ -1,51 +1,51 @@
 -- The job in pieces: what one call does with the bytes at hand.
 use Prim.Native.Nat.{ℕ, zero, suc, _+_, _-_}
 use mathlib.Core.Path.{_≡_}
-use mathlib.Core.Bool.{Bool, true, false, cond}
+use mathlib.Core.Bool.{Bool, true, false, cond, _&&_}
 use mathlib.Core.List.{List, [], _++_}
 use lib.ListN.{length, drop}
 use lib.Dec.{ltb}
 use Rattle.outcome.specs.declared.Kind.{Kind}
-use Rattle.outcome.specs.declared.Kind.the-variants.{Refused}
 use Rattle.outcome.specs.Outcome.{longest, unknownMark, cutRecord, noBytes, Found, took, ended, unknown, cut}
+use Rattle.marks.specs.State.{stateOf, holds}
 use Rattle.marks.specs.Marks.{longestRecord, foundOf}
 use Rattle.job.specs.declared.Counts.{Counts}
 use Rattle.job.specs.declared.Fed.{Fed}
 use Rattle.job.specs.declared.Reason.{Reason}
 use Rattle.job.specs.declared.Reason.the-variants.{More, Room, Bad, Full, End, Unknown, Cut}
-use Rattle.job.specs.Counts.{countsMore, Adds, countsSound}
-use Rattle.job.specs.Job.{trailer}
+use Rattle.job.specs.Counts.{Adds, countsSound}
+use Rattle.job.specs.Job.{Standing, standing, moved, lost, trailer, jobLimit}
 
--- why it stopped, the counts then, how many bytes it is done with, and what it wrote
+-- why it stopped, where the job stands then, how many bytes it is done with, and what it wrote
 pub record Part : Type 0 where
   pub reason : Reason
-  pub counts : Counts
+  pub standing : Standing
   pub used : ℕ
   pub bytes : List ℕ
 
-abbrev pub halt : Reason → Counts → Part
-halt r c = record { reason = r; counts = c; used = 0; bytes = [] }
+abbrev pub halt : Reason → Standing → Part
+halt r j = record { reason = r; standing = j; used = 0; bytes = [] }
 
 -- a record of k bytes, for which `bytes` are written, and then p
 abbrev pub after : ℕ → List ℕ → Part → Part
-after k bytes p = record { reason = p .reason; counts = p .counts; used = k + p .used; bytes = bytes ++ p .bytes }
+after k bytes p = record { reason = p .reason; standing = p .standing; used = k + p .used; bytes = bytes ++ p .bytes }
 
 -- by what stands at the head; where the bytes at hand are not the last, an end and a cut wait for more
-unfoldable pub partOn : Bool → Found → Counts → (Kind → ℕ → List ℕ → Part) → Part
-partOn last (took q k bytes) c go = after k bytes (go q k bytes)
-partOn last ended c go = cond last (halt End c) (halt More c)
-partOn last unknown c go = halt Unknown (countsMore Refused c)
-partOn last cut c go = cond last (halt Cut (countsMore Refused c)) (halt More c)
+unfoldable pub partOn : Bool → Found → Standing → (Kind → ℕ → List ℕ → Part) → Part
+partOn last (took q k bytes) j go = after k bytes (go q k bytes)
+partOn last ended j go = cond last (halt End j) (halt More j)
+partOn last unknown j go = halt Unknown (lost j)
+partOn last cut j go = cond last (halt Cut (lost j)) (halt More j)
 
 -- the record loop, where at most n more records are begun: each turn asks first for the room of the longest answer
-unfoldable pub recordsOf : ℕ → Counts → List ℕ → Bool → ℕ → Part
-recordsOf zero c xs last room = cond (ltb room longest) (halt Room c) (halt Full c)
-recordsOf (suc n) c xs last room =
-    cond (ltb room longest) (halt Room c)
-    (partOn last (foundOf xs) c (λ q k bytes. recordsOf n (countsMore q c) (drop k xs) last (room - length bytes)))
+unfoldable pub recordsOf : ℕ → Standing → List ℕ → Bool → ℕ → Part
+recordsOf zero j xs last room = cond (ltb room longest) (halt Room j) (halt Full j)
+recordsOf (suc n) j xs last room =
+    cond (ltb room longest) (halt Room j)
+    (partOn last (foundOf (j .state) xs) j (λ q k bytes. recordsOf n (moved q xs j) (drop k xs) last (room - length bytes)))
 
--- what a reason says: the caller is to call again, with more bytes or more room; the counts handed in are none of a job's; the job has ended; or it has ended by a
--- refusal. The first two are no refusals: nothing is written for them.
+-- what a reason says: the caller is to call again, with more bytes or more room; the counts handed in are none of a job's, or the bytes lent for the state are not so many;
+-- the job has ended; or it has ended by a refusal. The first two are no refusals: nothing is written for them.
 pub data Told : Type 0 where
   again : Told
   unsound : Told
@@ -72,21 +72,26 @@ abbrev pub closing : Reason → Counts → List ℕ
 closing r c = closingOf (reasonTold r) c
 
 abbrev pub closed : Part → Part
-closed p = record { reason = p .reason; counts = p .counts; used = p .used; bytes = p .bytes ++ closing (p .reason) (p .counts) }
+closed p = record { reason = p .reason; standing = p .standing; used = p .used; bytes = p .bytes ++ closing (p .reason) (p .standing .counts) }
 
--- one call, with an output of some room; counts that are none of a job's are handed back
-unfoldable pub feedOf : ℕ → Counts → List ℕ → Bool → ℕ → Part
-feedOf limit c xs last room = cond (countsSound limit c) (closed (recordsOf (limit - c .begun) c xs last room)) (halt Bad c)
+-- one call, with an output of some room, `held` where as many bytes are lent as a state has; else, and with counts that are none of a job's, all is handed back
+unfoldable pub feedOf : ℕ → Bool → Standing → List ℕ → Bool → ℕ → Part
+feedOf limit held j xs last room =
+    cond (held && countsSound limit (j .counts)) (closed (recordsOf (limit - j .counts .begun) j xs last room)) (halt Bad j)
+
+-- with the counts c and the bytes m for the state
+abbrev pub fedOf : Counts → List ℕ → List ℕ → Bool → ℕ → Part
+fedOf c m xs last room = feedOf jobLimit (holds m) (standing c (stateOf m)) xs last room
 
 -- with the counts of a job each call leaves counts of a job, the last three of which add up to the first
 abbrev pub FeedTheorem : Type 0
 FeedTheorem =
-    (limit : ℕ) (c : Counts) (xs : List ℕ) (last : Bool) (room : ℕ) → countsSound limit c ≡ true →
-    (countsSound limit (feedOf limit c xs last room .counts) ≡ true) × Adds (feedOf limit c xs last room .counts)
+    (limit : ℕ) (held : Bool) (j : Standing) (xs : List ℕ) (last : Bool) (room : ℕ) → countsSound limit (j .counts) ≡ true →
+    (countsSound limit (feedOf limit held j xs last room .standing .counts) ≡ true) × Adds (feedOf limit held j xs last room .standing .counts)
 
--- what the function answers: how many bytes it wrote in place of the bytes
+-- what the function answers: the counts, and how many bytes it wrote in place of the bytes
 abbrev pub toldPart : Part → Fed
-toldPart p = record { reason = p .reason; counts = p .counts; used = p .used; written = length (p .bytes) }
+toldPart p = record { reason = p .reason; counts = p .standing .counts; used = p .used; written = length (p .bytes) }
 
 -- whether the job has ended, and whether a call is to be made again
 abbrev pub endsBy : Told → Bool

@@ -7,9 +7,28 @@ use Rattle.wire.specs.Wire.{countBytes}
 use Rattle.outcome.specs.declared.Kind.{Kind}
 use Rattle.outcome.specs.declared.Kind.the-variants.{Refused}
 use Rattle.outcome.specs.Outcome.{unknownMark, cutRecord, markBytes, noBytes, Found, took, ended, unknown, cut}
-use Rattle.marks.specs.Marks.{foundOf}
+use Rattle.marks.specs.State.{State, stateNone}
+use Rattle.marks.specs.Marks.{foundOf, nextOf}
 use Rattle.job.specs.declared.Counts.{Counts}
 use Rattle.job.specs.Counts.{countsNone, countsMore, Adds}
+
+-- where a job stands between records: its counts, and what it keeps
+pub record Standing : Type 0 where
+  pub counts : Counts
+  pub state : State
+
+abbrev pub standing : Counts → State → Standing
+standing c z = record { counts = c; state = z }
+
+abbrev pub standingNone : Standing
+standingNone = standing countsNone stateNone
+
+-- behind the record at the head of xs, which counts so; and where none is taken
+abbrev pub moved : Kind → List ℕ → Standing → Standing
+moved q xs j = standing (countsMore q (j .counts)) (nextOf (j .state) xs)
+
+abbrev pub lost : Standing → Standing
+lost j = standing (countsMore Refused (j .counts)) (j .state)
 
 -- ZZ and the counts
 unfoldable pub trailer : Counts → List ℕ
@@ -22,10 +41,10 @@ jobOn ended c go = trailer c
 jobOn unknown c go = noBytes unknownMark ++ trailer (countsMore Refused c)
 jobOn cut c go = noBytes cutRecord ++ trailer (countsMore Refused c)
 
--- all that is written where c are the counts so far and at most n more records are begun
-unfoldable pub jobFrom : ℕ → Counts → List ℕ → List ℕ
-jobFrom zero c xs = trailer c
-jobFrom (suc n) c xs = jobOn (foundOf xs) c (λ q k. jobFrom n (countsMore q c) (drop k xs))
+-- all that is written where the job stands at j and at most n more records are begun
+unfoldable pub jobFrom : ℕ → Standing → List ℕ → List ℕ
+jobFrom zero j xs = trailer (j .counts)
+jobFrom (suc n) j xs = jobOn (foundOf (j .state) xs) (j .counts) (λ q k. jobFrom n (moved q xs j) (drop k xs))
 
 -- no more records than these are begun
 abbrev pub jobLimit : ℕ
@@ -33,7 +52,7 @@ jobLimit = 1000000
 
 -- the job on the whole input xs, of at most `limit` records
 abbrev pub jobOf : ℕ → List ℕ → List ℕ
-jobOf limit xs = jobFrom limit countsNone xs
+jobOf limit xs = jobFrom limit standingNone xs
 
 -- ---- the counts with which the job ends
 unfoldable pub countsOn : Found → Counts → (Kind → ℕ → Counts) → Counts
@@ -42,12 +61,12 @@ countsOn ended c go = c
 countsOn unknown c go = countsMore Refused c
 countsOn cut c go = countsMore Refused c
 
-unfoldable pub countsFrom : ℕ → Counts → List ℕ → Counts
-countsFrom zero c xs = c
-countsFrom (suc n) c xs = countsOn (foundOf xs) c (λ q k. countsFrom n (countsMore q c) (drop k xs))
+unfoldable pub countsFrom : ℕ → Standing → List ℕ → Counts
+countsFrom zero j xs = j .counts
+countsFrom (suc n) j xs = countsOn (foundOf (j .state) xs) (j .counts) (λ q k. countsFrom n (moved q xs j) (drop k xs))
 
 abbrev pub countsOf : ℕ → List ℕ → Counts
-countsOf limit xs = countsFrom limit countsNone xs
+countsOf limit xs = countsFrom limit standingNone xs
 
 -- they are what is written last; of no more records than the limit; and on every input the last three of them add up to the first
 pub record CountsTheorem : Type 0 where

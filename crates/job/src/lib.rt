@@ -2,18 +2,19 @@
 // a record is cut or the limit is met; then the counts are written. `feed` does this with the bytes
 // at hand, so that a program may read its input in any pieces.
 ghost use mathlib.Core.Path.{_≡_};
-ghost use mathlib.Core.Bool.{true, false};
+ghost use mathlib.Core.Bool.{true, false, cond};
 ghost use mathlib.Core.List.{_++_};
-ghost use Prim.Native.Nat.{_+_, _-_, _≤_};
+ghost use Prim.Native.Nat.{_+_, _≤_};
 ghost use lib.ListN.{length, drop};
 ghost use lib.Seq.{sets};
 ghost use Rattle.wire.specs.Wire.{countBytes};
 ghost use Rattle.outcome.specs.declared.Kind.{Kind};
 ghost use Rattle.outcome.specs.Outcome.{longest, markBytes, noBytes};
 ghost use Rattle.job.specs.Counts.{countsNone, countsMore, countsSound};
-ghost use Rattle.job.specs.Job.{trailer, jobOf, jobLimit};
-ghost use Rattle.job.specs.Feed.{Part, recordsOf, closing, ends, feedOf, toldPart};
-ghost use Rattle.job.specs.Inner.{Sound, stopOf, trailerLength};
+ghost use Rattle.marks.specs.State.{stateNone, stateOf, memory, holds};
+ghost use Rattle.job.specs.Job.{standingNone, trailer, jobOf, jobLimit};
+ghost use Rattle.job.specs.Feed.{Part, closing, ends, feedOf, fedOf, toldPart};
+ghost use Rattle.job.specs.Inner.{Sound, loopedOf, stopOf, trailerLength};
 use outcome::Kind;
 use outcome::LONGEST;
 use outcome::Step;
@@ -42,8 +43,8 @@ pub struct Counts {
 
 // Why the record loop was left. `More`: the bytes at hand end within a record, or with one, and more
 // may come. `Room`: the output has no room for the longest answer. `Bad`: the counts handed in are
-// not those of a job. The other four end the job: the limit, the end of the input, an unknown mark,
-// a cut record.
+// not those of a job, or the bytes lent for the state are not as many as it has. The other four end
+// the job: the limit, the end of the input, an unknown mark, a cut record.
 pub enum Reason {
     More,
     Room,
@@ -122,10 +123,12 @@ fn stop(reason: Reason, c: Counts, e: Counts, used: usize, written: usize, room:
 
 // The whole records at hand. A record is asked for room where it is replied to, an end where the loop
 // is left.
-fn records(c0: Counts, input: &[u8], last: bool, out: &mut [u8]) -> Fed
+fn records(c0: Counts, mem: &mut [u8], input: &[u8], last: bool, out: &mut [u8]) -> Fed
     requires { ⌜ Sound jobLimit c0 ⌝ }
-    ensures { λ r. ⌜ r ≡ toldPart (recordsOf (jobLimit - c0 .begun) c0 (now (input .entry)) last (length (now (out .entry)))) ⌝ }
-    ensures { λ _. ⌜ now (out .exit) ≡ sets (now (out .entry)) 0 (recordsOf (jobLimit - c0 .begun) c0 (now (input .entry)) last (length (now (out .entry))) .bytes) ⌝ }
+    requires { ⌜ length (now mem) ≡ memory ⌝ }
+    ensures { λ r. ⌜ r ≡ toldPart (loopedOf c0 (now (mem .entry)) (now (input .entry)) last (length (now (out .entry)))) ⌝ }
+    ensures { λ _. ⌜ now (out .exit) ≡ sets (now (out .entry)) 0 (loopedOf c0 (now (mem .entry)) (now (input .entry)) last (length (now (out .entry))) .bytes) ⌝ }
+    ensures { λ _. ⌜ stateOf (now (mem .exit)) ≡ loopedOf c0 (now (mem .entry)) (now (input .entry)) last (length (now (out .entry))) .standing .state ⌝ }
 {
     let mut c = c0;
     let mut at = 0;
@@ -134,7 +137,7 @@ fn records(c0: Counts, input: &[u8], last: bool, out: &mut [u8]) -> Fed
         if c.begun == LIMIT {
             break stop(Reason::Full, c, c, at, to, out.len() - to);
         }
-        match marks::reply(&input[at..], &mut out[to..]) {
+        match marks::reply(&input[at..], mem, &mut out[to..]) {
             Step::Took(kind, used, written) => {
                 c = counted(c, kind);
                 at += used;
@@ -249,17 +252,22 @@ fn sound(c: Counts) -> bool
 
 // One call with the bytes at hand, `last` where no more will come: handles whole records while the
 // output has room for the longest answer, and ends the job where there is a reason to. The bytes it
-// is done with are to be taken from the input, the counts and the rest handed in again. Counts that
-// are none of a job's are answered `Bad`, and nothing is written.
-pub fn feed(c: Counts, input: &[u8], last: bool, out: &mut [u8]) -> Fed
-    ensures { λ r. ⌜ r ≡ toldPart (feedOf jobLimit c (now (input .entry)) last (length (now (out .entry)))) ⌝ }
-    ensures { λ r. ⌜ now (out .exit) ≡ (feedOf jobLimit c (now (input .entry)) last (length (now (out .entry))) .bytes) ++ drop (r .written) (now (out .entry)) ⌝ }
+// is done with are to be taken from the input, the counts and the rest handed in again, with the same
+// `mem`, in which the job's state stands. Counts that are none of a job's, and a `mem` that is not as
+// long as a state, are answered `Bad`, and nothing is written.
+pub fn feed(c: Counts, mem: &mut [u8], input: &[u8], last: bool, out: &mut [u8]) -> Fed
+    ensures { λ r. ⌜ r ≡ toldPart (fedOf c (now (mem .entry)) (now (input .entry)) last (length (now (out .entry)))) ⌝ }
+    ensures { λ r. ⌜ now (out .exit) ≡ (fedOf c (now (mem .entry)) (now (input .entry)) last (length (now (out .entry))) .bytes) ++ drop (r .written) (now (out .entry)) ⌝ }
+    ensures { λ _. ⌜ stateOf (now (mem .exit)) ≡ fedOf c (now (mem .entry)) (now (input .entry)) last (length (now (out .entry))) .standing .state ⌝ }
     ensures { λ r. ⌜ (r .used ≤ length (now (input .entry))) × (r .written ≤ length (now (out .entry))) ⌝ }
 {
+    if mem.len() != marks::MEMORY {
+        return leave(Reason::Bad, c, 0, 0);
+    }
     if !sound(c) {
         return leave(Reason::Bad, c, 0, 0);
     }
-    let l = records(c, input, last, out);
+    let l = records(c, mem, input, last, out);
     let reason = l.reason;
     let counts = l.counts;
     let used = l.used;
@@ -280,12 +288,21 @@ pub fn no_counts() -> Counts
     }
 }
 
+// Makes the bytes lent for the state those of a job that has not begun, if they are as many as it has.
+pub fn fresh(mem: &mut [u8])
+    ensures { λ _. ⌜ stateOf (now (mem .exit)) ≡ cond (holds (now (mem .entry))) stateNone (stateOf (now (mem .entry))) ⌝ }
+{
+    marks::fresh(mem);
+}
+
 // The whole job on one slice. Where `out` is too short the reason is `Room`, and the records that
 // found room are answered.
 pub fn run(input: &[u8], out: &mut [u8]) -> Fed
-    ensures { λ r. ⌜ r ≡ toldPart (feedOf jobLimit countsNone (now (input .entry)) true (length (now (out .entry)))) ⌝ }
-    ensures { λ r. ⌜ now (out .exit) ≡ (feedOf jobLimit countsNone (now (input .entry)) true (length (now (out .entry))) .bytes) ++ drop (r .written) (now (out .entry)) ⌝ }
+    ensures { λ r. ⌜ r ≡ toldPart (feedOf jobLimit true standingNone (now (input .entry)) true (length (now (out .entry)))) ⌝ }
+    ensures { λ r. ⌜ now (out .exit) ≡ (feedOf jobLimit true standingNone (now (input .entry)) true (length (now (out .entry))) .bytes) ++ drop (r .written) (now (out .entry)) ⌝ }
     ensures { λ r. ⌜ (ends (r .reason) ≡ true → now (out .exit) ≡ jobOf jobLimit (now (input .entry)) ++ drop (r .written) (now (out .entry))) ⌝ }
 {
-    feed(no_counts(), input, true, out)
+    let mut mem: [u8; 73] = [0; 73];
+    fresh(&mut mem);
+    feed(no_counts(), &mut mem, input, true, out)
 }

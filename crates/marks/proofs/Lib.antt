@@ -1,2 +1,5 @@
--- What stands at the head of the input.
+-- What stands at the head of the input and the state behind it, the bytes of the state, and any history of records.
 pub mod Heads
+pub mod State
+pub mod Lent
+pub mod Past

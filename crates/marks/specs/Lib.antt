@@ -1,1 +1,4 @@
+pub mod State
+pub mod Chain
 pub mod Marks
+pub mod History

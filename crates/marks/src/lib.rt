@@ -3,18 +3,31 @@ ghost use mathlib.Core.Path.{_≡_};
 ghost use Prim.Native.Nat.{_+_, _*_};
 ghost use lib.ListN.{length};
 ghost use lib.Seq.{sets};
-ghost use Rattle.outcome.specs.Outcome.{becameOf, writtenOf, stepTold};
-ghost use Rattle.marks.specs.Marks.{markKnown, markOf, lookTold, foundOf};
+ghost use mathlib.Core.Bool.{cond};
+ghost use Rattle.outcome.specs.Outcome.{stepTold};
+ghost use Rattle.marks.specs.State.{stateNone, stateOf, holds};
+ghost use Rattle.marks.specs.Marks.{markKnown, markOf, lookTold, metOf, metBytes, metState};
+use crate::chain::ch;
+use crate::chain::rn;
 use outcome::Entry;
 use outcome::Step;
 
-// A mark of the table: the entry that it asks for, on doubles or on singles.
+// How many bytes are lent for the state of a job: n and the count of the running join, whether it has
+// a pose, and the pose with its frames.
+pub const MEMORY: usize = 2 + 2 + 1 + 8 * 8 + 2 * 2;
+
+mod chain; // the running join
+
+// A mark of the table: it asks for an entry of the engine, on doubles or on singles, or for the running
+// join.
 pub enum Mark {
     Double(Entry),
     Single(Entry),
+    Ch,
+    Rn,
 }
 
-// A mark of the table, or none.
+// A mark of the table; or none.
 pub enum Look {
     Known(Mark),
     Unknown,
@@ -47,6 +60,8 @@ fn known(k: u16) -> Look
         0x6d75 => Look::Known(Mark::Single(Entry::Mu)),
         0x696e => Look::Known(Mark::Single(Entry::In)),
         0x6a69 => Look::Known(Mark::Single(Entry::Ji)),
+        0x4348 => Look::Known(Mark::Ch),
+        0x524e => Look::Known(Mark::Rn),
         _ => Look::Unknown,
     }
 }
@@ -58,12 +73,30 @@ pub fn look_up(a: u8, b: u8) -> Look
     known(key(a, b))
 }
 
-// Answers the record at the head of s at the front of `out`, or tells why there is none. Nothing is
-// written where s ends within the record, or `out` is shorter than the longest answer.
-pub fn reply(s: &[u8], out: &mut [u8]) -> Step
-    ensures { λ r. ⌜ stepTold r ≡ becameOf (foundOf (now (s .entry))) (length (now (out .entry))) ⌝ }
-    ensures { λ _. ⌜ now (out .exit) ≡ sets (now (out .entry)) 0 (writtenOf (foundOf (now (s .entry))) (length (now (out .entry)))) ⌝ }
+// Makes the lent bytes the state of a job that has not begun, if they are as many as a state has.
+pub fn fresh(mem: &mut [u8])
+    ensures { λ _. ⌜ stateOf (now (mem .exit)) ≡ cond (holds (now (mem .entry))) stateNone (stateOf (now (mem .entry))) ⌝ }
 {
+    if mem.len() == MEMORY {
+        mem[0] = 0;
+        mem[1] = 0;
+        mem[2] = 0;
+        mem[3] = 0;
+        mem[4] = 0;
+    }
+}
+
+// Answers the record at the head of s at the front of `out`, and moves the state in `mem` behind it, or
+// tells why there is none. Nothing is written where s ends within the record, `out` is shorter than the
+// longest answer, or `mem` is not as long as a state.
+pub fn reply(s: &[u8], mem: &mut [u8], out: &mut [u8]) -> Step
+    ensures { λ r. ⌜ stepTold r ≡ metOf (now (mem .entry)) (now (s .entry)) (length (now (out .entry))) ⌝ }
+    ensures { λ _. ⌜ now (out .exit) ≡ sets (now (out .entry)) 0 (metBytes (now (mem .entry)) (now (s .entry)) (length (now (out .entry)))) ⌝ }
+    ensures { λ _. ⌜ stateOf (now (mem .exit)) ≡ metState (now (mem .entry)) (now (s .entry)) (length (now (out .entry))) ⌝ }
+{
+    if mem.len() != MEMORY {
+        return Step::Room;
+    }
     if s.len() == 0 {
         return Step::End;
     }
@@ -76,5 +109,7 @@ pub fn reply(s: &[u8], out: &mut [u8]) -> Step
     match m {
         Mark::Double(e) => replies::reply(e, s, out),
         Mark::Single(e) => replies_f32::reply(e, s, out),
+        Mark::Ch => ch(s, mem, out),
+        Mark::Rn => rn(s, mem, out),
     }
 }

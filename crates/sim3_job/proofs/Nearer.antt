@@ -11,7 +11,7 @@ use Rattle.job.specs.declared.Fed.{Fed}
 use Rattle.job.specs.declared.Reason.{Reason}
 use Rattle.job.specs.declared.Reason.the-variants.{More, Room, Bad, Full, End, Unknown, Cut}
 use Rattle.job.specs.Counts.{countsNone, countsSound}
-use Rattle.job.specs.Job.{jobLimit}
+use Rattle.job.specs.Job.{Standing, jobLimit}
 use Rattle.job.specs.Feed.{feedOf, toldPart, goesOn, answerRoom}
 use Rattle.job.proofs.Pieces.{sound-is}
 use Rattle.job.proofs.Progress.{feed-progress}
@@ -53,21 +53,21 @@ less-by t Unknown asked ended b b₁ have n used q g w l u m o h k = untrue g
 less-by t Cut asked ended b b₁ have n used q g w l u m o h k = untrue g
 
 pub nearer :
-    (c : Counts) (kept : List ℕ) (asked ended : Bool) (have n room : ℕ) (f : Fed) → countsSound jobLimit c ≡ true → answerRoom ≤ room →
-    f ≡ toldPart (feedOf jobLimit c kept ended room) → goesOn (f .reason) ≡ true → (asked ≡ true → n ≡ 0 → ended ≡ true) → have + n ≤ 65536 →
-    toGo (f .counts) (have + n - f .used) (asksFor (f .reason)) < toGo c have asked
-nearer c kept asked ended have n room f s k e g h i =
-    let F = feedOf jobLimit c kept ended room in
-    let m = feed-progress jobLimit c kept ended room s in
+    (j : Standing) (kept : List ℕ) (asked ended : Bool) (have n room : ℕ) (f : Fed) → countsSound jobLimit (j .counts) ≡ true → answerRoom ≤ room →
+    f ≡ toldPart (feedOf jobLimit true j kept ended room) → goesOn (f .reason) ≡ true → (asked ≡ true → n ≡ 0 → ended ≡ true) → have + n ≤ 65536 →
+    toGo (f .counts) (have + n - f .used) (asksFor (f .reason)) < toGo (j .counts) have asked
+nearer j kept asked ended have n room f s k e g h i =
+    let F = feedOf jobLimit true j kept ended room in
+    let m = feed-progress jobLimit j kept ended room s in
     let g₁ : goesOn (F .reason) ≡ true = rw e at g in
     rw e
-    (less-by (ltb (c .begun) (F .counts .begun)) (F .reason) asked ended (c .begun) (F .counts .begun) have n (F .used) refl g₁ (m .grows)
-    (sound-is jobLimit (F .counts) (feed-sound jobLimit c kept ended room s) .few) (m .still) (m .more) (m .roomy k) h i)
+    (less-by (ltb (j .counts .begun) (F .standing .counts .begun)) (F .reason) asked ended (j .counts .begun) (F .standing .counts .begun) have n (F .used) refl g₁ (m .grows)
+    (sound-is jobLimit (F .standing .counts) (feed-sound jobLimit true j kept ended room s) .few) (m .still) (m .more) (m .roomy k) h i)
 
 pub still-sound :
-    (c : Counts) (kept : List ℕ) (last : Bool) (room : ℕ) (f : Fed) → countsSound jobLimit c ≡ true → f ≡ toldPart (feedOf jobLimit c kept last room) →
+    (j : Standing) (kept : List ℕ) (last : Bool) (room : ℕ) (f : Fed) → countsSound jobLimit (j .counts) ≡ true → f ≡ toldPart (feedOf jobLimit true j kept last room) →
     countsSound jobLimit (f .counts) ≡ true
-still-sound c kept last room f s e = rw e (feed-sound jobLimit c kept last room s)
+still-sound j kept last room f s e = rw e (feed-sound jobLimit true j kept last room s)
 
 pub none-sound : countsSound jobLimit countsNone ≡ true
 unfolding countsSound
@@ -83,5 +83,5 @@ asks-more Unknown e = untrue e
 asks-more Cut e = untrue e
 
 pub not-bad :
-    (c : Counts) (kept : List ℕ) (last : Bool) (room : ℕ) (f : Fed) → countsSound jobLimit c ≡ true → f ≡ toldPart (feedOf jobLimit c kept last room) → f .reason ≡ Bad → ⊥
-not-bad c kept last room f s e u = feed-progress jobLimit c kept last room s .fair (rw e at u)
+    (j : Standing) (kept : List ℕ) (last : Bool) (room : ℕ) (f : Fed) → countsSound jobLimit (j .counts) ≡ true → f ≡ toldPart (feedOf jobLimit true j kept last room) → f .reason ≡ Bad → ⊥
+not-bad j kept last room f s e u = feed-progress jobLimit j kept last room s .fair (rw e at u)

@@ -10,10 +10,9 @@ use lib.Dec.{eqb}
 use lib.IntN.{ℤ, pos, negsuc}
 use lib.ListN.{length, take, drop, length-append, take-append-drop}
 use lib.Seq.{length-take-le, take-append-seam, take-take, take-at, drop-drop, drop-length}
-use Rattle.job.specs.declared.Counts.{Counts}
 use Rattle.job.specs.declared.Fed.{Fed}
-use Rattle.job.specs.Counts.{countsNone, countsSound}
-use Rattle.job.specs.Job.{jobOf}
+use Rattle.job.specs.Counts.{countsSound}
+use Rattle.job.specs.Job.{Standing, standingNone, jobOf}
 use Rattle.job.specs.Feed.{feedOf, toldPart, goesOn}
 use Rattle.job.specs.Run.{jobWith}
 use Rattle.job.proofs.Stream.{stream}
@@ -25,20 +24,20 @@ use Rattle.sim3_job.specs.Filled.{Within, FromTape, filledOf}
 use Rattle.sim3_job.specs.Sent.{WithinSink, ToSink, sentOf}
 use Rattle.outcome.proofs.Never.{untrue}
 
-pub record Underway (limit : ℕ) (tape sink : List ℕ) (c : Counts) (kept : List ℕ) (last : Bool) (at sent : ℕ) : Type 0 where
-  pub same : take sent sink ++ jobWith limit c (kept ++ drop at tape) ≡ jobOf limit tape
+pub record Underway (limit : ℕ) (tape sink : List ℕ) (j : Standing) (kept : List ℕ) (last : Bool) (at sent : ℕ) : Type 0 where
+  pub same : take sent sink ++ jobWith limit j (kept ++ drop at tape) ≡ jobOf limit tape
   pub over : last ≡ true → at ≡ length tape
 
-pub underway-start : (limit : ℕ) (tape sink : List ℕ) → Underway limit tape sink countsNone [] false 0 0
+pub underway-start : (limit : ℕ) (tape sink : List ℕ) → Underway limit tape sink standingNone [] false 0 0
 underway-start limit tape sink = record { same = rw (sub-zero limit); over = λ e. untrue e }
 
 pub underway-read :
-    (limit : ℕ) (tape sink : List ℕ) (c : Counts) (kept kept₁ : List ℕ) (last ended : Bool) (at n next sent : ℕ) → Underway limit tape sink c kept last at sent →
+    (limit : ℕ) (tape sink : List ℕ) (j : Standing) (kept kept₁ : List ℕ) (last ended : Bool) (at n next sent : ℕ) → Underway limit tape sink j kept last at sent →
     next ≡ at + n → kept₁ ≡ kept ++ take n (drop at tape) → (ended ≡ true → (last ≡ true → at ≡ length tape) → next ≡ length tape) →
-    Underway limit tape sink c kept₁ ended next sent
-underway-read limit tape sink c kept kept₁ last ended at n next sent p e k o =
+    Underway limit tape sink j kept₁ ended next sent
+underway-read limit tape sink j kept kept₁ last ended at n next sent p e k o =
     record {
-      same = rw (e, k) (ap (λ (l : List ℕ). take sent sink ++ jobWith limit c l) joined ∙ p .same);
+      same = rw (e, k) (ap (λ (l : List ℕ). take sent sink ++ jobWith limit j l) joined ∙ p .same);
       over = λ u. o u (p .over);
     }
   where
@@ -49,43 +48,44 @@ underway-read limit tape sink c kept kept₁ last ended at n next sent p e k o =
 
 -- one call, of which f is told
 module _
-    (limit : ℕ) (tape sink : List ℕ) (c : Counts) (kept : List ℕ) (last : Bool) (at sent : ℕ) (p : Underway limit tape sink c kept last at sent) (s : countsSound limit c ≡ true)
+    (limit : ℕ) (tape sink : List ℕ) (j : Standing) (kept : List ℕ) (last : Bool) (at sent : ℕ) (p : Underway limit tape sink j kept last at sent) (s : countsSound limit (j .counts) ≡ true)
     (room : ℕ) where
   alone : last ≡ true → drop at tape ≡ []
   alone e = ap (λ (n : ℕ). drop n tape) (p .over e) ∙ drop-length tape
 
   pub underway-feed :
-      (sink₁ kept₁ : List ℕ) (sent₁ : ℕ) (f : Fed) → f ≡ toldPart (feedOf limit c kept last room) → goesOn (f .reason) ≡ true →
-      take sent₁ sink₁ ≡ take sent sink ++ feedOf limit c kept last room .bytes → kept₁ ≡ drop (f .used) kept → Underway limit tape sink₁ (f .counts) kept₁ last at sent₁
+      (sink₁ kept₁ : List ℕ) (sent₁ : ℕ) (f : Fed) → f ≡ toldPart (feedOf limit true j kept last room) → goesOn (f .reason) ≡ true →
+      take sent₁ sink₁ ≡ take sent sink ++ feedOf limit true j kept last room .bytes → kept₁ ≡ drop (f .used) kept →
+      Underway limit tape sink₁ (feedOf limit true j kept last room .standing) kept₁ last at sent₁
   underway-feed sink₁ kept₁ sent₁ f e g w k =
-      let F = feedOf limit c kept last room in
+      let F = feedOf limit true j kept last room in
       let g₁ : goesOn (F .reason) ≡ true = rw e at g in
       let k₁ : kept₁ ≡ drop (F .used) kept = rw e at k in
       record {
         same =
-            rw (e, w, k₁)
+            rw (w, k₁)
             (append-assoc (take sent sink) (F .bytes) _
-            ∙ ap (λ (l : List ℕ). take sent sink ++ l) (sym (stream limit (drop at tape) last alone c kept room s ∙ rw g₁))
+            ∙ ap (λ (l : List ℕ). take sent sink ++ l) (sym (stream limit (drop at tape) last alone j kept room s ∙ rw g₁))
             ∙ p .same);
         over = p .over;
       }
 
   pub underway-done :
-      (sink₁ : List ℕ) (sent₁ : ℕ) (f : Fed) → f ≡ toldPart (feedOf limit c kept last room) → goesOn (f .reason) ≡ false →
-      take sent₁ sink₁ ≡ take sent sink ++ feedOf limit c kept last room .bytes → take sent₁ sink₁ ≡ jobOf limit tape
+      (sink₁ : List ℕ) (sent₁ : ℕ) (f : Fed) → f ≡ toldPart (feedOf limit true j kept last room) → goesOn (f .reason) ≡ false →
+      take sent₁ sink₁ ≡ take sent sink ++ feedOf limit true j kept last room .bytes → take sent₁ sink₁ ≡ jobOf limit tape
   underway-done sink₁ sent₁ f e g w =
-      let F = feedOf limit c kept last room in
+      let F = feedOf limit true j kept last room in
       let g₁ : goesOn (F .reason) ≡ false = rw e at g in
-      w ∙ ap (λ (l : List ℕ). take sent sink ++ l) (sym (stream limit (drop at tape) last alone c kept room s ∙ rw g₁ (append-nil _))) ∙ p .same
+      w ∙ ap (λ (l : List ℕ). take sent sink ++ l) (sym (stream limit (drop at tape) last alone j kept room s ∙ rw g₁ (append-nil _))) ∙ p .same
 
   pub underway-short :
-      sent ≤ length sink → length sink < sent + length (feedOf limit c kept last room .bytes) →
+      sent ≤ length sink → length sink < sent + length (feedOf limit true j kept last room .bytes) →
       (length sink < length (jobOf limit tape)) × (take sent sink ≡ take (length (take sent sink)) (jobOf limit tape))
   underway-short h l =
-      let F = feedOf limit c kept last room in
-      let Z = cond (goesOn (F .reason)) (jobWith limit (F .counts) (drop (F .used) kept ++ drop at tape)) [] in
+      let F = feedOf limit true j kept last room in
+      let Z = cond (goesOn (F .reason)) (jobWith limit (F .standing) (drop (F .used) kept ++ drop at tape)) [] in
       let j : jobOf limit tape ≡ take sent sink ++ (F .bytes ++ Z) =
-      sym (p .same) ∙ ap (λ (l : List ℕ). take sent sink ++ l) (stream limit (drop at tape) last alone c kept room s) in
+      sym (p .same) ∙ ap (λ (l : List ℕ). take sent sink ++ l) (stream limit (drop at tape) last alone j kept room s) in
       (rw j (rw (length-append (take sent sink) (F .bytes ++ Z), length-append (F .bytes) Z, length-take-le sent sink h) (omega arith)), rw j (sym (take-append-seam (take sent sink) (F .bytes ++ Z))))
 
 -- ---- what a read from the tape gives
@@ -107,11 +107,11 @@ within e have most asked end w = rw e at w
 
 pub tape-read :
     {r : Filled} {n next : ℕ} {ended : Bool} → r ≡ Bytes n ended next →
-    (limit : ℕ) (tape sink : List ℕ) (c : Counts) (buf buf₁ : List ℕ) (last : Bool) (at have sent : ℕ) → FromTape r tape at have buf buf₁ last →
-    Underway limit tape sink c (take have buf) last at sent → Underway limit tape sink c (take (have + n) buf₁) ended next sent
-tape-read {r} {n} {next} {ended} e limit tape sink c buf buf₁ last at have sent q p =
+    (limit : ℕ) (tape sink : List ℕ) (j : Standing) (buf buf₁ : List ℕ) (last : Bool) (at have sent : ℕ) → FromTape r tape at have buf buf₁ last →
+    Underway limit tape sink j (take have buf) last at sent → Underway limit tape sink j (take (have + n) buf₁) ended next sent
+tape-read {r} {n} {next} {ended} e limit tape sink j buf buf₁ last at have sent q p =
     let z : FromTape (Bytes n ended next) tape at have buf buf₁ last = rw e at q in
-    underway-read limit tape sink c (take have buf) (take (have + n) buf₁) last ended at n next sent p (z .0) (z .1) (z .2)
+    underway-read limit tape sink j (take have buf) (take (have + n) buf₁) last ended at n next sent p (z .0) (z .1) (z .2)
 
 pub tape-failed : {r : Filled} → r ≡ Failed → (tape : List ℕ) (at have : ℕ) (buf buf₁ : List ℕ) (last : Bool) → FromTape r tape at have buf buf₁ last → ⊥
 tape-failed e tape at have buf buf₁ last q = rw e at q

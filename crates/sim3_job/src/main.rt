@@ -14,7 +14,8 @@ ghost use lib.ListN.{length, take, drop, getD};
 ghost use lib.Seq.{paste};
 ghost use Rattle.job.specs.Counts.{countsSound};
 ghost use Rattle.job.specs.Job.{jobLimit, jobOf};
-ghost use Rattle.job.specs.Feed.{feedOf, toldPart, goesOn, recordRoom};
+ghost use Rattle.marks.specs.State.{stateOf, memory};
+ghost use Rattle.job.specs.Feed.{fedOf, toldPart, goesOn, recordRoom};
 ghost use Rattle.job.specs.declared.Reason.{Reason};
 ghost use Rattle.sim3_job.specs.Filled.{Within, FromTape, filledOf};
 ghost use Rattle.sim3_job.specs.Sent.{WithinSink, ToSink, sentOf};
@@ -63,17 +64,19 @@ fn shift(buf: &mut [u8], from: usize, end: usize)
 
 // Feeds the first `have` bytes of buf, and moves those that it is not done with to the front. Where
 // it waits for more they are fewer than the longest record has. The counts are never found bad.
-fn turn(buf: &mut [u8], have: usize, c: Counts, last: bool, out: &mut [u8]) -> Fed
+fn turn(buf: &mut [u8], have: usize, c: Counts, mem: &mut [u8], last: bool, out: &mut [u8]) -> Fed
     requires { ⌜ have ≤ length (now buf) ⌝ }
     requires { ⌜ countsSound jobLimit c ≡ true ⌝ }
-    ensures { λ r. ⌜ r ≡ toldPart (feedOf jobLimit c (take have (now (buf .entry))) last (length (now (out .entry)))) ⌝ }
-    ensures { λ r. ⌜ now (out .exit) ≡ (feedOf jobLimit c (take have (now (buf .entry))) last (length (now (out .entry))) .bytes) ++ drop (r .written) (now (out .entry)) ⌝ }
+    requires { ⌜ length (now mem) ≡ memory ⌝ }
+    ensures { λ r. ⌜ r ≡ toldPart (fedOf c (now (mem .entry)) (take have (now (buf .entry))) last (length (now (out .entry)))) ⌝ }
+    ensures { λ r. ⌜ now (out .exit) ≡ (fedOf c (now (mem .entry)) (take have (now (buf .entry))) last (length (now (out .entry))) .bytes) ++ drop (r .written) (now (out .entry)) ⌝ }
+    ensures { λ _. ⌜ stateOf (now (mem .exit)) ≡ fedOf c (now (mem .entry)) (take have (now (buf .entry))) last (length (now (out .entry))) .standing .state ⌝ }
     ensures { λ r. ⌜ (r .used ≤ have) × (r .written ≤ length (now (out .entry))) ⌝ }
     ensures { λ r. ⌜ (r .reason ≡ Reason.More → have - r .used < recordRoom) ⌝ }
     ensures { λ r. ⌜ (r .reason ≡ Reason.Bad → ⊥) ⌝ }
     ensures { λ r. ⌜ take (have - r .used) (now (buf .exit)) ≡ drop (r .used) (take have (now (buf .entry))) ⌝ }
 {
-    let f = job::feed(c, &buf[..have], last, out);
+    let f = job::feed(c, mem, &buf[..have], last, out);
     let used = f.used;
     shift(buf, used, have);
     f
@@ -246,6 +249,9 @@ fn run(live: bool, tape: &[u8], cuts: &[usize], sink: &mut [u8]) -> Ran
     let buf: &mut [u8] = &mut space;
     let mut room = io::large_buffer();
     let out: &mut [u8] = &mut room;
+    let mut place: [u8; 73] = [0; 73];
+    let mem: &mut [u8] = &mut place;
+    job::fresh(mem);
     let mut c = job::no_counts();
     let mut have = 0;
     let mut asked = true;
@@ -262,7 +268,7 @@ fn run(live: bool, tape: &[u8], cuts: &[usize], sink: &mut [u8]) -> Ran
                 have += n;
                 last = ended;
                 at = next;
-                let f = turn(buf, have, c, last, out);
+                let f = turn(buf, have, c, mem, last, out);
                 let written = f.written;
                 match put(live, &out[..written], sink, sent) {
                     Sent::Failed => break Ran {

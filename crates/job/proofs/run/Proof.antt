@@ -1,15 +1,34 @@
+-- Written by tools/proofs from Proof.template: edit that one. Digest a79666991d1028d6.
 -- `job::run` meets its contract: one call with all the input is the whole job, unless it ran out of room. Assumes nothing.
 use borrow.Author.Needs.{needs}
 use mathlib.Core.Path.{_≡_, _∙_}
+use mathlib.Core.Bool.{true}
+use Rattle.marks.specs.State.{stateNone, stateOf, holds}
+use Rattle.marks.proofs.Heads.{held}
 use Rattle.job.specs.Job.{jobLimit}
 use Rattle.job.proofs.Whole.{whole}
 use Rattle.job.proofs.run.Statement.{statement}
 use Rattle.job.proofs.run.Tie as tie
 
 returns : tie.Need-returns
+unfolding holds
 returns c =
-    let f = rw (c .before .before .before .before .no-counts .ensures) at (c .before .before .feed .ensures) in
-    (f .0, (f .1 .0, λ e. f .1 .0 ∙ rw (whole jobLimit (c .before .before .before .before .before .before .before .args .input .now) _ (rw (f .0) at e))))
+    let c1 = c .before .before .before .before .before in
+    let c2 = c1 .before .before .before .before .before in
+    let m = c1 .before .before .before .fresh .last .0 in
+    let z : stateOf m ≡ stateNone = c1 .before .before .before .fresh .ensures in
+    let h : holds m ≡ true = held m (c1 .before .before .before .fresh .kept .0) in
+    let f = rw (c1 .before .no-counts .ensures, z, h) at (c .before .before .before .feed .ensures) in
+    (f .0, (f .1 .0, λ e. f .1 .0 ∙ rw (whole jobLimit (c2 .before .before .args .input .now) _ (rw (f .0) at e))))
 
 pub run-spec : {M : Type 1} → statement M
-run-spec = tie.close (tie.spec (λ c κs. search needs) (λ c κs. search needs) (λ c. search needs) returns)
+run-spec =
+    tie.close
+    (tie.spec
+    (λ c. search needs)
+    (λ c κs. search needs)
+    (λ c κs. search needs)
+    (λ c. search needs)
+    (λ c κs. search needs)
+    (λ c. search needs)
+    returns)

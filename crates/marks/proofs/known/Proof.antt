@@ -1,4 +1,4 @@
--- Written by tools/proofs from Proof.template: edit that one. Digest 8c345916519c2c2a.
+-- Written by tools/proofs from Proof.template: edit that one. Digest 06f5d0f93a2cac91.
 -- `marks::known` meets its contract: by the number, and by its being none of the table's. Assumes nothing.
 use borrow.Author.Tests.{ne-eqb}
 use Rattle.marks.specs.Marks.{markKnown}
@@ -47,27 +47,7 @@ returns-10 c = simp (c .match .keys10)
 
 returns-11 : tie.Need-returns-11
 unfolding markKnown
-returns-11 c = simp (c .match .keys11)
-
-returns-12 : tie.Need-returns-12
-unfolding markKnown
-returns-12 c = simp (c .match .keys12)
-
-returns-13 : tie.Need-returns-13
-unfolding markKnown
-returns-13 c = simp (c .match .keys13)
-
-returns-14 : tie.Need-returns-14
-unfolding markKnown
-returns-14 c = simp (c .match .keys14)
-
-returns-15 : tie.Need-returns-15
-unfolding markKnown
-returns-15 c = simp (c .match .keys15)
-
-returns-16 : tie.Need-returns-16
-unfolding markKnown
-returns-16 c =
+returns-11 c =
     simp (
       ne-eqb _ _ (c .match .rest .1),
       ne-eqb _ _ (c .match .rest .0 .1),
@@ -79,11 +59,6 @@ returns-16 c =
       ne-eqb _ _ (c .match .rest .0 .0 .0 .0 .0 .0 .0 .1),
       ne-eqb _ _ (c .match .rest .0 .0 .0 .0 .0 .0 .0 .0 .1),
       ne-eqb _ _ (c .match .rest .0 .0 .0 .0 .0 .0 .0 .0 .0 .1),
-      ne-eqb _ _ (c .match .rest .0 .0 .0 .0 .0 .0 .0 .0 .0 .0 .1),
-      ne-eqb _ _ (c .match .rest .0 .0 .0 .0 .0 .0 .0 .0 .0 .0 .0 .1),
-      ne-eqb _ _ (c .match .rest .0 .0 .0 .0 .0 .0 .0 .0 .0 .0 .0 .0 .1),
-      ne-eqb _ _ (c .match .rest .0 .0 .0 .0 .0 .0 .0 .0 .0 .0 .0 .0 .0 .1),
-      ne-eqb _ _ (c .match .rest .0 .0 .0 .0 .0 .0 .0 .0 .0 .0 .0 .0 .0 .0 .1),
     )
 
 pub known-spec : {M : Type 1} → statement M
@@ -100,9 +75,4 @@ known-spec =
     returns-8
     returns-9
     returns-10
-    returns-11
-    returns-12
-    returns-13
-    returns-14
-    returns-15
-    returns-16)
+    returns-11)

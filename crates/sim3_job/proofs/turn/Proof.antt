@@ -1,4 +1,4 @@
--- Written by tools/proofs from Proof.template: edit that one. Digest 2ae73495f46374ad.
+-- Written by tools/proofs from Proof.template: edit that one. Digest 99f1beea447dd969.
 -- `sim3_job::turn` meets its contract: it is what `feed` ensures, with the bytes that are left moved to the front.
 use borrow.Author.Needs.{needs}
 use native.Mathlib.Omega.{arith}
@@ -8,8 +8,11 @@ use lib.Seq.{length-take-le}
 use lib.ListN.{length, take, length-take}
 use Rattle.job.specs.declared.Fed.{Fed}
 use Rattle.job.specs.declared.Reason.the-variants.{More}
-use Rattle.job.specs.Job.{jobLimit}
-use Rattle.job.specs.Feed.{feedOf, recordRoom}
+use mathlib.Core.Bool.{true}
+use Rattle.job.specs.Job.{standing, jobLimit}
+use Rattle.job.specs.Feed.{fedOf, recordRoom}
+use Rattle.marks.specs.State.{stateOf, holds}
+use Rattle.marks.proofs.Heads.{held}
 use Rattle.job.proofs.Few.{feed-few}
 use Rattle.sim3_job.proofs.Moves.{drop-take}
 use Rattle.sim3_job.proofs.Nearer.{not-bad}
@@ -20,25 +23,30 @@ slice-aggregate-feed : tie.Need-slice-aggregate-feed
 slice-aggregate-feed c = sym (length-take-le _ _ (search needs))
 
 shift-requires : tie.Need-shift-requires
-shift-requires c κs = (omega (arith, simp length-take at (c .before .before .before .feed .ensures .1 .1 .0)), search needs)
+shift-requires c κs =
+    let c1 = c .before .before .before .before .before in
+    (omega (arith, simp length-take at (c1 .feed .ensures .1 .1 .1 .0)), search needs)
 
 returns : tie.Need-returns
 returns c =
     let c1 = c .before .before .before .before .before in
     let c2 = c1 .before .before .before .before .before in
-    let a = c2 .before .args in
-    let f = c1 .before .feed in
+    let c3 = c2 .before .before .before .before .before in
+    let a = c3 .args in
+    let f = c1 .before .before .before .feed in
     let xs = take (a .have) (a .buf .now) in
     let room = length (a .out .now) in
-    let used : f .result .used ≤ a .have = omega (arith, simp length-take at (f .ensures .1 .1 .0)) in
+    let used : f .result .used ≤ a .have = omega (arith, simp length-take at (f .ensures .1 .1 .1 .0)) in
     let few : f .result .reason ≡ More → a .have - f .result .used < recordRoom = λ e.
-    let z : length xs - feedOf jobLimit (a .c) xs (a .last) room .used < recordRoom = feed-few jobLimit (a .c) _ (a .last) room (rw (f .ensures .0) at e) in
-    let u : f .result .used ≡ feedOf jobLimit (a .c) xs (a .last) room .used = ap (λ (x : Fed). x .used) (f .ensures .0) in
-    let n : length xs ≡ a .have = length-take-le _ _ (c2 .before .pre .0) in
+    let z : length xs - fedOf (a .c) (a .mem .now) xs (a .last) room .used < recordRoom =
+    feed-few jobLimit (holds (a .mem .now)) (standing (a .c) (stateOf (a .mem .now))) _ (a .last) room (rw (f .ensures .0) at e) in
+    let u : f .result .used ≡ fedOf (a .c) (a .mem .now) xs (a .last) room .used = ap (λ (x : Fed). x .used) (f .ensures .0) in
+    let n : length xs ≡ a .have = length-take-le _ _ (c3 .pre .0) in
     omega (arith, z, u, n) in
-    let bad = not-bad (a .c) _ (a .last) room (f .result) (c2 .before .pre .1) (f .ensures .0) in
+    let h : holds (a .mem .now) ≡ true = held (a .mem .now) (c3 .pre .1 .1) in
+    let bad = not-bad (standing (a .c) (stateOf (a .mem .now))) _ (a .last) room (f .result) (c3 .pre .1 .0) (rw h at (f .ensures .0)) in
     let left = c .before .before .shift .ensures ∙ sym (drop-take (f .result .used) (a .have) (a .buf .now) used) in
-    (f .ensures .0, (f .ensures .1 .0, ((used, f .ensures .1 .1 .1), (few, (bad, left)))))
+    (f .ensures .0, (f .ensures .1 .0, (f .ensures .1 .1 .0, ((used, f .ensures .1 .1 .1 .1), (few, (bad, left))))))
 
 pub turn-spec : {M : Type 1} → statement M
 turn-spec =
@@ -48,6 +56,7 @@ turn-spec =
     slice-aggregate-feed
     (λ c κs. search needs)
     shift-requires
+    (λ c. search needs)
     (λ c. search needs)
     (λ c. search needs)
     returns)

@@ -1,0 +1,46 @@
+-- The records that came, and what each means to the running join. Proved as `records` in proofs/Past.antt.
+use Prim.Native.Nat.{ℕ}
+use mathlib.Core.Path.{_≡_}
+use mathlib.Core.Bool.{cond}
+use mathlib.Core.List.{List, [], _∷_}
+use lib.ListN.{length, take, drop}
+use lib.Dec.{ltb}
+use lib.Ieee.{binary64}
+use Rattle.linalg.specs.Answer.{Answer, answers, refuses}
+use Rattle.running.specs.History.{Event, join, renew, ran, Small}
+use Rattle.running.specs.declared.Start.the-variants.{Unset}
+use Rattle.wire.specs.Wire.{wordAt, numberAt}
+use Rattle.replies.specs.Table.{framedWidth, framedIn}
+use Rattle.marks.specs.State.{State, stateNone}
+use Rattle.marks.specs.Chain.{chSize, rnSize}
+use Rattle.marks.specs.Marks.{markOf, nextOf}
+use Rattle.marks.specs.declared.Mark.{Mark}
+use Rattle.marks.specs.declared.Mark.the-variants.{Double, Single, Ch, Rn}
+
+-- what is kept after these records, each with its mark
+unfoldable pub keptAfter : State → List (List ℕ) → State
+keptAfter z [] = z
+keptAfter z (r ∷ rs) = keptAfter (nextOf z r) rs
+
+-- a whole CH and a whole RN, before what h holds; other records mean nothing to the running join
+unfoldable pub eventOn : Answer Mark → List ℕ → List Event → List Event
+eventOn (answers (Double e)) r h = h
+eventOn (answers (Single e)) r h = h
+eventOn (answers Ch) r h =
+    let b = drop 2 (take chSize r) in
+    cond (ltb (length r) chSize) h (join (framedIn binary64 b) (numberAt binary64 (drop (framedWidth binary64) b) 0) ∷ h)
+eventOn (answers Rn) r h = cond (ltb (length r) rnSize) h (renew (wordAt 2 (drop 2 (take rnSize r)) 0) ∷ h)
+eventOn (refuses k) r h = h
+
+unfoldable pub eventIn : List ℕ → List Event → List Event
+eventIn [] h = h
+eventIn (a ∷ []) h = h
+eventIn (a ∷ b ∷ s) h = eventOn (markOf a b) (a ∷ b ∷ s) h
+
+unfoldable pub eventsOf : List (List ℕ) → List Event
+eventsOf [] = []
+eventsOf (r ∷ rs) = eventIn r (eventsOf rs)
+
+-- after any records of a job the running pose is that of the plain history of its CH and RN
+abbrev pub RecordsTheorem : Type 0
+RecordsTheorem = (rs : List (List ℕ)) → Small (eventsOf rs) → keptAfter stateNone rs .running .pose ≡ ran binary64 Unset 0 0 (eventsOf rs)

@@ -1,0 +1,2 @@
+-- Any history of the running join.
+pub mod Past

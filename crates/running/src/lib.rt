@@ -1,0 +1,112 @@
+// A running join: poses are joined as they come, each with the running pose as the left one, and the
+// running pose's quaternion is renormalised after every nth product.
+ghost use mathlib.Core.Path.{_≡_};
+ghost use lib.Ieee.{binary64};
+ghost use Rattle.running.specs.Running.{runningNone, oneMore, due, jointTold, stands, producedOf, joinOf, everyOf};
+use frames::Pose;
+use frames::PoseAnswer;
+
+// The running pose; none before the first pose comes.
+pub enum Start {
+    Unset,
+    Posed(Pose),
+}
+
+// The running pose; n, after every how many products it is renormalised, 0 for never; and how many
+// products there were since it was. 65535 of them are that many or more.
+pub struct Running {
+    pub pose: Start,
+    pub every: u16,
+    pub since: u16,
+}
+
+// What a pose leaves, and the running pose with which it is answered, or the refusal.
+pub struct Joined {
+    pub running: Running,
+    pub answer: PoseAnswer,
+}
+
+// One product more. No n is greater than 65535, so none can tell that many from more.
+fn one_more(k: u16) -> u16
+    ensures { λ r. ⌜ r ≡ oneMore k ⌝ }
+{
+    if k < 65535 {
+        return k + 1;
+    }
+    k
+}
+
+// Whether the product that is the kth since the last renormalisation is renormalised.
+fn due(n: u16, k: u16) -> bool
+    ensures { λ r. ⌜ r ≡ due n k ⌝ }
+{
+    (0 < n) & (n <= k)
+}
+
+// The running pose p, which is answered too.
+fn stand(p: Pose, n: u16, k: u16) -> Joined
+    ensures { λ r. ⌜ jointTold r ≡ stands p n k ⌝ }
+{
+    Joined {
+        running: Running {
+            pose: Start::Posed(p),
+            every: n,
+            since: k,
+        },
+        answer: PoseAnswer::Pose(p),
+    }
+}
+
+// The product p, which is the kth since the last renormalisation.
+fn produced(p: Pose, n: u16, k: u16) -> Joined
+    ensures { λ r. ⌜ jointTold r ≡ producedOf binary64 p n k ⌝ }
+{
+    if due(n, k) {
+        return stand(p.renormalized(), n, 0);
+    }
+    stand(p, n, k)
+}
+
+impl Running {
+    // No pose yet, and none will be renormalised.
+    pub fn new() -> Running
+        ensures { λ r. ⌜ r ≡ runningNone ⌝ }
+    {
+        Running {
+            pose: Start::Unset,
+            every: 0,
+            since: 0,
+        }
+    }
+
+    // The first pose is the running pose, and is no product; a further one is multiplied by it from the
+    // left, up being e^sigma of the running pose. Where the frames do not meet (9) nothing changes.
+    pub fn join(self, x: Pose, up: f64) -> Joined
+        ensures { λ r. ⌜ jointTold r ≡ joinOf binary64 self x up ⌝ }
+    {
+        let start = self.pose;
+        match start {
+            Start::Unset => stand(x, self.every, self.since),
+            Start::Posed(p) => match p.mul(x, up) {
+                PoseAnswer::Pose(y) => produced(y, self.every, one_more(self.since)),
+                PoseAnswer::Refused(number) => Joined {
+                    running: self,
+                    answer: PoseAnswer::Refused(number),
+                },
+            },
+        }
+    }
+
+    // From here on after every nth product. The pose and the count stay as they are.
+    pub fn set_every(self, n: u16) -> Running
+        ensures { λ r. ⌜ r ≡ everyOf self n ⌝ }
+    {
+        let pose = self.pose;
+        let since = self.since;
+        Running {
+            pose,
+            every: n,
+            since,
+        }
+    }
+}
