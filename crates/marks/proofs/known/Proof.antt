@@ -1,4 +1,4 @@
--- Written by tools/proofs from Proof.template: edit that one. Digest 06f5d0f93a2cac91.
+-- Written by tools/proofs from Proof.template: edit that one. Digest 134fceb6c01945c1.
 -- `marks::known` meets its contract: by the number, and by its being none of the table's. Assumes nothing.
 use borrow.Author.Tests.{ne-eqb}
 use Rattle.marks.specs.Marks.{markKnown}
@@ -47,7 +47,35 @@ returns-10 c = simp (c .match .keys10)
 
 returns-11 : tie.Need-returns-11
 unfolding markKnown
-returns-11 c =
+returns-11 c = simp (c .match .keys11)
+
+returns-12 : tie.Need-returns-12
+unfolding markKnown
+returns-12 c = simp (c .match .keys12)
+
+returns-13 : tie.Need-returns-13
+unfolding markKnown
+returns-13 c = simp (c .match .keys13)
+
+returns-14 : tie.Need-returns-14
+unfolding markKnown
+returns-14 c = simp (c .match .keys14)
+
+returns-15 : tie.Need-returns-15
+unfolding markKnown
+returns-15 c = simp (c .match .keys15)
+
+returns-16 : tie.Need-returns-16
+unfolding markKnown
+returns-16 c = simp (c .match .keys16)
+
+returns-17 : tie.Need-returns-17
+unfolding markKnown
+returns-17 c = simp (c .match .keys17)
+
+returns-18 : tie.Need-returns-18
+unfolding markKnown
+returns-18 c =
     simp (
       ne-eqb _ _ (c .match .rest .1),
       ne-eqb _ _ (c .match .rest .0 .1),
@@ -59,6 +87,13 @@ returns-11 c =
       ne-eqb _ _ (c .match .rest .0 .0 .0 .0 .0 .0 .0 .1),
       ne-eqb _ _ (c .match .rest .0 .0 .0 .0 .0 .0 .0 .0 .1),
       ne-eqb _ _ (c .match .rest .0 .0 .0 .0 .0 .0 .0 .0 .0 .1),
+      ne-eqb _ _ (c .match .rest .0 .0 .0 .0 .0 .0 .0 .0 .0 .0 .1),
+      ne-eqb _ _ (c .match .rest .0 .0 .0 .0 .0 .0 .0 .0 .0 .0 .0 .1),
+      ne-eqb _ _ (c .match .rest .0 .0 .0 .0 .0 .0 .0 .0 .0 .0 .0 .0 .1),
+      ne-eqb _ _ (c .match .rest .0 .0 .0 .0 .0 .0 .0 .0 .0 .0 .0 .0 .0 .1),
+      ne-eqb _ _ (c .match .rest .0 .0 .0 .0 .0 .0 .0 .0 .0 .0 .0 .0 .0 .0 .1),
+      ne-eqb _ _ (c .match .rest .0 .0 .0 .0 .0 .0 .0 .0 .0 .0 .0 .0 .0 .0 .0 .1),
+      ne-eqb _ _ (c .match .rest .0 .0 .0 .0 .0 .0 .0 .0 .0 .0 .0 .0 .0 .0 .0 .0 .1),
     )
 
 pub known-spec : {M : Type 1} → statement M
@@ -75,4 +110,11 @@ known-spec =
     returns-8
     returns-9
     returns-10
-    returns-11)
+    returns-11
+    returns-12
+    returns-13
+    returns-14
+    returns-15
+    returns-16
+    returns-17
+    returns-18)

@@ -1,4 +1,4 @@
--- Written by tools/proofs from Proof.template: edit that one. Digest 3335405030c00021.
+-- Written by tools/proofs from Proof.template: edit that one. Digest ee6df7c13f058888.
 -- `marks::reply` meets its contract: by the lent bytes, by the length of the input, by its mark, and by the reply of its entry. Assumes nothing.
 use borrow.Author.Needs.{needs}
 use native.Mathlib.Omega.{arith}
@@ -9,7 +9,7 @@ use Rattle.marks.specs.State.{stateOf}
 use Rattle.marks.specs.Marks.{lookTold}
 use Rattle.marks.specs.declared.Mark.the-variants.{Ch, Rn}
 use Rattle.marks.specs.declared.Look.the-variants.{Known}
-use Rattle.marks.proofs.Heads.{found-none, found-half, found-unknown, found-mark, entry-meets, met-unheld, met-held, met-still}
+use Rattle.marks.proofs.Heads.{found-none, found-half, found-unknown, found-mark, double-meets, single-meets, met-unheld, met-held, met-still}
 use Rattle.marks.proofs.reply.Statement.{statement}
 use Rattle.marks.proofs.reply.Tie as tie
 
@@ -47,12 +47,24 @@ returns-5 c =
     let a = c3 .before .before .before .before .args in
     let known = sym (c2 .look-up .ensures) ∙ ap lookTold (c1 .before .before .before .m .given .1 ∙ ap Known (c1 .m2 .given .1)) in
     let z = stateOf (a .mem .now) in
-    let k = entry-meets z (a .s .now) (c1 .m2 .given .0 .0) in
+    let k = double-meets z (a .s .now) (c1 .m2 .given .0 .0) in
     let f = found-mark z (a .s .now) _ (omega arith) known in
     met-still (a .mem .now) (a .s .now) (a .out .now) (c3 .if1 .left) _ (f .0 ∙ k .0, f .1 ∙ k .1) (c .before .before .reply .result) _ (c .before .before .reply .ensures .0) (c .before .before .reply .ensures .1)
 
 returns-6 : tie.Need-returns-6
 returns-6 c =
+    let c1 = c .before .before .before .before .before in
+    let c2 = c1 .before .before .before .before .before in
+    let c3 = c2 .before .before .before .before .before in
+    let a = c3 .before .before .before .before .args in
+    let known = sym (c2 .look-up .ensures) ∙ ap lookTold (c1 .before .before .before .m .given .1 ∙ ap Known (c1 .m3 .given .1)) in
+    let z = stateOf (a .mem .now) in
+    let k = single-meets z (a .s .now) (c1 .m3 .given .0 .0) in
+    let f = found-mark z (a .s .now) _ (omega arith) known in
+    met-still (a .mem .now) (a .s .now) (a .out .now) (c3 .if1 .left) _ (f .0 ∙ k .0, f .1 ∙ k .1) (c .before .before .reply2 .result) _ (c .before .before .reply2 .ensures .0) (c .before .before .reply2 .ensures .1)
+
+returns-7 : tie.Need-returns-7
+returns-7 c =
     let c1 = c .before .before .before .before .before in
     let c2 = c1 .before .before .before .before .before in
     let c3 = c2 .before .before .before .before .before in
@@ -62,8 +74,8 @@ returns-6 c =
     let f = found-mark (stateOf (a .mem .now)) (a .s .now) Ch (omega arith) known in
     met-held (a .mem .now) (a .s .now) (a .out .now) (c3 .before .before .if1 .left) _ _ f (c .before .before .before .before .ch .result) _ _ (c .before .before .before .before .ch .ensures .0) (c .before .before .before .before .ch .ensures .1 .0) (c .before .before .before .before .ch .ensures .1 .1)
 
-returns-7 : tie.Need-returns-7
-returns-7 c =
+returns-8 : tie.Need-returns-8
+returns-8 c =
     let c1 = c .before .before .before .before .before in
     let c2 = c1 .before .before .before .before .before in
     let c3 = c2 .before .before .before .before .before in
@@ -93,10 +105,14 @@ reply-spec =
     (λ c. search needs)
     (λ c κs. search needs)
     (λ c. search needs)
-    returns-5
+    (λ c κs. search needs)
     (λ c. search needs)
+    returns-5
     (λ c. search needs)
     returns-6
     (λ c. search needs)
     (λ c. search needs)
-    returns-7)
+    returns-7
+    (λ c. search needs)
+    (λ c. search needs)
+    returns-8)
