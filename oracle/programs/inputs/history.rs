@@ -16,14 +16,17 @@ pub struct History {
     /// Whether any pose may come, as in one job in four. A number that is not finite stays for the
     /// rest of a job, so most jobs have few.
     wild: bool,
+    /// Whether n is mostly 0 or large, as in another job in four, so that hundreds of products are
+    /// counted.
+    patient: bool,
     running: Option<(Frames, Float)>,
 }
 
 impl History {
     pub fn new(seed: u64) -> Self {
         let mut source = Source::new(seed ^ APART << 32);
-        let wild = source.rng.one_in(4);
-        Self { source, wild, running: None }
+        let kind = source.rng.below(4);
+        Self { source, wild: kind == 0, patient: kind == 1, running: None }
     }
 
     /// A record of either mark: CH five times in six.
@@ -38,6 +41,10 @@ impl History {
     pub fn every(&mut self, out: &mut Vec<u8>) {
         let rng = &mut self.source.rng;
         let n = match rng.below(8) {
+            3.. if self.patient && rng.one_in(60) => 250 + rng.below(500) as u16,
+            3.. if self.patient => rng.pick(&[0, 0x8000, 65_535]),
+            0 if self.patient => 0xff00 + rng.below(256) as u16,
+            2 if self.patient => 0x4000 + (rng.bits() >> 50) as u16,
             0 => rng.pick(&[4, 7, 12, 255, 256, 257, 512, 0x8000, 0xff00, 0xfffe]),
             1 => 65_535,
             2 => rng.bits() as u16,
