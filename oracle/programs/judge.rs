@@ -3,6 +3,7 @@
 //! Reads standard input, writes standard output. Whole records are answered as they arrive; what
 //! is kept is one buffer of input, with at most one cut record at its front, and one of output.
 
+use helicoid::judge::chain::Chain;
 use helicoid::judge::counts::Counts;
 use helicoid::judge::marks as double;
 use helicoid_f32::judge::marks as single;
@@ -16,18 +17,26 @@ const BUFFER: usize = 1 << 16;
 /// The bit that small letters have and capital ones have not.
 const SMALL: u8 = 0x20;
 
+/// What a job leaves from record to record: its counts, and its running join.
+#[derive(Default)]
+struct Job {
+    counts: Counts,
+    chain: Chain,
+}
+
 /// Answers the whole records at the front of `bytes`. Says how many bytes they were, and whether
 /// the program stops here.
-fn feed(bytes: &[u8], out: &mut Vec<u8>, counts: &mut Counts) -> (usize, bool) {
+fn feed(bytes: &[u8], out: &mut Vec<u8>, job: &mut Job) -> (usize, bool) {
+    let Job { counts, chain } = job;
     let mut at = 0;
     while counts.begun < MOST_RECORDS {
         let Some((letters, rest)) = bytes[at..].split_first_chunk::<2>() else {
             return (at, false);
         };
-        // The Rust at `f32` where the letters are small, else at `f64`.
+        // The Rust at `f32` where the letters are small, else at `f64`, which alone has a join.
         let taken = match letters[0] & SMALL {
-            0 => double::take(*letters, rest, out),
-            _ => single::take(*letters, rest, out),
+            0 => double::take(*letters, rest, chain, out),
+            _ => single::take(*letters, rest, &mut Default::default(), out),
         };
         match taken {
             Ok((bytes, told)) => {
@@ -50,10 +59,10 @@ fn feed(bytes: &[u8], out: &mut Vec<u8>, counts: &mut Counts) -> (usize, bool) {
 fn run(input: &mut impl Read, output: &mut impl Write) -> io::Result<()> {
     let mut buffer = vec![0; BUFFER];
     let mut out = Vec::with_capacity(8 * BUFFER);
-    let mut counts = Counts::default();
+    let mut job = Job::default();
     let mut held = 0;
     loop {
-        let (used, stop) = feed(&buffer[..held], &mut out, &mut counts);
+        let (used, stop) = feed(&buffer[..held], &mut out, &mut job);
         if stop {
             break;
         }
@@ -67,13 +76,13 @@ fn run(input: &mut impl Read, output: &mut impl Write) -> io::Result<()> {
         };
         if more == 0 {
             if held > 0 {
-                counts.refuse(7, &mut out);
+                job.counts.refuse(7, &mut out);
             }
             break;
         }
         held += more;
     }
-    counts.write(&mut out);
+    job.counts.write(&mut out);
     output.write_all(&out)?;
     output.flush()
 }

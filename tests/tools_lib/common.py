@@ -16,7 +16,7 @@ sys.path.insert(0, str(TOOL.parent))
 
 from jobs_lib.cli import main as tool_main
 from jobs_lib.floats import DOUBLE, SINGLE
-from jobs_lib.layout import ANSWER, DOUBLES, END, FRAME, JOB
+from jobs_lib.layout import ANSWER, DOUBLES, END, JOB, JOIN, WHOLE
 from jobs_lib.records import walk
 
 ONE, NAN, MINUS = 0x3FF0000000000000, DOUBLE.nan, 1 << 63
@@ -93,7 +93,7 @@ def holds(text, *parts):
 def any_numbers(layout, source, frames):
     """The bits of ordinary and odd numbers, and any frames, for a record."""
     odd, width = (ODD32 if layout.width is SINGLE else ODD), layout.width
-    return [frames.choice([0, 65535, frames.randrange(65536)]) if code == FRAME else
+    return [frames.choice([0, 65535, frames.randrange(65536)]) if code == WHOLE else
             source.choice(list(names)) if names else
             source.choice(odd) if source.random() < 0.3 else width.to_bits(source.gauss(0, 10))
             for names, code in zip(layout.names, layout.codes)]
@@ -137,7 +137,7 @@ def ended(data, refused=0):
 EX_SIZE = ANSWER[b"EX"].size  # the first record of the answers below
 
 
-SINGLES = [mark for mark in JOB if mark not in DOUBLES]
+SINGLES = [mark for mark in JOB if mark not in (*DOUBLES, *JOIN)]
 
 
 def answers(marks=DOUBLES):

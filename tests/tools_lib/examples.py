@@ -79,14 +79,15 @@ def stored_job():
     answer = file("answers", program(data))
     text = jobs("show", answer)[0].decode()
     marks = " ".join(line.split()[0] for line in text.splitlines())
-    same(marks, "EX EX CO CO NO PA AC MU NO IN JI NO AR AR AR ex co co NO pa ac mu in ji ZZ", "the answers' marks")
+    same(marks, "EX EX CO CO NO PA AC MU NO IN JI NO AR AR AR ex co co NO pa ac mu in ji RN CH CH NO CH ZZ", "the answers' marks")
     holds(text, "EX pose.q 1.0 0.0 0.0 0.0; pose.t 1.0 2.0 3.0; pose.sigma 0.0; pose.frames 0 0\n",
           "AC point 5.0 7.0 9.0\n", "; product.frames 7 1\nNO refusal 9", "; inverse.frames 1 3\n", "NO refusal 1", "NO refusal 2",
           "  # 11 terms\n", "  # closed; v0, w0 by series\n", "  # closed\n", "ac point 5.0 7.0 9.0\nmu product.q ",
-          "ZZ begun 24; answered 20; refused 4; unusable 0\n")
+          "RN n 2\nCH running.q 0.8 0.6 0.0 0.0; ", "running.frames 7 1\nNO refusal 9", "running.frames 9 1\n",
+          "ZZ begun 29; answered 24; refused 5; unusable 0\n")
     same(answer.read_bytes(), (ROOT / "examples" / "answers.bin").read_bytes(), "examples/answers.bin")
     again = jobs("diff", answer, file("again", program(data)))[0].decode()
-    holds(again, "equal: 24 records")
+    holds(again, "equal: 29 records")
 
 
 def renew():

@@ -37,7 +37,8 @@ bits (bits:3ff0000000000000). A frame is a whole number from 0 to 65535; a pose'
 stand behind its eight numbers, under their group's name or `frames`. The line `bytes 51 51` puts
 bytes as they are.
 
-Numbers in brackets may be left out; they are then computed by Python's math.
+Numbers in brackets may be left out; they are then computed by Python's math. CH's up is then that of
+the running pose, as the CH lines before it leave it.
 {forms}
 
 The marks in small letters, {singles}, take the same numbers as singles: each is

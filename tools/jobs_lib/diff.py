@@ -1,6 +1,6 @@
 """`jobs diff`: two answer files record by record."""
 from .floats import DOUBLE, SINGLE
-from .layout import ANSWER, END, FRAME, JOB
+from .layout import ANSWER, END, JOB
 from .records import counts_text, guess, load, older, scan, walk
 from .terminal import Failure, Lines, Progress, count
 
@@ -34,7 +34,7 @@ def distance(layout, i, old, new):
     """How far apart two numbers are, in words."""
     if i in layout.flags:
         return "another flag"
-    if layout.codes[i] == FRAME:
+    if i in layout.frames:
         return "another frame"
     if not layout.widths[i]:
         return f"another {layout.kind(i)}" if layout.names[i] else f"{new - old:+,}"

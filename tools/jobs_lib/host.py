@@ -12,8 +12,8 @@ def squared_angle(given):
 
 
 def pose_sigma(given):
-    """The log scale whose exponential a pose's record asks for: MU reads its left pose's."""
-    return given["left.sigma" if "left.sigma" in given else "pose.sigma"][0]
+    """The log scale whose exponential a pose's record asks for: MU reads its left pose's, CH the running one's."""
+    return next(given[name][0] for name in ("left.sigma", "running.sigma", "pose.sigma") if name in given)
 
 
 # How each group that a record's text may leave out follows from the groups that it gives.

@@ -9,7 +9,8 @@ from typing import NamedTuple, Optional, Tuple
 from .floats import DOUBLE, SINGLE, WIDTHS
 
 MOST_RECORDS = 1_000_000  # the job program answers no more
-FRAME = "H"  # the code of a frame number, a whole number of 16 bits
+WHOLE = "H"  # the code of a frame number, or of RN's n: a whole number of 16 bits
+JOIN = (b"CH", b"RN")  # the marks of the running join
 SCALED, SERIES = ".scaled", "series("  # how the name of a field that is 1 or 0 ends or begins
 
 REFUSALS = {
@@ -33,8 +34,13 @@ class Group(NamedTuple):
     name: str
     parts: Tuple[str, ...]  # what each number adds to the name: ".x", "[1][2]", nothing
     about: str
-    code: str = DOUBLE.code  # struct's letter: d a double, f a single, B a byte, H a frame, I a 32-bit count
+    code: str = DOUBLE.code  # struct's letter: d a double, f a single, B a byte, H a frame or n, I a 32-bit count
     names: Optional[dict] = None  # what its numbers stand for, where each has a name
+
+    @property
+    def frames(self):
+        """Whether these are a pose's frames."""
+        return self.code == WHOLE and len(self.parts) == 2
 
 
 class Layout:
@@ -45,6 +51,7 @@ class Layout:
         self.fields = [g.name + part for g in groups for part in g.parts]
         self.codes = "".join(g.code * len(g.parts) for g in groups)
         self.names = [g.names for g in groups for _ in g.parts]
+        self.frames = {i for i, g in enumerate(g for g in groups for _ in g.parts) if g.frames}
         self.named = [i for i, names in enumerate(self.names) if names]
         self.flags = {i for i, field in enumerate(self.fields)
                       if field.endswith(SCALED) or field.startswith(SERIES)}
@@ -89,7 +96,9 @@ SIGMA = Group("sigma", ONE, "log scale")
 ANGLE = Group("z", ONE, "squared angle")
 VALUES = Group("values", TEN, "the ten function values")
 UP = Group("up", ONE, "e^sigma")
+UP_OF_RUNNING = Group("up", ONE, "e^sigma of the running pose; in the first CH any number")
 DOWN = Group("down", ONE, "e^-sigma")
+EVERY = Group("n", ONE, "so many products, 2 bytes; 0 for never", WHOLE)
 POINT = Group("point", XYZ, "a point")
 TANGENT = (Group("phi", XYZ, "rotation vector"), Group("rho", XYZ, "translation part"), SIGMA)
 ROTATION_JACOBIANS = (Group("J", MATRIX, "rotation Jacobian of phi"),
@@ -97,7 +106,7 @@ ROTATION_JACOBIANS = (Group("J", MATRIX, "rotation Jacobian of phi"),
 
 
 def frames(name):
-    return Group(name, (".from", ".to"), "frame numbers, 2 bytes each", FRAME)
+    return Group(name, (".from", ".to"), "frame numbers, 2 bytes each", WHOLE)
 
 
 def pose(name):
@@ -162,16 +171,21 @@ def in_singles(layout):
     return Layout(layout.mark.lower(), layout.about, *groups)
 
 
-# The marks of doubles; all but AR are there in small letters too.
+# The marks of doubles whose answers follow from their records alone; all but AR are there in small
+# letters too. Behind them stand the marks of the running join.
 DOUBLES = tuple(JOB)
 for layouts in (JOB, ANSWER):
     layouts.update(table(*(in_singles(layouts[mark]) for mark in DOUBLES if mark != b"AR")))
+JOB.update(table(Layout("CH", "a pose to be joined to the running one", *pose("pose"), UP_OF_RUNNING),
+                 Layout("RN", "after how many products the running quaternion is renormalised", EVERY)))
+ANSWER.update(table(Layout("CH", "the running pose", *pose("running")),
+                    Layout("RN", "the same", EVERY)))
 
 
 def without_frames(layouts):
     """A table of the older format, in which poses had no frames."""
-    return table(*(Layout(layout.mark, layout.about, *(g for g in layout.groups if g.code != FRAME))
-                   for layout in layouts.values() if layout.width is DOUBLE))
+    return table(*(Layout(layout.mark, layout.about, *(g for g in layout.groups if not g.frames))
+                   for mark, layout in layouts.items() if layout.width is DOUBLE and mark not in JOIN))
 
 
 OLDER_JOB, OLDER_ANSWER = without_frames(JOB), without_frames(ANSWER)

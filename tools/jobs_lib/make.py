@@ -6,21 +6,21 @@ import sys
 
 from .floats import DOUBLE, BadNumber, shown
 from .host import computed
-from .layout import FRAME, JOB, MOST_RECORDS
+from .layout import JOB, MOST_RECORDS, OLDER_JOB, WHOLE
 from .records import load, name_of
 from .terminal import Failure, Progress, count, say
 
 PLAIN = re.compile(r"[-+.0-9eE ]*")  # decimals and nothing else
 BYTE = re.compile(r"[0-9a-fA-F]{2}")
-WHOLE = re.compile(r"[0-9]{1,5}")
-MOST_FRAME = 65_535
+DIGITS = re.compile(r"[0-9]{1,5}")
+MOST_WHOLE = 65_535
 FRAMES = "frames"  # stands for any pose's frames
 MOST_MESSAGES = 20
 
 # Groups that a line may leave out, those that go together in one bracket.
 MAY_MISS = {"EX": [("values",)], "CO": [("values",)], "PA": [("values",), ("J", "Jinv")],
             "AC": [("up",)], "MU": [("up",)], "IN": [("down",)], "JI": [],
-            "AR": [("values",)]}
+            "AR": [("values",)], "CH": [("up",)], "RN": []}
 
 
 class BadLine(ValueError):
@@ -35,8 +35,9 @@ class Form:
         sizes = [len(g.parts) for g in groups]
         self.count = sum(sizes)
         self.starts = dict(zip(itertools.accumulate([0, *sizes]), groups))
-        codes = "".join(g.code * len(g.parts) for g in groups)
-        self.frames = [i for i, code in enumerate(codes) if code == FRAME]
+        fields = [g for g in groups for _ in g.parts]
+        self.wholes = [(i, "frame" if g.frames else g.name) for i, g in enumerate(fields) if g.code == WHOLE]
+        self.frames = sum(g.frames for g in fields)
 
     def text(self):
         return f"{self.count} ({groups_text(self.groups)})"
@@ -60,7 +61,7 @@ def forms(layout):
 
 FORMS = {layout.mark: forms(layout) for layout in JOB.values()}
 SEPARATORS = {layout.mark: {";", *(g.name for g in layout.groups),
-                            *(FRAMES for g in layout.groups if g.code == FRAME)}
+                            *(FRAMES for g in layout.groups if g.frames)}
               for layout in JOB.values()}
 
 
@@ -77,16 +78,16 @@ def split(words, mark):
 
 def names(word, group):
     """Whether a word is a group's name; `frames` is that of every pose's."""
-    return word == group.name or word == FRAMES and group.code == FRAME
+    return word == group.name or word == FRAMES and group.frames
 
 
 def check_frames(mark, total, separators):
     """A line that has all but its frames, as every line of the older format, which had no singles."""
-    without = [form.count - len(form.frames) for form in FORMS[mark].values() if form.frames]
+    without = [form.count - form.frames for form in FORMS[mark].values() if form.frames]
     if total in without and not any(word.endswith(FRAMES) for _, word in separators):
-        poses = [g.name for g in JOB[mark.encode()].groups if g.code == FRAME]
+        poses = [g.name for g in JOB[mark.encode()].groups if g.frames]
         where = "behind sigma or the values" if mark.upper() == "EX" else "behind each pose's eight numbers"
-        older = " (a job of the older format?)" if JOB[mark.encode()].width is DOUBLE else ""
+        older = " (a job of the older format?)" if mark.encode() in OLDER_JOB else ""
         raise BadLine(f"{mark} has {count(total, 'number')}, and {' and '.join(poses)} "
                       f"{'is' if len(poses) == 1 else 'are'} missing{older}: "
                       f"put from and to {where}, as {FRAMES} 3 7")
@@ -121,18 +122,18 @@ def choose_form(mark, total, separators):
     return form
 
 
-def read_frame(word):
-    if not WHOLE.fullmatch(word) or int(word) > MOST_FRAME:
-        raise BadLine(f"{shown(word)} is no frame; expected a whole number from 0 to {MOST_FRAME}")
+def read_whole(word, what):
+    if not DIGITS.fullmatch(word) or int(word) > MOST_WHOLE:
+        raise BadLine(f"{shown(word)} is no {what}; expected a whole number from 0 to {MOST_WHOLE}")
     return int(word)
 
 
 def read_all(words, form, width):
-    """The numbers of a line as bits, and as whole numbers where frames stand."""
-    frames = [(i, read_frame(words[i])) for i in form.frames]
+    """The numbers of a line as bits, and as whole numbers where frames or RN's n stand."""
+    wholes = [(i, read_whole(words[i], what)) for i, what in form.wholes]
     numbers = read_numbers(words, width)
-    for i, frame in frames:
-        numbers[i] = frame
+    for i, whole in wholes:
+        numbers[i] = whole
     return numbers
 
 
@@ -151,17 +152,36 @@ def read_numbers(words, width):
         raise BadLine(str(error))
 
 
-def complete(layout, form, numbers):
+class Running:
+    """The running pose of the lines so far, as far as `up` needs it: where it comes from, and its log scale."""
+
+    def __init__(self):
+        self.begun, self.start, self.sigma = False, 0, 0.0
+
+    def join(self, layout, numbers):
+        """Follows a record, if it is a CH."""
+        if layout.mark != "CH":
+            return
+        given = dict(zip(layout.fields, numbers))
+        sigma = layout.width.from_bits(given["pose.sigma"])
+        if not self.begun or self.start == given["pose.frames.to"]:
+            self.sigma = self.sigma + sigma if self.begun else sigma
+            self.begun, self.start = True, given["pose.frames.from"]
+
+
+def complete(layout, form, numbers, running):
     """All numbers of a record: those given, and in their places those that were left out."""
     if form.count == len(layout.fields):
         return numbers
     width, rest = layout.width, iter(numbers)
     given = {g.name: list(itertools.islice(rest, len(g.parts))) for g in form.groups}
-    known = {g.name: [width.from_bits(x) for x in given[g.name]] for g in form.groups if g.code != FRAME}
+    known = {g.name: [width.from_bits(x) for x in given[g.name]] for g in form.groups if g.code != WHOLE}
+    if layout.mark == "CH" and running.begun:
+        known["running.sigma"] = [running.sigma]
     for group in layout.groups:
         if group.name not in given:
             given[group.name] = [width.to_bits(x) for x in computed(group.name, known)]
-    return itertools.chain.from_iterable(given[g.name] for g in layout.groups)
+    return list(itertools.chain.from_iterable(given[g.name] for g in layout.groups))
 
 
 def raw_bytes(words):
@@ -172,8 +192,8 @@ def raw_bytes(words):
     return bytes(int(word, 16) for word in words)
 
 
-def record(line):
-    """The bytes of one line without its comment; none for an empty one."""
+def record(line, running):
+    """The bytes of one line without its comment; none for an empty one. Follows the running pose."""
     words = line.replace(";", " ; ").replace(",", " ").split()
     if not words:
         return b""
@@ -185,18 +205,20 @@ def record(line):
     texts, separators = split(words[1:], mark)
     form = choose_form(mark, len(texts), separators)
     layout = JOB[mark.encode()]
-    return mark.encode() + layout.bits.pack(*complete(layout, form, read_all(texts, form, layout.width)))
+    numbers = complete(layout, form, read_all(texts, form, layout.width), running)
+    running.join(layout, numbers)
+    return mark.encode() + layout.bits.pack(*numbers)
 
 
 def job(name, lines):
     """The job file of all lines, or a Failure that lists the bad ones."""
-    out, bad, records = bytearray(), [], 0
+    out, bad, records, running = bytearray(), [], 0, Running()
     progress = Progress("make", 0, "lines")
     for number, line in enumerate(lines, 1):
         if b"\0" in line:
             raise Failure(f"{name}:{number}: a zero byte; expected text (jobs show reads job files)")
         try:
-            made = record(line.partition(b"#")[0].decode("utf-8", "replace"))
+            made = record(line.partition(b"#")[0].decode("utf-8", "replace"), running)
             out += made
             records += bool(made)
         except BadLine as error:

@@ -1,6 +1,6 @@
 //! How a job file ends: cleanly, or damaged in every way.
 
-use crate::sources::{bytes_in, marks, Letters, Sources};
+use crate::sources::{bytes_in, is_join, marks, Letters, Sources};
 
 /// Marks that are in no job table: other case, other order, one letter wrong, the answers' own.
 const UNKNOWN: [&Letters; 25] = [
@@ -24,7 +24,7 @@ const UNKNOWN: [&Letters; 25] = [
     b"NO",
     b"ar",
     b"RA",
-    b"CH",
+    b"HC",
     b"\0\0",
     b"\xff\xff",
     b"QQ",
@@ -36,6 +36,9 @@ const UNKNOWN_SMALL: [&Letters; 23] = [
     b"eX", b"Co", b"pA", b"Ac", b"mU", b"In", b"jI", b"aR", b"Ar", b"xe", b"oc", b"ap", b"ca",
     b"um", b"ni", b"ij", b"ey", b"fx", b"zz", b"no", b"ch", b"e\0", b"\0x",
 ];
+
+/// The same beside the marks of the running join.
+const UNKNOWN_JOIN: [&Letters; 8] = [b"rn", b"Ch", b"cH", b"Rn", b"rN", b"NR", b"CI", b"RM"];
 
 /// An end of a file.
 #[derive(Clone, Copy, Debug)]
@@ -51,8 +54,9 @@ pub enum End {
 
 /// Every end: 0 is the clean one, the others are damaged.
 pub fn ends() -> Vec<End> {
+    let (join, rest): (Vec<_>, Vec<_>) = marks().into_iter().partition(is_join);
     let (single, double): (Vec<_>, Vec<_>) =
-        marks().into_iter().partition(|letters| letters[0].is_ascii_lowercase());
+        rest.into_iter().partition(|letters| letters[0].is_ascii_lowercase());
     let cut = |letters: Letters| (0..bytes_in(letters)).map(move |n| End::Cut(letters, n));
     let mut all = vec![End::Clean];
     all.extend((0..=255).map(End::Half));
@@ -64,11 +68,15 @@ pub fn ends() -> Vec<End> {
     for behind in 0..3 {
         all.extend(UNKNOWN_SMALL.iter().map(|letters| End::Unknown(letters, behind)));
     }
+    all.extend(join.into_iter().flat_map(cut));
+    for behind in 0..3 {
+        all.extend(UNKNOWN_JOIN.iter().map(|letters| End::Unknown(letters, behind)));
+    }
     all
 }
 
-/// Writes an end. A cut record of CO, AR, JI or MU, or of co, ji or mu, would earn refusal 1, 2 or
-/// 9 if it were whole.
+/// Writes an end. A cut record of CO, AR, JI, MU or CH, or of co, ji or mu, would earn refusal 1, 2
+/// or 9 if it were whole; CH where a pose is running.
 pub fn end(end: End, source: &mut Sources, out: &mut Vec<u8>) {
     match end {
         End::Clean => {}

@@ -4,7 +4,7 @@ mod ends;
 mod sources;
 
 use ends::{end, ends};
-use sources::{ids, marks, Letters, Sources};
+use sources::{ids, is_join, marks, Letters, Sources};
 use std::io::{self, BufWriter, Write};
 use std::process::ExitCode;
 
@@ -12,11 +12,12 @@ const USAGE: &str = "\
 gen --seed S --count N [--mark XX | --marks M] [--end E]
                                                 adversarial job records, of one mark or of the
                                                 first M of the table in turn (--marks small: of
-                                                those in small letters), then end number E
+                                                those in small letters; --marks chain: of CH and RN,
+                                                a history), then end number E
                                                 (without --end: number S modulo their count)
 gen --mode lone --seed S --count N [--mark XX | --marks M]
                                                 records whose answer has one number alone that is
-                                                a NaN or an infinity
+                                                a NaN or an infinity; none of CH and RN
 gen --mode good --seed S --count N --mark XX [--arm A]
                                                 well-formed ordinary records of one mark,
                                                 the coefficients in arm A (1 to 5)
@@ -52,6 +53,7 @@ fn settings() -> Result<Settings, String> {
             "--seed" => s.seed = number()?,
             "--count" => s.count = number()?,
             "--arm" => s.arm = number()?.min(5) as usize,
+            "--marks" if value == "chain" => s.marks.retain(is_join),
             "--marks" if value == "small" => s.marks.retain(|m| m[0].is_ascii_lowercase()),
             "--marks" => s.marks.truncate((number()? as usize).max(1)),
             "--id" => s.id = Some(number()? as u8),
@@ -70,16 +72,24 @@ fn settings() -> Result<Settings, String> {
             _ => return Err(format!("{name}: no such setting")),
         }
     }
+    let only_join = s.mark.as_ref().map_or(s.marks.iter().all(is_join), is_join);
+    if s.mode == "lone" && only_join {
+        return Err("--mode lone has no records of CH and RN".into());
+    }
     Ok(s)
 }
 
-/// Adversarial records of each mark in turn, and an end.
+/// Adversarial records of each mark in turn, and an end. In the places of CH and RN stands a history
+/// of both.
 fn job(s: &Settings, source: &mut Sources, out: &mut impl Write) -> io::Result<()> {
     let mut record = Vec::new();
     for i in 0..s.count as usize {
         record.clear();
-        let mark = s.mark.unwrap_or(s.marks[i % s.marks.len()]);
-        source.job_record(mark, &mut record);
+        match (s.mark, s.marks[i % s.marks.len()]) {
+            (Some(mark), _) => source.job_record(mark, &mut record),
+            (None, mark) if is_join(&mark) => source.history_record(&mut record),
+            (None, mark) => source.job_record(mark, &mut record),
+        }
         out.write_all(&record)?;
     }
     let all = ends();
@@ -89,12 +99,14 @@ fn job(s: &Settings, source: &mut Sources, out: &mut impl Write) -> io::Result<(
     out.write_all(&record)
 }
 
-/// Records with one number alone that is not finite, of each mark in turn.
+/// Records with one number alone that is not finite, of each mark in turn but CH and RN: what CH
+/// answers lies with the records before it.
 fn lone(s: &Settings, source: &mut Sources, out: &mut impl Write) -> io::Result<()> {
     let mut record = Vec::new();
+    let marks: Vec<_> = s.marks.iter().copied().filter(|mark| !is_join(mark)).collect();
     for i in 0..s.count as usize {
         record.clear();
-        source.lone_record(s.mark.unwrap_or(s.marks[i % s.marks.len()]), &mut record);
+        source.lone_record(s.mark.unwrap_or(marks[i % marks.len()]), &mut record);
         out.write_all(&record)?;
     }
     Ok(())

@@ -1,16 +1,26 @@
 //! The sources of both widths: a mark's letters say from which of them its records come, so that a
 //! seed gives the same records at one width whatever is asked at the other.
 
+use oracle::inputs::History;
+
 pub type Letters = [u8; 2];
 
 pub struct Sources {
     double: oracle::inputs::Source,
     single: oracle_f32::inputs::Source,
+    history: History,
 }
 
-/// The marks: those of doubles in the order of the job table, then those of the narrow width.
+/// The marks: those of doubles in the order of the job table, those of the narrow width, and those
+/// of the running join.
 pub fn marks() -> Vec<Letters> {
-    [oracle::inputs::marks(), oracle_f32::inputs::marks()].concat()
+    let (join, double): (Vec<_>, Vec<_>) = oracle::inputs::marks().into_iter().partition(is_join);
+    [double, oracle_f32::inputs::marks(), join].concat()
+}
+
+/// Whether a mark's answer depends on the records before it.
+pub fn is_join(letters: &Letters) -> bool {
+    matches!(letters, b"CH" | b"RN")
 }
 
 /// The bytes behind a mark in a record.
@@ -27,21 +37,31 @@ fn is_single(letters: Letters) -> bool {
 impl Sources {
     pub fn new(seed: u64) -> Self {
         let single = oracle_f32::inputs::Source::new(seed);
-        Self { double: oracle::inputs::Source::new(seed), single }
+        let history = History::new(seed);
+        Self { double: oracle::inputs::Source::new(seed), single, history }
     }
 
     pub fn job_record(&mut self, letters: Letters, out: &mut Vec<u8>) {
-        match is_single(letters) {
-            false => self.double.job_record(letters, out),
-            true => self.single.job_record(letters, out),
+        match &letters {
+            b"CH" => self.history.join(out),
+            b"RN" => self.history.every(out),
+            _ if is_single(letters) => self.single.job_record(letters, out),
+            _ => self.double.job_record(letters, out),
         }
+    }
+
+    /// The next record of the job's running join, of either of its marks.
+    pub fn history_record(&mut self, out: &mut Vec<u8>) {
+        self.history.record(out);
     }
 
     /// A record that would be refused, by 1, 2 or 9, if its mark can be.
     pub fn refused_record(&mut self, letters: Letters, out: &mut Vec<u8>) {
-        match is_single(letters) {
-            false => self.double.refused_record(letters, out),
-            true => self.single.refused_record(letters, out),
+        match &letters {
+            b"CH" => self.history.parted(out),
+            b"RN" => self.history.every(out),
+            _ if is_single(letters) => self.single.refused_record(letters, out),
+            _ => self.double.refused_record(letters, out),
         }
     }
 
@@ -53,9 +73,11 @@ impl Sources {
     }
 
     pub fn good_record(&mut self, letters: Letters, arm: usize, out: &mut Vec<u8>) {
-        match is_single(letters) {
-            false => self.double.good_record(letters, arm, out),
-            true => self.single.good_record(letters, arm, out),
+        match &letters {
+            b"CH" => self.history.good(out),
+            b"RN" => self.history.every(out),
+            _ if is_single(letters) => self.single.good_record(letters, arm, out),
+            _ => self.double.good_record(letters, arm, out),
         }
     }
 

@@ -68,4 +68,23 @@ impl Source {
         }
         [left, right]
     }
+
+    /// Frames of a pose that is to be joined to the right of one with these: five times in six its
+    /// `to` is their `from`. Else they mostly differ, in one of the ways of a product.
+    pub fn joining_frames(&mut self, running: Frames) -> Frames {
+        let [from, _] = self.frames();
+        let rng = &mut self.frames;
+        let other = 1 + rng.below(255) as u16;
+        let to = match rng.below(42) {
+            0 => running[0] ^ other << 8,
+            1 => running[0] ^ other,
+            2 => running[0] ^ 1 << rng.below(16),
+            3 => running[0].swap_bytes(),
+            4 => return [running[1], from],
+            5 => return running,
+            6 => frame(rng),
+            _ => running[0],
+        };
+        [from, to]
+    }
 }

@@ -5,7 +5,7 @@ use super::frames::{meet, put_frames};
 use super::records::{put, Letters};
 use super::{Mood, Source};
 use helicoid::judge::layout::{Reader, Writer, WIDTH};
-use helicoid::judge::marks::mark;
+use helicoid::judge::marks::{mark, Answer};
 use helicoid::judge::Values;
 use helicoid_linalg::float::{by_width, Float};
 
@@ -19,7 +19,8 @@ const LONE_VALUES: [Float; 10] = [1.0, 1.0, 5e4, 0.5, 1e4, -0.5, 0.5, -0.5, 2.0,
 fn not_finite(record: &[u8]) -> usize {
     let (letters, numbers) = record.split_first_chunk::<2>().expect("a whole record");
     let (mark, mut out) = (mark(*letters).expect("a mark"), letters.to_vec());
-    if (mark.answer)(Reader(numbers), Writer(&mut out)).is_err() {
+    let Answer::Alone(answer) = mark.answer else { unreachable!("an answer that the job decides") };
+    if answer(Reader(numbers), Writer(&mut out)).is_err() {
         return 0;
     }
     let words =

@@ -3,6 +3,7 @@
 
 mod angles;
 mod frames;
+mod history;
 mod lone;
 mod numbers;
 mod poses;
@@ -10,6 +11,7 @@ mod records;
 mod rng;
 mod values;
 
+pub use history::History;
 pub use numbers::Mood;
 pub use records::{marks, Letters};
 pub use rng::Rng;

@@ -1,7 +1,8 @@
 //! The marks of the job program: what a record's numbers are and which published function answers
 //! them; the frames by their own rules. A refusal is its number. At the narrow width the letters
-//! are small and the numbers have 4 bytes; AR is of the wide one alone.
+//! are small and the numbers have 4 bytes; AR, CH and RN are of the wide one alone.
 
+use super::chain::Chain;
 use super::counts::all_finite;
 use super::frames::Frames;
 use super::layout::{Reader, Writer, WIDTH};
@@ -20,7 +21,13 @@ pub struct Mark {
     pub bytes_before: usize,
     pub bytes_out: usize,
     pub bytes_behind: usize,
-    pub answer: fn(Reader<'_>, Writer<'_>) -> Result<(), u8>,
+    pub answer: Answer,
+}
+
+/// What gives an answer: from the record alone, or also from what the job's records before it left.
+pub enum Answer {
+    Alone(fn(Reader<'_>, Writer<'_>) -> Result<(), u8>),
+    Running(fn(&mut Chain, Reader<'_>, Writer<'_>) -> Result<(), u8>),
 }
 
 /// The bytes of a pose's frames.
@@ -38,7 +45,20 @@ const fn plain(
 ) -> Mark {
     let letters = [*first + SMALL, *second + SMALL];
     let (bytes_in, bytes_out) = (numbers_in * WIDTH, numbers_out * WIDTH);
+    let answer = Answer::Alone(answer);
     Mark { letters, bytes_in, bytes_before: 0, bytes_out, bytes_behind: 0, answer }
+}
+
+/// A mark that reads or changes the running join, its answer made of bytes before its numbers, of
+/// these, and of bytes behind them.
+const fn running(
+    letters: &[u8; 2],
+    bytes_in: usize,
+    [bytes_before, bytes_out, bytes_behind]: [usize; 3],
+    answer: fn(&mut Chain, Reader<'_>, Writer<'_>) -> Result<(), u8>,
+) -> Mark {
+    let answer = Answer::Running(answer);
+    Mark { letters: *letters, bytes_in, bytes_before, bytes_out, bytes_behind, answer }
 }
 
 /// The same with the frames of so many poses in the record and of one behind the answer.
@@ -47,7 +67,7 @@ const fn posed(mark: Mark, poses: usize) -> Mark {
 }
 
 /// The paper's job table with the frames of its poses, and the requested marks behind it.
-const ALL: [Mark; 8] = [
+const ALL: [Mark; 10] = [
     posed(plain(b"EX", 17, 8, ex), 1),
     plain(b"CO", 12, 20, co),
     plain(b"PA", 35, 124, pa),
@@ -56,10 +76,12 @@ const ALL: [Mark; 8] = [
     posed(plain(b"IN", 9, 8, inverse), 1),
     plain(b"JI", 31, 31, ji),
     Mark { bytes_before: 4, ..plain(b"AR", 12, 20, ar) },
+    running(b"CH", 9 * WIDTH + FRAMES, [0, 8 * WIDTH, FRAMES], ch),
+    running(b"RN", 2, [2, 0, 0], rn),
 ];
 
 /// The marks of this width, in the order of the job table.
-pub const MARKS: &[Mark] = ALL.split_at(by_width(8, 7)).0;
+pub const MARKS: &[Mark] = ALL.split_at(by_width(10, 7)).0;
 
 impl Mark {
     /// The bytes of a whole answer, its letters included.
@@ -83,19 +105,24 @@ pub fn mark(letters: [u8; 2]) -> Option<&'static Mark> {
 
 /// Takes a record, whose bytes behind its mark begin `rest`: writes its answer, the letters
 /// included, and says how many of those bytes it has and whether the answer's numbers are all
-/// finite; or writes nothing and says, in place of the latter, by what it is refused. `Err` is 6
-/// where the letters are no mark, and 7 where the record is not all there.
+/// finite; or writes nothing and says, in place of the latter, by what it is refused. `chain` is the
+/// job's running join. `Err` is 6 where the letters are no mark, and 7 where the record is not all there.
 #[inline(always)]
 pub fn take(
     letters: [u8; 2],
     rest: &[u8],
+    chain: &mut Chain,
     out: &mut Vec<u8>,
 ) -> Result<(usize, Result<bool, u8>), u8> {
     let mark = mark(letters).ok_or(6)?;
     let record = rest.get(..mark.bytes_in).ok_or(7)?;
     let before = out.len();
     out.extend_from_slice(&letters);
-    let told = match (mark.answer)(Reader(record), Writer(out)) {
+    let answered = match mark.answer {
+        Answer::Alone(answer) => answer(Reader(record), Writer(out)),
+        Answer::Running(answer) => answer(chain, Reader(record), Writer(out)),
+    };
+    let told = match answered {
         Ok(()) => {
             debug_assert!(out.len() == before + mark.size());
             Ok(all_finite(mark.numbers(&out[before..])))
@@ -223,5 +250,22 @@ fn ji(mut r: Reader<'_>, mut w: Writer<'_>) -> Result<(), u8> {
     let inv = j.inverse();
     finish();
     w.block(&inv);
+    Ok(())
+}
+
+/// The running pose, with this one joined to it.
+fn ch(chain: &mut Chain, mut r: Reader<'_>, mut w: Writer<'_>) -> Result<(), u8> {
+    let (x, frames, up) = (r.pose(), r.frames(), r.number());
+    let (running, at) = chain.join(x, frames, up)?;
+    w.pose(&running);
+    w.frames(at);
+    Ok(())
+}
+
+/// After how many products the running quaternion is renormalised, said back.
+fn rn(chain: &mut Chain, r: Reader<'_>, mut w: Writer<'_>) -> Result<(), u8> {
+    let n = [r.0[0], r.0[1]];
+    chain.set_every(u16::from_le_bytes(n));
+    w.raw(&n);
     Ok(())
 }

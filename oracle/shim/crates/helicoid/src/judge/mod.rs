@@ -2,6 +2,7 @@
 //! handed in by the place that reads them.
 
 pub mod arms;
+pub mod chain;
 pub mod counts;
 pub mod frames;
 pub mod layout;
