@@ -1,5 +1,5 @@
-// The action of a pose on a list of points, three numbers each. sim3_act_many has the bits of the
-// Rust's act_many; sim3_act_each moves each point as the mark AC does.
+// The action of a pose on a list of points, three numbers each: with the bits of the Rust's act_many,
+// and each point by itself, as the job moves one.
 ghost use mathlib.Core.Path.{_≡_};
 ghost use lib.Ieee.{binary64};
 ghost use Rattle.sim3_c.specs.Calls.{status, written, actManyCall, actEachCall};

@@ -1,6 +1,6 @@
-// Written by tools/widths from crates/sim3_c/src/points.rt: edit that one. Digest 04d622f21ad846ed.
-// The action of a pose on a list of points, three numbers each. sim3_act_many has the bits of the
-// Rust's act_many; sim3_act_each moves each point as the mark AC does.
+// Written by tools/widths from crates/sim3_c/src/points.rt: edit that one. Digest 5f95ec3d2560c952.
+// The action of a pose on a list of points, three numbers each: with the bits of the Rust's act_many,
+// and each point by itself, as the job moves one.
 ghost use mathlib.Core.Path.{_≡_};
 ghost use lib.Ieee.{binary32};
 ghost use Rattle.sim3_c.specs.Calls.{status, written, actManyCall, actEachCall};
