@@ -10,8 +10,8 @@ SOURCES = {"c": "examples/c/join.c", "python": "examples/python/join.py", "rust"
 
 
 # The refusals that every example shows, in words.
-SHOWN = [r"refusal 1: z is .*below zero", r"refusal 2: e, the last number", r"refusal 5: .*(no multiple of 3|list of points has a wrong length)",
-         r"refusal 8: z is ", r"refusal 9: (the frames do not meet|x starts from frame 11, and y goes to frame 1);"]
+SHOWN = [r"refusal 1: z is .*below zero", r"refusal 2: e, the last number", r"refusal 5: .*(no multiple of 3|list of points or tangents has a wrong length)",
+         r"refusal 8: z(,| is) ", r"refusal 9: (the frames do not meet|x starts from frame 11, and y goes to frame 1);"]
 ALSO_SHOWN = {"c": [r"refusal 100: a list has a wrong length"], "python": [r"refusal 100: tau has 6 numbers; expected 7"],
               "rust": [r"refusal 5: out has 6 numbers where pts has 9"]}
 

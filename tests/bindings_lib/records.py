@@ -47,6 +47,8 @@ def stored_records():
         records, told_records = list(walk(job, JOB)), list(walk(answers, ANSWER))
         assert len(told_records) >= len(records), f"{name}: {len(told_records)} answers to {len(records)} records"
         for number, ((at, asked), (answer_at, answer)) in enumerate(zip(records, told_records), 1):
+            if asked.mark.upper() not in CALLS:
+                continue  # the running join, which is no C function
             width = width_of(asked)
             data, frames = parted(asked, job[at + 2:at + asked.size])
             numbers, frames_told = parted(answer, answers[answer_at + 2:answer_at + answer.size])
