@@ -3,7 +3,7 @@
 // where a sum at sigma adds a term, the one at -sigma adds or subtracts it.
 ghost use mathlib.Core.Path.{_≡_};
 ghost use mathlib.Core.Bool.{true, false};
-ghost use Prim.Native.Nat.{_+_, _≤_};
+ghost use Prim.Native.Nat.{_+_, _%_, _≤_};
 ghost use lib.Ieee.{binary64, neg};
 ghost use Rattle.series.specs.Series.{gSeriesPair, seriesFull, seriesPairTold, seriesPairAnswer};
 ghost use Rattle.series.specs.Pass.{bothStopped};
@@ -60,11 +60,24 @@ fn sums_pair_at(sigma: f64, z: f64, k: usize) -> SumsPair
     }
 }
 
-// The levels to k, which give a term to every sum: an even and an odd level at each turn of the
-// loop, and an even one after it where k is even.
+// The levels to k, which give a term to every sum: an even one by itself where k is even.
 fn turns_at(sigma: f64, z: f64, k: usize) -> TurnsPair
     requires { ⌜ k ≤ 28 ⌝ }
     ensures { λ r. ⌜ r ≡ pairTurns binary64 sigma z (k + 1) ⌝ }
+{
+    if k % 2 == 0 {
+        let s = turns_below(sigma, z, k);
+        return even_turn(sigma, z, recip(k + 1), recip(k + 2), s);
+    }
+    turns_below(sigma, z, k + 1)
+}
+
+// The levels below n, which is even: an even and an odd one at each turn. This is called from two
+// places, so that it is compiled as a function of its own, which stores its answer: it is from these
+// stores that the compiler sees which numbers of a turn to compute in twos.
+fn turns_below(sigma: f64, z: f64, n: usize) -> TurnsPair
+    requires { ⌜ (n ≤ 28) × (n % 2 ≡ 0) ⌝ }
+    ensures { λ r. ⌜ r ≡ pairTurns binary64 sigma z n ⌝ }
 {
     let mut s = TurnsPair {
         level: recurrence::first(),
@@ -72,12 +85,9 @@ fn turns_at(sigma: f64, z: f64, k: usize) -> TurnsPair
         neg: recurrence::none(),
     };
     let mut j = 0;
-    while j < k {
+    while j < n {
         s = two_turns(sigma, z, recip(j + 1), recip(j + 2), recip(j + 3), s);
         j += 2;
-    }
-    if j == k {
-        return even_turn(sigma, z, recip(k + 1), recip(k + 2), s);
     }
     s
 }
