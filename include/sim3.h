@@ -152,7 +152,7 @@ uint32_t sim3_compare_tangents(const uint64_t *a, size_t a_n, const uint64_t *b,
  * multiple of seven. */
 uint32_t sim3_sort_tangents(uint64_t *list, size_t list_n);
 
-/* ---- the same at f32: each function above but sim3_root, sim3_nearest_arm and those of tangents in order, on singles, with the ending _f32. Arguments, orders, counts, refusals and the numbers of the arms are
+/* ---- the same at f32: each function above but sim3_root and those of tangents in order, on singles, with the ending _f32. Arguments, orders, counts, refusals and the numbers of the arms are
  * as above; the arms' series have 4, 7, 9 and 11 terms. The answers are those of the engine at binary32, and not the doubles' rounded; where a number is a NaN,
  * so are those that are computed from it. The function values are the caller's here too; sim3_host_f32.h computes them in double and rounds each once. */
 
@@ -182,6 +182,7 @@ uint32_t sim3_compose_jacobians_right_f32(const float *y, size_t y_n, float down
 uint32_t sim3_compose_jacobians_left_f32(const float *x, size_t x_n, float up, float *out, size_t out_n);
 uint32_t sim3_inverse_jacobian_right_f32(const float *x, size_t x_n, float up, float *out, size_t out_n);
 uint32_t sim3_inverse_jacobian_left_f32(const float *x, size_t x_n, float down, float *out, size_t out_n);
+uint32_t sim3_nearest_arm_f32(float sigma, float z, uint64_t *out, size_t out_n);
 
 #ifdef __cplusplus
 }

@@ -1,4 +1,4 @@
-// Written by tools/widths from bindings/rust/raw.rs: edit that one. Digest dbfcaec366fab2b9.
+// Written by tools/widths from bindings/rust/raw.rs: edit that one. Digest 2793147c4ee3b90d.
 //! The C functions of include/sim3.h at one width, each called through a function over slices. Outside of
 //! raw.rs and raw_f32.rs this crate has no unsafe code. The declarations are trusted; tests/bindings
 //! compares them with the header.
@@ -178,6 +178,7 @@ extern "C" {
         out: *mut f32,
         out_n: usize,
     ) -> u32;
+    fn sim3_nearest_arm_f32(sigma: f32, z: f32, out: *mut u64, out_n: usize) -> u32;
 }
 
 // LISTS, the reason why each call below is sound. The C functions ask of their caller that no pointer is
@@ -434,4 +435,9 @@ pub fn inverse_jacobian_right(x: &[f32], up: f32, out: &mut [f32]) -> u32 {
 pub fn inverse_jacobian_left(x: &[f32], down: f32, out: &mut [f32]) -> u32 {
     // SAFETY: LISTS.
     unsafe { sim3_inverse_jacobian_left_f32(x.as_ptr(), x.len(), down, out.as_mut_ptr(), out.len()) }
+}
+
+pub fn nearest_arm(sigma: f32, z: f32, out: &mut [u64]) -> u32 {
+    // SAFETY: LISTS.
+    unsafe { sim3_nearest_arm_f32(sigma, z, out.as_mut_ptr(), out.len()) }
 }

@@ -26,7 +26,7 @@ mod square_root;
 mod tangents;
 
 pub use functions::*;
-pub use near::{nearest_arm, Direction, Near};
+pub use near::{Direction, Near};
 pub use refusal::{Join, Refusal};
 pub use square_root::{root, Root};
 pub use tangents::{compare_tangents, sort_tangents};

@@ -58,9 +58,10 @@ def of_python():
     found["root"] = [("z", "number")]
     for argument, (kind, _) in raw.ROOT_WRITES.items():
         found["root"] += [(argument, WRITTEN[kind]), (argument + "_n", "count")]
-    found["nearest_arm"] = [("sigma", "number"), ("z", "number")]
+    near = [("sigma", "number"), ("z", "number")]
     for argument, (kind, _) in raw.NEAR_WRITES.items():
-        found["nearest_arm"] += [(argument, WRITTEN[kind]), (argument + "_n", "count")]
+        near += [(argument, WRITTEN[kind]), (argument + "_n", "count")]
+    found.update({"nearest_arm" + width.ending: at_width(near, width) for width in WIDTHS})
     for name, made in raw.PATTERNS.items():
         found[name] = []
         for i, (argument, kind) in enumerate(made, 1):

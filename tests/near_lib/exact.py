@@ -13,6 +13,7 @@ class Width:
 
     def __init__(self, number, word, infinity, limits):
         self.number, self.word, self.infinity = "<" + number, "<" + word, infinity
+        self.bits = 8 * struct.calcsize(self.word)
         self.limits = limits
         self.ends = [(Fraction(self.value(b - 1)) + Fraction(self.value(b))) / 2 for b in limits]
 

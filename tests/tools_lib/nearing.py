@@ -3,13 +3,18 @@ import struct
 
 from .arming import ENDS, VALUES
 from .common import file, holds, jobs, same, with_library
-from jobs_lib.floats import DOUBLE
+from jobs_lib.floats import DOUBLE, SINGLE
 
 BESIDE = [(2, 3), (1, 0), (4, -1), (3, -700), (1, 40_000)]  # the arm that ends there, and how many patterns behind its end z lies
 
 
-def job(mark, points):
-    return b"".join(mark + struct.pack("<12d", sigma, z, *VALUES) for sigma, z in points)
+# At f32 the patterns of z, and what is told: both sides of an end, and a tie, where up is given.
+SINGLES = {0x3A7CE157: "1 single step up to arm 2 (7 terms) from arm 1 (4 terms)", 0x4017C497: "2 single steps down to arm 4 (11 terms) from arm 5 (closed)",
+           0x3F9C1144: "8,106,834 single steps up to arm 5 (closed) from arm 4 (11 terms)"}
+
+
+def job(mark, points, code="d"):
+    return b"".join(mark + struct.pack(f"<12{code}", sigma, z, *VALUES) for sigma, z in points)
 
 
 def shots():
@@ -33,6 +38,14 @@ def nearest_first():
 
 
 @with_library
+def singles_by_their_own_steps():
+    data = job(b"CO", shots()[:1]) + job(b"co", [(0.0, SINGLE.from_bits(b)) for b in SINGLES], "f")
+    told = steps_of(jobs("near", "--within", "10000000", file("near", data))[0].decode())
+    same(told, [(2, SINGLES[0x3A7CE157]), (3, SINGLES[0x4017C497]), (1, "4 steps down to arm 2 (11 terms) from arm 3 (14 terms)"), (4, SINGLES[0x3F9C1144])], "both widths")
+    same(len(steps_of(jobs("near", file("near", data))[0].decode())), 3, "shots of both widths within 1,000 steps")
+
+
+@with_library
 def what_is_passed_over():
     points = [(2.0, 1.0), (float("nan"), 1.0), (0.0, -1.0), (0.0, float("inf"))]
     text = jobs("near", file("near", job(b"CO", points) + b"JI" + bytes(248)))[0].decode()
@@ -53,4 +66,4 @@ def wrong_words():
     holds(jobs("near", "no such file", status=2)[1], "cannot read no such file")
 
 
-TESTS = [nearest_first, what_is_passed_over, what_is_damaged, wrong_words]
+TESTS = [nearest_first, singles_by_their_own_steps, what_is_passed_over, what_is_damaged, wrong_words]

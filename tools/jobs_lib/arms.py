@@ -2,16 +2,17 @@
 import os
 from array import array
 
-from .floats import DOUBLE
+from .floats import DOUBLE, SINGLE
 from .layout import ANSWER, ARMS, BY_SERIES, JOB, MOST_RECORDS
 from .plane import picture
 from .records import guess, load, older, scan, walk
 from .terminal import Failure, Lines, Progress, count
 
-# Where the arms 2 to 5 begin, in sigma sigma + z, and below which sigma sigma the closed arm takes
-# v0 and w0 from series.
+# Where the arms 2 to 5 begin, in sigma sigma + z, at either width; and below which sigma sigma the
+# closed arm takes v0 and w0 from series.
 ARM_FROM = tuple(map(DOUBLE.from_bits, (0x3F0C70E59CFC9F1F, 0x3FA59742AA36710D,
                                         0x3FD0E8139C96FC79, 0x3FFFB1FFBC2A9C8C)))
+SINGLE_ARM_FROM = tuple(map(SINGLE.from_bits, (0x3A7CE158, 0x3E03BA20, 0x3F205DF3, 0x4017C496)))
 SERIES_BELOW = DOUBLE.from_bits(0x3FE2A77501626657)
 CLOSED = 5
 MOST_MESSAGES = 20
@@ -26,6 +27,14 @@ def limits_give(sigma, z):
     delta = square + z
     arm = next((arm for arm, end in enumerate(ARM_FROM, 1) if delta < end), CLOSED)
     return arm, int(arm == CLOSED and square < SERIES_BELOW)
+
+
+def single_arm(sigma, z):
+    """The arm of two singles that are not NaN: their product and sum are rounded once each, from doubles that
+    hold the product, and of the sum what rounding to a single needs."""
+    square = SINGLE.from_bits(SINGLE.to_bits(sigma * sigma))
+    delta = SINGLE.from_bits(SINGLE.to_bits(square + z))
+    return next((arm for arm, end in enumerate(SINGLE_ARM_FROM, 1) if delta < end), CLOSED)
 
 
 def rule_text(arm, series):

@@ -116,9 +116,10 @@ example:
 
 NEAR = """\
 Which shots of a job lie beside another arm: the AR and CO records whose z is at most N neighbouring
-doubles from one with another arm, up or down, nearest first. Each is a line with the record's number
-(from 1), the count, the direction, the arm there and its own. Records of other marks are passed over.
-The counts are the proved library's, which bindings/build makes.
+doubles from one with another arm, up or down, and the co records within N neighbouring singles, nearest
+first. Each is a line with the record's number (from 1), the count, the direction, the arm there and its
+own. Records of other marks are passed over. The counts are the proved library's, which bindings/build
+makes.
 
 Exit status: 0, or 1 where the file is damaged or cut (the byte is named), or 2 if it cannot be read,
 or the library is not there.

@@ -25,6 +25,7 @@ REFUSALS = {
     9: "frames do not meet: the left pose's from is not the right pose's to",
 }
 ARMS = {1: "6 terms", 2: "11 terms", 3: "14 terms", 4: "19 terms", 5: "closed"}
+SINGLE_ARMS = {1: "4 terms", 2: "7 terms", 3: "9 terms", 4: "11 terms", 5: "closed"}
 BY_SERIES = {0: "", 1: "v0, w0 by series"}
 
 

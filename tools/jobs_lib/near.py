@@ -1,14 +1,19 @@
-"""`jobs near`: which shots of a job lie beside another arm, nearest first, by the library's `nearest_arm`."""
+"""`jobs near`: which shots of a job lie beside another arm, nearest first, by the library's `nearest_arm` of their width."""
 from . import host  # so that the binding is found
-from .arms import limits_give
-from .floats import DOUBLE
-from .layout import ARMS, JOB
+from .arms import limits_give, single_arm
+from .floats import DOUBLE, SINGLE
+from .layout import ARMS, JOB, SINGLE_ARMS
 from .records import guess, load, name_of, older, scan, walk
 from .terminal import Failure, Lines, Progress, count
 
 import sim3
 
-MARKS = ("AR", "CO")  # the records that ask for coefficients: sigma and z stand first
+MARKS = ("AR", "CO", "co")  # the records that ask for coefficients: sigma and z stand first
+# By the width of a record's numbers: the library's function, the arm of sigma and z, the arms' names, and what a step is called.
+AT = {
+    DOUBLE: (sim3.nearest_arm, lambda sigma, z: limits_give(sigma, z)[0], ARMS, "step"),
+    SINGLE: (sim3.f32.nearest_arm, single_arm, SINGLE_ARMS, "single step"),
+}
 assert host
 
 
@@ -19,11 +24,11 @@ class Found:
         self.within, self.near = within, []
         self.asked, self.alone, self.refused, self.others = 0, 0, 0, 0
 
-    def add(self, number, mark, sigma, z):
+    def add(self, number, layout, sigma, z):
         """A record that asks for coefficients, with its number in the file."""
         self.asked += 1
         try:
-            near = sim3.nearest_arm(sigma, z)
+            near = AT[layout.width][0](sigma, z)
         except sim3.Refusal:
             self.refused += 1
             return
@@ -32,15 +37,16 @@ class Found:
         if near is None:
             self.alone += 1
         elif near.count <= self.within:
-            self.near.append((near.count, number, mark, sigma, z, near))
+            self.near.append((near.count, number, layout, sigma, z, near))
 
 
 def lines(found):
     """The shots, nearest first, and the totals."""
-    for steps, number, mark, sigma, z, near in sorted(found.near, key=lambda shot: shot[:2]):
-        arm = limits_give(sigma, z)[0]
-        yield f"record {number}  {mark}  {count(steps, 'step')} {near.direction} to arm {near.arm} ({ARMS[near.arm]}) " \
-              f"from arm {arm} ({ARMS[arm]})  sigma {DOUBLE.text(DOUBLE.to_bits(sigma))}; z {DOUBLE.text(DOUBLE.to_bits(z))}"
+    for steps, number, layout, sigma, z, near in sorted(found.near, key=lambda shot: shot[:2]):
+        width, (_, arm_of, names, step) = layout.width, AT[layout.width]
+        arm = arm_of(sigma, z)
+        yield f"record {number}  {layout.mark}  {count(steps, step)} {near.direction} to arm {near.arm} ({names[near.arm]}) " \
+              f"from arm {arm} ({names[arm]})  sigma {width.text(width.to_bits(sigma))}; z {width.text(width.to_bits(z))}"
     yield f"{len(found.near):,} of {count(found.asked, 'shot')} within {count(found.within, 'step')} of another arm"
     if found.alone:
         yield f"{count(found.alone, 'shot')} with the same arm at every z"
@@ -61,7 +67,7 @@ def near(path, within):
     found, progress = Found(within), Progress("near", asked.records)
     for number, (at, layout) in enumerate(walk(data, JOB), 1):
         if layout.mark in MARKS:
-            found.add(number, layout.mark, *layout.numbers.unpack_from(data, at + 2)[:2])
+            found.add(number, layout, *layout.numbers.unpack_from(data, at + 2)[:2])
         else:
             found.others += 1
         progress(number)

@@ -21,7 +21,7 @@ from . import f32, host, raw
 from .engine import Engine
 from .poses import Pose
 from .raw import LibraryMissing
-from .near import Near, nearest_arm
+from .near import Near
 from .refusals import Refusal
 from .square_root import Root, nearest_root, root
 from .tangents import compare_tangents, sort_tangents
@@ -32,3 +32,4 @@ __all__ = ["LibraryMissing", "Near", "Pose", "Refusal", "Root", "f32", "host", "
 # Each function of the table, by the method of its name.
 ENGINE = Engine(DOUBLE, host)
 globals().update({name: getattr(ENGINE, name) for name in raw.FUNCTIONS})
+nearest_arm = ENGINE.nearest_arm

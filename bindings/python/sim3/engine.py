@@ -1,7 +1,7 @@
 """The engine at one width: a class whose methods are the functions of the package, over the C functions."""
 import array
 
-from . import raw
+from . import near, raw
 from .numbers import lent, number, over
 from .poses import Pose, expected, frames, numbers_of, room
 from .refusals import explained, wrong_length
@@ -149,6 +149,12 @@ class Engine:
         """Arm and ends at sigma, those at -sigma, and the two of scaled_pair; Refusal 1 where z is below zero."""
         sigma, z = self.number("armed_pair", "sigma", sigma), self.number("armed_pair", "z", z)
         return self.ask("armed_pair", sigma, z, or_host(values, self.host.values, sigma, z))
+
+    def nearest_arm(self, sigma, z):
+        """The least number of neighbouring numbers of this width that z must move, staying finite and not below
+        zero, for the arm to change, a Near; None where every such z has the same arm. Where both directions need
+        the same count, up is given. Refusal 1 where z is below zero, then 8 where sigma or z is a NaN or infinite."""
+        return near.asked(self.width, sigma, z)
 
     def block_pair(self, tau, values=None, jl=None, jl_inv=None):
         """Four blocks: J_l(tau), its inverse, J_r(tau), its inverse; jl is J_l(phi) of the rotation, jl_inv its inverse."""

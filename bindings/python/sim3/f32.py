@@ -12,8 +12,9 @@ from . import host_f32 as host, raw
 from .engine import Engine
 from .widths import SINGLE
 
-__all__ = ["host", *raw.FUNCTIONS]
+__all__ = ["host", "nearest_arm", *raw.FUNCTIONS]
 
 # Each function of the table, by the method of its name.
 ENGINE = Engine(SINGLE, host)
 globals().update({name: getattr(ENGINE, name) for name in raw.FUNCTIONS})
+nearest_arm = ENGINE.nearest_arm

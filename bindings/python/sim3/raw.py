@@ -67,7 +67,7 @@ FUNCTIONS = {
 # sim3_root stands apart from the table: after z it writes three lists, each of its own type and count.
 ROOT_WRITES = {"whole": (ctypes.c_uint64, 2), "exponent": (ctypes.c_int64, 1), "nearest": (ctypes.c_double, 1)}
 
-# So does sim3_nearest_arm: after sigma and z it writes one list of whole numbers.
+# So does sim3_nearest_arm, at either width: after sigma and z it writes one list of whole numbers.
 NEAR_WRITES = {"out": (ctypes.c_uint64, 3)}
 
 # So do those of tangents by their bit patterns: their lists in order, each a name and a type, the
@@ -101,8 +101,8 @@ def library():
         found = {name + width.ending: declared(loaded["sim3_" + name + width.ending], made, width)
                  for width in WIDTHS for name, made in FUNCTIONS.items()}
         found.update((name, declared_lists(loaded["sim3_" + name], made)) for name, made in PATTERNS.items())
-        return {**found, "root": declared_root(loaded["sim3_root"]),
-                "nearest_arm": declared_near(loaded["sim3_nearest_arm"])}
+        found.update(("nearest_arm" + width.ending, declared_near(loaded["sim3_nearest_arm" + width.ending], width)) for width in WIDTHS)
+        return {**found, "root": declared_root(loaded["sim3_root"])}
     except (OSError, AttributeError) as error:
         raise LibraryMissing(f"sim3: {path} is no library of this engine: {error}; "
                              "remove it and run bindings/build") from None
@@ -132,10 +132,10 @@ def declared_root(symbol):
     return symbol
 
 
-def declared_near(symbol):
-    """sim3_nearest_arm with the types of its arguments."""
+def declared_near(symbol, width):
+    """sim3_nearest_arm of a width with the types of its arguments."""
     lists = [word for kind, _ in NEAR_WRITES.values() for word in (ctypes.POINTER(kind), ctypes.c_size_t)]
-    symbol.argtypes = [ctypes.c_double, ctypes.c_double, *lists]
+    symbol.argtypes = [width.number, width.number, *lists]
     symbol.restype = ctypes.c_uint32
     return symbol
 

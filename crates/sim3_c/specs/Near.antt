@@ -4,7 +4,7 @@ use mathlib.Core.Bool.{cond}
 use mathlib.Core.List.{List, [], _∷_}
 use lib.Dec.{eqb}
 use lib.ListN.{length}
-use lib.Ieee.{Float, binary64}
+use lib.Ieee.{Float, Format}
 use Rattle.linalg.specs.Answer.{Answer, answers, refuses, andThen}
 use Rattle.nearest.specs.Nearest.{Way, down, up, Near, step, none, firstTold, nearestOf}
 use Rattle.sim3_c.specs.Lists.{wrongLength}
@@ -17,5 +17,5 @@ unfoldable pub nearNumbers : Near → List ℕ
 nearNumbers (step n d a) = n ∷ wayNumber d ∷ a ∷ []
 nearNumbers none = 0 ∷ 0 ∷ 0 ∷ []
 
-unfoldable pub nearCall : Float → Float → List ℕ → Answer (List ℕ)
-nearCall sigma z out = andThen (nearestOf binary64 firstTold sigma z) (λ r. cond (eqb (length out) 3) (answers (nearNumbers r)) (refuses wrongLength))
+unfoldable pub nearCall : Format → Float → Float → List ℕ → Answer (List ℕ)
+nearCall f sigma z out = andThen (nearestOf f firstTold sigma z) (λ r. cond (eqb (length out) 3) (answers (nearNumbers r)) (refuses wrongLength))

@@ -1,6 +1,7 @@
 // How near another arm is, to a list of whole numbers: the count, which can be as large as a pattern
 // and so no double, the direction, and the arm there.
 ghost use mathlib.Core.Path.{_≡_};
+ghost use lib.Ieee.{binary64};
 ghost use Rattle.nearest.specs.Nearest.{wayTold};
 ghost use Rattle.sim3_c.specs.Calls.{status, written};
 ghost use Rattle.sim3_c.specs.Near.{wayNumber, nearCall};
@@ -24,8 +25,8 @@ fn way_number(direction: Direction) -> u64
 // direction, and the arm there; three zeros where every permitted z has the same arm.
 #[no_mangle]
 pub extern "C" fn sim3_nearest_arm(sigma: f64, z: f64, out: &mut [u64]) -> u32
-    ensures { λ r. ⌜ r ≡ status (nearCall sigma z (now (out .entry))) ⌝ }
-    ensures { λ _. ⌜ now (out .exit) ≡ written (nearCall sigma z (now (out .entry))) (now (out .entry)) ⌝ }
+    ensures { λ r. ⌜ r ≡ status (nearCall binary64 sigma z (now (out .entry))) ⌝ }
+    ensures { λ _. ⌜ now (out .exit) ≡ written (nearCall binary64 sigma z (now (out .entry))) (now (out .entry)) ⌝ }
 {
     match nearest::nearest_arm(sigma, z) {
         NearestAnswer::Found(s) => {

@@ -1,4 +1,4 @@
-// Written by tools/widths from crates/sim3_c/src/lib.rt: edit that one. Digest bf4b7952ecf626c3.
+// Written by tools/widths from crates/sim3_c/src/lib.rt: edit that one. Digest 5185d1b319533b1b.
 // The engine for callers in C, Rust and Python: exported functions over numbers and lists of numbers,
 // each returning 0, or the number of a refusal, where `out` stays as it was. LIST_LENGTH is this
 // boundary's own, the others are the engine's. include/sim3.h has the order of every number.
@@ -9,6 +9,7 @@ pub mod points; // the action on lists of points
 pub mod pairs; // both signs, both sides
 pub mod arms; // the coefficients with their arms
 pub mod jacobians; // inverse, adjoint, and the Jacobians of the group's operations
+pub mod near; // how near another arm is
 
 // A list has not the length that is due. No refusal of the engine has this number or one near it.
 const LIST_LENGTH: u32 = 100;
