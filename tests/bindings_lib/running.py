@@ -165,7 +165,7 @@ def lengths():
     """Every other length is refused by 100, and nothing is written."""
     right = {"pose": 8, "state": 5, "x": 8, "x_frames": 2}
     for name, made in raw.RUNNING.items():
-        if name == "renormalize_all":
+        if not name.startswith("running"):
             continue
         for wrong in (argument for argument, _, use in made if use != raw.NUMBER):
             for count in (0, 1, right[wrong] - 1, right[wrong] + 1, 1000):
