@@ -4,3 +4,4 @@ pub mod State
 pub mod Lent
 pub mod Shelf
 pub mod Past
+pub mod Back
