@@ -4,4 +4,5 @@ mod Parts
 mod Stored
 mod Told
 pub mod Past
+pub mod Counted
 pub mod Back
