@@ -18,6 +18,10 @@ use Rattle.sides.specs.Blocks.{matOuter}
 use Rattle.demands.specs.Turned.{Opposite, OppositeVec, OppositeMat, OppositeIs}
 
 -- ---- what it says of two values
+zero-opposite : Opposite f0 f0
+unfolding plain neg
+zero-opposite = refl
+
 zero-or : (x : Float) → (Same x f0) ⊎ (plain x ≡ x)
 unfolding plain
 zero-or nan = inr refl
@@ -44,10 +48,6 @@ opposite-is x y =
     }
 
 -- ---- numbers
-zero-opposite : Opposite f0 f0
-unfolding plain neg
-zero-opposite = refl
-
 neg-opposite : (x y : Float) → Opposite x y → Opposite (neg x) (neg y)
 neg-opposite x y h = neg-same y (neg x) h
 
