@@ -29,12 +29,8 @@ zero-or (inf s) = inr refl
 zero-or (fin s zero e) = inl refl
 zero-or (fin s (suc m) e) = inr refl
 
-neg-zero : Same (neg f0) f0
-unfolding plain neg
-neg-zero = refl
-
 zero-of-neg : (x : Float) → Same (neg x) f0 → Same x f0
-zero-of-neg x p = ap plain (sym (neg-neg x)) ∙ neg-same (neg x) f0 p ∙ neg-zero
+zero-of-neg x p = ap plain (sym (neg-neg x)) ∙ neg-same (neg x) f0 p ∙ sym zero-opposite
 
 pub opposite-is : (x y : Float) → OppositeIs x y
 opposite-is x y =
@@ -44,7 +40,7 @@ opposite-is x y =
         | inr e ↦ elim (zero-or (neg x)) [ inl z ↦ inr (zero-of-neg x z, p ∙ z) | inr d ↦ inl (sym e ∙ p ∙ d) ]
       ];
       negated = λ e. ap plain e;
-      zeros = λ p q. q ∙ sym (neg-same x f0 p ∙ neg-zero);
+      zeros = λ p q. q ∙ zero-opposite ∙ sym (neg-same x f0 p);
     }
 
 -- ---- numbers
