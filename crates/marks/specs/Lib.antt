@@ -1,4 +1,5 @@
 pub mod State
 pub mod Chain
 pub mod Marks
+pub mod Rows
 pub mod History
