@@ -16,7 +16,7 @@ use Rattle.marks.specs.State.{State, memory, holds}
 use Rattle.marks.specs.Marks.{markOf, foundOf}
 use Rattle.marks.specs.Rows.{rowCount, unlisted, capitalRow, smallRow, rowOf, rowKnown, rowAt, metRow}
 use Rattle.marks.specs.declared.Mark.{Mark}
-use Rattle.marks.specs.declared.Mark.the-variants.{Double, Single, Ch, Rn}
+use Rattle.marks.specs.declared.Mark.the-variants.{Double, Single, Ch, Rn, Sh, Sq}
 
 -- ---- one of those there are
 capital-few : (e : Entry) → capitalRow e < rowCount
@@ -47,6 +47,8 @@ mark-few (Double e) = capital-few e
 mark-few (Single e) = small-few e
 mark-few Ch = omega arith
 mark-few Rn = omega arith
+mark-few Sh = omega arith
+mark-few Sq = omega arith
 
 known-few : (v : Answer Mark) → rowKnown v < rowCount
 unfolding rowKnown

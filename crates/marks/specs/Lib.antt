@@ -1,5 +1,6 @@
 pub mod State
 pub mod Chain
+pub mod Retakes
 pub mod Marks
 pub mod Rows
 pub mod History

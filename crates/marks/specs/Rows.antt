@@ -8,7 +8,7 @@ use Rattle.outcome.specs.declared.Entry.the-variants.{Ex, Co, Pa, Ac, Mu, In, J
 use Rattle.marks.specs.State.{holds}
 use Rattle.marks.specs.Marks.{markOf}
 use Rattle.marks.specs.declared.Mark.{Mark}
-use Rattle.marks.specs.declared.Mark.the-variants.{Double, Single, Ch, Rn}
+use Rattle.marks.specs.declared.Mark.the-variants.{Double, Single, Ch, Rn, Sh, Sq}
 
 -- how many there are: of EX to JI in capitals, of the same in small letters, of AR, CH, RN, SH and SQ, and last of what is no mark
 abbrev pub rowCount : ℕ
@@ -43,6 +43,8 @@ rowOf (Double e) = capitalRow e
 rowOf (Single e) = smallRow e
 rowOf Ch = 15
 rowOf Rn = 16
+rowOf Sh = 17
+rowOf Sq = 18
 
 -- by what two bytes are in the job table
 unfoldable pub rowKnown : Answer Mark → ℕ

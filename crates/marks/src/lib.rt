@@ -10,12 +10,18 @@ ghost use Rattle.marks.specs.Marks.{markKnown, markOf, lookTold, metOf, 
 ghost use Rattle.marks.specs.Rows.{capitalRow, smallRow, rowOf, metRow};
 use crate::chain::ch;
 use crate::chain::rn;
+use crate::retakes::sh;
+use crate::retakes::sq;
 use outcome::Entry;
 use outcome::Step;
+use sheets::STORE;
 
-// How many bytes are lent for the state of a job: n and the count of the running join, whether it has
-// a pose, and the pose with its frames.
-pub const MEMORY: usize = 2 + 2 + 1 + 8 * 8 + 2 * 2;
+// How many bytes are lent for the running join: n and the count, whether there is a pose, and the pose
+// with its frames.
+pub(crate) const RUNNING: usize = 2 + 2 + 1 + 8 * 8 + 2 * 2;
+
+// How many are lent for the state of a job: those, and behind them the store of the retaken sheets.
+pub const MEMORY: usize = RUNNING + STORE;
 
 // How many counts by mark a job has: of the seven entries in capitals, of the same in small letters, of
 // AR, CH, RN, SH and SQ, and of what is no mark.
@@ -24,15 +30,19 @@ pub const ROWS: usize = 20;
 // The place of what is no mark: the last.
 const UNLISTED: usize = 19;
 
+mod bytes; // numbers and poses at a place of a list of bytes
 mod chain; // the running join
+mod retakes; // the retaken sheets
 
-// A mark of the table: it asks for an entry of the engine, on doubles or on singles, or for the running
-// join.
+// A mark of the table: it asks for an entry of the engine, on doubles or on singles, for the running
+// join, or for the retaken sheets.
 pub enum Mark {
     Double(Entry),
     Single(Entry),
     Ch,
     Rn,
+    Sh,
+    Sq,
 }
 
 // A mark of the table; or none.
@@ -76,6 +86,8 @@ fn known(k: u16) -> Look
         0x6a69 => Look::Known(Mark::Single(Entry::Ji)),
         0x4348 => Look::Known(Mark::Ch),
         0x524e => Look::Known(Mark::Rn),
+        0x5348 => Look::Known(Mark::Sh),
+        0x5351 => Look::Known(Mark::Sq),
         _ => Look::Unknown,
     }
 }
@@ -127,6 +139,8 @@ fn row(m: Mark) -> usize
         Mark::Single(e) => small(e),
         Mark::Ch => 15,
         Mark::Rn => 16,
+        Mark::Sh => 17,
+        Mark::Sq => 18,
     }
 }
 
@@ -141,6 +155,7 @@ pub fn fresh(mem: &mut [u8])
         mem[2] = 0;
         mem[3] = 0;
         mem[4] = 0;
+        sheets::fresh(&mut mem[RUNNING..]);
     }
 }
 
@@ -178,5 +193,7 @@ pub fn reply(s: &[u8], mem: &mut [u8], out: &mut [u8]) -> Heard
         Mark::Single(e) => tell(replies_f32::reply(e, s, out), place),
         Mark::Ch => tell(ch(s, mem, out), place),
         Mark::Rn => tell(rn(s, mem, out), place),
+        Mark::Sh => tell(sh(s, mem, out), place),
+        Mark::Sq => tell(sq(s, mem, out), place),
     }
 }

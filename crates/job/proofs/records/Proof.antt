@@ -1,4 +1,4 @@
--- Written by tools/proofs from Proof.template: edit that one. Digest 00694c4ed2928cca.
+-- Written by tools/proofs from Proof.template: edit that one. Digest 6e491883626077ca.
 -- `job::records` meets its contract: each turn keeps the definition's value, and each way out is the definition's. Assumes nothing.
 use borrow.Author.Needs.{needs}
 use native.Mathlib.Omega.{arith}
@@ -154,13 +154,13 @@ lose-requires : tie.Need-lose-requires Inv-loop μ-loop
 lose-requires c κs =
     let c1 = c .before .before .before .before .before in
     let c2 = c1 .before .before .before .before .before in
-    (c2 .before .before .loop .inv .1 .sound, place-few (turn (c1 .before)))
+    (c2 .before .before .loop .inv .1 .sound, omega (arith, place-few (turn (c1 .before))))
 
 lose-requires-2 : tie.Need-lose-requires-2 Inv-loop μ-loop
 lose-requires-2 c κs =
     let c1 = c .before .before .before .before .before in
     let c2 = c1 .before .before .before .before .before in
-    (c2 .before .before .before .loop .inv .1 .sound, place-few (turn (c1 .before .before)))
+    (c2 .before .before .before .loop .inv .1 .sound, omega (arith, place-few (turn (c1 .before .before))))
 
 sub-pause : tie.Need-sub-pause Inv-loop μ-loop
 sub-pause c = c .before .before .loop .inv .1 .room

@@ -1,4 +1,4 @@
--- Written by tools/proofs, plain, opening rowOf. Digest 09fc82f9805b63cf.
+-- Written by tools/proofs, plain, opening rowOf. Digest 8accd9035f0394a1.
 use borrow.Author.Needs.{needs}
 use Rattle.marks.specs.Rows.{rowOf}
 use Rattle.marks.proofs.row.Statement.{statement}
@@ -20,6 +20,14 @@ returns-4 : tie.Need-returns-4
 unfolding rowOf
 returns-4 c = simp (c .enum-told2 .given .1, c .before .match .keys4)
 
+returns-5 : tie.Need-returns-5
+unfolding rowOf
+returns-5 c = simp (c .enum-told3 .given .1, c .before .match .keys5)
+
+returns-6 : tie.Need-returns-6
+unfolding rowOf
+returns-6 c = simp (c .enum-told4 .given .1, c .before .match .keys6)
+
 pub row-spec : {M : Type 1} → statement M
 row-spec =
     tie.close
@@ -30,7 +38,11 @@ row-spec =
     (λ c κs. search needs)
     (λ c. search needs)
     (λ c. search needs)
+    (λ c. search needs)
+    (λ c. search needs)
     returns
     returns-2
     returns-3
-    returns-4)
+    returns-4
+    returns-5
+    returns-6)
