@@ -4,7 +4,7 @@ use Prim.Native.Nat.{ℕ, _+_, _-_}
 use mathlib.Core.Path.{_≡_, refl}
 use mathlib.Core.Bool.{Bool, true, false, _&&_}
 use lib.Dec.{eqb}
-use lib.ListN.{replicate}
+use lib.ListN.{set, replicate}
 use mathlib.Core.List.{List, [], _∷_, _++_}
 use lib.Ieee.{ofBits, toBits, add, sub, mul}
 use Rattle.ieee.specs.Finite.{isFinite}
@@ -20,7 +20,8 @@ use Rattle.frames.specs.Joins.{framedMul}
 use Rattle.replies.specs.Table.{framedIn, framedItems, acOf, muOf, answerOf, entryReply}
 use Rattle.marks.specs.State.{stateNone}
 use Rattle.marks.specs.Marks.{markKnown, markOf, stepOf, markFound, markNext, foundAt, nextAt, foundOf, nextOf}
-use Rattle.job.specs.Counts.{countsMore}
+use Rattle.marks.specs.Rows.{rowCount, capitalRow, smallRow, rowOf, rowKnown, rowAt}
+use Rattle.job.specs.Counts.{countsMore, rowsMore, rowsBytes}
 use Rattle.job.specs.Job.{trailer, jobOn, jobFrom, jobOf, jobLimit}
 
 -- a double by its two greatest bytes, the others 0
@@ -33,9 +34,20 @@ zero = double 0x00 0x00
 one : List ℕ
 one = double 0xf0 0x3f
 
--- ZZ and four counts below 256
-counts : ℕ → ℕ → ℕ → ℕ → List ℕ
-counts a b c d = 0x5a ∷ 0x5a ∷ a ∷ 0 ∷ 0 ∷ 0 ∷ b ∷ 0 ∷ 0 ∷ 0 ∷ c ∷ 0 ∷ 0 ∷ 0 ∷ d ∷ 0 ∷ 0 ∷ 0 ∷ []
+-- ZZ, four counts below 256 and those by mark
+words : List ℕ → List ℕ
+words [] = []
+words (x ∷ l) = x ∷ 0 ∷ 0 ∷ 0 ∷ words l
+
+counts : ℕ → ℕ → ℕ → ℕ → List ℕ → List ℕ
+counts a b c d rows = 0x5a ∷ 0x5a ∷ words (a ∷ b ∷ c ∷ d ∷ rows)
+
+-- twenty counts of which one is 1
+nowhere : List ℕ
+nowhere = replicate rowCount 0
+
+only : ℕ → List ℕ
+only r = set nowhere r 1
 
 -- two frames below 256
 frames : ℕ → ℕ → List ℕ
@@ -51,10 +63,10 @@ record-in =
     ++ (zero
     ++ (zero ++ (one ++ (double 0x00 0x40 ++ (double 0x08 0x40 ++ (zero ++ (frames 0 0 ++ (one ++ (double 0x10 0x40 ++ (double 0x14 0x40 ++ double 0x18 0x40))))))))))))
 
-answered : jobOf jobLimit record-in ≡ 0x41 ∷ 0x43 ∷ (double 0x14 0x40 ++ (double 0x1c 0x40 ++ (double 0x22 0x40 ++ counts 1 1 0 0)))
+answered : jobOf jobLimit record-in ≡ 0x41 ∷ 0x43 ∷ (double 0x14 0x40 ++ (double 0x1c 0x40 ++ (double 0x22 0x40 ++ counts 1 1 0 0 (only 3))))
 unfolding ofBits toBits add sub mul vecScale vecCross vecAdd so3Act poseAct vecIn quatIn poseIn vecNumbers wordOf wordBytes numberOf numberAt numberBytes itemBytes itemsBytes
-    allFinite isFinite numbers countBytes markKnown markOf markBytes replyOf acOf answerOf entryReply countsMore recordFound stepOf markFound foundAt foundOf trailer jobOn jobFrom
-    double zero one counts frames record-in
+    allFinite isFinite numbers countBytes markKnown markOf markBytes replyOf acOf answerOf entryReply countsMore rowsMore recordFound stepOf markFound foundAt foundOf rowAt
+    rowKnown rowOf capitalRow smallRow rowsBytes trailer jobOn jobFrom double zero one words counts nowhere only frames record-in
 answered = refl
 
 -- the same record on singles, each by its two greatest bytes
@@ -76,10 +88,10 @@ small-in =
     ++ (nought
     ++ (nought ++ (unit ++ (single 0x00 0x40 ++ (single 0x40 0x40 ++ (nought ++ (frames 0 0 ++ (unit ++ (single 0x80 0x40 ++ (single 0xa0 0x40 ++ single 0xc0 0x40))))))))))))
 
-small : jobOf jobLimit small-in ≡ 0x61 ∷ 0x63 ∷ (single 0xa0 0x40 ++ (single 0xe0 0x40 ++ (single 0x10 0x41 ++ counts 1 1 0 0)))
+small : jobOf jobLimit small-in ≡ 0x61 ∷ 0x63 ∷ (single 0xa0 0x40 ++ (single 0xe0 0x40 ++ (single 0x10 0x41 ++ counts 1 1 0 0 (only 10))))
 unfolding ofBits toBits add sub mul vecScale vecCross vecAdd so3Act poseAct vecIn quatIn poseIn vecNumbers wordOf wordBytes numberOf numberAt numberBytes itemBytes itemsBytes
-    allFinite isFinite numbers countBytes markKnown markOf markBytes replyOf acOf answerOf entryReply countsMore recordFound stepOf markFound foundAt foundOf trailer jobOn jobFrom
-    single nought unit counts frames small-in
+    allFinite isFinite numbers countBytes markKnown markOf markBytes replyOf acOf answerOf entryReply countsMore rowsMore recordFound stepOf markFound foundAt foundOf rowAt
+    rowKnown rowOf capitalRow smallRow rowsBytes trailer jobOn jobFrom single nought unit words counts nowhere only frames small-in
 small = refl
 
 -- the same with an infinite point: it is answered, and counted last
@@ -92,67 +104,72 @@ unfinite-in =
     ++ (zero
     ++ (zero ++ (zero ++ (zero ++ (zero ++ (zero ++ (frames 0 0 ++ (one ++ (zero ++ (zero ++ double 0xf0 0x7f))))))))))))
 
-unfinite : jobOf jobLimit unfinite-in ≡ 0x41 ∷ 0x43 ∷ (double 0xf8 0x7f ++ (double 0xf8 0x7f ++ (double 0xf8 0x7f ++ counts 1 0 0 1)))
+unfinite : jobOf jobLimit unfinite-in ≡ 0x41 ∷ 0x43 ∷ (double 0xf8 0x7f ++ (double 0xf8 0x7f ++ (double 0xf8 0x7f ++ counts 1 0 0 1 (only 3))))
 unfolding ofBits toBits add sub mul vecScale vecCross vecAdd so3Act poseAct vecIn quatIn poseIn vecNumbers wordOf wordBytes numberOf numberAt numberBytes itemBytes itemsBytes
-    allFinite isFinite numbers countBytes markKnown markOf markBytes replyOf acOf answerOf entryReply countsMore recordFound stepOf markFound foundAt foundOf trailer jobOn jobFrom
-    double zero one counts frames unfinite-in
+    allFinite isFinite numbers countBytes markKnown markOf markBytes replyOf acOf answerOf entryReply countsMore rowsMore recordFound stepOf markFound foundAt foundOf rowAt
+    rowKnown rowOf capitalRow smallRow rowsBytes trailer jobOn jobFrom double zero one words counts nowhere only frames unfinite-in
 unfinite = refl
 
 -- nothing at all
-empty : jobOf jobLimit [] ≡ counts 0 0 0 0
-unfolding wordBytes countBytes markBytes foundOf trailer jobOn jobFrom counts
+empty : jobOf jobLimit [] ≡ counts 0 0 0 0 nowhere
+unfolding wordBytes countBytes markBytes foundOf rowsBytes trailer jobOn jobFrom words counts nowhere only
 empty = refl
 
 -- half a mark
-half : jobOf jobLimit (0x41 ∷ []) ≡ 0x4e ∷ 0x4f ∷ 7 ∷ counts 1 0 1 0
-unfolding wordBytes countBytes markBytes noBytes countsMore foundOf trailer jobOn jobFrom counts
+half : jobOf jobLimit (0x41 ∷ []) ≡ 0x4e ∷ 0x4f ∷ 7 ∷ counts 1 0 1 0 (only 19)
+unfolding wordBytes countBytes markBytes noBytes countsMore rowsMore foundOf rowAt rowsBytes trailer jobOn jobFrom words counts nowhere only
 half = refl
 
 -- a record that is cut after its mark
-cut-short : jobOf jobLimit (0x41 ∷ 0x43 ∷ 0 ∷ []) ≡ 0x4e ∷ 0x4f ∷ 7 ∷ counts 1 0 1 0
-unfolding wordBytes countBytes markKnown markOf markBytes noBytes countsMore recordFound stepOf markFound foundAt foundOf trailer jobOn jobFrom counts
+cut-short : jobOf jobLimit (0x41 ∷ 0x43 ∷ 0 ∷ []) ≡ 0x4e ∷ 0x4f ∷ 7 ∷ counts 1 0 1 0 (only 3)
+unfolding wordBytes countBytes markKnown markOf markBytes noBytes countsMore rowsMore recordFound stepOf markFound foundAt foundOf rowAt rowKnown rowOf capitalRow smallRow
+    rowsBytes trailer jobOn jobFrom words counts nowhere only
 cut-short = refl
 
 -- a mark that is not in the table, with nothing behind it
-unlisted : jobOf jobLimit (0x51 ∷ 0x51 ∷ []) ≡ 0x4e ∷ 0x4f ∷ 6 ∷ counts 1 0 1 0
-unfolding wordBytes countBytes markKnown markOf markBytes noBytes countsMore recordFound stepOf markFound foundAt foundOf trailer jobOn jobFrom counts
+unlisted : jobOf jobLimit (0x51 ∷ 0x51 ∷ []) ≡ 0x4e ∷ 0x4f ∷ 6 ∷ counts 1 0 1 0 (only 19)
+unfolding wordBytes countBytes markKnown markOf markBytes noBytes countsMore rowsMore recordFound stepOf markFound foundAt foundOf rowAt rowKnown rowOf capitalRow smallRow
+    rowsBytes trailer jobOn jobFrom words counts nowhere only
 unlisted = refl
 
 -- AR in small letters, and a capital with a small letter
-small-ar : jobOf jobLimit (0x61 ∷ 0x72 ∷ []) ≡ 0x4e ∷ 0x4f ∷ 6 ∷ counts 1 0 1 0
-unfolding wordBytes countBytes markKnown markOf markBytes noBytes countsMore recordFound stepOf markFound foundAt foundOf trailer jobOn jobFrom counts
+small-ar : jobOf jobLimit (0x61 ∷ 0x72 ∷ []) ≡ 0x4e ∷ 0x4f ∷ 6 ∷ counts 1 0 1 0 (only 19)
+unfolding wordBytes countBytes markKnown markOf markBytes noBytes countsMore rowsMore recordFound stepOf markFound foundAt foundOf rowAt rowKnown rowOf capitalRow smallRow
+    rowsBytes trailer jobOn jobFrom words counts nowhere only
 small-ar = refl
 
-mixed : jobOf jobLimit (0x41 ∷ 0x63 ∷ []) ≡ 0x4e ∷ 0x4f ∷ 6 ∷ counts 1 0 1 0
-unfolding wordBytes countBytes markKnown markOf markBytes noBytes countsMore recordFound stepOf markFound foundAt foundOf trailer jobOn jobFrom counts
+mixed : jobOf jobLimit (0x41 ∷ 0x63 ∷ []) ≡ 0x4e ∷ 0x4f ∷ 6 ∷ counts 1 0 1 0 (only 19)
+unfolding wordBytes countBytes markKnown markOf markBytes noBytes countsMore rowsMore recordFound stepOf markFound foundAt foundOf rowAt rowKnown rowOf capitalRow smallRow
+    rowsBytes trailer jobOn jobFrom words counts nowhere only
 mixed = refl
 
 -- a product of poses from 3 to 5 and from 3 to 7: whole it is refused, since 3 is not 7; and cut by its last byte it is a cut record
 mu-in : ℕ → List ℕ
 mu-in n = 0x4d ∷ 0x55 ∷ (replicate 64 0 ++ (frames 3 5 ++ (replicate 64 0 ++ (frames 3 7 ++ replicate n 0))))
 
-apart : jobOf jobLimit (mu-in 8) ≡ 0x4e ∷ 0x4f ∷ 9 ∷ counts 1 0 1 0
-unfolding wordOf wordAt wordBytes countBytes markKnown markOf markBytes noBytes replyOf framedIn framedMul muOf answerOf entryReply countsMore recordFound stepOf markFound foundAt
-    foundOf trailer jobOn jobFrom counts frames mu-in
+apart : jobOf jobLimit (mu-in 8) ≡ 0x4e ∷ 0x4f ∷ 9 ∷ counts 1 0 1 0 (only 4)
+unfolding wordOf wordAt wordBytes countBytes markKnown markOf markBytes noBytes replyOf framedIn framedMul muOf answerOf entryReply countsMore rowsMore recordFound stepOf markFound
+    foundAt foundOf rowAt rowKnown rowOf capitalRow smallRow rowsBytes trailer jobOn jobFrom words counts nowhere only frames mu-in
 apart = refl
 
-apart-cut : jobOf jobLimit (mu-in 7) ≡ 0x4e ∷ 0x4f ∷ 7 ∷ counts 1 0 1 0
-unfolding wordBytes countBytes markKnown markOf markBytes noBytes countsMore recordFound stepOf markFound foundAt foundOf trailer jobOn jobFrom counts frames mu-in
+apart-cut : jobOf jobLimit (mu-in 7) ≡ 0x4e ∷ 0x4f ∷ 7 ∷ counts 1 0 1 0 (only 4)
+unfolding wordBytes countBytes markKnown markOf markBytes noBytes countsMore rowsMore recordFound stepOf markFound foundAt foundOf rowAt rowKnown rowOf capitalRow smallRow
+    rowsBytes trailer jobOn jobFrom words counts nowhere only frames mu-in
 apart-cut = refl
 
 -- the running join: the first pose, from 3 to 5, is answered as it came; one from 3 to 7 does not meet it; and n is answered
 ch-in : ℕ → ℕ → List ℕ
 ch-in from to = 0x43 ∷ 0x48 ∷ (replicate 64 0 ++ (frames from to ++ replicate 8 0))
 
-joined : jobOf jobLimit (ch-in 3 5 ++ (ch-in 3 7 ++ (0x52 ∷ 0x4e ∷ 2 ∷ 1 ∷ []))) ≡ 0x43 ∷ 0x48 ∷ (replicate 64 0 ++ (frames 3 5 ++ (0x4e ∷ 0x4f ∷ 9 ∷ 0x52 ∷ 0x4e ∷ 2 ∷ 1 ∷ counts 3 2 1 0)))
+joined : jobOf jobLimit (ch-in 3 5 ++ (ch-in 3 7 ++ (0x52 ∷ 0x4e ∷ 2 ∷ 1 ∷ []))) ≡ 0x43 ∷ 0x48 ∷ (replicate 64 0 ++ (frames 3 5 ++ (0x4e ∷ 0x4f ∷ 9 ∷ 0x52 ∷ 0x4e ∷ 2 ∷ 1 ∷ counts 3 2 1 0 (set (set nowhere 15 2) 16 1))))
 unfolding ofBits toBits vecIn quatIn poseIn vecNumbers quatNumbers poseNumbers wordOf wordAt wordBytes numberOf numberAt numberBytes itemBytes itemsBytes allFinite isFinite numbers
-    countBytes markKnown markOf markBytes noBytes replyOf framedIn framedItems framedMul productOn joinOn chOf chReply rnReply countsMore recordFound stepOf markFound markNext
-    foundAt nextAt foundOf nextOf trailer jobOn jobFrom counts frames ch-in
+    countBytes markKnown markOf markBytes noBytes replyOf framedIn framedItems framedMul productOn joinOn chOf chReply rnReply countsMore rowsMore recordFound stepOf markFound
+    markNext foundAt nextAt foundOf rowAt rowKnown rowOf capitalRow smallRow nextOf rowsBytes trailer jobOn jobFrom words counts nowhere only frames ch-in
 joined = refl
 
 -- at the limit no mark is looked at
-at-limit : jobOf 0 (0x51 ∷ 0x51 ∷ []) ≡ counts 0 0 0 0
-unfolding wordBytes countBytes markBytes trailer jobFrom counts
+at-limit : jobOf 0 (0x51 ∷ 0x51 ∷ []) ≡ counts 0 0 0 0 nowhere
+unfolding wordBytes countBytes markBytes rowsBytes trailer jobFrom words counts nowhere only
 at-limit = refl
 
 -- ---- with so many bytes behind its mark a record is whole, and with one fewer it is cut

@@ -21,7 +21,7 @@ use Rattle.job.proofs.Pieces.{feed-bad, feed-good}
 abbrev Few : ℕ → Standing → List ℕ → ℕ → Part → Type 0
 Few n j xs room p = p .reason ≡ More → length xs - p .used < recordRoom
 
-stop-few : (last : Bool) (j : Standing) (xs : List ℕ) (f : Found) (r : Reason) (e : Standing) → foundOf (j .state) xs ≡ f → Stops last j f r e → r ≡ More → length xs - 0 < recordRoom
+stop-few : (last : Bool) (j : Standing) (xs : List ℕ) (f : Found) (r : Reason) (e : Standing) → foundOf (j .state) xs ≡ f → Stops last j xs f r e → r ≡ More → length xs - 0 < recordRoom
 stop-few last j xs f r e q (at-end l) u = never (cc)
 stop-few last j xs f r e q (at-pause l) u = omega (arith, ended-none (j .state) xs q)
 stop-few last j xs f r e q at-unknown u = never (cc)

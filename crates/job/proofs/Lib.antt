@@ -1,4 +1,5 @@
 -- The laws of the job, from one record to any run of a program.
+pub mod Rows
 pub mod Turns
 pub mod Loop
 pub mod Steps

@@ -17,17 +17,27 @@ use Rattle.job.specs.Counts.{countsMore}
 use Rattle.outcome.specs.Outcome.{longest, took}
 use Rattle.marks.specs.Marks.{foundOf}
 use Rattle.marks.specs.State.{State}
+use Rattle.marks.specs.Rows.{rowAt}
 use Rattle.job.specs.Job.{Standing, moved}
 use Rattle.job.specs.Feed.{halt, after, recordsOf, toldPart}
 use Rattle.job.specs.Inner.{Sound}
 use Rattle.marks.proofs.Heads.{taken}
+use Rattle.marks.proofs.Rows.{row-few}
+use Rattle.job.proofs.Rows.{rows-add}
 use Rattle.job.proofs.Turns.{records-took, after-after, counted-begun}
 
-pub counted-sound : (how : Kind) (limit : ℕ) (c : Counts) → Sound limit c → (c .begun ≡ limit → ⊥) → Sound limit (countsMore how c)
+-- one record more, of the mark at the head of xs, and the counts are still those of a job
+pub counted-sound : (how : Kind) (limit : ℕ) (xs : List ℕ) (c : Counts) → Sound limit c → (c .begun ≡ limit → ⊥) → Sound limit (countsMore how (rowAt xs) c)
 unfolding countsMore
-counted-sound Answered limit c s h = let a : c .begun ≤ limit = s .few in record { few = omega arith; sum = omega (arith, s .sum) }
-counted-sound Refused limit c s h = let a : c .begun ≤ limit = s .few in record { few = omega arith; sum = omega (arith, s .sum) }
-counted-sound Unusable limit c s h = let a : c .begun ≤ limit = s .few in record { few = omega arith; sum = omega (arith, s .sum) }
+counted-sound Answered limit xs c s h =
+    let a : c .begun ≤ limit = s .few in
+    record { few = omega arith; sum = omega (arith, s .sum); each = rows-add (rowAt xs) (c .begun) (c .rows) (row-few xs) (s .each) }
+counted-sound Refused limit xs c s h =
+    let a : c .begun ≤ limit = s .few in
+    record { few = omega arith; sum = omega (arith, s .sum); each = rows-add (rowAt xs) (c .begun) (c .rows) (row-few xs) (s .each) }
+counted-sound Unusable limit xs c s h =
+    let a : c .begun ≤ limit = s .few in
+    record { few = omega arith; sum = omega (arith, s .sum); each = rows-add (rowAt xs) (c .begun) (c .rows) (row-few xs) (s .each) }
 
 -- The loop began with the standing j₀ and the output out₀, of which it has j and out now; it is done with `at` bytes and has written `to`.
 pub record Going (limit : ℕ) (input : List ℕ) (last : Bool) (j₀ : Standing) (out₀ : List ℕ) (j : Standing) (out : List ℕ) (at to : ℕ) : Type 0 where
@@ -91,7 +101,7 @@ module _ {limit : ℕ} {input : List ℕ} {last : Bool} {j₀ : Standing} {out�
       ∙ records-took (limit - (j .counts .begun + 1)) j (drop at input) last (length out₀ - to) (omega arith) how k b e
       ∙ rw (room, drop-drop k at input) in
       record {
-        sound = counted-sound how limit (j .counts) (g .sound) few;
+        sound = counted-sound how limit (drop at input) (j .counts) (g .sound) few;
         inside = omega arith;
         room = simp length-sets (omega arith);
         kept = length-sets out to b ∙ g .kept;
@@ -100,5 +110,5 @@ module _ {limit : ℕ} {input : List ℕ} {last : Bool} {j₀ : Standing} {out�
             ∙ sym (drop-drop (length b) to out) ∙ ap (drop (length b)) (g .rest) ∙ drop-drop (length b) to out₀;
         same =
             g .same ∙ ap (after at (take to out)) next ∙ after-after at k (take to out) b P
-            ∙ (λ i. after (at + k) (sym tk i) (recordsOf (limit - sym (counted-begun how (j .counts)) i) (moved how (drop at input) j) (drop (at + k) input) last (length out₀ - (to + length b))));
+            ∙ (λ i. after (at + k) (sym tk i) (recordsOf (limit - sym (counted-begun how (rowAt (drop at input)) (j .counts)) i) (moved how (drop at input) j) (drop (at + k) input) last (length out₀ - (to + length b))));
       }

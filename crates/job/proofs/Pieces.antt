@@ -1,5 +1,5 @@
 -- One call: the loop's value fits the input and the output, and with the end written behind it it is `feedOf`. Assumes nothing.
-use Prim.Native.Nat.{ℕ, _+_, _-_, _≤_}
+use Prim.Native.Nat.{ℕ, suc, _+_, _-_, _≤_}
 use mathlib.Core.Path.{_≡_, refl, sym, ap, _∙_}
 use mathlib.Core.Bool.{Bool, true, false, _&&_}
 use mathlib.Core.List.{List, _++_}
@@ -8,20 +8,24 @@ use native.Mathlib.Omega.{arith}
 use borrow.Author.Tests.{leb-true, eqb-true, le-leb, eq-eqb}
 use lib.ListN.{length, drop, length-append, length-drop}
 use lib.Seq.{sets, length-sets}
-use lib.Dec.{leb}
+use lib.Dec.{leb, eqb}
 use Rattle.layout.proofs.Runs.{sets-front, sets-split}
-use Rattle.outcome.specs.Outcome.{longest}
+use Rattle.outcome.specs.declared.Kind.the-variants.{Refused}
+use Rattle.outcome.specs.Outcome.{longest, Found}
 use Rattle.job.specs.declared.Counts.{Counts}
 use Rattle.job.specs.declared.Fed.{Fed}
+use Rattle.job.specs.declared.Reason.{Reason}
 use Rattle.job.specs.declared.Reason.the-variants.{Bad}
-use Rattle.job.specs.Counts.{countsSound}
+use Rattle.job.specs.Counts.{total, countsSound}
 use Rattle.marks.specs.State.{State}
+use Rattle.marks.specs.Rows.{rowCount, rowAt}
 use Rattle.job.specs.Job.{Standing}
 use Rattle.job.specs.Feed.{Part, halt, closed, closing, ends, recordsOf, feedOf, toldPart}
 use Rattle.job.specs.Inner.{Sound}
 use Rattle.outcome.proofs.Never.{untrue}
 use Rattle.marks.proofs.Heads.{taken}
-use Rattle.job.proofs.Turns.{records-by}
+use Rattle.job.proofs.Turns.{Stops, at-end, at-pause, at-unknown, at-cut, at-part, records-by, counted-begun}
+use Rattle.job.proofs.Loop.{counted-sound}
 use Rattle.job.proofs.Ending.{closing-fits}
 
 -- ---- the loop's value fits, and where it ends the job it leaves room for the end
@@ -43,6 +47,29 @@ records-fit n j xs last room =
     let u : p .used ≤ length xs - k = simp length-drop at (i .uses) in
     record { uses = omega arith; within = simp length-append (omega (arith, i .within)); spare = λ u. simp length-append (omega (arith, i .spare u)) })
     n j xs room
+
+-- ---- the counts stay those of a job
+module _ (limit : ℕ) (last : Bool) where
+  abbrev Keeps : ℕ → Standing → List ℕ → ℕ → Part → Type 0
+  Keeps n j xs room p = Sound limit (j .counts) → limit - j .counts .begun ≡ n → Sound limit (p .standing .counts)
+
+  stop-sound :
+      (n : ℕ) (j : Standing) (xs : List ℕ) (f : Found) (r : Reason) (e : Standing) → Stops last j xs f r e → Sound limit (j .counts) → limit - j .counts .begun ≡ suc n →
+      Sound limit (e .counts)
+  stop-sound n j xs f r e (at-end l) s i = s
+  stop-sound n j xs f r e (at-pause l) s i = s
+  stop-sound n j xs f r e at-unknown s i = counted-sound Refused limit xs (j .counts) s (λ x. omega arith)
+  stop-sound n j xs f r e (at-cut l) s i = counted-sound Refused limit xs (j .counts) s (λ x. omega arith)
+  stop-sound n j xs f r e (at-part l) s i = s
+
+  pub records-sound : (j : Standing) (xs : List ℕ) (room : ℕ) → Sound limit (j .counts) → Sound limit (recordsOf (limit - j .counts .begun) j xs last room .standing .counts)
+  records-sound j xs room s =
+      records-by last Keeps
+      (λ n j xs room h s i. s)
+      (λ j xs room h s i. s)
+      (λ n j xs room h f r e q t s i. stop-sound n j xs f r e t s i)
+      (λ n j xs room h how k b q p ih s i. ih (counted-sound how limit xs (j .counts) s (λ x. omega arith)) (rw (counted-begun how (rowAt xs) (j .counts)) (omega arith)))
+      (limit - j .counts .begun) j xs room s refl
 
 -- ---- the counts handed in
 and-left : (a b : Bool) → a && b ≡ true → a ≡ true
@@ -70,8 +97,14 @@ sound-is limit c e =
     let y = and-right (leb (c .answered) (c .begun)) _ x in
     let a : c .answered ≤ c .begun = leb-true _ _ (and-left (leb (c .answered) (c .begun)) _ x) in
     let b : c .refused ≤ c .begun - c .answered = leb-true _ _ (and-left (leb (c .refused) (c .begun - c .answered)) _ y) in
-    let u : c .unusable ≡ c .begun - c .answered - c .refused = eqb-true _ _ (and-right (leb (c .refused) (c .begun - c .answered)) _ y) in
-    record { few = leb-true _ _ (and-left (leb (c .begun) limit) _ e); sum = omega arith }
+    let z = and-right (leb (c .refused) (c .begun - c .answered)) _ y in
+    let u : c .unusable ≡ c .begun - c .answered - c .refused = eqb-true _ _ (and-left (eqb (c .unusable) (c .begun - c .answered - c .refused)) _ z) in
+    let v = and-right (eqb (c .unusable) (c .begun - c .answered - c .refused)) _ z in
+    record {
+      few = leb-true _ _ (and-left (leb (c .begun) limit) _ e);
+      sum = omega arith;
+      each = (eqb-true _ _ (and-left (eqb (length (c .rows)) rowCount) _ v), eqb-true _ _ (and-right (eqb (length (c .rows)) rowCount) _ v));
+    }
 
 pub is-sound : (limit : ℕ) (c : Counts) → Sound limit c → countsSound limit c ≡ true
 unfolding countsSound
@@ -83,6 +116,8 @@ is-sound limit c s =
       le-leb (c .answered) (c .begun) (omega arith),
       le-leb (c .refused) (c .begun - c .answered) (omega arith),
       eq-eqb (c .unusable) (c .begun - c .answered - c .refused) (omega arith),
+      eq-eqb (length (c .rows)) rowCount (s .each .0),
+      eq-eqb (total (c .rows)) (c .begun) (s .each .1),
     )
 
 pub feed-bad : (limit : ℕ) (held : Bool) (j : Standing) (xs : List ℕ) (last : Bool) (room : ℕ) → held && countsSound limit (j .counts) ≡ false → feedOf limit held j xs last room ≡ halt Bad j
@@ -113,7 +148,8 @@ module _ {limit : ℕ} {held : Bool} {j : Standing} {xs : List ℕ} {last : Bool
   feed-within =
       let f = records-fit (limit - j .counts .begun) j xs last (length out) in
       let P = recordsOf (limit - j .counts .begun) j xs last (length out) in
-      rw (k .told) (closing-fits (P .reason) (P .standing .counts) _ _ (f .within) (f .spare))
+      let s = records-sound limit last j xs (length out) (sound-is limit (j .counts) (and-right held _ (k .good))) in
+      rw (k .told) (closing-fits (P .reason) (P .standing .counts) _ _ (s .each .0) (f .within) (f .spare))
 
   pub feed-told :
       (n : ℕ) → n ≡ length (closing (l .reason) (l .counts)) →

@@ -1,6 +1,6 @@
 -- The record loop as the code goes through it: by the limit, by what it is answered of the record at the head, and by the room that is left for the end. Assumes nothing.
 use Prim.Native.Nat.{ℕ, suc, _+_, _-_, _≤_, _<_}
-use mathlib.Core.Path.{_≡_, refl, sym, ap, _∙_}
+use mathlib.Core.Path.{_≡_, refl, sym, ap, subst, _∙_}
 use mathlib.Core.Bool.{Bool, true, false, cond}
 use mathlib.Core.List.{List, [], _++_}
 use native.Mathlib.Omega.{arith}
@@ -11,6 +11,7 @@ use lib.Seq.{sets, take-all, length-sets, length-take-le}
 use Rattle.outcome.specs.declared.Kind.{Kind}
 use Rattle.outcome.specs.declared.Kind.the-variants.{Refused}
 use Rattle.job.specs.declared.Counts.{Counts}
+use Rattle.job.specs.declared.Four.{Four}
 use Rattle.job.specs.declared.Fed.{Fed}
 use Rattle.job.specs.declared.Reason.{Reason}
 use Rattle.job.specs.declared.Reason.the-variants.{More, Room, Full, End, Unknown, Cut}
@@ -18,14 +19,17 @@ use Rattle.job.specs.Counts.{countsMore}
 use Rattle.outcome.specs.Outcome.{longest, Found, ended, unknown, cut, becameOf, writtenOf, stepTold}
 use Rattle.marks.specs.State.{State}
 use Rattle.marks.specs.Marks.{foundOf, nextOf}
+use Rattle.marks.specs.Rows.{rowCount, rowAt}
 use Rattle.job.specs.Job.{Standing, standing, moved, lost}
 use Rattle.job.specs.Feed.{halt, recordsOf}
-use Rattle.job.specs.Inner.{stopOf}
+use Rattle.job.specs.Inner.{fourOf, joined, stopOf}
 use Rattle.layout.proofs.Runs.{sets-part}
 use Rattle.outcome.specs.declared.Step.{Step}
 use Rattle.outcome.specs.declared.Step.the-variants as step
 use Rattle.outcome.proofs.Told.{told-took, told-room, told-ended, told-unknown, told-cut, stop-bytes}
 use Rattle.marks.proofs.Heads.{taken, taking, still}
+use Rattle.marks.proofs.Rows.{row-few}
+use Rattle.job.proofs.Rows.{rejoined}
 use Rattle.job.proofs.Turns.{records-room, records-full, records-ended, records-unknown, records-cut}
 use Rattle.job.proofs.Loop.{Going, Left, going-halt, going-took}
 
@@ -52,20 +56,22 @@ module _ {limit : ℕ} {input : List ℕ} {last : Bool} {j₀ : Standing} {out�
   pub left-full : (f : Fed) → f ≡ stopOf Full (j .counts) (j .counts) at to (length out - to) → j .counts .begun ≡ limit → Left limit input last j₀ out₀ f out (j .state)
   left-full f told full = let z : limit - j .counts .begun ≡ 0 = omega arith in stopped Full j f refl told (λ h. rw z (records-full j _ last _ h))
 
--- the limit is not met, and the code has lent `reply` the input from `at` on and the output from `to` on: q is the answer, R what that part of the output holds then, and w the state
+-- the limit is not met, and the code has lent `reply` the input from `at` on and the output from `to` on: q is the answer, p the place among the marks, R what that part of the output holds
+-- then, and w the state
 pub record Turn
-    (limit : ℕ) (input : List ℕ) (last : Bool) (j₀ : Standing) (out₀ : List ℕ) (j : Standing) (out : List ℕ) (at to : ℕ) (q : Step) (R : List ℕ) (w : State) : Type 0 where
+    (limit : ℕ) (input : List ℕ) (last : Bool) (j₀ : Standing) (out₀ : List ℕ) (j : Standing) (out : List ℕ) (at to : ℕ) (q : Step) (p : ℕ) (R : List ℕ) (w : State) : Type 0 where
   pub going : Going limit input last j₀ out₀ j out at to
   pub few : j .counts .begun ≡ limit → ⊥
   pub told : stepTold q ≡ becameOf (foundOf (j .state) (take (length input - at) (drop at input))) (length (take (length out - to) (drop to out)))
   pub wrote :
       R ≡
       sets (take (length out - to) (drop to out)) 0 (writtenOf (foundOf (j .state) (take (length input - at) (drop at input))) (length (take (length out - to) (drop to out))))
+  pub place : p ≡ rowAt (take (length input - at) (drop at input))
   pub left : w ≡ cond (ltb (length (take (length out - to) (drop to out))) longest) (j .state) (nextOf (j .state) (take (length input - at) (drop at input)))
 
 module _
-    {limit : ℕ} {input : List ℕ} {last : Bool} {j₀ : Standing} {out₀ : List ℕ} {j : Standing} {out : List ℕ} {at to : ℕ} {q : Step} {R : List ℕ} {w : State}
-    (t : Turn limit input last j₀ out₀ j out at to q R w) where
+    {limit : ℕ} {input : List ℕ} {last : Bool} {j₀ : Standing} {out₀ : List ℕ} {j : Standing} {out : List ℕ} {at to : ℕ} {q : Step} {p : ℕ} {R : List ℕ} {w : State}
+    (t : Turn limit input last j₀ out₀ j out at to q p R w) where
   here : take (length input - at) (drop at input) ≡ drop at input
   here = take-all (length input - at) (drop at input) (simp length-drop (omega arith))
 
@@ -96,6 +102,16 @@ module _
   quiet : writtenOf (foundOf (j .state) (drop at input)) (length out - to) ≡ [] → after-it ≡ out
   quiet e = let h : length (writtenOf (foundOf (j .state) (drop at input)) (length out - to)) ≤ length out - to = rw e (omega arith) in stored h ∙ ap (sets out to) e
 
+  -- the place among the marks
+  place-here : p ≡ rowAt (drop at input)
+  place-here = rw here at (t .place)
+
+  pub place-few : p < rowCount
+  place-few = rw place-here (row-few (drop at input))
+
+  lost-here : countsMore Refused p (j .counts) ≡ lost (drop at input) j .counts
+  lost-here = ap (λ (x : ℕ). countsMore Refused x (j .counts)) place-here
+
   -- the state behind a record, and where none is taken
   left-here : w ≡ cond (ltb (length out - to) longest) (j .state) (nextOf (j .state) (drop at input))
   left-here = rw (here, spare) at (t .left)
@@ -111,13 +127,16 @@ module _
       by false = refl
 
   -- round the loop
-  pub round : (how : Kind) (k n : ℕ) → q ≡ step.Took how k n → Going limit input last j₀ out₀ (standing (countsMore how (j .counts)) w) after-it (at + k) (to + n)
+  pub round : (how : Kind) (k n : ℕ) → q ≡ step.Took how k n → Going limit input last j₀ out₀ (standing (countsMore how (rowAt (drop at input)) (j .counts)) w) after-it (at + k) (to + n)
   round how k n e =
       let b = writtenOf (foundOf (j .state) (drop at input)) (length out - to) in
       let f = told-took (foundOf (j .state) (drop at input)) (length out - to) how k n (sym told-here ∙ ap stepTold e) in
       let short : length b ≤ longest = taken (j .state) (drop at input) how k b (f .found) .short in
       let roomy : longest ≤ length out - to = f .roomy in
       rw (stored (omega arith), ← (f .long), ← (went roomy)) (going-took (t .going) how k b (f .roomy) (t .few) (f .found))
+
+  pub round-to : (how : Kind) (k n : ℕ) → q ≡ step.Took how k n → (d : Counts) → d ≡ countsMore how p (j .counts) → Going limit input last j₀ out₀ (standing d w) after-it (at + k) (to + n)
+  round-to how k n e d is = rw (is ∙ ap (λ (x : ℕ). countsMore how x (j .counts)) place-here) (round how k n e)
 
   -- ---- out of it: nothing was written
   quiet-room : q ≡ step.Room → after-it ≡ out
@@ -164,11 +183,18 @@ module _
   pub left-pause : q ≡ step.End → last ≡ false → (f : Fed) → f ≡ stopOf More (j .counts) (j .counts) at to (length after-it - to) → Left limit input last j₀ out₀ f after-it w
   left-pause e l f is = stop (quiet-end e) (stayed ended (found-ended e) refl) More j f refl is (λ n r. records-ended n j _ last _ r (found-ended e) ∙ rw l)
 
-  pub left-unknown : q ≡ step.Unknown → (f : Fed) → f ≡ stopOf Unknown (j .counts) (lost j .counts) at to (length after-it - to) → Left limit input last j₀ out₀ f after-it w
-  left-unknown e f is = stop (quiet-unknown e) (stayed unknown (found-unknown e) refl) Unknown (lost j) f refl is (λ n r. records-unknown n j _ last _ r (found-unknown e))
+  pub left-unknown : q ≡ step.Unknown → (f : Fed) → f ≡ stopOf Unknown (j .counts) (countsMore Refused p (j .counts)) at to (length after-it - to) → Left limit input last j₀ out₀ f after-it w
+  left-unknown e f is = stop (quiet-unknown e) (stayed unknown (found-unknown e) refl) Unknown (lost (drop at input) j) f refl (rw lost-here at is) (λ n r. records-unknown n j _ last _ r (found-unknown e))
 
-  pub left-cut : q ≡ step.Cut → last ≡ true → (f : Fed) → f ≡ stopOf Cut (j .counts) (lost j .counts) at to (length after-it - to) → Left limit input last j₀ out₀ f after-it w
-  left-cut e l f is = stop (quiet-cut e) (stayed cut (found-cut e) refl) Cut (lost j) f refl is (λ n r. records-cut n j _ last _ r (found-cut e) ∙ rw l)
+  pub left-cut : q ≡ step.Cut → last ≡ true → (f : Fed) → f ≡ stopOf Cut (j .counts) (countsMore Refused p (j .counts)) at to (length after-it - to) → Left limit input last j₀ out₀ f after-it w
+  left-cut e l f is = stop (quiet-cut e) (stayed cut (found-cut e) refl) Cut (lost (drop at input) j) f refl (rw lost-here at is) (λ n r. records-cut n j _ last _ r (found-cut e) ∙ rw l)
 
   pub left-part : q ≡ step.Cut → last ≡ false → (f : Fed) → f ≡ stopOf More (j .counts) (j .counts) at to (length after-it - to) → Left limit input last j₀ out₀ f after-it w
   left-part e l f is = stop (quiet-cut e) (stayed cut (found-cut e) refl) More j f refl is (λ n r. records-cut n j _ last _ r (found-cut e) ∙ rw l)
+
+-- the counts that the loop began with, put together again
+pub left-from :
+    (limit : ℕ) (input : List ℕ) (last : Bool) (z : State) (out₀ : List ℕ) (q : Four) (c : Counts) → q ≡ fourOf c → {f : Fed} {out : List ℕ} {w : State} →
+    Left limit input last (standing (joined q (c .rows)) z) out₀ f out w → Left limit input last (standing c z) out₀ f out w
+left-from limit input last z out₀ q c e {f = f} {out = out} {w = w} l =
+    subst (λ (x : Counts). Left limit input last (standing x z) out₀ f out w) (rejoined q c e) l

@@ -14,13 +14,15 @@ use Rattle.job.specs.declared.Reason.{Reason}
 use Rattle.job.specs.declared.Reason.the-variants.{Room, Full, End, Unknown, Cut, More}
 use Rattle.job.specs.Counts.{countsMore, countsSound}
 use Rattle.outcome.specs.Outcome.{longest, Found, took, ended, unknown, cut}
-use Rattle.marks.specs.Marks.{foundOf}
+use Rattle.marks.specs.Marks.{foundOf, nextOf}
 use Rattle.marks.specs.State.{State}
+use Rattle.marks.specs.Rows.{rowAt}
 use Rattle.job.specs.Job.{Standing, standing, moved, lost, jobOn, jobFrom}
 use Rattle.job.specs.Feed.{goesOn, Part, halt, after, closing, closingOf, recordsOf, feedOf}
 use Rattle.job.specs.Run.{jobWith}
 use Rattle.outcome.proofs.Never.{untrue}
 use Rattle.marks.proofs.Heads.{taken, found-more, next-more}
+use Rattle.marks.proofs.Rows.{row-more}
 use Rattle.job.proofs.Turns.{Stops, at-end, at-pause, at-unknown, at-cut, at-part, records-by, counted-begun}
 use Rattle.job.proofs.Pieces.{feed-good}
 
@@ -33,11 +35,11 @@ job-ended : (n : ℕ) (j : Standing) (xs : List ℕ) → foundOf (j .state) xs �
 unfolding jobFrom jobOn closingOf
 job-ended n j xs e = rw e
 
-job-unknown : (n : ℕ) (j : Standing) (xs : List ℕ) → foundOf (j .state) xs ≡ unknown → jobFrom (suc n) j xs ≡ closing Unknown (lost j .counts)
+job-unknown : (n : ℕ) (j : Standing) (xs : List ℕ) → foundOf (j .state) xs ≡ unknown → jobFrom (suc n) j xs ≡ closing Unknown (lost xs j .counts)
 unfolding jobFrom jobOn closingOf
 job-unknown n j xs e = rw e
 
-job-cut : (n : ℕ) (j : Standing) (xs : List ℕ) → foundOf (j .state) xs ≡ cut → jobFrom (suc n) j xs ≡ closing Cut (lost j .counts)
+job-cut : (n : ℕ) (j : Standing) (xs : List ℕ) → foundOf (j .state) xs ≡ cut → jobFrom (suc n) j xs ≡ closing Cut (lost xs j .counts)
 unfolding jobFrom jobOn closingOf
 job-cut n j xs e = rw e
 
@@ -63,10 +65,13 @@ module _ (limit : ℕ) (ys : List ℕ) (last : Bool) (alone : last ≡ true → 
   waits n j xs i = rw i
 
   at-stop :
-      (n : ℕ) (j : Standing) (xs : List ℕ) (room : ℕ) → longest ≤ room → (f : Found) (r : Reason) (e : Standing) → foundOf (j .state) xs ≡ f → Stops last j f r e → Onward (suc n) j xs room (halt r e)
+      (n : ℕ) (j : Standing) (xs : List ℕ) (room : ℕ) → longest ≤ room → (f : Found) (r : Reason) (e : Standing) → foundOf (j .state) xs ≡ f → Stops last j xs f r e → Onward (suc n) j xs room (halt r e)
   at-stop n j xs room h f r e q (at-end l) i = rw (alone l, append-nil xs) (job-ended n j xs q ∙ sym (append-nil _))
   at-stop n j xs room h f r e q (at-pause l) i = waits (suc n) j xs i
-  at-stop n j xs room h f r e q at-unknown i = job-unknown n j (xs ++ ys) (found-more (j .state) xs ys unknown q refl) ∙ sym (append-nil _)
+  at-stop n j xs room h f r e q at-unknown i =
+      job-unknown n j (xs ++ ys) (found-more (j .state) xs ys unknown q refl)
+      ∙ ap (λ (p : ℕ). closing Unknown (countsMore Refused p (j .counts))) (row-more (j .state) xs ys unknown q refl)
+      ∙ sym (append-nil _)
   at-stop n j xs room h f r e q (at-cut l) i = rw (alone l, append-nil xs) (job-cut n j xs q ∙ sym (append-nil _))
   at-stop n j xs room h f r e q (at-part l) i = waits (suc n) j xs i
 
@@ -75,9 +80,10 @@ module _ (limit : ℕ) (ys : List ℕ) (last : Bool) (alone : last ≡ true → 
       (p : Part) → Onward n (moved how xs j) (drop k xs) (room - length b) p → Onward (suc n) j xs room (after k b p)
   at-took n j xs room h how k b q p ih i =
       let whole : k ≤ length xs = taken (j .state) xs how k b q .whole in
-      let one-less : limit - moved how xs j .counts .begun ≡ n = rw (counted-begun how (j .counts)) (omega arith) in
+      let one-less : limit - moved how xs j .counts .begun ≡ n = rw (counted-begun how (rowAt xs) (j .counts)) (omega arith) in
       job-took n j (xs ++ ys) how k b (found-more (j .state) xs ys (took how k b) q refl)
-      ∙ ap (λ (z : State). b ++ jobFrom n (standing (countsMore how (j .counts)) z) (drop k (xs ++ ys))) (next-more (j .state) xs ys how k b q)
+      ∙ ap (λ (p : ℕ). b ++ jobFrom n (standing (countsMore how p (j .counts)) (nextOf (j .state) (xs ++ ys))) (drop k (xs ++ ys))) (row-more (j .state) xs ys (took how k b) q refl)
+      ∙ ap (λ (z : State). b ++ jobFrom n (standing (countsMore how (rowAt xs) (j .counts)) z) (drop k (xs ++ ys))) (next-more (j .state) xs ys how k b q)
       ∙ ap (λ (l : List ℕ). b ++ jobFrom n (moved how xs j) l) (drop-append-le k xs ys whole)
       ∙ ap (λ (l : List ℕ). b ++ l) (ih one-less)
       ∙ rw (drop-drop (p .used) k xs) (sym (append-assoc b (p .bytes) _))

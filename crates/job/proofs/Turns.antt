@@ -39,32 +39,32 @@ module _ (n : ℕ) (j : Standing) (xs : List ℕ) (last : Bool) (room : ℕ) (h 
   unfolding recordsOf partOn
   records-ended e = rw (le-ltb room longest h, e)
 
-  pub records-unknown : foundOf (j .state) xs ≡ unknown → recordsOf (suc n) j xs last room ≡ halt Unknown (lost j)
+  pub records-unknown : foundOf (j .state) xs ≡ unknown → recordsOf (suc n) j xs last room ≡ halt Unknown (lost xs j)
   unfolding recordsOf partOn
   records-unknown e = rw (le-ltb room longest h, e)
 
-  pub records-cut : foundOf (j .state) xs ≡ cut → recordsOf (suc n) j xs last room ≡ cond last (halt Cut (lost j)) (halt More j)
+  pub records-cut : foundOf (j .state) xs ≡ cut → recordsOf (suc n) j xs last room ≡ cond last (halt Cut (lost xs j)) (halt More j)
   unfolding recordsOf partOn
   records-cut e = rw (le-ltb room longest h, e)
 
 pub after-after : (a k : ℕ) (x y : List ℕ) (p : Part) → after a x (after k y p) ≡ after (a + k) (x ++ y) p
 after-after a k x y p = rw (← (add-assoc a k (p .used)), ← (append-assoc x y (p .bytes)))
 
-pub counted-begun : (how : Kind) (c : Counts) → countsMore how c .begun ≡ c .begun + 1
+pub counted-begun : (how : Kind) (r : ℕ) (c : Counts) → countsMore how r c .begun ≡ c .begun + 1
 unfolding countsMore
-counted-begun Answered c = refl
-counted-begun Refused c = refl
-counted-begun Unusable c = refl
+counted-begun Answered r c = refl
+counted-begun Refused r c = refl
+counted-begun Unusable r c = refl
 
 -- ---- induction over the loop's turns
 
 -- what the loop answers at each stop
-pub data Stops (last : Bool) (j : Standing) : Found → Reason → Standing → Type 0 where
-  at-end : last ≡ true → Stops last j ended End j
-  at-pause : last ≡ false → Stops last j ended More j
-  at-unknown : Stops last j unknown Unknown (lost j)
-  at-cut : last ≡ true → Stops last j cut Cut (lost j)
-  at-part : last ≡ false → Stops last j cut More j
+pub data Stops (last : Bool) (j : Standing) (xs : List ℕ) : Found → Reason → Standing → Type 0 where
+  at-end : last ≡ true → Stops last j xs ended End j
+  at-pause : last ≡ false → Stops last j xs ended More j
+  at-unknown : Stops last j xs unknown Unknown (lost xs j)
+  at-cut : last ≡ true → Stops last j xs cut Cut (lost xs j)
+  at-part : last ≡ false → Stops last j xs cut More j
 
 -- P n j xs room p, of the loop's value p where n more records may begin, holds always, if it holds out of room, at the limit and at each stop, and a record keeps it
 module _
@@ -73,7 +73,7 @@ module _
     (full : (j : Standing) (xs : List ℕ) (room : ℕ) → longest ≤ room → P 0 j xs room (halt Full j))
     (stop :
     (n : ℕ) (j : Standing) (xs : List ℕ) (room : ℕ) → longest ≤ room →
-    (f : Found) (r : Reason) (e : Standing) → foundOf (j .state) xs ≡ f → Stops last j f r e → P (suc n) j xs room (halt r e))
+    (f : Found) (r : Reason) (e : Standing) → foundOf (j .state) xs ≡ f → Stops last j xs f r e → P (suc n) j xs room (halt r e))
     (more :
     (n : ℕ) (j : Standing) (xs : List ℕ) (room : ℕ) → longest ≤ room → (how : Kind) (k : ℕ) (b : List ℕ) → foundOf (j .state) xs ≡ took how k b →
     (p : Part) → P n (moved how xs j) (drop k xs) (room - length b) p → P (suc n) j xs room (after k b p)) where
@@ -89,8 +89,8 @@ module _
 
   cut-by :
       (n : ℕ) (j : Standing) (xs : List ℕ) (room : ℕ) → longest ≤ room → foundOf (j .state) xs ≡ cut → (l : Bool) → last ≡ l →
-      P (suc n) j xs room (cond last (halt Cut (lost j)) (halt More j))
-  cut-by n j xs room h q true l = rw l (stop n j xs room h cut Cut (lost j) q (at-cut l))
+      P (suc n) j xs room (cond last (halt Cut (lost xs j)) (halt More j))
+  cut-by n j xs room h q true l = rw l (stop n j xs room h cut Cut (lost xs j) q (at-cut l))
   cut-by n j xs room h q false l = rw l (stop n j xs room h cut More j q (at-part l))
 
   suc-by :
@@ -103,7 +103,7 @@ module _
   suc-by n j xs room false t ended q ih = let h = ltb-false room longest t in rw (records-ended n j xs last room h q) (ended-by n j xs room h q last refl)
   suc-by n j xs room false t unknown q ih =
       let h = ltb-false room longest t in
-      rw (records-unknown n j xs last room h q) (stop n j xs room h unknown Unknown (lost j) q at-unknown)
+      rw (records-unknown n j xs last room h q) (stop n j xs room h unknown Unknown (lost xs j) q at-unknown)
   suc-by n j xs room false t cut q ih = let h = ltb-false room longest t in rw (records-cut n j xs last room h q) (cut-by n j xs room h q last refl)
 
   pub records-by : (n : ℕ) (j : Standing) (xs : List ℕ) (room : ℕ) → P n j xs room (recordsOf n j xs last room)

@@ -13,7 +13,7 @@ use Rattle.job.specs.declared.Counts.{Counts}
 use Rattle.job.specs.declared.Fed.{Fed}
 use Rattle.job.specs.declared.Reason.{Reason}
 use Rattle.job.specs.declared.Reason.the-variants.{More, Room, Bad, Full, End, Unknown, Cut}
-use Rattle.job.specs.Counts.{Adds, countsSound}
+use Rattle.job.specs.Counts.{Adds, RowsAdd, countsSound}
 use Rattle.job.specs.Job.{Standing, standing, moved, lost, trailer, jobLimit}
 
 -- why it stopped, where the job stands then, how many bytes it is done with, and what it wrote
@@ -30,19 +30,19 @@ halt r j = record { reason = r; standing = j; used = 0; bytes = [] }
 abbrev pub after : ℕ → List ℕ → Part → Part
 after k bytes p = record { reason = p .reason; standing = p .standing; used = k + p .used; bytes = bytes ++ p .bytes }
 
--- by what stands at the head; where the bytes at hand are not the last, an end and a cut wait for more
-unfoldable pub partOn : Bool → Found → Standing → (Kind → ℕ → List ℕ → Part) → Part
-partOn last (took q k bytes) j go = after k bytes (go q k bytes)
-partOn last ended j go = cond last (halt End j) (halt More j)
-partOn last unknown j go = halt Unknown (lost j)
-partOn last cut j go = cond last (halt Cut (lost j)) (halt More j)
+-- by what stands at the head of xs; where the bytes at hand are not the last, an end and a cut wait for more
+unfoldable pub partOn : Bool → Found → Standing → List ℕ → (Kind → ℕ → List ℕ → Part) → Part
+partOn last (took q k bytes) j xs go = after k bytes (go q k bytes)
+partOn last ended j xs go = cond last (halt End j) (halt More j)
+partOn last unknown j xs go = halt Unknown (lost xs j)
+partOn last cut j xs go = cond last (halt Cut (lost xs j)) (halt More j)
 
 -- the record loop, where at most n more records are begun: each turn asks first for the room of the longest answer
 unfoldable pub recordsOf : ℕ → Standing → List ℕ → Bool → ℕ → Part
 recordsOf zero j xs last room = cond (ltb room longest) (halt Room j) (halt Full j)
 recordsOf (suc n) j xs last room =
     cond (ltb room longest) (halt Room j)
-    (partOn last (foundOf (j .state) xs) j (λ q k bytes. recordsOf n (moved q xs j) (drop k xs) last (room - length bytes)))
+    (partOn last (foundOf (j .state) xs) j xs (λ q k bytes. recordsOf n (moved q xs j) (drop k xs) last (room - length bytes)))
 
 -- what a reason says: the caller is to call again, with more bytes or more room; the counts handed in are none of a job's, or the bytes lent for the state are not so many;
 -- the job has ended; or it has ended by a refusal. The first two are no refusals: nothing is written for them.
@@ -83,11 +83,12 @@ feedOf limit held j xs last room =
 abbrev pub fedOf : Counts → List ℕ → List ℕ → Bool → ℕ → Part
 fedOf c m xs last room = feedOf jobLimit (holds m) (standing c (stateOf m)) xs last room
 
--- with the counts of a job each call leaves counts of a job, the last three of which add up to the first
+-- with the counts of a job each call, whatever its input and its room, leaves counts of a job: the last three of the four add up to the first, and those by mark too
 abbrev pub FeedTheorem : Type 0
 FeedTheorem =
     (limit : ℕ) (held : Bool) (j : Standing) (xs : List ℕ) (last : Bool) (room : ℕ) → countsSound limit (j .counts) ≡ true →
-    (countsSound limit (feedOf limit held j xs last room .standing .counts) ≡ true) × Adds (feedOf limit held j xs last room .standing .counts)
+    (countsSound limit (feedOf limit held j xs last room .standing .counts) ≡ true)
+    × (Adds (feedOf limit held j xs last room .standing .counts) × RowsAdd (feedOf limit held j xs last room .standing .counts))
 
 -- what the function answers: the counts, and how many bytes it wrote in place of the bytes
 abbrev pub toldPart : Part → Fed

@@ -9,8 +9,9 @@ use Rattle.outcome.specs.declared.Kind.the-variants.{Refused}
 use Rattle.outcome.specs.Outcome.{unknownMark, cutRecord, markBytes, noBytes, Found, took, ended, unknown, cut}
 use Rattle.marks.specs.State.{State, stateNone}
 use Rattle.marks.specs.Marks.{foundOf, nextOf}
+use Rattle.marks.specs.Rows.{rowAt}
 use Rattle.job.specs.declared.Counts.{Counts}
-use Rattle.job.specs.Counts.{countsNone, countsMore, Adds}
+use Rattle.job.specs.Counts.{countsNone, countsMore, rowsBytes, Adds, RowsAdd}
 
 -- where a job stands between records: its counts, and what it keeps
 pub record Standing : Type 0 where
@@ -25,26 +26,26 @@ standingNone = standing countsNone stateNone
 
 -- behind the record at the head of xs, which counts so; and where none is taken
 abbrev pub moved : Kind → List ℕ → Standing → Standing
-moved q xs j = standing (countsMore q (j .counts)) (nextOf (j .state) xs)
+moved q xs j = standing (countsMore q (rowAt xs) (j .counts)) (nextOf (j .state) xs)
 
-abbrev pub lost : Standing → Standing
-lost j = standing (countsMore Refused (j .counts)) (j .state)
+abbrev pub lost : List ℕ → Standing → Standing
+lost xs j = standing (countsMore Refused (rowAt xs) (j .counts)) (j .state)
 
--- ZZ and the counts
+-- ZZ, the four counts, and those by mark
 unfoldable pub trailer : Counts → List ℕ
-trailer c = markBytes 0x5a 0x5a ++ (countBytes (c .begun) ++ (countBytes (c .answered) ++ (countBytes (c .refused) ++ countBytes (c .unusable))))
+trailer c = markBytes 0x5a 0x5a ++ (countBytes (c .begun) ++ (countBytes (c .answered) ++ (countBytes (c .refused) ++ (countBytes (c .unusable) ++ rowsBytes (c .rows)))))
 
--- by what stands at the head, and after a record what `go` says of the rest
-unfoldable pub jobOn : Found → Counts → (Kind → ℕ → List ℕ) → List ℕ
-jobOn (took q k bytes) c go = bytes ++ go q k
-jobOn ended c go = trailer c
-jobOn unknown c go = noBytes unknownMark ++ trailer (countsMore Refused c)
-jobOn cut c go = noBytes cutRecord ++ trailer (countsMore Refused c)
+-- by what stands at the head of xs, and after a record what `go` says of the rest
+unfoldable pub jobOn : Found → Standing → List ℕ → (Kind → ℕ → List ℕ) → List ℕ
+jobOn (took q k bytes) j xs go = bytes ++ go q k
+jobOn ended j xs go = trailer (j .counts)
+jobOn unknown j xs go = noBytes unknownMark ++ trailer (lost xs j .counts)
+jobOn cut j xs go = noBytes cutRecord ++ trailer (lost xs j .counts)
 
 -- all that is written where the job stands at j and at most n more records are begun
 unfoldable pub jobFrom : ℕ → Standing → List ℕ → List ℕ
 jobFrom zero j xs = trailer (j .counts)
-jobFrom (suc n) j xs = jobOn (foundOf (j .state) xs) (j .counts) (λ q k. jobFrom n (moved q xs j) (drop k xs))
+jobFrom (suc n) j xs = jobOn (foundOf (j .state) xs) j xs (λ q k. jobFrom n (moved q xs j) (drop k xs))
 
 -- no more records than these are begun
 abbrev pub jobLimit : ℕ
@@ -55,21 +56,22 @@ abbrev pub jobOf : ℕ → List ℕ → List ℕ
 jobOf limit xs = jobFrom limit standingNone xs
 
 -- ---- the counts with which the job ends
-unfoldable pub countsOn : Found → Counts → (Kind → ℕ → Counts) → Counts
-countsOn (took q k bytes) c go = go q k
-countsOn ended c go = c
-countsOn unknown c go = countsMore Refused c
-countsOn cut c go = countsMore Refused c
+unfoldable pub countsOn : Found → Standing → List ℕ → (Kind → ℕ → Counts) → Counts
+countsOn (took q k bytes) j xs go = go q k
+countsOn ended j xs go = j .counts
+countsOn unknown j xs go = lost xs j .counts
+countsOn cut j xs go = lost xs j .counts
 
 unfoldable pub countsFrom : ℕ → Standing → List ℕ → Counts
 countsFrom zero j xs = j .counts
-countsFrom (suc n) j xs = countsOn (foundOf (j .state) xs) (j .counts) (λ q k. countsFrom n (moved q xs j) (drop k xs))
+countsFrom (suc n) j xs = countsOn (foundOf (j .state) xs) j xs (λ q k. countsFrom n (moved q xs j) (drop k xs))
 
 abbrev pub countsOf : ℕ → List ℕ → Counts
 countsOf limit xs = countsFrom limit standingNone xs
 
--- they are what is written last; of no more records than the limit; and on every input the last three of them add up to the first
+-- they are what is written last; of no more records than the limit; and on every input the last three of the four add up to the first, and those by mark too
 pub record CountsTheorem : Type 0 where
   pub written : (limit : ℕ) (xs : List ℕ) → (body : List ℕ) × (jobOf limit xs ≡ body ++ trailer (countsOf limit xs))
   pub few : (limit : ℕ) (xs : List ℕ) → countsOf limit xs .begun ≤ limit
   pub adds : (limit : ℕ) (xs : List ℕ) → Adds (countsOf limit xs)
+  pub rows : (limit : ℕ) (xs : List ℕ) → RowsAdd (countsOf limit xs)

@@ -4,17 +4,20 @@
 ghost use mathlib.Core.Path.{_≡_};
 ghost use mathlib.Core.Bool.{true, false, cond};
 ghost use mathlib.Core.List.{_++_};
-ghost use Prim.Native.Nat.{_+_, _≤_};
+ghost use Prim.Native.Nat.{_+_, _*_, _≤_, _<_};
 ghost use lib.ListN.{length, drop};
 ghost use lib.Seq.{sets};
+ghost use lib.Dec.{eqb};
 ghost use Rattle.wire.specs.Wire.{countBytes};
 ghost use Rattle.outcome.specs.declared.Kind.{Kind};
 ghost use Rattle.outcome.specs.Outcome.{longest, markBytes, noBytes};
-ghost use Rattle.job.specs.Counts.{countsNone, countsMore, countsSound};
+ghost use Rattle.marks.specs.Rows.{rowCount};
+ghost use Rattle.job.specs.Counts.{countsNone, countsMore, countsSound, rowsBytes, total};
 ghost use Rattle.marks.specs.State.{stateNone, stateOf, memory, holds};
 ghost use Rattle.job.specs.Job.{standingNone, trailer, jobOf, jobLimit};
 ghost use Rattle.job.specs.Feed.{Part, closing, ends, feedOf, fedOf, toldPart};
-ghost use Rattle.job.specs.Inner.{Sound, loopedOf, stopOf, trailerLength};
+ghost use Rattle.job.specs.Inner.{Sound, Small, fourOf, fourMore, joined, loopedOf, stopOf, trailerLength};
+use marks::ROWS;
 use outcome::Kind;
 use outcome::LONGEST;
 use outcome::Step;
@@ -29,16 +32,27 @@ const UNKNOWN_MARK: u8 = 6;
 const CUT_RECORD: u8 = 7;
 
 // How many bytes the counts take, their mark among them.
-const TRAILER: usize = 2 + 4 * 4;
+const TRAILER: usize = 2 + 4 * 4 + 4 * ROWS;
 
 // How many records were begun; and how many of them were answered with finite numbers alone, were
 // refused, and were answered with a NaN or an infinity. An unknown mark, a half mark and a cut record
-// count as begun and refused.
+// count as begun and refused. Then how many were begun of each mark, a cut record among them, and last
+// how many unknown and half marks.
 pub struct Counts {
     pub begun: u32,
     pub answered: u32,
     pub refused: u32,
     pub unusable: u32,
+    pub rows: [u32; ROWS],
+}
+
+// The counts without those by mark. The record loop keeps the two apart: these four go through a
+// function by value at each record, and those stay where they are.
+struct Four {
+    begun: u32,
+    answered: u32,
+    refused: u32,
+    unusable: u32,
 }
 
 // Why the record loop was left. `More`: the bytes at hand end within a record, or with one, and more
@@ -65,24 +79,47 @@ pub struct Fed {
 }
 
 // ---- the record loop
-fn counted(c: Counts, kind: Kind) -> Counts
-    requires { ⌜ Sound jobLimit c ⌝ }
-    ensures { λ r. ⌜ r ≡ countsMore kind c ⌝ }
+fn without_rows(c: Counts) -> Four
+    ensures { λ r. ⌜ r ≡ fourOf c ⌝ }
+{
+    Four {
+        begun: c.begun,
+        answered: c.answered,
+        refused: c.refused,
+        unusable: c.unusable,
+    }
+}
+
+fn with_rows(c: Four, rows: [u32; ROWS]) -> Counts
+    ensures { λ r. ⌜ r ≡ joined c rows ⌝ }
+{
+    Counts {
+        begun: c.begun,
+        answered: c.answered,
+        refused: c.refused,
+        unusable: c.unusable,
+        rows,
+    }
+}
+
+fn counted(c: Four, kind: Kind) -> Four
+    requires { ⌜ Small c ⌝ }
+    ensures { λ r. ⌜ r ≡ fourMore kind c ⌝ }
 {
     match kind {
-        Kind::Answered => Counts {
+        Kind::Answered => Four {
             begun: c.begun + 1,
             answered: c.answered + 1,
             refused: c.refused,
             unusable: c.unusable,
         },
-        Kind::Refused => Counts {
+        Kind::Refused => Four {
             begun: c.begun + 1,
             answered: c.answered,
             refused: c.refused + 1,
             unusable: c.unusable,
         },
-        Kind::Unusable => Counts {
+        Kind::Unusable => Four {
             begun: c.begun + 1,
             answered: c.answered,
             refused: c.refused,
@@ -92,11 +129,15 @@ fn counted(c: Counts, kind: Kind) -> Counts
 }
 
 // An unknown mark, or a mark or record that is cut.
-fn refused(c: Counts) -> Counts
-    requires { ⌜ Sound jobLimit c ⌝ }
-    ensures { λ r. ⌜ r ≡ countsMore Kind.Refused c ⌝ }
+fn refused(c: Four, rows: [u32; ROWS], row: usize) -> Counts
+    requires { ⌜ Sound jobLimit (joined c rows) ⌝ }
+    requires { ⌜ row < rowCount ⌝ }
+    ensures { λ r. ⌜ r ≡ countsMore Kind.Refused row (joined c rows) ⌝ }
 {
-    counted(c, Kind::Refused)
+    let mut more = rows;
+    let n = more[row];
+    more[row] = n + 1;
+    with_rows(counted(c, Kind::Refused), more)
 }
 
 fn leave(reason: Reason, counts: Counts, used: usize, written: usize) -> Fed
@@ -121,6 +162,40 @@ fn stop(reason: Reason, c: Counts, e: Counts, used: usize, written: usize, room:
     leave(reason, e, used, written)
 }
 
+// Without another record.
+fn pause(
+    reason: Reason,
+    c: Four,
+    rows: [u32; ROWS],
+    used: usize,
+    written: usize,
+    room: usize,
+) -> Fed
+    ensures { λ r. ⌜ r ≡ stopOf reason (joined c rows) (joined c rows) used written room ⌝ }
+{
+    let here = with_rows(c, rows);
+    stop(reason, here, here, used, written, room)
+}
+
+// With one that is refused and not read.
+fn lose(
+    reason: Reason,
+    c: Four,
+    rows: [u32; ROWS],
+    row: usize,
+    used: usize,
+    written: usize,
+    room: usize,
+) -> Fed
+    requires { ⌜ Sound jobLimit (joined c rows) ⌝ }
+    requires { ⌜ row < rowCount ⌝ }
+    ensures { λ r. ⌜ r ≡ stopOf reason (joined c rows) (countsMore Kind.Refused row (joined c rows)) used written room ⌝ }
+{
+    let here = with_rows(c, rows);
+    let more = refused(c, rows, row);
+    stop(reason, here, more, used, written, room)
+}
+
 // The whole records at hand. A record is asked for room where it is replied to, an end where the loop
 // is left.
 fn records(c0: Counts, mem: &mut [u8], input: &[u8], last: bool, out: &mut [u8]) -> Fed
@@ -130,36 +205,42 @@ fn records(c0: Counts, mem: &mut [u8], input: &[u8], last: bool, out: &mut [u8])
     ensures { λ _. ⌜ now (out .exit) ≡ sets (now (out .entry)) 0 (loopedOf c0 (now (mem .entry)) (now (input .entry)) last (length (now (out .entry))) .bytes) ⌝ }
     ensures { λ _. ⌜ stateOf (now (mem .exit)) ≡ loopedOf c0 (now (mem .entry)) (now (input .entry)) last (length (now (out .entry))) .standing .state ⌝ }
 {
-    let mut c = c0;
+    let mut c = without_rows(c0);
+    let mut rows = c0.rows;
     let mut at = 0;
     let mut to = 0;
     let left = loop {
         if c.begun == LIMIT {
-            break stop(Reason::Full, c, c, at, to, out.len() - to);
+            break pause(Reason::Full, c, rows, at, to, out.len() - to);
         }
-        match marks::reply(&input[at..], mem, &mut out[to..]) {
+        let heard = marks::reply(&input[at..], mem, &mut out[to..]);
+        let step = heard.step;
+        let row = heard.row;
+        match step {
             Step::Took(kind, used, written) => {
                 c = counted(c, kind);
+                let n = rows[row];
+                rows[row] = n + 1;
                 at += used;
                 to += written;
             }
             Step::Room => {
-                break leave(Reason::Room, c, at, to);
+                break leave(Reason::Room, with_rows(c, rows), at, to);
             }
             Step::End => {
                 if last {
-                    break stop(Reason::End, c, c, at, to, out.len() - to);
+                    break pause(Reason::End, c, rows, at, to, out.len() - to);
                 }
-                break stop(Reason::More, c, c, at, to, out.len() - to);
+                break pause(Reason::More, c, rows, at, to, out.len() - to);
             }
             Step::Unknown => {
-                break stop(Reason::Unknown, c, refused(c), at, to, out.len() - to);
+                break lose(Reason::Unknown, c, rows, row, at, to, out.len() - to);
             }
             Step::Cut => {
                 if last {
-                    break stop(Reason::Cut, c, refused(c), at, to, out.len() - to);
+                    break lose(Reason::Cut, c, rows, row, at, to, out.len() - to);
                 }
-                break stop(Reason::More, c, c, at, to, out.len() - to);
+                break pause(Reason::More, c, rows, at, to, out.len() - to);
             }
         }
     };
@@ -195,6 +276,18 @@ fn put_count(out: &mut [u8], at: usize, n: u32)
     out[at + 3] = d[3];
 }
 
+// The counts by mark.
+fn put_rows(out: &mut [u8], at: usize, rows: [u32; ROWS])
+    requires { ⌜ at + 4 * rowCount ≤ length (now out) ⌝ }
+    ensures { λ _. ⌜ now (out .exit) ≡ sets (now (out .entry)) at (rowsBytes rows) ⌝ }
+{
+    let mut i = 0;
+    while i < ROWS {
+        put_count(out, at + 4 * i, rows[i]);
+        i += 1;
+    }
+}
+
 // ZZ and the counts. Answers how many bytes they are.
 fn put_trailer(out: &mut [u8], at: usize, c: Counts) -> usize
     requires { ⌜ at + trailerLength ≤ length (now out) ⌝ }
@@ -206,6 +299,8 @@ fn put_trailer(out: &mut [u8], at: usize, c: Counts) -> usize
     put_count(out, at + 6, c.answered);
     put_count(out, at + 10, c.refused);
     put_count(out, at + 14, c.unusable);
+    let rows = c.rows;
+    put_rows(out, at + 18, rows);
     TRAILER
 }
 
@@ -236,6 +331,24 @@ fn close(reason: Reason, c: Counts, out: &mut [u8], at: usize) -> usize
     }
 }
 
+// Whether the counts by mark add up to n: each is taken from what is left of it, so that no sum can
+// wrap.
+fn add_up(rows: [u32; ROWS], n: u32) -> bool
+    ensures { λ r. ⌜ r ≡ eqb (total rows) n ⌝ }
+{
+    let mut left = n;
+    let mut i = 0;
+    while i < ROWS {
+        let x = rows[i];
+        if left < x {
+            return false;
+        }
+        left -= x;
+        i += 1;
+    }
+    left == 0
+}
+
 fn sound(c: Counts) -> bool
     ensures { λ r. ⌜ r ≡ countsSound jobLimit c ⌝ }
 {
@@ -243,7 +356,10 @@ fn sound(c: Counts) -> bool
         if c.answered <= c.begun {
             let left = c.begun - c.answered;
             if c.refused <= left {
-                return c.unusable == left - c.refused;
+                if c.unusable == left - c.refused {
+                    let rows = c.rows;
+                    return add_up(rows, c.begun);
+                }
             }
         }
     }
@@ -285,6 +401,7 @@ pub fn no_counts() -> Counts
         answered: 0,
         refused: 0,
         unusable: 0,
+        rows: [0; ROWS],
     }
 }
 

@@ -2,4 +2,5 @@ pub mod State
 pub mod Chain
 pub mod Retakes
 pub mod Marks
+pub mod Rows
 pub mod History

@@ -7,6 +7,7 @@ ghost use mathlib.Core.Bool.{cond};
 ghost use Rattle.outcome.specs.Outcome.{stepTold};
 ghost use Rattle.marks.specs.State.{stateNone, stateOf, holds};
 ghost use Rattle.marks.specs.Marks.{markKnown, markOf, lookTold, metOf, metBytes, metState};
+ghost use Rattle.marks.specs.Rows.{capitalRow, smallRow, rowOf, metRow};
 use crate::chain::ch;
 use crate::chain::rn;
 use crate::retakes::sh;
@@ -21,6 +22,13 @@ pub(crate) const RUNNING: usize = 2 + 2 + 1 + 8 * 8 + 2 * 2;
 
 // How many are lent for the state of a job: those, and behind them the store of the retaken sheets.
 pub const MEMORY: usize = RUNNING + STORE;
+
+// How many counts by mark a job has: of the seven entries in capitals, of the same in small letters, of
+// AR, CH, RN, SH and SQ, and of what is no mark.
+pub const ROWS: usize = 20;
+
+// The place of what is no mark: the last.
+const UNLISTED: usize = 19;
 
 mod bytes; // numbers and poses at a place of a list of bytes
 mod chain; // the running join
@@ -41,6 +49,12 @@ pub enum Mark {
 pub enum Look {
     Known(Mark),
     Unknown,
+}
+
+// What stands at the head of the input, and in which of the counts by mark it counts.
+pub struct Heard {
+    pub step: Step,
+    pub row: usize,
 }
 
 // The two bytes as one number.
@@ -85,6 +99,52 @@ pub fn look_up(a: u8, b: u8) -> Look
     known(key(a, b))
 }
 
+// ---- the places of the marks in the counts
+fn capital(e: Entry) -> usize
+    ensures { λ r. ⌜ r ≡ capitalRow e ⌝ }
+{
+    match e {
+        Entry::Ex => 0,
+        Entry::Co => 1,
+        Entry::Pa => 2,
+        Entry::Ac => 3,
+        Entry::Mu => 4,
+        Entry::In => 5,
+        Entry::Ji => 6,
+        Entry::Ar => 14,
+    }
+}
+
+// AR has no small letters.
+fn small(e: Entry) -> usize
+    ensures { λ r. ⌜ r ≡ smallRow e ⌝ }
+{
+    match e {
+        Entry::Ex => 7,
+        Entry::Co => 8,
+        Entry::Pa => 9,
+        Entry::Ac => 10,
+        Entry::Mu => 11,
+        Entry::In => 12,
+        Entry::Ji => 13,
+        Entry::Ar => UNLISTED,
+    }
+}
+
+fn row(m: Mark) -> usize
+    ensures { λ r. ⌜ r ≡ rowOf m ⌝ }
+{
+    match m {
+        Mark::Double(e) => capital(e),
+        Mark::Single(e) => small(e),
+        Mark::Ch => 15,
+        Mark::Rn => 16,
+        Mark::Sh => 17,
+        Mark::Sq => 18,
+    }
+}
+
+// ---- a record
 // Makes the lent bytes the state of a job that has not begun, if they are as many as a state has.
 pub fn fresh(mem: &mut [u8])
     ensures { λ _. ⌜ stateOf (now (mem .exit)) ≡ cond (holds (now (mem .entry))) stateNone (stateOf (now (mem .entry))) ⌝ }
@@ -99,32 +159,41 @@ pub fn fresh(mem: &mut [u8])
     }
 }
 
+fn tell(step: Step, row: usize) -> Heard
+    ensures { λ r. ⌜ r ≡ record { step = step; row = row } ⌝ }
+{
+    Heard { step, row }
+}
+
 // Answers the record at the head of s at the front of `out`, and moves the state in `mem` behind it, or
 // tells why there is none. Nothing is written where s ends within the record, `out` is shorter than the
-// longest answer, or `mem` is not as long as a state.
-pub fn reply(s: &[u8], mem: &mut [u8], out: &mut [u8]) -> Step
-    ensures { λ r. ⌜ stepTold r ≡ metOf (now (mem .entry)) (now (s .entry)) (length (now (out .entry))) ⌝ }
+// longest answer, or `mem` is not as long as a state. With it comes the record's place in the counts by
+// mark, which a cut record has too; half a mark counts as no mark.
+pub fn reply(s: &[u8], mem: &mut [u8], out: &mut [u8]) -> Heard
+    ensures { λ r. ⌜ stepTold (r .step) ≡ metOf (now (mem .entry)) (now (s .entry)) (length (now (out .entry))) ⌝ }
     ensures { λ _. ⌜ now (out .exit) ≡ sets (now (out .entry)) 0 (metBytes (now (mem .entry)) (now (s .entry)) (length (now (out .entry)))) ⌝ }
     ensures { λ _. ⌜ stateOf (now (mem .exit)) ≡ metState (now (mem .entry)) (now (s .entry)) (length (now (out .entry))) ⌝ }
+    ensures { λ r. ⌜ r .row ≡ metRow (now (mem .entry)) (now (s .entry)) ⌝ }
 {
     if mem.len() != MEMORY {
-        return Step::Room;
+        return tell(Step::Room, UNLISTED);
     }
     if s.len() == 0 {
-        return Step::End;
+        return tell(Step::End, UNLISTED);
     }
     if s.len() == 1 {
-        return Step::Cut;
+        return tell(Step::Cut, UNLISTED);
     }
     let Look::Known(m) = look_up(s[0], s[1]) else {
-        return Step::Unknown;
+        return tell(Step::Unknown, UNLISTED);
     };
+    let place = row(m);
     match m {
-        Mark::Double(e) => replies::reply(e, s, out),
-        Mark::Single(e) => replies_f32::reply(e, s, out),
-        Mark::Ch => ch(s, mem, out),
-        Mark::Rn => rn(s, mem, out),
-        Mark::Sh => sh(s, mem, out),
-        Mark::Sq => sq(s, mem, out),
+        Mark::Double(e) => tell(replies::reply(e, s, out), place),
+        Mark::Single(e) => tell(replies_f32::reply(e, s, out), place),
+        Mark::Ch => tell(ch(s, mem, out), place),
+        Mark::Rn => tell(rn(s, mem, out), place),
+        Mark::Sh => tell(sh(s, mem, out), place),
+        Mark::Sq => tell(sq(s, mem, out), place),
     }
 }

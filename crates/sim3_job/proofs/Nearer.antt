@@ -10,7 +10,7 @@ use Rattle.job.specs.declared.Counts.{Counts}
 use Rattle.job.specs.declared.Fed.{Fed}
 use Rattle.job.specs.declared.Reason.{Reason}
 use Rattle.job.specs.declared.Reason.the-variants.{More, Room, Bad, Full, End, Unknown, Cut}
-use Rattle.job.specs.Counts.{countsNone, countsSound}
+use Rattle.job.specs.Counts.{countsNone, countsSound, total}
 use Rattle.job.specs.Job.{Standing, jobLimit}
 use Rattle.job.specs.Feed.{feedOf, toldPart, goesOn, answerRoom}
 use Rattle.job.proofs.Pieces.{sound-is}
@@ -70,7 +70,7 @@ pub still-sound :
 still-sound j kept last room f s e = rw e (feed-sound jobLimit true j kept last room s)
 
 pub none-sound : countsSound jobLimit countsNone ≡ true
-unfolding countsSound
+unfolding countsSound total
 none-sound = refl
 
 pub asks-more : (r : Reason) → asksFor r ≡ true → r ≡ More

@@ -1,20 +1,20 @@
--- Written by tools/proofs from Proof.template: edit that one. Digest 06484eb849d81999.
+-- Written by tools/proofs from Proof.template: edit that one. Digest 12b790e12c6e8b38.
 -- `job::counted` meets its contract: by how the record counts. Assumes nothing.
 use borrow.Author.Needs.{needs}
-use Rattle.job.specs.Counts.{countsMore}
+use Rattle.job.specs.Inner.{fourMore}
 use Rattle.job.proofs.counted.Statement.{statement}
 use Rattle.job.proofs.counted.Tie as tie
 
 returns : tie.Need-returns
-unfolding countsMore
+unfolding fourMore
 returns c = rw (c .before .before .enum-told .given .1)
 
 returns-2 : tie.Need-returns-2
-unfolding countsMore
+unfolding fourMore
 returns-2 c = rw (c .before .before .enum-told2 .given .1)
 
 returns-3 : tie.Need-returns-3
-unfolding countsMore
+unfolding fourMore
 returns-3 c = rw (c .before .before .enum-told3 .given .1)
 
 pub counted-spec : {M : Type 1} → statement M

@@ -1,4 +1,4 @@
--- Written by tools/proofs from Proof.template: edit that one. Digest 623e165590112c35.
+-- Written by tools/proofs from Proof.template: edit that one. Digest 969a214721f8acce.
 -- `marks::reply` meets its contract: by the lent bytes, by the length of the input, by its mark, and by the reply of its entry. Assumes nothing.
 use borrow.Author.Needs.{needs}
 use native.Mathlib.Omega.{arith}
@@ -10,58 +10,71 @@ use Rattle.marks.specs.Marks.{lookTold}
 use Rattle.marks.specs.declared.Mark.the-variants.{Ch, Rn, Sh, Sq}
 use Rattle.marks.specs.declared.Look.the-variants.{Known}
 use Rattle.marks.proofs.Heads.{found-none, found-half, found-unknown, found-mark, double-meets, single-meets, sq-still, met-unheld, met-held, met-still}
+use Rattle.marks.proofs.Rows.{row-unheld, row-short, row-unknown, row-mark, beside}
 use Rattle.marks.proofs.reply.Statement.{statement}
 use Rattle.marks.proofs.reply.Tie as tie
 
 returns : tie.Need-returns
-returns c = let a = c .before .before .before .before .args in met-unheld (a .mem .now) (a .s .now) (a .out .now) (c .if1 .taken)
+returns c =
+    let c1 = c .before .before .before .before .before in
+    let a = c1 .args in
+    rw (c .tell .ensures) (beside (met-unheld (a .mem .now) (a .s .now) (a .out .now) (c .before .if1 .taken)) (row-unheld (a .mem .now) (a .s .now) (c .before .if1 .taken)))
 
 returns-2 : tie.Need-returns-2
 unfolding becameOf writtenOf
 returns-2 c =
     let c1 = c .before .before .before .before .before in
-    let a = c1 .args in
-    met-still (a .mem .now) (a .s .now) (a .out .now) (c .before .if1 .left) ended (found-none _ (a .s .now) (c .if2 .taken)) step.End (a .out .now) refl refl
+    let a = c1 .before .args in
+    let t = met-still (a .mem .now) (a .s .now) (a .out .now) (c .before .before .if1 .left) ended (found-none _ (a .s .now) (c .before .if2 .taken)) step.End (a .out .now) refl refl in
+    rw (c .tell2 .ensures) (beside t (row-short (a .mem .now) (a .s .now) (c .before .before .if1 .left) (omega arith)))
 
 returns-3 : tie.Need-returns-3
 unfolding becameOf writtenOf
 returns-3 c =
     let c1 = c .before .before .before .before .before in
-    let a = c1 .before .args in
-    met-still (a .mem .now) (a .s .now) (a .out .now) (c .before .before .if1 .left) cut (found-half _ (a .s .now) (c .if3 .taken)) step.Cut (a .out .now) refl refl
+    let a = c1 .before .before .args in
+    let t = met-still (a .mem .now) (a .s .now) (a .out .now) (c .before .before .before .if1 .left) cut (found-half _ (a .s .now) (c .before .if3 .taken)) step.Cut (a .out .now) refl refl in
+    rw (c .tell3 .ensures) (beside t (row-short (a .mem .now) (a .s .now) (c .before .before .before .if1 .left) (omega arith)))
 
 returns-4 : tie.Need-returns-4
 unfolding becameOf writtenOf
 returns-4 c =
     let c1 = c .before .before .before .before .before in
     let c2 = c1 .before .before .before .before .before in
-    let a = c2 .before .args in
-    let none = sym (c .before .before .look-up .ensures) ∙ ap lookTold (c .enum-told .given .1) in
-    met-still (a .mem .now) (a .s .now) (a .out .now) (c1 .before .before .if1 .left) unknown (found-unknown _ (a .s .now) (omega arith) none) step.Unknown (a .out .now) refl refl
+    let a = c2 .before .before .args in
+    let none = sym (c .before .before .before .look-up .ensures) ∙ ap lookTold (c .before .enum-told .given .1) in
+    let t = met-still (a .mem .now) (a .s .now) (a .out .now) (c1 .before .before .before .if1 .left) unknown (found-unknown _ (a .s .now) (omega arith) none) step.Unknown (a .out .now) refl refl in
+    rw (c .tell4 .ensures) (beside t (row-unknown (a .mem .now) (a .s .now) (c1 .before .before .before .if1 .left) (omega arith) none))
 
 returns-5 : tie.Need-returns-5
 returns-5 c =
     let c1 = c .before .before .before .before .before in
     let c2 = c1 .before .before .before .before .before in
     let c3 = c2 .before .before .before .before .before in
-    let a = c3 .before .before .before .before .args in
-    let known = sym (c2 .look-up .ensures) ∙ ap lookTold (c1 .before .before .before .m .given .1 ∙ ap Known (c1 .m2 .given .1)) in
+    let c4 = c3 .before .before .before .before .before in
+    let a = c4 .before .args in
+    let known = sym (c2 .before .before .look-up .ensures) ∙ ap lookTold (c2 .m .given .1 ∙ ap Known (c1 .before .m2 .given .1)) in
     let z = stateOf (a .mem .now) in
-    let k = double-meets z (a .s .now) (c1 .m2 .given .0 .0) in
+    let k = double-meets z (a .s .now) (c1 .before .m2 .given .0 .0) in
     let f = found-mark z (a .s .now) _ (omega arith) known in
-    met-still (a .mem .now) (a .s .now) (a .out .now) (c3 .if1 .left) _ (f .0 ∙ k .0, f .1 ∙ k .1) (c .before .before .reply .result) _ (c .before .before .reply .ensures .0) (c .before .before .reply .ensures .1)
+    let t = met-still (a .mem .now) (a .s .now) (a .out .now) (c3 .before .before .if1 .left) _ (f .0 ∙ k .0, f .1 ∙ k .1) (c .before .before .before .reply .result) _ (c .before .before .before .reply .ensures .0) (c .before .before .before .reply .ensures .1) in
+    let listed = sym (c2 .before .before .look-up .ensures) ∙ ap lookTold (c2 .m .given .1) in
+    rw (c .tell5 .ensures) (beside t (c1 .before .before .before .row .ensures ∙ row-mark (a .mem .now) (a .s .now) _ (c3 .before .before .if1 .left) (omega arith) listed))
 
 returns-6 : tie.Need-returns-6
 returns-6 c =
     let c1 = c .before .before .before .before .before in
     let c2 = c1 .before .before .before .before .before in
     let c3 = c2 .before .before .before .before .before in
-    let a = c3 .before .before .before .before .args in
-    let known = sym (c2 .look-up .ensures) ∙ ap lookTold (c1 .before .before .before .m .given .1 ∙ ap Known (c1 .m3 .given .1)) in
+    let c4 = c3 .before .before .before .before .before in
+    let a = c4 .before .args in
+    let known = sym (c2 .before .before .look-up .ensures) ∙ ap lookTold (c2 .m .given .1 ∙ ap Known (c1 .before .m3 .given .1)) in
     let z = stateOf (a .mem .now) in
-    let k = single-meets z (a .s .now) (c1 .m3 .given .0 .0) in
+    let k = single-meets z (a .s .now) (c1 .before .m3 .given .0 .0) in
     let f = found-mark z (a .s .now) _ (omega arith) known in
-    met-still (a .mem .now) (a .s .now) (a .out .now) (c3 .if1 .left) _ (f .0 ∙ k .0, f .1 ∙ k .1) (c .before .before .reply2 .result) _ (c .before .before .reply2 .ensures .0) (c .before .before .reply2 .ensures .1)
+    let t = met-still (a .mem .now) (a .s .now) (a .out .now) (c3 .before .before .if1 .left) _ (f .0 ∙ k .0, f .1 ∙ k .1) (c .before .before .before .reply2 .result) _ (c .before .before .before .reply2 .ensures .0) (c .before .before .before .reply2 .ensures .1) in
+    let listed = sym (c2 .before .before .look-up .ensures) ∙ ap lookTold (c2 .m .given .1) in
+    rw (c .tell6 .ensures) (beside t (c1 .before .before .before .row .ensures ∙ row-mark (a .mem .now) (a .s .now) _ (c3 .before .before .if1 .left) (omega arith) listed))
 
 returns-7 : tie.Need-returns-7
 returns-7 c =
@@ -69,10 +82,12 @@ returns-7 c =
     let c2 = c1 .before .before .before .before .before in
     let c3 = c2 .before .before .before .before .before in
     let c4 = c3 .before .before .before .before .before in
-    let a = c4 .before .args in
-    let known = sym (c2 .before .before .look-up .ensures) ∙ ap lookTold (c2 .m .given .1 ∙ ap Known (c1 .before .before .enum-told2 .given .1)) in
+    let a = c4 .before .before .before .args in
+    let known = sym (c2 .before .before .before .before .look-up .ensures) ∙ ap lookTold (c2 .before .before .m .given .1 ∙ ap Known (c1 .before .before .before .enum-told2 .given .1)) in
     let f = found-mark (stateOf (a .mem .now)) (a .s .now) Ch (omega arith) known in
-    met-held (a .mem .now) (a .s .now) (a .out .now) (c3 .before .before .if1 .left) _ _ f (c .before .before .before .before .ch .result) _ _ (c .before .before .before .before .ch .ensures .0) (c .before .before .before .before .ch .ensures .1 .0) (c .before .before .before .before .ch .ensures .1 .1)
+    let t = met-held (a .mem .now) (a .s .now) (a .out .now) (c3 .before .before .before .before .if1 .left) _ _ f (c1 .ch .result) _ _ (c1 .ch .ensures .0) (c1 .ch .ensures .1 .0) (c1 .ch .ensures .1 .1) in
+    let listed = sym (c2 .before .before .before .before .look-up .ensures) ∙ ap lookTold (c2 .before .before .m .given .1) in
+    rw (c .tell7 .ensures) (beside t (c2 .row .ensures ∙ row-mark (a .mem .now) (a .s .now) _ (c3 .before .before .before .before .if1 .left) (omega arith) listed))
 
 returns-8 : tie.Need-returns-8
 returns-8 c =
@@ -80,10 +95,12 @@ returns-8 c =
     let c2 = c1 .before .before .before .before .before in
     let c3 = c2 .before .before .before .before .before in
     let c4 = c3 .before .before .before .before .before in
-    let a = c4 .before .args in
-    let known = sym (c2 .before .before .look-up .ensures) ∙ ap lookTold (c2 .m .given .1 ∙ ap Known (c1 .before .before .enum-told3 .given .1)) in
+    let a = c4 .before .before .before .args in
+    let known = sym (c2 .before .before .before .before .look-up .ensures) ∙ ap lookTold (c2 .before .before .m .given .1 ∙ ap Known (c1 .before .before .before .enum-told3 .given .1)) in
     let f = found-mark (stateOf (a .mem .now)) (a .s .now) Rn (omega arith) known in
-    met-held (a .mem .now) (a .s .now) (a .out .now) (c3 .before .before .if1 .left) _ _ f (c .before .before .before .before .rn .result) _ _ (c .before .before .before .before .rn .ensures .0) (c .before .before .before .before .rn .ensures .1 .0) (c .before .before .before .before .rn .ensures .1 .1)
+    let t = met-held (a .mem .now) (a .s .now) (a .out .now) (c3 .before .before .before .before .if1 .left) _ _ f (c1 .rn .result) _ _ (c1 .rn .ensures .0) (c1 .rn .ensures .1 .0) (c1 .rn .ensures .1 .1) in
+    let listed = sym (c2 .before .before .before .before .look-up .ensures) ∙ ap lookTold (c2 .before .before .m .given .1) in
+    rw (c .tell8 .ensures) (beside t (c2 .row .ensures ∙ row-mark (a .mem .now) (a .s .now) _ (c3 .before .before .before .before .if1 .left) (omega arith) listed))
 
 returns-9 : tie.Need-returns-9
 returns-9 c =
@@ -91,46 +108,62 @@ returns-9 c =
     let c2 = c1 .before .before .before .before .before in
     let c3 = c2 .before .before .before .before .before in
     let c4 = c3 .before .before .before .before .before in
-    let a = c4 .before .args in
-    let known = sym (c2 .before .before .look-up .ensures) ∙ ap lookTold (c2 .m .given .1 ∙ ap Known (c1 .before .before .enum-told4 .given .1)) in
+    let a = c4 .before .before .before .args in
+    let known = sym (c2 .before .before .before .before .look-up .ensures) ∙ ap lookTold (c2 .before .before .m .given .1 ∙ ap Known (c1 .before .before .before .enum-told4 .given .1)) in
     let f = found-mark (stateOf (a .mem .now)) (a .s .now) Sh (omega arith) known in
-    met-held (a .mem .now) (a .s .now) (a .out .now) (c3 .before .before .if1 .left) _ _ f (c .before .before .before .before .sh .result) _ _ (c .before .before .before .before .sh .ensures .0) (c .before .before .before .before .sh .ensures .1 .0) (c .before .before .before .before .sh .ensures .1 .1)
+    let t = met-held (a .mem .now) (a .s .now) (a .out .now) (c3 .before .before .before .before .if1 .left) _ _ f (c1 .sh .result) _ _ (c1 .sh .ensures .0) (c1 .sh .ensures .1 .0) (c1 .sh .ensures .1 .1) in
+    let listed = sym (c2 .before .before .before .before .look-up .ensures) ∙ ap lookTold (c2 .before .before .m .given .1) in
+    rw (c .tell9 .ensures) (beside t (c2 .row .ensures ∙ row-mark (a .mem .now) (a .s .now) _ (c3 .before .before .before .before .if1 .left) (omega arith) listed))
 
 returns-10 : tie.Need-returns-10
 returns-10 c =
     let c1 = c .before .before .before .before .before in
     let c2 = c1 .before .before .before .before .before in
     let c3 = c2 .before .before .before .before .before in
-    let a = c3 .before .before .before .before .args in
+    let c4 = c3 .before .before .before .before .before in
+    let a = c4 .before .args in
     let z = stateOf (a .mem .now) in
-    let known = sym (c2 .look-up .ensures) ∙ ap lookTold (c1 .before .before .before .m .given .1 ∙ ap Known (c1 .enum-told5 .given .1)) in
+    let known = sym (c2 .before .before .look-up .ensures) ∙ ap lookTold (c2 .m .given .1 ∙ ap Known (c1 .before .enum-told5 .given .1)) in
     let f = found-mark z (a .s .now) Sq (omega arith) known in
-    met-still (a .mem .now) (a .s .now) (a .out .now) (c3 .if1 .left) _ (f .0, f .1 ∙ sq-still z (a .s .now)) (c .before .before .sq .result) _ (c .before .before .sq .ensures .0) (c .before .before .sq .ensures .1)
+    let t = met-still (a .mem .now) (a .s .now) (a .out .now) (c3 .before .before .if1 .left) _ (f .0, f .1 ∙ sq-still z (a .s .now)) (c .before .before .before .sq .result) _ (c .before .before .before .sq .ensures .0) (c .before .before .before .sq .ensures .1) in
+    let listed = sym (c2 .before .before .look-up .ensures) ∙ ap lookTold (c2 .m .given .1) in
+    rw (c .tell10 .ensures) (beside t (c1 .before .before .before .row .ensures ∙ row-mark (a .mem .now) (a .s .now) _ (c3 .before .before .if1 .left) (omega arith) listed))
 
 pub reply-spec : {M : Type 1} → statement M
 reply-spec =
     tie.close
     (tie.spec
+    (λ c κs. search needs)
     returns
+    (λ c κs. search needs)
     returns-2
+    (λ c κs. search needs)
     returns-3
     (λ c. search needs)
     (λ c. search needs)
     (λ c κs. search needs)
     (λ c. search needs)
     (λ c. search needs)
+    (λ c κs. search needs)
     returns-4
-    (λ c. search needs)
     (λ c κs. search needs)
     (λ c. search needs)
     (λ c κs. search needs)
-    (λ c. search needs)
     (λ c κs. search needs)
     (λ c. search needs)
     (λ c κs. search needs)
-    (λ c. search needs)
     (λ c κs. search needs)
     (λ c. search needs)
+    (λ c κs. search needs)
+    (λ c κs. search needs)
+    (λ c. search needs)
+    (λ c κs. search needs)
+    (λ c κs. search needs)
+    (λ c. search needs)
+    (λ c κs. search needs)
+    (λ c κs. search needs)
+    (λ c. search needs)
+    (λ c κs. search needs)
     (λ c κs. search needs)
     (λ c. search needs)
     returns-5
