@@ -47,6 +47,8 @@ def last_line():
     same(jobs("show", data=data)[0].decode(), "RN n 1\nNO refusal 6  # unknown mark\nZZ begun 2; answered 1; refused 1; unusable 0; CO 1; RN 1\n", "the line")
     every = jobs("show", "--counts", data=data)[0].decode().splitlines()[-1]
     same(every, "ZZ begun 2; answered 1; refused 1; unusable 0; " + "; ".join(f"{name} {int(name in ('CO', 'RN'))}" for name in ROWS), "all counts")
+    for other in (("--record", "1"), ("--unusable",)):
+        holds(jobs("show", "--counts", *other, data=data, status=2)[1], "--counts is about ZZ")
     lines = jobs("show", "--hex", data=data)[0].decode().splitlines()
     same((len(lines), lines[-1], lines[-20]), (4 + 25, "     101  00 00 00 00              unknown = 0", "      25  00 00 00 00              EX = 0"), "bytes of the counts")
 

@@ -209,6 +209,27 @@ def add_command(commands, name, about, summary):
                                formatter_class=argparse.RawDescriptionHelpFormatter)
 
 
+def add_searches(commands):
+    """The commands that look for something in the records."""
+    one = add_command(commands, "arms", ARMS, "count and draw the arms of AR records")
+    one.add_argument("--svg", metavar="FILE", help="the picture to be written")
+    one.add_argument("job", metavar="JOBS")
+    one.add_argument("answers", metavar="ANSWERS")
+    one = add_command(commands, "near", NEAR, "which shots lie beside another arm")
+    one.add_argument("--within", type=steps, default=1000, metavar="N", help="at most N steps from it; 1,000 if not given")
+    one.add_argument("file", nargs="?", metavar="FILE", help="the job; standard input if not given")
+    one = add_command(commands, "sort", SORT, "a job file in the order of its tangents")
+    one.add_argument("job", nargs="?", metavar="JOBS", help="the job file; standard input if not given")
+    one = add_command(commands, "sheets", SHEETS, "which take of each sheet is kept, and what was refused")
+    one.add_argument("--csv", action="store_true", help="as comma-separated values")
+    one.add_argument("job", metavar="JOBS")
+    one.add_argument("answers", nargs="?", metavar="ANSWERS", help="the answers; without them the records alone are followed")
+    one = add_command(commands, "totals", TOTALS, "add up the counts of several answer files by mark")
+    one.add_argument("--csv", action="store_true", help="as comma-separated values, with every row")
+    one.add_argument("--all", action="store_true", help="a row for every mark, those without records too")
+    one.add_argument("files", nargs="+", metavar="FILE", help="answer files; - for standard input")
+
+
 def parser():
     top = argparse.ArgumentParser(prog="jobs", description=ABOUT,
                                   formatter_class=argparse.RawDescriptionHelpFormatter)
@@ -234,23 +255,7 @@ def parser():
     one.add_argument("new", metavar="NEW", help="the newer answers; with --by-tangent the older answers")
     one.add_argument("more", nargs="*", metavar="FILE",
                      help="with --by-tangent the newer job and its answers")
-    one = add_command(commands, "arms", ARMS, "count and draw the arms of AR records")
-    one.add_argument("--svg", metavar="FILE", help="the picture to be written")
-    one.add_argument("job", metavar="JOBS")
-    one.add_argument("answers", metavar="ANSWERS")
-    one = add_command(commands, "near", NEAR, "which shots lie beside another arm")
-    one.add_argument("--within", type=steps, default=1000, metavar="N", help="at most N steps from it; 1,000 if not given")
-    one.add_argument("file", nargs="?", metavar="FILE", help="the job; standard input if not given")
-    one = add_command(commands, "sort", SORT, "a job file in the order of its tangents")
-    one.add_argument("job", nargs="?", metavar="JOBS", help="the job file; standard input if not given")
-    one = add_command(commands, "sheets", SHEETS, "which take of each sheet is kept, and what was refused")
-    one.add_argument("--csv", action="store_true", help="as comma-separated values")
-    one.add_argument("job", metavar="JOBS")
-    one.add_argument("answers", nargs="?", metavar="ANSWERS", help="the answers; without them the records alone are followed")
-    one = add_command(commands, "totals", TOTALS, "add up the counts of several answer files by mark")
-    one.add_argument("--csv", action="store_true", help="as comma-separated values, with every row")
-    one.add_argument("--all", action="store_true", help="a row for every mark, those without records too")
-    one.add_argument("files", nargs="+", metavar="FILE", help="answer files; - for standard input")
+    add_searches(commands)
     return top
 
 
@@ -268,6 +273,8 @@ def run(arguments):
     if arguments.command == "show":
         if arguments.unusable and (arguments.hex or arguments.record):
             raise Failure("jobs: --unusable stands alone; expected neither --hex nor --record with it")
+        if arguments.counts and (arguments.unusable or arguments.record):
+            raise Failure("jobs: --counts is about ZZ, which --record and --unusable leave out; expected neither with it")
         return show(arguments.file, arguments.table, arguments.record, arguments.hex,
                     arguments.unusable, arguments.counts)
     if arguments.command == "diff":
