@@ -6,7 +6,7 @@ from typing import NamedTuple
 
 from .layout import ANSWER, END, FOUR, JOB, OLDER_END
 from .records import ZZ, load, name_of, older, reading, scan
-from .terminal import Failure, Lines, count, say
+from .terminal import Failure, Lines, Progress, count, say
 
 MOST_COLUMNS = 8  # files that have a column each in the text
 WHOLE, NOT_WHOLE, NOT_READ = 0, 1, 2
@@ -51,7 +51,9 @@ def read(path, what):
 def read_all(paths):
     """The whole files, messages about the others, and the exit status."""
     added, said, status = [], [], WHOLE
+    progress = Progress("totals", len(paths), "files", 1)
     for number, path in enumerate(paths, 1):
+        progress(number)
         try:
             one, wrong = read(path, f"totals: file {number:,} of {len(paths):,}")
         except Failure as failure:
@@ -61,6 +63,7 @@ def read_all(paths):
         added += [one] if one else []
         said += wrong
         status = max(status, NOT_WHOLE if wrong else WHOLE)
+    progress.end()
     return added, said, status
 
 
