@@ -41,12 +41,14 @@ fn feed(bytes: &[u8], out: &mut Vec<u8>, job: &mut Job) -> (usize, bool) {
         match taken {
             Ok((bytes, told)) => {
                 at += 2 + bytes;
+                counts.mark(letters);
                 match told {
                     Ok(finite) => counts.answer(finite),
                     Err(number) => counts.refuse(number, out),
                 }
             }
             Err(6) => {
+                counts.mark(letters);
                 counts.refuse(6, out);
                 return (at, true);
             }
@@ -76,6 +78,7 @@ fn run(input: &mut impl Read, output: &mut impl Write) -> io::Result<()> {
         };
         if more == 0 {
             if held > 0 {
+                job.counts.mark(&buffer[..held.min(2)]);
                 job.counts.refuse(7, &mut out);
             }
             break;

@@ -1,4 +1,5 @@
 """Running the tool and the job program, files to try, and comparing."""
+import collections
 import io
 import os
 import pathlib
@@ -16,7 +17,7 @@ sys.path.insert(0, str(TOOL.parent))
 
 from jobs_lib.cli import main as tool_main
 from jobs_lib.floats import DOUBLE, SINGLE
-from jobs_lib.layout import ANSWER, DOUBLES, END, JOB, STATE, WHOLE
+from jobs_lib.layout import ANSWER, COUNTED, DOUBLES, END, JOB, STATE, UNKNOWN, WHOLE
 from jobs_lib.records import walk
 
 ONE, NAN, MINUS = 0x3FF0000000000000, DOUBLE.nan, 1 << 63
@@ -108,9 +109,20 @@ def records(table, seed, count, marks=DOUBLES):
     return out
 
 
-def end(begun, refused=0, unusable=0):
-    """ZZ and its counts."""
-    return b"ZZ" + END.numbers.pack(begun, begun - refused - unusable, refused, unusable)
+class Ending(bytes):
+    """ZZ and its counts. Behind answers its counts by mark are theirs; what was refused counts as CO."""
+
+    def __radd__(self, data):
+        marks = collections.Counter(layout.mark for _, layout in walk(data, ANSWER))
+        marks["CO"] += marks.pop("NO", 0)
+        by_mark = (marks[mark] for mark in (*COUNTED, UNKNOWN))
+        return bytes(data) + self[:2] + END.numbers.pack(*struct.unpack_from("<4I", self, 2), *by_mark)
+
+
+def end(begun, refused=0, unusable=0, **by_mark):
+    """ZZ and its counts, those by mark as they are given, until it is put behind answers."""
+    four = begun, begun - refused - unusable, refused, unusable
+    return Ending(b"ZZ" + END.numbers.pack(*four, *(by_mark.get(mark, 0) for mark in (*COUNTED, UNKNOWN))))
 
 
 def not_finite(data):

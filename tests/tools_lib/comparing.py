@@ -132,7 +132,7 @@ def missing_and_short_ends():
     """They are said first, as is a cut record; equal bytes do not hide them."""
     whole = answers()
     for part, message in [(whole[:-END.size], "ZZ and its counts are missing"),
-                          (whole[:-1], "ZZ is short, 17"), (whole[:-4], "ZZ is short, 14"),
+                          (whole[:-1], "ZZ is short, 97"), (whole[:-4], "ZZ is short, 94"),
                           (whole[:100], "the file ends inside a record: CO takes 162 bytes, 30")]:
         for old, new, name in [(whole, part, "NEW"), (part, whole, "OLD"), (part, part, "OLD")]:
             holds(diff(old, new, 1).splitlines()[0], name, message)

@@ -23,10 +23,10 @@ def as_a_program():
 
 
 def help_has_examples():
-    for words in [["--help"], *([name, "--help"] for name in ("make", "show", "diff", "arms", "near", "sort", "sheets"))]:
+    for words in [["--help"], *([name, "--help"] for name in ("make", "show", "diff", "arms", "near", "sort", "sheets", "totals"))]:
         holds(jobs(*words)[0].decode(), "example:\n", "tools/jobs ")
     holds(jobs(status=2)[1], "COMMAND")
-    holds(jobs("shwo", status=2)[1], "shwo", "make", "show", "diff", "arms", "sheets")
+    holds(jobs("shwo", status=2)[1], "shwo", "make", "show", "diff", "arms", "sheets", "totals")
 
 
 def same_lines(found, expected, what):
@@ -85,7 +85,7 @@ def stored_job():
           "  # 11 terms\n", "  # closed; v0, w0 by series\n", "  # closed\n", "ac point 5.0 7.0 9.0\nmu product.q ",
           "RN n 2\nCH running.q 0.8 0.6 0.0 0.0; ", "running.frames 7 1\nNO refusal 9", "running.frames 9 1\n",
           "SH outcome 1; before 0  # new\nSH outcome 2; before 1  # replaces\nSH outcome 3; before 3  # older, not kept\nNO refusal 10", "SQ take 3; pose.q 0.8 0.6 ", "NO refusal 12",
-          "ZZ begun 35; answered 28; refused 7; unusable 0\n")
+          "ZZ begun 35; answered 28; refused 7; unusable 0; EX 2; CO 3; ", "; AR 3; CH 4; RN 1; SH 4; SQ 2\n")
     same(answer.read_bytes(), (ROOT / "examples" / "answers.bin").read_bytes(), "examples/answers.bin")
     again = jobs("diff", answer, file("again", program(data)))[0].decode()
     holds(again, "equal: 35 records")

@@ -63,7 +63,7 @@ def as_text():
     same(made(text), data, "the bytes made again")
     told = b"RN\2\1CH" + struct.pack("<8d2H", *POSE, 65535, 0) + b"NO\x09" + end(3, 1)
     same(jobs("show", data=told)[0].decode(), "RN n 258\nCH running.q 1.0 0.0 0.0 0.0; running.t 1.0 2.0 3.0; running.sigma 0.5; running.frames 65535 0\n"
-         "NO refusal 9  # frames do not meet: the left pose's from is not the right pose's to\nZZ begun 3; answered 2; refused 1; unusable 0\n", "the answers")
+         "NO refusal 9  # frames do not meet: the left pose's from is not the right pose's to\nZZ begun 3; answered 2; refused 1; unusable 0; CO 1; CH 1; RN 1\n", "the answers")
     holds(jobs("show", "--hex", data=told)[0].decode(), "       0  52 4e                    RN\n       2  02 01                    n = 258\n",
           "      70  ff ff                    running.frames.from = 65535\n")
     holds(jobs("show", "--in", data=data[:-1], status=1)[1], "byte 4: the file ends inside a record: CH takes 78 bytes, 77 are there")

@@ -102,7 +102,7 @@ def kept_takes():
         same(jobs("sheets", *files)[0].decode(), TABLE, "the table")
         same(jobs("sheets", "--csv", *files), (ROWS.encode(), ""), "the values")
     same(jobs("sheets", "-", data=JOB_OF_TAKES)[0].decode(), TABLE, "from standard input")
-    same(jobs("sheets", file("none", b"RN\1\0"))[0].decode(), "0 sheets kept, room for 512 more; 0 retaken, 0 times in all\n1 record of other marks\n", "no sheets")
+    same(jobs("sheets", file("without", b"RN\1\0"))[0].decode(), "0 sheets kept, room for 512 more; 0 retaken, 0 times in all\n1 record of other marks\n", "no sheets")
 
 
 def room_for_512():

@@ -19,7 +19,8 @@ def layout_of_the_scope():
     for layout in JOB.values():
         out = ANSWER[layout.mark.encode()]
         same((layout.size - 2, out.size - 2), sizes[layout.mark], f"bytes of {layout.mark}")
-    same((END.size, END.fields), (18, ["begun", "answered", "refused", "unusable"]), "ZZ")
+    rows = "EX CO PA AC MU IN JI ex co pa ac mu in ji AR CH RN SH SQ unknown".split()
+    same((END.size, END.fields), (98, ["begun", "answered", "refused", "unusable", *rows]), "ZZ")
     for table, mark, field, number in [
             (JOB, b"EX", "sigma", 6), (JOB, b"EX", "values.cos_half", 9), (JOB, b"CO", "values.M0", 9),
             (JOB, b"PA", "J[1][0]", 18), (JOB, b"PA", "Jinv[0][2]", 32), (JOB, b"AC", "up", 10),
@@ -68,10 +69,10 @@ def answers_as_text():
     text = jobs("show", data=answers())[0].decode()
     same(len(text.splitlines()), 10, "lines")
     holds(text, "EX pose.q ", "; right_inv.e ", "NO refusal 1  # squared angle z below zero\n",
-          "ZZ begun 9; answered 2; refused 1; unusable 6\n")
+          "ZZ begun 9; answered 2; refused 1; unusable 6; EX 1; CO 2; PA 1; AC 1; MU 1; IN 1; JI 1; AR 1\n")
     odd = b"AC" + struct.pack("<3d", -0.0, float("nan"), float("-inf")) + end(1, 0, 1)
     same(jobs("show", data=odd)[0],
-         b"AC point -0.0 nan -inf\nZZ begun 1; answered 0; refused 0; unusable 1\n", "odd numbers")
+         b"AC point -0.0 nan -inf\nZZ begun 1; answered 0; refused 0; unusable 1; AC 1\n", "odd numbers")
 
 
 def unusable_answers():
@@ -101,12 +102,12 @@ not usable: 3 answers of 6 records
 
 
 def stored_counts():
-    """The stored answers' counts: the last three add up to the first, the fourth is of those that are not finite; both ends of an answer are among them."""
+    """The stored answers' four counts: the last three add up to the first, the fourth is of those that are not finite; both ends of an answer are among them."""
     alone = collections.Counter()
     for path in sorted((ROOT / "tests" / "runs").glob("*.out")):
         data = path.read_bytes()
-        begun, answered, refused, unusable = struct.unpack("<4I", data[-16:])
-        same((data[-18:-16], answered + refused + unusable, unusable), (b"ZZ", begun, not_finite(data)), path.name)
+        begun, answered, refused, unusable = struct.unpack("<4I", data[-96:-80])
+        same((data[-98:-96], answered + refused + unusable, unusable), (b"ZZ", begun, not_finite(data)), path.name)
         for at, layout in walk(data, ANSWER):
             bad = places_not_finite(data, at, layout)
             alone.update([(layout.mark, layout.fields[bad[0]])] if len(bad) == 1 else [])
@@ -139,7 +140,7 @@ def singles_as_text():
     numbers = struct.pack("<3f", 0.1, -0.0, 3.4028234663852886e38)
     data = b"ac" + numbers + b"ac" + struct.pack("<3I", 0x7FC00000, 0xFFC00001, 0xFF800000) + end(2, 0, 1)
     same(jobs("show", data=data)[0].decode(), "ac point 0.1 -0.0 3.4028235e+38\nac point nan nan:ffc00001 -inf\n"
-                                              "ZZ begun 2; answered 1; refused 0; unusable 1\n", "two points")
+                                              "ZZ begun 2; answered 1; refused 0; unusable 1; ac 2\n", "two points")
     holds(jobs("show", "--hex", data=data)[0].decode(), "       0  61 63                    ac\n", "       2  cd cc cc 3d              point.x = 0.1\n",
           "      20  01 00 c0 ff              point.y = nan:ffc00001\n")
     same(jobs("show", "--unusable", data=data)[0].decode(),
@@ -199,7 +200,7 @@ def frames_as_text():
     data = b"".join(mark + struct.pack("<8d2H", *numbers, 0x7FF0, 0xFFFF) for mark in (b"EX", b"MU", b"IN")) + b"NO\x09" + end(4, 1)
     shown = jobs("show", data=data)[0].decode()
     holds(shown, *(f"{name}.sigma 0.0; {name}.frames 32752 65535\n" for name in ("pose", "product", "inverse")),
-          "NO refusal 9  # frames do not meet: the left pose's from is not the right pose's to\n", "answered 3; refused 1; unusable 0\n")
+          "NO refusal 9  # frames do not meet: the left pose's from is not the right pose's to\n", "answered 3; refused 1; unusable 0; EX 1; CO 1; MU 1; IN 1\n")
 
 
 def older_files():
@@ -217,7 +218,7 @@ def older_files():
     whole = b"".join(layout.mark.encode() + bytes(layout.size - 2) for layout in OLDER_ANSWER.values()) + end(9, 1)
     for data in (whole, b"NO\1" + b"IN" + bytes(64) + end(2, 1), b"EX" + bytes(64) + end(1)):
         holds(show(data) + show(data, "--out"), "jobs: answers of the older format? Their poses have no frames")
-    assert "older format" not in show(whole[:-17]) + show(end(0)[:9], "--out"), "cut answers"
+    assert "older format" not in show(whole[:-END.size + 1]) + show(end(0)[:9], "--out"), "cut answers"
     job, told = file("job", b"AR" + bytes(96)), file("told", whole)
     holds(jobs("arms", job, told, status=2)[1], f"jobs: {told}: answers of the older format?")
     holds(jobs("arms", file("before", b"IN" + bytes(72)), told, status=2)[1], "before: a job of the older format?")
@@ -254,7 +255,7 @@ def stored_scope_record():
     before = b"AC" + struct.pack("<12d", 1, 0, 0, 0, 1, 2, 3, 0, 1, 4, 5, 6)
     same(job, before[:66] + bytes(4) + before[66:], "one_ac.in")
     same(told.hex(" ", -2), "4143 0000 0000 0000 1440 0000 0000 0000 1c40 0000 0000 0000 2240 "
-                            "5a5a 0100 0000 0100 0000 0000 0000 0000 0000", "one_ac.out")
+                            "5a5a 0100 0000 0100 0000 0000 0000 0000 0000 " + 6 * "0000 " + "0100 0000 " + 31 * "0000 " + "0000", "one_ac.out")
 
 
 def single_records():
@@ -305,7 +306,8 @@ def damaged_answers():
     last = len(whole) - END.size
     for data, message in [
             (whole[:last], f"byte {last}: ZZ and its counts are missing"),
-            (whole[:-1], f"byte {last}: ZZ is short, 17 of 18 bytes"),
+            (whole[:-1], f"byte {last}: ZZ is short, 97 of 98 bytes"),
+            (whole[:-80], f"byte {last}: ZZ is short, 18 of 98 bytes: the answer is not whole; it has its first four counts alone"),
             (whole[:100], "byte 70: the file ends inside a record: CO takes 162 bytes, 30 are"),
             (whole[:EX_SIZE] + b"QQ" + whole[EX_SIZE:], "byte 70: unknown mark 51 51 ('QQ')"),
             (whole + b"AC", f"byte {len(whole)}: 2 bytes after ZZ"),

@@ -14,10 +14,12 @@ from .order import diff_by_tangent, sort
 from .sheets import sheets
 from .show import show
 from .terminal import Failure, say
+from .totals import totals
 
 ABOUT = """\
 Job files of the Sim(3) engine: make them from text, show them as text, compare their answers, see
-which arm gave each coefficient set, which shots lie beside another arm, and which takes are kept.
+which arm gave each coefficient set, which shots lie beside another arm, which takes are kept, and how
+many records of each mark several answers have.
 docs/JOB-FORMAT.md has the bytes of every record.
 
 example:
@@ -29,6 +31,7 @@ example:
   tools/jobs near --within 1000 jobs.bin
   tools/jobs sort jobs.bin > sorted-jobs.bin
   tools/jobs sheets jobs.bin answers.bin
+  tools/jobs totals answers.bin more-answers.bin
 """
 
 MAKE = """\
@@ -57,8 +60,8 @@ example:
 
 SHOW = """\
 A job file or an answer file as text, one record a line: numbers as the shortest decimals that read
-back exactly, refusals with their meaning, and the counts of ZZ. `jobs make` turns the lines of a
-job file into the same bytes again. Which of the two a file is is guessed unless it is said. With
+back exactly, refusals with their meaning, and the counts of ZZ, of those by mark the ones that are not
+0 (--counts: every one). `jobs make` turns the lines of a job file into the same bytes again. Which of the two a file is is guessed unless it is said. With
 --unusable only the answers that hold a NaN or an infinity are listed, by their numbers in the file.
 
 Exit status: 0, or 1 where the file is damaged or cut (the byte is named), or 2 if it cannot be read.
@@ -149,6 +152,21 @@ example:
 """
 
 
+TOTALS = """\
+The counts of several answer files added up, for the monthly sheet: a row for each of ZZ's four counts and
+for each mark that has records (--all: for every mark), a column for each file where they are few, and the
+sum. With --csv every row and a column for every file. Each file is read through: one that does not end
+in its ZZ, whose ZZ is cut, that has bytes behind it, or whose counts do not add up or do not fit its
+records is named, with what to do, and is not added.
+
+Exit status: 0 where every file is whole, 1 where one is not, 2 where one cannot be read or is given twice.
+
+example:
+  tools/jobs totals answers.bin more-answers.bin
+  tools/jobs totals --csv november/*.bin > november.csv
+"""
+
+
 def forms_text():
     """Each mark with its groups, those that may be left out in brackets."""
     lines = []
@@ -192,30 +210,8 @@ def add_command(commands, name, about, summary):
                                formatter_class=argparse.RawDescriptionHelpFormatter)
 
 
-def parser():
-    top = argparse.ArgumentParser(prog="jobs", description=ABOUT,
-                                  formatter_class=argparse.RawDescriptionHelpFormatter)
-    commands = top.add_subparsers(dest="command", metavar="COMMAND", required=True)
-    one = add_command(commands, "make", MAKE.format(forms=forms_text(), singles=singles_text()), "text to a job file")
-    one.add_argument("file", nargs="?", metavar="FILE", help="the text; standard input if not given")
-    one = add_command(commands, "show", SHOW, "a job or answer file to text")
-    kind = one.add_mutually_exclusive_group()
-    kind.add_argument("--in", dest="table", action="store_const", const=JOB, help="it is a job file")
-    kind.add_argument("--out", dest="table", action="store_const", const=ANSWER,
-                      help="it is an answer file")
-    one.add_argument("--hex", action="store_true", help="the bytes too, one number a line")
-    one.add_argument("--record", type=record_range, metavar="N[-M]", help="these records alone")
-    one.add_argument("--unusable", action="store_true",
-                     help="which answers hold a NaN or an infinity, and in which numbers")
-    one.add_argument("file", nargs="?", metavar="FILE", help="the file; standard input if not given")
-    one = add_command(commands, "diff", DIFF, "compare two answer files")
-    one.add_argument("--limit", type=limit, metavar="N", help="print at most N differences")
-    one.add_argument("--by-tangent", action="store_true",
-                     help="match the shots of two jobs: JOBS ANSWERS JOBS ANSWERS")
-    one.add_argument("old", metavar="OLD", help="the older answers; with --by-tangent the older job")
-    one.add_argument("new", metavar="NEW", help="the newer answers; with --by-tangent the older answers")
-    one.add_argument("more", nargs="*", metavar="FILE",
-                     help="with --by-tangent the newer job and its answers")
+def add_searches(commands):
+    """The commands that look for something in the records."""
     one = add_command(commands, "arms", ARMS, "count and draw the arms of AR records")
     one.add_argument("--svg", metavar="FILE", help="the picture to be written")
     one.add_argument("job", metavar="JOBS")
@@ -229,6 +225,38 @@ def parser():
     one.add_argument("--csv", action="store_true", help="as comma-separated values")
     one.add_argument("job", metavar="JOBS")
     one.add_argument("answers", nargs="?", metavar="ANSWERS", help="the answers; without them the records alone are followed")
+    one = add_command(commands, "totals", TOTALS, "add up the counts of several answer files by mark")
+    one.add_argument("--csv", action="store_true", help="as comma-separated values, with every row")
+    one.add_argument("--all", action="store_true", help="a row for every mark, those without records too")
+    one.add_argument("files", nargs="+", metavar="FILE", help="answer files; - for standard input")
+
+
+def parser():
+    top = argparse.ArgumentParser(prog="jobs", description=ABOUT,
+                                  formatter_class=argparse.RawDescriptionHelpFormatter)
+    commands = top.add_subparsers(dest="command", metavar="COMMAND", required=True)
+    one = add_command(commands, "make", MAKE.format(forms=forms_text(), singles=singles_text()), "text to a job file")
+    one.add_argument("file", nargs="?", metavar="FILE", help="the text; standard input if not given")
+    one = add_command(commands, "show", SHOW, "a job or answer file to text")
+    kind = one.add_mutually_exclusive_group()
+    kind.add_argument("--in", dest="table", action="store_const", const=JOB, help="it is a job file")
+    kind.add_argument("--out", dest="table", action="store_const", const=ANSWER,
+                      help="it is an answer file")
+    one.add_argument("--hex", action="store_true", help="the bytes too, one number a line")
+    one.add_argument("--record", type=record_range, metavar="N[-M]", help="these records alone")
+    one.add_argument("--counts", action="store_true", help="every count of ZZ by mark, those that are 0 too")
+    one.add_argument("--unusable", action="store_true",
+                     help="which answers hold a NaN or an infinity, and in which numbers")
+    one.add_argument("file", nargs="?", metavar="FILE", help="the file; standard input if not given")
+    one = add_command(commands, "diff", DIFF, "compare two answer files")
+    one.add_argument("--limit", type=limit, metavar="N", help="print at most N differences")
+    one.add_argument("--by-tangent", action="store_true",
+                     help="match the shots of two jobs: JOBS ANSWERS JOBS ANSWERS")
+    one.add_argument("old", metavar="OLD", help="the older answers; with --by-tangent the older job")
+    one.add_argument("new", metavar="NEW", help="the newer answers; with --by-tangent the older answers")
+    one.add_argument("more", nargs="*", metavar="FILE",
+                     help="with --by-tangent the newer job and its answers")
+    add_searches(commands)
     return top
 
 
@@ -246,8 +274,10 @@ def run(arguments):
     if arguments.command == "show":
         if arguments.unusable and (arguments.hex or arguments.record):
             raise Failure("jobs: --unusable stands alone; expected neither --hex nor --record with it")
+        if arguments.counts and (arguments.unusable or arguments.record):
+            raise Failure("jobs: --counts is about ZZ, which --record and --unusable leave out; expected neither with it")
         return show(arguments.file, arguments.table, arguments.record, arguments.hex,
-                    arguments.unusable)
+                    arguments.unusable, arguments.counts)
     if arguments.command == "diff":
         files = [arguments.old, arguments.new, *arguments.more]
         return run_diff(files, arguments.by_tangent, arguments.limit)
@@ -257,6 +287,8 @@ def run(arguments):
         return sort(arguments.job)
     if arguments.command == "sheets":
         return sheets(arguments.job, arguments.answers, arguments.csv)
+    if arguments.command == "totals":
+        return totals(arguments.files, arguments.csv, arguments.all)
     return arms(arguments.job, arguments.answers, arguments.svg)
 
 

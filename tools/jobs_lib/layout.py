@@ -206,9 +206,15 @@ def without_frames(layouts):
 
 OLDER_JOB, OLDER_ANSWER = without_frames(JOB), without_frames(ANSWER)
 
-# The counts behind the last record of an answer file.
-END = Layout("ZZ", "the end",
-             Group("begun", ONE, "records begun", "I"),
-             Group("answered", ONE, "records answered with finite numbers alone", "I"),
-             Group("refused", ONE, "records refused", "I"),
-             Group("unusable", ONE, "records whose answer holds a NaN or an infinity", "I"))
+# The counts behind the last record of an answer file: four, the last three of which add up to the first,
+# and the records begun by mark, which add up to it too.
+FOUR = (Group("begun", ONE, "records begun", "I"),
+        Group("answered", ONE, "records answered with finite numbers alone", "I"),
+        Group("refused", ONE, "records refused", "I"),
+        Group("unusable", ONE, "records whose answer holds a NaN or an infinity", "I"))
+PLAIN = tuple(mark.decode() for mark in DOUBLES if mark != b"AR")
+COUNTED = (*PLAIN, *(mark.lower() for mark in PLAIN), "AR", *(mark.decode() for mark in STATE))
+UNKNOWN = "unknown"
+END = Layout("ZZ", "the end", *FOUR, *(Group(mark, ONE, f"{mark} records begun", "I") for mark in COUNTED),
+             Group(UNKNOWN, ONE, "unknown and half marks", "I"))
+OLDER_END = Layout("ZZ", "the end, before records were counted by mark", *FOUR)

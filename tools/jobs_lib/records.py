@@ -5,7 +5,7 @@ import stat
 import sys
 from typing import NamedTuple
 
-from .layout import ANSWER, END, JOB, OLDER_ANSWER, OLDER_JOB
+from .layout import ANSWER, COUNTED, END, FOUR, JOB, OLDER_ANSWER, OLDER_END, OLDER_JOB
 from .terminal import Failure, Progress, count
 
 STDIN = "(standard input)"
@@ -81,9 +81,22 @@ def torn(data, at, table):
 
 
 def counts_text(counts):
-    """ZZ's counts in words."""
-    names = (group.name for group in END.groups)
-    return ", ".join(f"{number:,} {name}" for number, name in zip(counts, names))
+    """The first four of ZZ's counts in words."""
+    return ", ".join(f"{number:,} {group.name}" for number, group in zip(counts, FOUR))
+
+
+def misfits(counts, counted, marks):
+    """What is wrong with ZZ's counts, where the answers, by their marks, are `counted`."""
+    if counts[:len(FOUR)] != counted:
+        yield "ZZ does not fit the records, which are " + counts_text(counted)
+    by_mark = counts[len(FOUR):]
+    if sum(by_mark) != counts[0]:
+        yield f"ZZ's counts by mark add up to {sum(by_mark):,}, where {counts[0]:,} are begun"
+    for mark, number in zip(COUNTED, by_mark):
+        if number < marks.get(mark, 0):
+            yield f"ZZ counts {number:,} {mark}, where {count(marks[mark], 'record')} of them {'is' if marks[mark] == 1 else 'are'} answered"
+    if by_mark[-1] > 1:
+        yield f"ZZ counts {by_mark[-1]:,} unknown and half marks, where a job ends at the first"
 
 
 def end_damages(data, at, marks, unusable):
@@ -94,13 +107,11 @@ def end_damages(data, at, marks, unusable):
         found = [torn(data, at, ANSWER)] if left else []
         return found if found and found[0].unreadable else [*found, missing]
     if left < END.size:
-        short = f"ZZ is short, {left} of {END.size} bytes: the answer is not whole"
-        return [Damage(at, short, False)]
-    found = []
+        four = "; it has its first four counts alone, as before records were counted by mark: run the job again" if left == OLDER_END.size else ""
+        return [Damage(at, f"ZZ is short, {left} of {END.size} bytes: the answer is not whole{four}", False)]
     begun, refused = sum(marks.values()), marks.get("NO", 0)
     counted = (begun, begun - refused - unusable, refused, unusable)
-    if END.numbers.unpack_from(data, at + 2) != counted:
-        found.append(Damage(at, "ZZ does not fit the records, which are " + counts_text(counted), False))
+    found = [Damage(at, text, False) for text in misfits(END.numbers.unpack_from(data, at + 2), counted, marks)]
     if left > END.size:
         found.append(Damage(at + END.size, f"{count(left - END.size, 'byte')} after ZZ", True))
     return found
@@ -145,7 +156,7 @@ def reading(data, table):
 def guess(data):
     """The table that reads better; where both or none read all, ZZ at the end decides first."""
     job, answer = reading(data, JOB), reading(data, ANSWER)
-    if data[-END.size:][:2] == ZZ and (job == answer or max(job, answer)[0] < 2):
+    if any(data[-last.size:][:2] == ZZ for last in (END, OLDER_END)) and (job == answer or max(job, answer)[0] < 2):
         return ANSWER
     return JOB if job >= answer else ANSWER
 

@@ -3,7 +3,7 @@ import struct
 from math import isfinite
 
 from .floats import DOUBLE
-from .layout import ANSWER, END, JOB, MOST_RECORDS
+from .layout import ANSWER, END, FOUR, JOB, MOST_RECORDS
 from .records import guess, hexadecimal, load, name_of, older, scan, walk
 from .terminal import Failure, Lines, Progress, count, say
 
@@ -33,6 +33,13 @@ def remark(layout, numbers):
 def texts(layout, bits):
     """The numbers of a record, of which these are the bits, as texts."""
     return tuple(width.text(x) if width else str(x) for width, x in zip(layout.widths, bits))
+
+
+def end_line(data, at, layout):
+    """ZZ as a line: its four counts, and of those by mark the ones that are not 0."""
+    numbers = layout.numbers.unpack_from(data, at + 2)
+    shown = (f"{name} {number}" for i, (name, number) in enumerate(zip(layout.fields, numbers)) if number or i < len(FOUR))
+    return [f"{layout.mark} " + "; ".join(shown)]
 
 
 def one_line(data, at, layout):
@@ -124,7 +131,7 @@ def say_damages(name, data, found, read_as, guessed):
         say(f"jobs: {found.records:,} records; the job program answers the first {MOST_RECORDS:,}")
 
 
-def show(path, table, wanted, as_bytes, unusable=False):
+def show(path, table, wanted, as_bytes, unusable=False, every_count=False):
     """The command: 0, or 1 where the file is damaged. Without `wanted`, everything is shown."""
     data, name = load(path), name_of(path)
     read_as = table or guess(data)
@@ -136,7 +143,7 @@ def show(path, table, wanted, as_bytes, unusable=False):
         print_unusable(data, found)
     elif wanted is None:
         print_records(data, read_as, range(1, found.records + 1), lines_of)
-        print_end(data, read_as, found, lines_of)
+        print_end(data, read_as, found, lines_of if as_bytes or every_count else end_line)
     elif wanted.stop - 1 > found.records:
         raise Failure(f"jobs: no record {wanted.stop - 1:,} in {name}; it has {found.records:,}")
     else:

@@ -27,13 +27,13 @@ class Progress:
 
     STEP = 8192  # units between two looks at the clock
 
-    def __init__(self, what, total, unit="records"):
-        self.what, self.total, self.unit = what, total, unit
+    def __init__(self, what, total, unit="records", step=STEP):
+        self.what, self.total, self.unit, self.step = what, total, unit, step
         self.shown, self.next = False, time.monotonic() + 1
         self.live = sys.stderr.isatty()
 
     def __call__(self, done):
-        if not self.live or done % self.STEP or time.monotonic() < self.next:
+        if not self.live or done % self.step or time.monotonic() < self.next:
             return
         of = f" of {self.total:,}" if self.total else ""
         sys.stderr.write(f"\r{self.what}: {done:,}{of} {self.unit}")
