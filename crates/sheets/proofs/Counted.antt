@@ -25,7 +25,9 @@ module _ (at : ℕ → Kept) (n : ℕ) (x : Shot) where
   below zero h = refl
   below (suc k) h = rw (below k (omega arith), other k (λ e. absurd (omega arith))) refl
 
-  above-by : (k : ℕ) → n < suc k → (t : Bool) → eqb k n ≡ t → (n < k → keptBelow (keeping n x at) k + one (at n) ≡ keptBelow at k + 1) → keptBelow (keeping n x at) (suc k) + one (at n) ≡ keptBelow at (suc k) + 1
+  above-by :
+      (k : ℕ) → n < suc k → (t : Bool) → eqb k n ≡ t → (n < k → keptBelow (keeping n x at) k + one (at n) ≡ keptBelow at k + 1) →
+      keptBelow (keeping n x at) (suc k) + one (at n) ≡ keptBelow at (suc k) + 1
   unfolding keptBelow
   above-by k h true t go =
       let e : k ≡ n = eqb-true _ _ t in
