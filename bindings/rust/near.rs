@@ -1,5 +1,7 @@
 //! How near another arm of the coefficients is.
 
+#![forbid(unsafe_code)]
+
 use crate::{foreign, raw, Refusal};
 
 #[derive(Clone, Copy, Debug, PartialEq, Eq)]

@@ -1,11 +1,10 @@
-// Written by tools/widths from bindings/rust/raw.rs: edit that one. Digest dbfcaec366fab2b9.
-//! The C functions of include/sim3.h at one width, each called through a function over slices. Outside of
-//! raw.rs and raw_f32.rs this crate has no unsafe code. The declarations are trusted; tests/bindings
-//! compares them with the header.
+// Written by tools/widths from bindings/rust/raw.rs: edit that one. Digest 28a6e8ec8c0c1f7d.
+//! The C functions of include/sim3.h at one width, each called through a function over slices. This is the
+//! one module with unsafe code, at both widths: every other one forbids it. The declarations are trusted;
+//! tests/bindings compares them with the header.
 
 #![allow(unsafe_code)]
 
-#[link(name = "sim3_c_f32", kind = "static")]
 extern "C" {
     fn sim3_exp_f32(
         tau: *const f32,
