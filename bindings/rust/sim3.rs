@@ -16,7 +16,7 @@
 //! [`host`] computes them. Every number is taken, NaN and infinities too. A [`Pose`] holds its two frames
 //! beside its numbers: poses are joined only where the frames meet, and the action and the Jacobians read
 //! none. What can be refused answers a [`Refusal`], which is a [`std::error::Error`]. The same functions
-//! over singles stand in [`f32`](crate::f32).
+//! over singles stand in [`mod@f32`].
 //!
 //! The build script finds the library libsim3.a: where `bindings/install` put this crate and it, in the
 //! source tree by `bindings/build`, by the environment variable SIM3_LIB_DIR, or by pkg-config. Without
