@@ -61,15 +61,21 @@ def symbols():
     assert f"soname: [libsim3.so.{version.split('.')[0]}]" in told, told
 
 
-def example():
-    """The installed example by pkg-config's line with the shared library, and with the archive."""
-    work, cc = folder("example"), tool("cc", "CC")
+def built_example(work, flags, **variables):
+    """The installed example, built in a folder with these flags and run."""
     shutil.copy(prefix() / "share/doc/sim3/join.c", work)
+    ran([tool("cc", "CC"), "-std=c99", *WARNINGS, "-o", "join", "join.c", *flags], work)
+    assert DUE in ran(["./join"], work, **variables)
+
+
+def example_by_pkg_config():
+    work = folder("shared")
     flags = ran([tool("pkg-config"), "--cflags", "--libs", "sim3"], work, PKG_CONFIG_PATH=prefix() / "lib/pkgconfig").split()
-    ran([cc, "-std=c99", *WARNINGS, "-o", "shared", "join.c", *flags], work)
-    assert DUE in ran(["./shared"], work, LD_LIBRARY_PATH=prefix() / "lib")
-    ran([cc, "-std=c99", *WARNINGS, "-o", "static", "join.c", *flags[:1], prefix() / "lib/libsim3.a", "-lm"], work)
-    assert DUE in ran(["./static"], work)
+    built_example(work, flags, LD_LIBRARY_PATH=prefix() / "lib")
+
+
+def example_with_the_archive():
+    built_example(folder("static"), [f"-I{prefix()}/include", prefix() / "lib/libsim3.a", "-lm"])
 
 
 def example_in_cpp():
@@ -88,4 +94,4 @@ def in_words():
         assert done.returncode == 2 and part in done.stderr, f"bindings/install {words}: {done}"
 
 
-TESTS = [repeatable, names_no_source, headers, headers_in_cpp, symbols, example, example_in_cpp, in_words]
+TESTS = [repeatable, names_no_source, headers, headers_in_cpp, symbols, example_by_pkg_config, example_with_the_archive, example_in_cpp, in_words]

@@ -11,6 +11,11 @@ NOW = (ROOT / "VERSION").read_text().strip()
 NEXT = "97.5.31"
 
 
+def tool_of(top, word):
+    """The tool of a tree, with a word."""
+    return [sys.executable, "-B", top / "tools/version", word]
+
+
 def copied():
     """A tree of what the libraries are made from, with the archives as they are, so that nothing is proved."""
     top = folder("bumped")
@@ -42,10 +47,10 @@ def shown(top, prefix):
 
 def bump():
     tool("cc", "CC")
-    same(subprocess.run([ROOT / "tools/version", "--check"]).returncode, 0, "tools/version --check")
+    same(subprocess.run(tool_of(ROOT, "--check")).returncode, 0, "tools/version --check")
     top, major = copied(), NEXT.split(".")[0]
-    ran([top / "tools/version", NEXT], "/")
-    ran([top / "tools/version", "--check"], "/")
+    ran(tool_of(top, NEXT), "/")
+    ran(tool_of(top, "--check"), "/")
     ran([top / "bindings/install", top / "prefix"], "/")
     found = shown(top, top / "prefix")
     due = {**dict.fromkeys(found, NEXT), "package and library": [NEXT, NEXT], "soname and symbols": [(major, ""), ("", major)]}
@@ -54,13 +59,13 @@ def bump():
         if path.is_file() and "target" not in path.parts and path.suffix != ".whl":
             assert not re.search(rf"(?<![\d.]){re.escape(NOW)}(?![\d.])".encode(), path.read_bytes()), f"{path.relative_to(top)} still shows {NOW}"
     (top / "VERSION").write_text("97.6.0\n")
-    done = subprocess.run([top / "tools/version", "--check"], stdout=subprocess.PIPE, text=True)
+    done = subprocess.run(tool_of(top, "--check"), stdout=subprocess.PIPE, text=True)
     same((done.returncode, done.stdout.count("does not show 97.6.0")), (1, 6), "tools/version --check after a bump by hand")
 
 
 def wrong_versions():
     for wrong in ("1.2", "1.2.3.4", "v1.2.3", "01.2.3", "--chekc"):
-        same(subprocess.run([ROOT / "tools/version", wrong], stderr=subprocess.PIPE).returncode, 2, f"tools/version {wrong}")
+        same(subprocess.run(tool_of(ROOT, wrong), stderr=subprocess.PIPE).returncode, 2, f"tools/version {wrong}")
     same((ROOT / "VERSION").read_text(), NOW + "\n", "the file VERSION")
 
 
