@@ -54,37 +54,40 @@ class Engine:
             return x
         found = lent(f"{self.width.package}.{name}: {argument}", numbers_of(x) if kind == "pose" else x, self.width)
         count = len(found)
-        if kind != raw.POINTS and count != raw.KINDS[kind][0]:
+        if count != raw.KINDS[kind][0]:
             del found  # so that who catches the refusal can change the length of x
             raise wrong_length(name, argument, kind, count, self.width)
         return found
 
     def is_read(self, kind, x):
         """Whether a ctypes array is what `read` gives for this kind, so that it goes to C as it is."""
-        return kind in raw.KINDS and x._type_ is self.width.number and len(x) == raw.KINDS[kind][0] and ctypes.addressof(x) % self.width.size == 0
+        return x._type_ is self.width.number and len(x) == raw.KINDS[kind][0] and ctypes.addressof(x) % self.width.size == 0
 
     def ask(self, name, *arguments):
         """The answer of a C function, or Refusal."""
         made, given = raw.FUNCTIONS[name], {}
         for (argument, kind), x in zip(made.takes, arguments):
             given[argument] = self.number(name, argument, x) if kind == raw.NUMBER else self.read(name, argument, x)
-        size = len(given["pts"]) if "pts" in given else sum(raw.KINDS[kind][0] for kind in made.gives)
+        size = sum(raw.KINDS[kind][0] for kind in made.gives)
         out = array.array(self.width.code, [0.0]) * size
         refused = raw.call(name, *given.values(), over(out, size, self.width), width=self.width)
         if refused:
             refusal = explained(refused, name, given, self.width)
-            given.clear()  # so that who catches it can change the length of pts
+            given.clear()  # so that who catches it can change the length of a list
             raise refusal
         return parts(out, made.gives)
 
     def read_pose(self, name, argument, x):
-        """A pose's numbers in an array, its own where it has one, and the bytes of its frames."""
+        """A pose's numbers in an array, its own where it has one; their bytes, a copy of eight numbers; and the bytes of
+        its frames."""
         if not isinstance(x, Pose):
             expected(f"{self.width.package}.{name}: {argument}", x)
         numbers, from_, to = x
-        if type(numbers) is not array.array or numbers.typecode != self.width.code or len(numbers) != 8:
-            numbers = array.array(self.width.code, bytes(self.read(name, argument, numbers)))
-        return numbers, self.read_frames(name, argument + ".", from_, to)
+        data = numbers.tobytes() if type(numbers) is array.array and numbers.typecode == self.width.code else b""
+        if len(data) != len(self.eight):
+            data = bytes(self.read(name, argument, numbers))
+            numbers = array.array(self.width.code, data)
+        return numbers, data, self.read_frames(name, argument + ".", from_, to)
 
     def read_frames(self, name, argument, from_, to):
         """The bytes of the list of a pose's frames."""
@@ -114,32 +117,32 @@ class Engine:
     def mul(self, x: Pose, y: Pose, up: Optional[float] = None) -> Pose:
         """X Y, from where Y starts to where X goes; up is e^sigma of X. Refusal 9 where X does not start from
         the frame to which Y goes."""
-        of_x, x_frames = self.read_pose("mul", "x", x)
-        of_y, y_frames = self.read_pose("mul", "y", y)
+        of_x, x_data, x_frames = self.read_pose("mul", "x", x)
+        _, y_data, y_frames = self.read_pose("mul", "y", y)
         up = self.number("mul", "up", or_host(up, self.host.up, of_x))
-        return self.ask_pose("mul", of_x.tobytes(), 8, x_frames, 2, of_y.tobytes(), 8, y_frames, 2, up, given=(x, y))
+        return self.ask_pose("mul", x_data, 8, x_frames, 2, y_data, 8, y_frames, 2, up, given=(x, y))
 
     def inverse(self, x: Pose, down: Optional[float] = None) -> Pose:
         """X^-1, with the frames exchanged; down is e^-sigma of X."""
-        of_x, x_frames = self.read_pose("inverse", "x", x)
+        of_x, x_data, x_frames = self.read_pose("inverse", "x", x)
         down = self.number("inverse", "down", or_host(down, self.host.down, of_x))
-        return self.ask_pose("inverse", of_x.tobytes(), 8, x_frames, 2, down)
+        return self.ask_pose("inverse", x_data, 8, x_frames, 2, down)
 
     def mul_inv(self, x: Pose, y: Pose, ds: Optional[float] = None) -> Pose:
         """X Y^-1, from where Y goes to where X goes; ds is e^(sigma of X - sigma of Y). Refusal 9 where they
         start from two frames."""
-        of_x, x_frames = self.read_pose("mul_inv", "x", x)
-        of_y, y_frames = self.read_pose("mul_inv", "y", y)
+        of_x, x_data, x_frames = self.read_pose("mul_inv", "x", x)
+        of_y, y_data, y_frames = self.read_pose("mul_inv", "y", y)
         ds = self.number("mul_inv", "ds", or_host(ds, self.host.ds, of_x, of_y))
-        return self.ask_pose("mul_inv", of_x.tobytes(), 8, x_frames, 2, of_y.tobytes(), 8, y_frames, 2, ds, given=(x, y))
+        return self.ask_pose("mul_inv", x_data, 8, x_frames, 2, y_data, 8, y_frames, 2, ds, given=(x, y))
 
     def inv_mul(self, x: Pose, y: Pose, down: Optional[float] = None) -> Pose:
         """Y^-1 X, from where X starts to where Y starts; down is e^-sigma of Y. Refusal 9 where they go to two
         frames."""
-        of_x, x_frames = self.read_pose("inv_mul", "x", x)
-        of_y, y_frames = self.read_pose("inv_mul", "y", y)
+        _, x_data, x_frames = self.read_pose("inv_mul", "x", x)
+        of_y, y_data, y_frames = self.read_pose("inv_mul", "y", y)
         down = self.number("inv_mul", "down", or_host(down, self.host.down, of_y))
-        return self.ask_pose("inv_mul", of_x.tobytes(), 8, x_frames, 2, of_y.tobytes(), 8, y_frames, 2, down, given=(x, y))
+        return self.ask_pose("inv_mul", x_data, 8, x_frames, 2, y_data, 8, y_frames, 2, down, given=(x, y))
 
     def renormalize(self, x: Pose) -> Pose:
         """The pose after one Newton step that brings its quaternion nearer to length 1, with the frames of x,
