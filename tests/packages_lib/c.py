@@ -6,6 +6,7 @@ import subprocess
 from .common import DUE, INSTALL, ROOT, WORK, folder, prefix, ran, same, tool, tree
 
 WARNINGS = ["-Wall", "-Wextra", "-Wpedantic", "-Wshadow", "-Wundef", "-Werror"]
+STRICT = [*WARNINGS, "-Wconversion", "-Wdouble-promotion", "-Wcast-qual"]  # for the headers, whose warnings would be every caller's
 
 
 def repeatable():
@@ -37,7 +38,7 @@ def headers():
     for header in sorted((prefix() / "include").glob("*.h")):
         for language, standard in (("c", "c99"), ("c", "c11"), ("c", "c17")):
             (work / "one.c").write_text(f'#include "{header.name}"\nint main(void) {{ return 0; }}\n')
-            ran([cc, "-x", language, f"-std={standard}", *WARNINGS, "-Wstrict-prototypes", f"-I{prefix()}/include", "-c", "-o", "one.o", "one.c"], work)
+            ran([cc, "-x", language, f"-std={standard}", *STRICT, "-Wstrict-prototypes", f"-I{prefix()}/include", "-c", "-o", "one.o", "one.c"], work)
 
 
 def headers_in_cpp():
@@ -45,7 +46,7 @@ def headers_in_cpp():
     for header in sorted((prefix() / "include").glob("*.h")):
         for standard in ("c++11", "c++17"):
             (work / "one.cpp").write_text(f'#include "{header.name}"\nint main() {{ return 0; }}\n')
-            ran([compiler, f"-std={standard}", *WARNINGS, f"-I{prefix()}/include", "-c", "-o", "one.o", "one.cpp"], work)
+            ran([compiler, f"-std={standard}", *STRICT, f"-I{prefix()}/include", "-c", "-o", "one.o", "one.cpp"], work)
 
 
 def symbols():
