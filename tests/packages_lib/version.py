@@ -45,9 +45,12 @@ def shown(top, prefix):
     }
 
 
+def shown_everywhere():
+    same(subprocess.run(tool_of(ROOT, "--check")).returncode, 0, "tools/version --check")
+
+
 def bump():
     tool("cc", "CC")
-    same(subprocess.run(tool_of(ROOT, "--check")).returncode, 0, "tools/version --check")
     top, major = copied(), NEXT.split(".")[0]
     ran(tool_of(top, NEXT), "/")
     ran(tool_of(top, "--check"), "/")
@@ -69,4 +72,4 @@ def wrong_versions():
     same((ROOT / "VERSION").read_text(), NOW + "\n", "the file VERSION")
 
 
-TESTS = [bump, wrong_versions]
+TESTS = [shown_everywhere, bump, wrong_versions]
