@@ -4,6 +4,7 @@ import re
 import signal
 import sys
 
+from .answer import add_program, program
 from .arms import arms
 from .diff import diff
 from .floats import DOUBLE, SINGLE
@@ -11,14 +12,14 @@ from .layout import ANSWER, JOB
 from .make import MAY_MISS, groups_text, make
 from .near import near
 from .order import diff_by_tangent, sort
-from .run import SCRIPT, format_text, run as run_job
 from .show import show
 from .terminal import Failure, say
 
 ABOUT = """\
 Job files of the Sim(3) engine: make them from text, show them as text, compare their answers, see
-which arm gave each coefficient set, and which shots lie beside another arm. `jobs run` has the job
-program answer one; `jobs format`, as docs/JOB-FORMAT.md, has the bytes of every record. From any folder.
+which arm gave each coefficient set, and which shots lie beside another arm.
+docs/JOB-FORMAT.md has the bytes of every record, and so has `jobs format`. `jobs run` finds the job
+program from any folder.
 
 example:
   tools/jobs make examples/jobs.txt > jobs.bin
@@ -130,30 +131,6 @@ example:
 """
 
 
-RUN = """\
-Answers a job file by the script sim3-job, which stands at
-  {script}
-The answers go to standard output. At first use the script has the program proved and built.
-
-Exit status: that of sim3-job. 0: the output is whole and ends in ZZ. 1: a read or a write failed, as
-standard error says: the output is not whole. 2: no job was begun. 128 + n: signal n ended the program:
-the output may be cut.
-
-example:
-  tools/jobs run jobs.bin > answers.bin
-  tools/jobs make examples/jobs.txt | tools/jobs run | tools/jobs show
-"""
-
-FORMAT = """\
-The bytes of every record, as docs/JOB-FORMAT.md has them, or of some marks: where each group of
-numbers begins in the record, and what it is.
-
-example:
-  tools/jobs format
-  tools/jobs format AC ac NO ZZ
-"""
-
-
 def forms_text():
     """Each mark with its groups, those that may be left out in brackets."""
     lines = []
@@ -203,6 +180,7 @@ def parser():
     commands = top.add_subparsers(dest="command", metavar="COMMAND", required=True)
     one = add_command(commands, "make", MAKE.format(forms=forms_text(), singles=singles_text()), "text to a job file")
     one.add_argument("file", nargs="?", metavar="FILE", help="the text; standard input if not given")
+    add_program(commands, add_command)
     one = add_command(commands, "show", SHOW, "a job or answer file to text")
     kind = one.add_mutually_exclusive_group()
     kind.add_argument("--in", dest="table", action="store_const", const=JOB, help="it is a job file")
@@ -228,10 +206,6 @@ def parser():
     one = add_command(commands, "near", NEAR, "which shots lie beside another arm")
     one.add_argument("--within", type=steps, default=1000, metavar="N", help="at most N steps from it; 1,000 if not given")
     one.add_argument("file", nargs="?", metavar="FILE", help="the job; standard input if not given")
-    one = add_command(commands, "run", RUN.format(script=SCRIPT), "answer a job file by the job program")
-    one.add_argument("job", nargs="?", metavar="JOBS", help="the job file; standard input if not given")
-    one = add_command(commands, "format", FORMAT, "the bytes of every record")
-    one.add_argument("marks", nargs="*", metavar="MARK", help="these marks alone")
     one = add_command(commands, "sort", SORT, "a job file in the order of its tangents")
     one.add_argument("job", nargs="?", metavar="JOBS", help="the job file; standard input if not given")
     return top
@@ -248,6 +222,8 @@ def run_diff(files, by_tangent, most):
 def run(arguments):
     if arguments.command == "make":
         return make(arguments.file)
+    if arguments.command in ("run", "format"):
+        return program(arguments)
     if arguments.command == "show":
         if arguments.unusable and (arguments.hex or arguments.record):
             raise Failure("jobs: --unusable stands alone; expected neither --hex nor --record with it")
@@ -260,11 +236,6 @@ def run(arguments):
         return near(arguments.file, arguments.within)
     if arguments.command == "sort":
         return sort(arguments.job)
-    if arguments.command == "run":
-        return run_job(arguments.job)
-    if arguments.command == "format":
-        print(format_text(arguments.marks))
-        return 0
     return arms(arguments.job, arguments.answers, arguments.svg)
 
 

@@ -9,6 +9,45 @@ from .terminal import Failure
 
 SCRIPT = pathlib.Path(__file__).resolve().parents[2] / "sim3-job"
 
+RUN = """\
+Answers a job file by the script sim3-job, which stands at
+  {script}
+The answers go to standard output. At first use the script has the program proved and built.
+
+Exit status: that of sim3-job. 0: the output is whole and ends in ZZ. 1: a read or a write failed, as
+standard error says: the output is not whole. 2: no job was begun. 128 + n: signal n ended the program:
+the output may be cut.
+
+example:
+  tools/jobs run jobs.bin > answers.bin
+  tools/jobs make examples/jobs.txt | tools/jobs run | tools/jobs show
+"""
+
+FORMAT = """\
+The bytes of every record, as docs/JOB-FORMAT.md has them, or of some marks: where each group of
+numbers begins in the record, and what it is.
+
+example:
+  tools/jobs format
+  tools/jobs format AC ac NO ZZ
+"""
+
+
+def add_program(commands, add_command):
+    """The two commands' arguments."""
+    one = add_command(commands, "run", RUN.format(script=SCRIPT), "answer a job file by the job program")
+    one.add_argument("job", nargs="?", metavar="JOBS", help="the job file; standard input if not given")
+    one = add_command(commands, "format", FORMAT, "the bytes of every record")
+    one.add_argument("marks", nargs="*", metavar="MARK", help="these marks alone")
+
+
+def program(arguments):
+    """The commands: the exit status."""
+    if arguments.command == "run":
+        return run(arguments.job)
+    print(format_text(arguments.marks))
+    return 0
+
 
 def run(path):
     """Becomes ./sim3-job with the file as its standard input; so the exit status is that script's."""
