@@ -22,12 +22,14 @@ mod near;
 mod raw;
 mod raw_f32;
 mod refusal;
+mod running;
 mod square_root;
 mod tangents;
 
 pub use functions::*;
 pub use near::{nearest_arm, Direction, Near};
 pub use refusal::{Join, Refusal};
+pub use running::{renormalize_all, Running};
 pub use square_root::{root, Root};
 pub use tangents::{compare_tangents, sort_tangents};
 

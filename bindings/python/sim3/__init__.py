@@ -23,11 +23,13 @@ from .poses import Pose
 from .raw import LibraryMissing
 from .near import Near, nearest_arm
 from .refusals import Refusal
+from .running import Running, renormalize_all
 from .square_root import Root, nearest_root, root
 from .tangents import compare_tangents, sort_tangents
 from .widths import DOUBLE
 
-__all__ = ["LibraryMissing", "Near", "Pose", "Refusal", "Root", "f32", "host", "nearest_arm", "nearest_root", "root", *raw.FUNCTIONS, *raw.PATTERNS]
+__all__ = ["LibraryMissing", "Near", "Pose", "Refusal", "Root", "Running", "f32", "host", "nearest_arm", "nearest_root", "renormalize_all", "root",
+           *raw.FUNCTIONS, *raw.PATTERNS]
 
 # Each function of the table, by the method of its name.
 ENGINE = Engine(DOUBLE, host)

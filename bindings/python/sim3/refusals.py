@@ -25,7 +25,7 @@ def numbers(count):
     return f"{count:,} number" + ("" if count == 1 else "s")
 
 
-def wrong_length(name, argument, kind, found, width):
+def wrong_length(name, argument, kind, found, width=DOUBLE):
     due, order = KINDS[kind]
     return refusal(LIST_LENGTH, name, f"{argument} has {numbers(found)}; expected {due} ({kind}: {order})", width)
 
