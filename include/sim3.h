@@ -4,12 +4,13 @@
  * Lists. Every list is a pointer and the count of its numbers. A pointer is never null, points to that many numbers of its type, and a list that is written
  * overlaps no other list of the call. That is all that is asked of a caller: every count and every number is taken, NaN and infinities included.
  *
- * Answers. A call returns 0 and has written all of `out` and `out_frames` (sim3_root: of its three lists), or the number of a refusal and has written nothing:
+ * Answers. A call returns 0 and has written all of `out` and `out_frames` (sim3_root: of its three lists; what works in place: the lists that are not const), or the
+ * number of a refusal and has written nothing:
  *     1  z is below zero                        (sim3_scaled_pair, sim3_coeffs_armed, sim3_armed_pair, sim3_root, sim3_nearest_arm)
  *     2  e is +0 or -0                          (sim3_block_inverse)
  *     5  a list of points has a wrong length    (sim3_act_many, sim3_act_each: a multiple of 3, at most 65,535 numbers, `out` as long as `pts`)
  *     8  z is a NaN or +infinity                (sim3_root; sim3_nearest_arm: or sigma is a NaN or an infinity)
- *     9  the frames do not meet                 (sim3_mul, sim3_mul_inv, sim3_inv_mul)
+ *     9  the frames do not meet                 (sim3_mul, sim3_mul_inv, sim3_inv_mul, sim3_running_push)
  *   100  another list has a wrong length; the right one stands in brackets below. This number is the boundary's own: in Rattle no such list can be made
  * A wrong length of an input is refused before the numbers are looked at, and of what is written after.
  *
@@ -92,6 +93,26 @@ uint32_t sim3_inv_mul(const double *x, size_t x_n, const uint16_t *x_frames, siz
 /* One Newton step that brings the quaternion nearer to length 1, in place. x [8]; X keeps its frames, which are not read. */
 uint32_t sim3_renormalize(double *x, size_t x_n);
 
+/* The same step in every pose of a list, in place. poses: eight numbers a pose, a multiple of eight, else 100. */
+uint32_t sim3_renormalize_all(double *poses, size_t poses_n);
+
+/* ---- a running join: poses are joined as they come. What is kept between the calls stands in two lists of the caller's: pose [8], the running pose's numbers, and
+ * state [5]: its frames, from and to; n; the products since the last renormalisation, where 65,535 are that many or more; and 1 where there is a pose, else there
+ * is none. The two may be copied and kept, and read at any time; any numbers in them are taken. */
+
+/* No pose yet, and none will be renormalised: all zeros. pose [8], state [5]. */
+uint32_t sim3_running_start(double *pose, size_t pose_n, uint16_t *state, size_t state_n);
+
+/* A pose x is joined: the first is the running pose, and is no product, its up unused; a further one replaces it by running X, up being e^sigma of the running pose,
+ * and where that is the nth product since the last renormalisation, or a later one, the quaternion is renormalised as by sim3_renormalize and the count begins
+ * anew. Then pose and state hold the running pose. pose [8], state [5], x [8], x_frames [2]. Refusal 9 where from of the running pose is not to of x; then
+ * nothing changes. */
+uint32_t sim3_running_push(double *pose, size_t pose_n, uint16_t *state, size_t state_n, const double *x, size_t x_n, const uint16_t *x_frames,
+                           size_t x_frames_n, double up);
+
+/* From here on after every nth product, 0 for never. The count goes on, also while n is 0, and the pose stays as it is. state [5]. */
+uint32_t sim3_running_every(uint16_t *state, size_t state_n, uint16_t n);
+
 /* ---- lists of points, three numbers each: every point moved to s R p + t. x [8], up = e^sigma of X. */
 
 /* By the matrix s R, formed once: the bits of helicoid's act_many. */
@@ -161,7 +182,7 @@ uint32_t sim3_compare_tangents(const uint64_t *a, size_t a_n, const uint64_t *b,
  * multiple of seven. */
 uint32_t sim3_sort_tangents(uint64_t *list, size_t list_n);
 
-/* ---- the same at f32: each function above but sim3_root, sim3_nearest_arm and those of tangents in order, on singles, with the ending _f32. Arguments, orders, counts, refusals and the numbers of the arms are
+/* ---- the same at f32: each function above but sim3_root, sim3_nearest_arm, sim3_renormalize_all and those of the running join and of tangents in order, on singles, with the ending _f32. Arguments, orders, counts, refusals and the numbers of the arms are
  * as above; the arms' series have 4, 7, 9 and 11 terms. The answers are those of the engine at binary32, and not the doubles' rounded; where a number is a NaN,
  * so are those that are computed from it. The function values are the caller's here too; sim3_host_f32.h computes them in double and rounds each once. */
 

@@ -9,6 +9,7 @@ use crate::port::Call;
 use crate::rows::{Row, Step};
 use crate::timing::{pass, prepare, room};
 use core::arch::asm;
+use helicoid_linalg::float::Float;
 use std::ffi::CString;
 use std::rc::Rc;
 
@@ -47,7 +48,7 @@ fn count(name: &str, steps: &[Step]) {
 }
 
 /// A call that does nothing: what it counts is the loop's own.
-unsafe extern "C" fn nothing(_: *const f64, _: *mut f64) -> u32 {
+unsafe extern "C" fn nothing(_: *const Float, _: *mut Float) -> u32 {
     0
 }
 

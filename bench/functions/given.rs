@@ -1,17 +1,19 @@
-//! The benchmark's scalar: an `f64` whose functions return handed-in numbers, without a check.
+//! The benchmark's scalar: a `Float`, `f64` or `f32`, whose functions return handed-in numbers,
+//! without a check.
 //!
 //! The port is handed its function values, so the Rust must not compute them either. Before a call
 //! `hand_in` lays down where the ten values stand, and each function reads its own by its name.
 //! The three exponentials of a call (at −|σ|, σ and −σ) have one name, so they are one number: the
-//! inputs give the port the same number in all three places. Arithmetic and comparison are `f64`'s.
+//! inputs give the port the same number in all three places. Arithmetic and comparison are `Float`'s.
 
 use core::ops::{Add, Div, Mul, Neg, Sub};
+use helicoid_linalg::float::{Float, PRECISION};
 use helicoid_linalg::{Blend, Precision, Real, RotationJacobian};
 
-/// An `f64` with handed-in functions.
+/// A number with handed-in functions.
 #[derive(Clone, Copy, Debug)]
 #[repr(transparent)]
-pub struct Given(pub f64);
+pub struct Given(pub Float);
 
 /// The ten values' places: √z, sine and cosine of half the root, sine of the root, e^t, e^t − 1.
 const ROOT: usize = 0;
@@ -22,12 +24,12 @@ const EXP: usize = 4;
 const EXP_M1: usize = 5;
 
 /// Where the values stand, and where the exponential does.
-static mut VALUES: *const f64 = core::ptr::null();
-static mut EXPONENTIAL: *const f64 = core::ptr::null();
+static mut VALUES: *const Float = core::ptr::null();
+static mut EXPONENTIAL: *const Float = core::ptr::null();
 
 /// Hands in the ten values of a tangent.
 #[inline(always)]
-pub fn hand_in(values: &[f64; 10]) {
+pub fn hand_in(values: &[Float; 10]) {
     // SAFETY: one thread, and the values outlive the call that reads them.
     unsafe { VALUES = values.as_ptr() };
     hand_in_exponential(&values[EXP]);
@@ -35,7 +37,7 @@ pub fn hand_in(values: &[f64; 10]) {
 
 /// Hands in an exponential alone, for a pose.
 #[inline(always)]
-pub fn hand_in_exponential(value: &f64) {
+pub fn hand_in_exponential(value: &Float) {
     // SAFETY: as in `hand_in`.
     unsafe { EXPONENTIAL = value };
 }
@@ -79,11 +81,11 @@ impl Blend<Given> for Given {
 
 impl Real for Given {
     type Mask = bool;
-    const PRECISION: Precision = Precision::F64;
+    const PRECISION: Precision = PRECISION;
 
     #[inline(always)]
     fn lit(x: f64) -> Self {
-        Given(x)
+        Given(x as Float)
     }
     #[inline(always)]
     fn lt(self, o: Self) -> bool {
@@ -95,7 +97,7 @@ impl Real for Given {
     }
     #[inline(always)]
     fn select(m: bool, t: Self, f: Self) -> Self {
-        Given(f64::select(m, t.0, f.0))
+        Given(Float::select(m, t.0, f.0))
     }
     #[inline(always)]
     fn branch<T: Blend<Self>>(m: bool, t: impl FnOnce() -> T, f: impl FnOnce() -> T) -> T {
@@ -107,11 +109,11 @@ impl Real for Given {
     }
     #[inline(always)]
     fn abs(self) -> Self {
-        Given(f64::abs(self.0))
+        Given(Float::abs(self.0))
     }
     #[inline(always)]
     fn copysign(self, sign: Self) -> Self {
-        Given(f64::copysign(self.0, sign.0))
+        Given(Float::copysign(self.0, sign.0))
     }
     #[inline(always)]
     fn sqrt(self) -> Self {

@@ -1,9 +1,11 @@
 //! Inputs of the calls, by a seed: ordinary numbers, many of one arm, the same for both sides.
 
+use helicoid_linalg::float::{by_width, Float};
+
 /// Rows of equally many numbers.
 pub struct Inputs {
     pub width: usize,
-    pub numbers: Vec<f64>,
+    pub numbers: Vec<Float>,
 }
 
 impl Inputs {
@@ -18,19 +20,21 @@ pub const COUNT: usize = 256;
 /// An arm of the coefficients: its name, and σ and z around which its inputs lie.
 pub struct Arm {
     pub name: &'static str,
-    sigma: f64,
-    z: f64,
+    sigma: Float,
+    z: Float,
 }
 
-const fn arm(name: &'static str, sigma: f64, z: f64) -> Arm {
+const fn arm(name: &'static str, sigma: Float, z: Float) -> Arm {
     Arm { name, sigma, z }
 }
 
+/// The same numbers at both widths: at `f32` the first four lie in the arms of its own series, and of
+/// the closed ones those at z 3 have v1 in form a.
 pub const ARMS: [Arm; 10] = [
-    arm("series, 6 terms", 0.004, 2e-5),
-    arm("series, 11 terms", 0.1, 0.02),
-    arm("series, 14 terms", 0.2, 0.15),
-    arm("series, 19 terms", 0.5, 1.0),
+    arm(by_width("series, 6 terms", "series, 4 terms"), 0.004, 2e-5),
+    arm(by_width("series, 11 terms", "series, 7 terms"), 0.1, 0.02),
+    arm(by_width("series, 14 terms", "series, 9 terms"), 0.2, 0.15),
+    arm(by_width("series, 19 terms", "series, 11 terms"), 0.5, 1.0),
     arm("closed, σ 0.2, z 3", 0.2, 3.0),
     arm("closed, σ 0.2, z 7", 0.2, 7.0),
     arm("closed, σ 0.2, z 9.7", 0.2, 9.7),
@@ -44,36 +48,36 @@ struct Dice(u64);
 
 impl Dice {
     /// From −1 to 1.
-    fn next(&mut self) -> f64 {
+    fn next(&mut self) -> Float {
         self.0 = self.0.wrapping_add(0x9e37_79b9_7f4a_7c15);
         let mut x = self.0;
         x = (x ^ (x >> 30)).wrapping_mul(0xbf58_476d_1ce4_e5b9);
         x = (x ^ (x >> 27)).wrapping_mul(0x94d0_49bb_1331_11eb);
-        ((x ^ (x >> 31)) >> 11) as f64 / (1u64 << 52) as f64 - 1.0
+        (((x ^ (x >> 31)) >> 11) as f64 / (1u64 << 52) as f64 - 1.0) as Float
     }
-    fn several<const N: usize>(&mut self) -> [f64; N] {
+    fn several<const N: usize>(&mut self) -> [Float; N] {
         [(); N].map(|()| self.next())
     }
     /// Within a thousandth of a number.
-    fn near(&mut self, x: f64) -> f64 {
+    fn near(&mut self, x: Float) -> Float {
         x * (1.0 + 0.001 * self.next())
     }
-    fn direction(&mut self) -> [f64; 3] {
-        let v: [f64; 3] = self.several();
-        let n = v.iter().map(|x| x * x).sum::<f64>().sqrt();
+    fn direction(&mut self) -> [Float; 3] {
+        let v: [Float; 3] = self.several();
+        let n = v.iter().map(|x| x * x).sum::<Float>().sqrt();
         v.map(|x| x / n)
     }
 }
 
-fn rows(mut row: impl FnMut(&mut Dice) -> Vec<f64>) -> Inputs {
+fn rows(mut row: impl FnMut(&mut Dice) -> Vec<Float>) -> Inputs {
     let mut dice = Dice(1);
-    let all: Vec<Vec<f64>> = (0..COUNT).map(|_| row(&mut dice)).collect();
+    let all: Vec<Vec<Float>> = (0..COUNT).map(|_| row(&mut dice)).collect();
     Inputs { width: all[0].len(), numbers: all.concat() }
 }
 
 /// The ten values at σ and z. One number stands for all exponentials, one for those less 1: see
 /// `given.rs`.
-fn values(sigma: f64, z: f64) -> [f64; 10] {
+fn values(sigma: Float, z: Float) -> [Float; 10] {
     let root = z.sqrt();
     let (e, m) = ((-sigma.abs()).exp(), (-sigma.abs()).exp_m1());
     let half = 0.5 * root;
@@ -81,14 +85,14 @@ fn values(sigma: f64, z: f64) -> [f64; 10] {
 }
 
 /// σ, z, values; σ with its sign turned where `sign` is −1.
-pub fn coefficients(arm: &Arm, sign: f64) -> Inputs {
+pub fn coefficients(arm: &Arm, sign: Float) -> Inputs {
     rows(|d| {
         let (sigma, z) = (d.near(arm.sigma), d.near(arm.z));
         [&[sign * sigma, z][..], &values(sigma, z)].concat()
     })
 }
 
-fn tangent_and_values(d: &mut Dice, arm: &Arm) -> Vec<f64> {
+fn tangent_and_values(d: &mut Dice, arm: &Arm) -> Vec<Float> {
     let (sigma, z) = (d.near(arm.sigma), d.near(arm.z));
     let phi = d.direction().map(|x| x * z.sqrt());
     [&phi[..], &d.several::<3>(), &[sigma], &values(sigma, z)].concat()
@@ -100,7 +104,7 @@ pub fn tangents(arm: &Arm) -> Inputs {
 }
 
 /// A matrix that is near the identity.
-fn matrix(d: &mut Dice) -> [f64; 9] {
+fn matrix(d: &mut Dice) -> [Float; 9] {
     let mut m = d.several::<9>().map(|x| 0.2 * x);
     for i in [0, 4, 8] {
         m[i] += 1.0;
@@ -114,7 +118,7 @@ pub fn tangents_with_jacobians(arm: &Arm) -> Inputs {
 }
 
 /// A unit quaternion, a translation, σ.
-fn pose(d: &mut Dice) -> Vec<f64> {
+fn pose(d: &mut Dice) -> Vec<Float> {
     let [x, y, z] = d.direction();
     let (sin, cos) = d.next().sin_cos();
     [&[cos, sin * x, sin * y, sin * z][..], &d.several::<3>(), &[d.next()]].concat()
@@ -145,9 +149,9 @@ pub fn blocks() -> Inputs {
 
 /// Where a list's points begin, after a pose and its exponential: on 16 bytes, or, `off` being 1, one
 /// number before that, off 16 bytes. Both sides' lists lie alike, since it costs either side time
-/// where vectors of two numbers cross the ends of cache lines.
+/// where vectors of some numbers cross the ends of cache lines.
 pub const fn list_at(off: usize) -> usize {
-    10 - off
+    by_width(10, 12) - off
 }
 
 /// One pose, up 1 and a list of points: a motion that keeps the numbers' size when repeated.

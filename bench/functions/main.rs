@@ -1,5 +1,6 @@
 //! The functions of the port and of the Rust on the same inputs, in turn, as ratios with their
-//! spread. `bench/run` builds and runs it; see docs/PERFORMANCE.md.
+//! spread. `bench/run` builds it for each width, with `--cfg single` for `f32`, and runs it; see
+//! docs/PERFORMANCE.md.
 //!
 //! usage: functions [RUNS]     whole runs over the table, 5 if not said
 //!        functions counts     one pass of each side for callgrind; `bench/counts` runs it
@@ -13,6 +14,7 @@ mod rows;
 mod rust;
 mod timing;
 
+use helicoid_linalg::float::{by_width, Float};
 use rows::Row;
 use std::process::ExitCode;
 use timing::{least, most, pass, prepare, quantile, room, run, Times};
@@ -31,7 +33,7 @@ fn tables() -> Vec<(&'static str, Vec<Row>)> {
 }
 
 /// The same number: the same bits, or both NaN.
-fn same(a: &f64, b: &f64) -> bool {
+fn same(a: &Float, b: &Float) -> bool {
     a.to_bits() == b.to_bits() || (a.is_nan() && b.is_nan())
 }
 
@@ -86,7 +88,7 @@ fn print_times(tables: &[(&str, Vec<Row>)], runs: usize) {
     }
     let mut times = times.iter();
     for (title, rows) in tables {
-        println!("\n{title}\n");
+        println!("\n{title}{}\n", by_width("", ", at f32"));
         println!("| what | arm | first, ns | second, ns | ratio | over {runs} runs | quartiles |");
         println!("|---|---|---|---|---|---|---|");
         for (row, times) in rows.iter().zip(&mut times) {

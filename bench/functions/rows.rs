@@ -3,6 +3,7 @@
 use crate::inputs::{self, list_at, Inputs, ARMS};
 use crate::port::{self, *};
 use crate::rust;
+use helicoid_linalg::float::Float;
 use std::rc::Rc;
 
 /// One call for each input, with the answer's width.
@@ -123,14 +124,14 @@ pub fn blocks() -> Vec<Row> {
 macro_rules! list_call {
     ($name:ident, |$x:ident, $list:ident, $out:ident| $body:expr) => {
         unsafe extern "C" fn $name<const N: usize, const OFF: usize>(
-            x: *const f64,
-            out: *mut f64,
+            x: *const Float,
+            out: *mut Float,
         ) -> u32 {
             // SAFETY: the rows give list_at(OFF) + N numbers and an output of OFF + N.
             let ($x, $list, $out) = unsafe {
                 let list = core::slice::from_raw_parts(x.add(list_at(OFF)), N);
                 let out = core::slice::from_raw_parts_mut(out.add(OFF), N);
-                (&*x.cast::<[f64; 9]>(), list, out)
+                (&*x.cast::<[Float; 9]>(), list, out)
             };
             $body
         }

@@ -6,12 +6,13 @@ use crate::layout::*;
 use helicoid::coefficients as c;
 use helicoid::sim3::access::{jl_and_inverse_from, squared_angle};
 use helicoid::{Jac, LieGroup, Sim3, Sim3Tangent, Tangent};
+use helicoid_linalg::float::Float;
 use helicoid_linalg::{Mat3, Point, Point3};
 
 macro_rules! wrappers {
     ($($name:ident($x:ident: $in:literal, $out:ident: $width:literal) $body:block)*) => {$(
         #[inline(never)]
-        pub extern "C" fn $name($x: &[f64; $in], $out: &mut [f64; $width]) -> u32 {
+        pub extern "C" fn $name($x: &[Float; $in], $out: &mut [Float; $width]) -> u32 {
             $body
             0
         }
@@ -87,7 +88,7 @@ wrappers! {
 /// A tangent's block and inverse, from its coefficients and rotation Jacobians.
 #[inline(always)]
 fn put_side(
-    out: &mut [f64; 124],
+    out: &mut [Float; 124],
     at: usize,
     tau: &Sim3Tangent<Given>,
     coefficients: (c::Row<Given>, bool),
@@ -101,22 +102,22 @@ fn put_side(
 
 /// A list of numbers as points, in place. `Given` and `Point` are laid out as what they hold.
 #[inline(always)]
-fn points(list: &mut [f64]) -> &mut [Point3<Given>] {
+fn points(list: &mut [Float]) -> &mut [Point3<Given>] {
     let n = list.len() / 3;
-    // SAFETY: `Point3<Given>` is transparent over `[Given; 3]`, and `Given` over `f64`.
+    // SAFETY: `Point3<Given>` is transparent over `[Given; 3]`, and `Given` over `Float`.
     unsafe { core::slice::from_raw_parts_mut(list.as_mut_ptr().cast(), n) }
 }
 
 /// `act_many` in place, as the Rust has it.
 #[inline(never)]
-pub fn act_many(x: &[f64; 9], list: &mut [f64]) {
+pub fn act_many(x: &[Float; 9], list: &mut [Float]) {
     hand_in_exponential(&x[8]);
     pose(x, 0).act_many(points(list));
 }
 
 /// The single action on each point, in place.
 #[inline(never)]
-pub fn act_each(x: &[f64; 9], list: &mut [f64]) {
+pub fn act_each(x: &[Float; 9], list: &mut [Float]) {
     hand_in_exponential(&x[8]);
     let x = pose(x, 0);
     for p in points(list) {

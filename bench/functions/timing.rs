@@ -2,6 +2,7 @@
 
 use crate::inputs::list_at;
 use crate::rows::{Row, Step};
+use helicoid_linalg::float::Float;
 use std::hint::black_box;
 use std::time::Instant;
 
@@ -11,7 +12,7 @@ const WARMING: usize = 20;
 
 /// One pass of a side over its inputs. The answers go to the front of `out`, or, where `apart`, one
 /// after the other. Answers the sum of what the calls return.
-pub fn pass(steps: &[Step], out: &mut [f64], apart: bool) -> u32 {
+pub fn pass(steps: &[Step], out: &mut [Float], apart: bool) -> u32 {
     let mut refusals = 0;
     let mut base = 0;
     for step in steps {
@@ -34,7 +35,7 @@ pub fn room(steps: &[Step]) -> usize {
 }
 
 /// Puts a list call's points where it works on them in place.
-pub fn prepare(steps: &[Step], out: &mut [f64]) {
+pub fn prepare(steps: &[Step], out: &mut [Float]) {
     for step in steps {
         if let Some(off) = step.list {
             out[off..step.width].copy_from_slice(&step.inputs.numbers[list_at(off)..]);
@@ -43,7 +44,7 @@ pub fn prepare(steps: &[Step], out: &mut [f64]) {
 }
 
 /// Nanoseconds of one pass, from a burst of passes.
-fn burst(steps: &[Step], passes: usize, out: &mut [f64]) -> f64 {
+fn burst(steps: &[Step], passes: usize, out: &mut [Float]) -> f64 {
     prepare(steps, out);
     let begin = Instant::now();
     for _ in 0..passes {

@@ -18,8 +18,8 @@ static inline const char *sim3_refusal_text(uint32_t number) {
     case SIM3_NOT_FINITE:
         return "z, or sigma where sim3_nearest_arm was asked, is a NaN or infinite; it has no root with what is left and no neighbours, so look at it first";
     case SIM3_FRAMES:
-        return "the frames do not meet; sim3_mul wants from of x to be to of y, sim3_mul_inv equal froms, sim3_inv_mul equal tos, so look which way round "
-               "the poses are handed in";
+        return "the frames do not meet; sim3_mul wants from of x to be to of y, sim3_mul_inv equal froms, sim3_inv_mul equal tos, sim3_running_push from of the running "
+               "pose to be to of x, so look which way round the poses are handed in";
     case SIM3_LIST_LENGTH:
         return "a list has a wrong length; sim3.h states the right one of each argument in brackets";
     default:

@@ -200,6 +200,20 @@ extern "C" {
         out_n: usize,
     ) -> u32;
     fn sim3_sort_tangents(list: *mut u64, list_n: usize) -> u32;
+    fn sim3_running_start(pose: *mut f64, pose_n: usize, state: *mut u16, state_n: usize) -> u32;
+    fn sim3_running_push(
+        pose: *mut f64,
+        pose_n: usize,
+        state: *mut u16,
+        state_n: usize,
+        x: *const f64,
+        x_n: usize,
+        x_frames: *const u16,
+        x_frames_n: usize,
+        up: f64,
+    ) -> u32;
+    fn sim3_running_every(state: *mut u16, state_n: usize, n: u16) -> u32;
+    fn sim3_renormalize_all(poses: *mut f64, poses_n: usize) -> u32;
 }
 
 // LISTS, the reason why each call below is sound. The C functions ask of their caller that no pointer is
@@ -504,4 +518,42 @@ pub fn sort_tangents(list: &mut [crate::Tangent]) -> u32 {
     // seven times as many numbers.
     // SAFETY: LISTS, and patterns as above.
     unsafe { sim3_sort_tangents(list.as_mut_ptr().cast(), list.len() * 7) }
+}
+
+pub fn running_start(pose: &mut [f64], state: &mut [u16]) -> u32 {
+    // SAFETY: LISTS.
+    unsafe { sim3_running_start(pose.as_mut_ptr(), pose.len(), state.as_mut_ptr(), state.len()) }
+}
+
+pub fn running_push(
+    pose: &mut [f64],
+    state: &mut [u16],
+    x: &[f64],
+    x_frames: &[u16],
+    up: f64,
+) -> u32 {
+    // SAFETY: LISTS.
+    unsafe {
+        sim3_running_push(
+            pose.as_mut_ptr(),
+            pose.len(),
+            state.as_mut_ptr(),
+            state.len(),
+            x.as_ptr(),
+            x.len(),
+            x_frames.as_ptr(),
+            x_frames.len(),
+            up,
+        )
+    }
+}
+
+pub fn running_every(state: &mut [u16], n: u16) -> u32 {
+    // SAFETY: LISTS.
+    unsafe { sim3_running_every(state.as_mut_ptr(), state.len(), n) }
+}
+
+pub fn renormalize_all(poses: &mut [f64]) -> u32 {
+    // SAFETY: LISTS.
+    unsafe { sim3_renormalize_all(poses.as_mut_ptr(), poses.len()) }
 }

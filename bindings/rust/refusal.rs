@@ -19,7 +19,8 @@ pub enum Refusal {
     /// 5: there are more than 1,024 tangents.
     TooManyTangents { tangents: usize },
     /// 9: the frames do not meet. `x` and `y` are the two that would have to be one: X's from and Y's
-    /// to in X Y, both froms in X Y⁻¹, both tos in Y⁻¹ X.
+    /// to in X Y, both froms in X Y⁻¹, both tos in Y⁻¹ X; of [`crate::Running::push`], the running pose's
+    /// from and X's to.
     Frames { join: Join, x: u16, y: u16 },
 }
 
@@ -29,6 +30,7 @@ pub enum Join {
     Mul,
     MulInv,
     InvMul,
+    Push,
 }
 
 impl Refusal {
@@ -78,6 +80,9 @@ impl fmt::Display for Refusal {
             }
             Refusal::Frames { join: Join::InvMul, x, y } => {
                 write!(f, "x goes to frame {x}, and y to frame {y}; Y^-1 X wants one frame there, so hand in two poses that go to it")
+            }
+            Refusal::Frames { join: Join::Push, x, y } => {
+                write!(f, "the running pose starts from frame {x}, and x goes to frame {y}; running X wants one frame there, so hand in a pose that goes to it")
             }
             Refusal::TooManyTangents { tangents } => {
                 write!(f, "there are {tangents} tangents; at most 1024 are put in order at once, so hand in fewer")

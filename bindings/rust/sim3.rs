@@ -38,12 +38,14 @@ mod lists;
 mod near;
 mod raw;
 mod refusal;
+mod running;
 mod square_root;
 mod tangents;
 
 pub use functions::*;
 pub use near::{nearest_arm, Direction, Near};
 pub use refusal::{Join, Refusal};
+pub use running::{renormalize_all, Running};
 pub use square_root::{root, Root};
 pub use tangents::{compare_tangents, sort_tangents};
 

@@ -144,6 +144,21 @@ static void root_left(void) {
     known("exp by that root", turned, (const double[]){HALF_ROOT, 0, 0, HALF_ROOT, 0, 0, 0, DOUBLE}, 8);
 }
 
+/* The camera hand again, shot by shot: four quarter turns, each with a step along its own x, come back to where they began. */
+static void chain(void) {
+    const double shot[8] = {HALF_ROOT, 0, 0, HALF_ROOT, 1, 0, 0, 0};
+    const uint16_t frames[2] = {FIRST, FIRST};
+    double pose[8];
+    uint16_t state[5];
+
+    asked("start", sim3_running_start(pose, 8, state, 5));
+    asked("every", sim3_running_every(state, 5, 2));
+    for (int i = 0; i < 4; i++)
+        asked("push", sim3_running_push(pose, 8, state, 5, shot, 8, frames, 2, sim3_host_up(pose)));
+    known("four shots", pose, (const double[]){-1, 0, 0, 0, 0, 0, 0, 0}, 8);
+    known_frames("four shots", state, FIRST, FIRST);
+}
+
 static void refusals(const double join[8]) {
     const double tau[7] = {0}, values[10] = {0}, block[31] = {0}, pts[7] = {0};
     const uint16_t frames[2] = {SHOT, FIRST};
@@ -181,6 +196,7 @@ int main(void) {
     move_line(join);
     adjust(join);
     root_left();
+    chain();
     in_singles();
     refusals(join);
     printf(wrong ? "example: WRONG, see above\n" : "example: every answer is the one known by hand\n");

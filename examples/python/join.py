@@ -95,6 +95,16 @@ def root_left():
     known("exp by that root", turned.numbers, [HALF_ROOT, 0, 0, HALF_ROOT, 0, 0, 0, DOUBLE])
 
 
+def chain():
+    """The camera hand again, shot by shot: four quarter turns, each with a step along its own x, come back to
+    where they began."""
+    running = sim3.Running()
+    running.every(2)
+    for _ in range(4):
+        running.push(sim3.Pose([HALF_ROOT, 0, 0, HALF_ROOT, 1, 0, 0, 0], FIRST, FIRST))
+    known("four shots", running.pose().numbers, [-1, 0, 0, 0, 0, 0, 0, 0])
+
+
 def in_singles():
     """The second camera, whose board sends singles: a line is turned and moved by the engine at f32."""
     turned = sim3.f32.exp([0, 0, math.pi / 2, 0, 0, 0, DOUBLE], from_=SHOT, to=FIRST)
@@ -119,6 +129,7 @@ def main():
     move_line(join)
     adjust(join)
     root_left()
+    chain()
     in_singles()
     refused(100, sim3.exp, [0] * 6, SHOT, FIRST)
     refused(2, sim3.block_inverse, [0] * 31)

@@ -3,7 +3,7 @@
 //! what is left, a line is moved in singles, and refusals are shown. Every answer is compared with numbers known by hand; exit status
 //! 1 and a message where one is wrong. examples/rust/run builds and runs it.
 
-use sim3::{f32 as single, host, Block, Pose, Refusal, Tangent, Values};
+use sim3::{f32 as single, host, Block, Pose, Refusal, Running, Tangent, Values};
 use std::f64::consts::{FRAC_1_SQRT_2 as HALF_ROOT, FRAC_PI_2, LN_2};
 use std::process::ExitCode;
 
@@ -130,6 +130,20 @@ fn in_singles() -> Result<bool, Refusal> {
     Ok(known_within(1e-6, "line at f32", &moved.map(f64::from), &due))
 }
 
+/// The camera hand again, shot by shot: four quarter turns, each with a step along its own x, come back to
+/// where they began.
+fn chain() -> Result<bool, Refusal> {
+    let shot =
+        Pose { numbers: [HALF_ROOT, 0.0, 0.0, HALF_ROOT, 1.0, 0.0, 0.0, 0.0], from: FIRST, to: FIRST };
+    let mut running = Running::new();
+    running.every(2);
+    let mut pose = running.push(&shot, 1.0)?;
+    for _ in 1..4 {
+        pose = running.push(&shot, host::up(&pose))?;
+    }
+    Ok(known("four shots", &pose.numbers, &[-1.0, 0.0, 0.0, 0.0, 0.0, 0.0, 0.0, 0.0]))
+}
+
 /// Shows a call that must be refused with this number.
 fn refused<T>(what: &str, number: u32, answer: Result<T, Refusal>) -> bool {
     let found = match answer {
@@ -169,7 +183,7 @@ fn refusals(join: &Pose) -> bool {
 fn example() -> Result<bool, Refusal> {
     let (join, joined) = join_runs()?;
     let good =
-        [joined, move_line(&join)?, adjust(&join), root_left()?, in_singles()?, refusals(&join)];
+        [joined, move_line(&join)?, adjust(&join), root_left()?, chain()?, in_singles()?, refusals(&join)];
     Ok(good.iter().all(|&x| x))
 }
 

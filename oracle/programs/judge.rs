@@ -3,9 +3,9 @@
 //! Reads standard input, writes standard output. Whole records are answered as they arrive; what
 //! is kept is one buffer of input, with at most one cut record at its front, and one of output.
 
-use helicoid::judge::chain::Chain;
 use helicoid::judge::counts::Counts;
 use helicoid::judge::marks as double;
+use helicoid::judge::state::State;
 use helicoid_f32::judge::marks as single;
 use std::io::{self, Read, Write};
 
@@ -17,25 +17,25 @@ const BUFFER: usize = 1 << 16;
 /// The bit that small letters have and capital ones have not.
 const SMALL: u8 = 0x20;
 
-/// What a job leaves from record to record: its counts, and its running join.
+/// What a job leaves from record to record: its counts, and its running join with its kept sheets.
 #[derive(Default)]
 struct Job {
     counts: Counts,
-    chain: Chain,
+    state: State,
 }
 
 /// Answers the whole records at the front of `bytes`. Says how many bytes they were, and whether
 /// the program stops here.
 fn feed(bytes: &[u8], out: &mut Vec<u8>, job: &mut Job) -> (usize, bool) {
-    let Job { counts, chain } = job;
+    let Job { counts, state } = job;
     let mut at = 0;
     while counts.begun < MOST_RECORDS {
         let Some((letters, rest)) = bytes[at..].split_first_chunk::<2>() else {
             return (at, false);
         };
-        // The Rust at `f32` where the letters are small, else at `f64`, which alone has a join.
+        // The Rust at `f32` where the letters are small, else at `f64`, which alone has a state.
         let taken = match letters[0] & SMALL {
-            0 => double::take(*letters, rest, chain, out),
+            0 => double::take(*letters, rest, state, out),
             _ => single::take(*letters, rest, &mut Default::default(), out),
         };
         match taken {

@@ -12,7 +12,9 @@ TYPES = {"const double *": "in", "double *": "out", "size_t": "count", "double":
          "*const f32": "singles in", "*mut f32": "singles out", "f32": "single",
          "const uint16_t *": "frames in", "uint16_t *": "frames out", "*const u16": "frames in", "*mut u16": "frames out",
          "uint64_t *": "whole out", "int64_t *": "signed out", "*mut u64": "whole out", "*mut i64": "signed out",
-         "const uint64_t *": "whole in", "*const u64": "whole in"}
+         "const uint64_t *": "whole in", "*const u64": "whole in", "uint16_t": "short", "u16": "short"}
+RUNNING = {(ctypes.c_double, raw.WRITTEN): "out", (ctypes.c_double, raw.READ): "in", (ctypes.c_double, raw.NUMBER): "number",
+           (ctypes.c_uint16, raw.WRITTEN): "frames out", (ctypes.c_uint16, raw.READ): "frames in", (ctypes.c_uint16, raw.NUMBER): "short"}
 WRITTEN = {ctypes.c_uint64: "whole out", ctypes.c_int64: "signed out", ctypes.c_double: "out"}
 
 
@@ -65,6 +67,10 @@ def of_python():
         found[name] = []
         for i, (argument, kind) in enumerate(made, 1):
             found[name] += [(argument, WRITTEN[kind] if i == len(made) else "whole in"), (argument + "_n", "count")]
+    for name, made in raw.RUNNING.items():
+        found[name] = []
+        for argument, kind, use in made:
+            found[name] += [(argument, RUNNING[kind, use]), *([] if use == raw.NUMBER else [(argument + "_n", "count")])]
     return found
 
 

@@ -4,17 +4,15 @@ A record without frames comes from the stored lists. With some frames behind it,
 give, or be refused by 9.
 """
 import itertools
-import pathlib
 import struct
 
 from functions import FUNCTIONS
 from records import BY_ID, difference, walk
 
-LISTS = pathlib.Path(__file__).resolve().parent / "lists"
 APART = 9
 NUMBERS = (0, 1, 255, 256, 257, 65_535)  # frames that agree in one byte and differ in the other, neighbours, and the ends
 
-# By the id of a function of poses: that of the same function without frames, the stored list that has its records, and the words of these that it takes.
+# By the id of a function of poses: that of the same function without frames, the stored list that has its records, and the numbers of these that it takes.
 PLAIN = {
     210: (None, 102, (0, 8)), 211: (101, 101, (0, 0)), 212: (200, 99, (9, 26)), 213: (201, 80, (0, 17)), 214: (202, 98, (0, 9)),
     215: (80, 80, (0, 17)), 216: (81, 81, (0, 17)), 217: (99, 99, (0, 26)), 218: (100, 100, (0, 25)), 219: (102, 102, (0, 8)),
@@ -38,48 +36,49 @@ def functions():
     return [f for f in FUNCTIONS if f.id in PLAIN]
 
 
-def stored(id, list_id, words):
-    """The words of records without frames, and the stored answers' numbers where the list is the same function's."""
-    data, answers, at = (LISTS / f"{list_id}.in").read_bytes(), (LISTS / f"{list_id}.out").read_bytes(), 0
-    for _, start, end, count in walk(data):
-        numbers = answers[at + 1:at + 1 + 8 * count]
-        yield data[start + 1 + 8 * words[0]:start + 1 + 8 * words[1]], numbers if id == list_id else None
-        at += 1 + 8 * count
+def stored(id, list_id, taken, width):
+    """The numbers of records without frames, and the stored answers' numbers where the list is the same function's."""
+    data, answers, at = *((width.lists / f"{list_id}.{end}").read_bytes() for end in ("in", "out")), 0
+    for _, start, end, count in walk(data, width):
+        numbers = answers[at + 1:at + 1 + width.size * count]
+        yield data[start + 1 + width.size * taken[0]:start + 1 + width.size * taken[1]], numbers if id == list_id else None
+        at += 1 + width.size * count
 
 
-def plain(f, replay):
+def plain(f, replay, width):
     """Records without frames with the numbers of their answers."""
-    id, list_id, words = PLAIN[f.id]
-    found = list(stored(id, list_id, words))
+    id, list_id, taken = PLAIN[f.id]
+    found = list(stored(id, list_id, taken, width))
     if id is None:  # from_parts: the numbers themselves, every NaN the one that is written
-        return [(record, clean(record)) for record, _ in found]
+        return [(record, clean(record, width)) for record, _ in found]
     if id == list_id:
         return found
     told = replay(b"".join(bytes([id]) + record for record, _ in found)).stdout
-    width = 1 + 8 * 8
-    return [(record, told[width * i + 1:width * (i + 1)]) for i, (record, _) in enumerate(found)]
+    pose = 1 + 8 * width.size
+    return [(record, told[pose * i + 1:pose * (i + 1)]) for i, (record, _) in enumerate(found)]
 
 
-def clean(numbers):
-    doubles = struct.unpack(f"<{len(numbers) // 8}d", numbers)
-    return b"".join(numbers[8 * i:8 * i + 8] if x == x else struct.pack("<Q", 0x7FF8000000000000) for i, x in enumerate(doubles))
+def clean(data, width):
+    """Numbers as they are written: every NaN is the one."""
+    pieces = [data[i:i + width.size] for i in range(0, len(data), width.size)]
+    return b"".join(struct.pack("<" + width.bits, width.nan) if x != x else piece for piece in pieces for x in struct.unpack("<" + width.number, piece))
 
 
-def fails(f, replay):
+def fails(f, replay, width):
     """What is wrong with a function's answers, or None."""
     two = sum(p.kind == "frame" for p in f.takes) == 4
     frames = list(itertools.product(NUMBERS, repeat=4 if two else 2))
     asked, wanted, refused = b"", b"", 0
-    records = plain(f, replay)
+    records = plain(f, replay, width)
     for i, words in enumerate(frames):
         record, numbers = records[i % len(records)]
         due = given(f.id, words[:2], words[2:])
         asked += bytes([f.id]) + record + struct.pack(f"<{len(words)}Q", *words)
-        wanted += bytes([APART]) if due is None else b"\0" + numbers + struct.pack("<2d", *due)
+        wanted += bytes([APART]) if due is None else b"\0" + numbers + struct.pack(f"<2{width.number}", *due)
         refused += due is None
     if (refused > 0) != (BY_ID[f.id].answer is not None):
         return f"{refused} of {len(frames)} records are refused"
     ran = replay(asked)
     if ran.returncode:
         return f"replay stopped with status {ran.returncode}: {ran.stderr.decode().strip()}"
-    return difference(asked, wanted, ran.stdout)
+    return difference(asked, wanted, ran.stdout, width)

@@ -1,15 +1,16 @@
 """The wrapper crate's source: one exported function for each row of functions.py, and the helpers that go between numbers and the port's types.
 
 A function with dozens of locals is slow to prove, so that numbers are read and stored by small functions. Each asks that its place is in bounds, and rt sees by itself that it is.
+All of it is written for doubles; width.py has it at f32.
 """
 from functions import FUNCTIONS, WHOLE, WIDTHS
+from width import DOUBLE, at_width
 
 HEAD = """\
 // Made by tests/calls/build from tests/calls/functions.py.
 ghost use Prim.Native.Nat.{_+_, _≤_};
 ghost use lib.ListN.{length};
 use coeffs::values::Values;
-use frames::Pose;
 use jacobian::jac::Sim3Jac;
 use linalg::matrix::Mat3;
 use linalg::vector::Vec3;
@@ -20,6 +21,11 @@ use sim3::tangent::Sim3Tangent;
 use so3::quat::Quat;
 
 fn code(n: u8) -> u32 { n as u32 }
+"""
+
+# What the functions of poses with frames want besides.
+FRAMES = """
+use frames::Pose;
 
 fn frame(n: usize) -> u16 { (n % 65536) as u16 }
 
@@ -132,13 +138,13 @@ def putters():
     return [putter(kind, width) for kind, width in dict.fromkeys(wanted)]
 
 
-def doubles(f):
-    """How many doubles go in, the list's apart."""
+def numbers(f):
+    """How many numbers go in, the list's apart."""
     return sum(WIDTHS[p.kind] for p in f.takes if p.kind in WIDTHS)
 
 
 def given(f):
-    """How many doubles come out, the list's apart."""
+    """How many numbers come out, the list's apart."""
     return sum(WIDTHS.get(p.kind, 0) for p in f.gives)
 
 
@@ -171,7 +177,7 @@ def outputs(f):
 
 
 def signature(f):
-    words = [f"x: &[f64; {doubles(f)}]"] if doubles(f) else []
+    words = [f"x: &[f64; {numbers(f)}]"] if numbers(f) else []
     words += [f"{p.name}: usize" for p in f.takes if p.kind in WHOLE]
     words += ["pts: &[f64]", "out: &mut [f64]"] if is_list(f) else [f"out: &mut [f64; {given(f)}]"]
     return f"pub extern \"C\" fn call_{f.id}({', '.join(words)}) -> u32"
@@ -193,5 +199,6 @@ def wrapper(f):
     return f"\n// {f.name}\n#[no_mangle]\n{signature(f)} {{\n{lines}}}\n"
 
 
-def source():
-    return "".join([HEAD, *takers(), *makers(), *putters(), *(wrapper(f) for f in FUNCTIONS)])
+def source(width=DOUBLE):
+    frames = [FRAMES] if any(p.kind == "frame" for f in FUNCTIONS for p in f.takes) else []
+    return at_width("".join([HEAD, *frames, *takers(), *makers(), *putters(), *(wrapper(f) for f in FUNCTIONS)]), width)

@@ -1,15 +1,15 @@
 // The port's judge-lib: answers records of library calls (oracle/README.md) by the port's functions.
 //
-// Reads standard input, writes standard output. A record is one byte, the function's id, and its inputs as 8-byte
-// little-endian words; an answer is the byte 0 and the outputs, or a refusal's number alone. Every NaN is written
-// 7ff8000000000000. An id that is no function and a cut record end the program with a message and status 2. With the
-// word --tally it then writes to standard error a line for each function that was called: its id, its calls, and its
-// calls that were refused with 1, 2, 3, 4 and 5; 9, for frames that do not meet, is none of judge-lib's.
+// Reads standard input, writes standard output. A record is one byte, the function's id, and its inputs, little endian:
+// doubles, or singles where it is compiled with SINGLE, and whole numbers of 8 bytes. An answer is the byte 0 and the
+// outputs, or a refusal's number alone. Every NaN is written 7ff8000000000000, or 7fc00000. An id that is no function and
+// a cut record end the program with a message and status 2. With the word --tally it then writes to standard error a line
+// for each function that was called: its id, its calls, and its calls that were refused with 1, 2, 3, 4 and 5; 9, for
+// frames that do not meet, is none of judge-lib's.
 //
-// tests/calls/build compiles it, with calls.h and table.h, which it makes from functions.py.
-#include "calls.h"
-
+// tests/calls/build compiles it for each width, with a header and a table that it makes from functions.py.
 #include <stdbool.h>
+#include <stdint.h>
 #include <stdio.h>
 #include <stdlib.h>
 #include <string.h>
@@ -18,27 +18,45 @@
 #error "replay.c copies words as they are: it needs a little-endian machine"
 #endif
 
-// A function of the table: its record's words (a list's length is the last of them), and its answer's numbers.
+#ifdef SINGLE
+typedef float number;
+typedef uint32_t pattern;
+static const pattern NOT_A_NUMBER = 0x7fc00000;
+#else
+typedef double number;
+typedef uint64_t pattern;
+static const pattern NOT_A_NUMBER = 0x7ff8000000000000;
+#endif
+enum { WORD = 8, WIDE = sizeof(number) }; // bytes of a whole number and of a number
+
+// A function of the table: the bytes of its record behind the id (the last eight are a list's length, and its numbers
+// follow), and its answer's numbers.
 struct function {
     const char *name;
-    size_t words, numbers;
-    uint32_t (*run)(const double *w, double *out);
-    uint32_t (*list)(const double *x, const double *pts, size_t n, double *out, size_t room);
+    size_t length, numbers;
+    uint32_t (*run)(const unsigned char *r, number *out);
+    uint32_t (*list)(const number *x, const number *pts, size_t n, number *out, size_t room);
 };
 
-static size_t whole(const double *w) {
+static size_t whole(const unsigned char *r) {
     uint64_t n;
-    memcpy(&n, w, sizeof n);
+    memcpy(&n, r, sizeof n);
     return n;
 }
 
+#ifdef SINGLE
+#include "calls_f32.h"
+#include "table_f32.h"
+#else
+#include "calls.h"
 #include "table.h"
+#endif
 
-enum { BUFFER = 1 << 20, MOST_WORDS = 256, MOST_IN_LIST = 100000, MOST_NUMBERS = 256, REFUSALS = 5, FRAMES = 9 };
+enum { BUFFER = 1 << 20, MOST_BEFORE_LIST = 16, MOST_IN_LIST = 100000, MOST_NUMBERS = 256, REFUSALS = 5, FRAMES = 9 };
 
 static unsigned char input[BUFFER], output[BUFFER];
 static size_t held, used; // bytes in input and in output
-static double list_in[MOST_IN_LIST], list_out[MOST_IN_LIST];
+static number list_in[MOST_IN_LIST], list_out[MOST_IN_LIST];
 static unsigned long long record, place; // of the record at hand: its number from 1 on, and its first byte
 static unsigned long long calls[256], refused[256][REFUSALS + 1];
 
@@ -59,15 +77,15 @@ static void stop(const char *what, unsigned long long number) {
 }
 
 // Counts a call and adds its answer to the output.
-static void answer(unsigned char id, uint32_t status, const double *numbers, size_t n) {
+static void answer(unsigned char id, uint32_t status, const number *numbers, size_t n) {
     if (status > REFUSALS && status != FRAMES) stop("the answer has the status %llu, which is no refusal", status);
     calls[id]++;
     if (status <= REFUSALS) refused[id][status]++;
     if (status != 0) n = 0;
-    if (BUFFER - used < 1 + 8 * n) flush();
+    if (BUFFER - used < 1 + WIDE * n) flush();
     output[used++] = (unsigned char)status;
-    for (size_t i = 0; i < n; i++, used += 8) {
-        uint64_t bits = 0x7ff8000000000000;
+    for (size_t i = 0; i < n; i++, used += WIDE) {
+        pattern bits = NOT_A_NUMBER;
         if (numbers[i] == numbers[i]) memcpy(&bits, numbers + i, sizeof bits);
         memcpy(output + used, &bits, sizeof bits);
     }
@@ -77,20 +95,20 @@ static void answer(unsigned char id, uint32_t status, const double *numbers, siz
 static size_t take(const unsigned char *at, size_t n) {
     const struct function *f = &functions[at[0]];
     if (f->name == NULL) stop("no function has the id %llu", at[0]);
-    double w[MOST_WORDS], out[MOST_NUMBERS];
-    size_t length = 1 + 8 * f->words;
+    number x[MOST_BEFORE_LIST], out[MOST_NUMBERS];
+    size_t length = 1 + f->length;
     if (n < length) return 0;
-    memcpy(w, at + 1, length - 1);
     if (f->list == NULL) {
-        answer(at[0], f->run(w, out), out, f->numbers);
+        answer(at[0], f->run(at + 1, out), out, f->numbers);
         return length;
     }
-    size_t count = whole(w + f->words - 1);
+    size_t count = whole(at + length - WORD);
     if (count > MOST_IN_LIST) stop("a list of %llu numbers, more than 100000", count);
-    if (n - length < 8 * count) return 0;
-    memcpy(list_in, at + length, 8 * count);
-    answer(at[0], f->list(w, list_in, count, list_out, count), list_out, count);
-    return length + 8 * count;
+    if (n - length < WIDE * count) return 0;
+    memcpy(x, at + 1, f->length - WORD);
+    memcpy(list_in, at + length, WIDE * count);
+    answer(at[0], f->list(x, list_in, count, list_out, count), list_out, count);
+    return length + WIDE * count;
 }
 
 // Answers the whole records of the input, and moves the rest to its front.

@@ -17,6 +17,10 @@ def block_error(got, due):
     return error(flat(g.columns(got)), flat(g.columns(due)))
 
 
+def negated(numbers):
+    return [-x for x in numbers]
+
+
 # ---- the group
 def group_axioms(draw):
     """(x y) z = x (y z), 1 x = x 1 = x, x x^-1 = x^-1 x = 1, and the quotients."""
@@ -44,6 +48,17 @@ def one_parameter(draw):
     def along(k):
         return g.exp([k * x for x in tau])
     return worst([pose_error(along(a + b), g.mul(along(a), along(b))), pose_error(along(-1.0), g.inverse(along(1.0)))])
+
+
+def turned_round(draw):
+    """With rho negated, t of Exp and b and f of J_l are negated and the rest stays: exactly, but for the signs of zeros."""
+    tau = draw.tangent()
+    back = tau[:3] + negated(tau[3:6]) + tau[6:]
+    x, left = g.exp(tau), g.block_pair(tau)[0]
+    return worst([
+        error(g.exp(back), x[:4] + negated(x[4:7]) + x[7:]),
+        error(g.block_pair(back)[0], left[:9] + negated(left[9:18]) + left[18:27] + negated(left[27:30]) + left[30:]),
+    ])
 
 
 def adjoint_identity(draw):

@@ -16,7 +16,7 @@ sys.path.insert(0, str(TOOL.parent))
 
 from jobs_lib.cli import main as tool_main
 from jobs_lib.floats import DOUBLE, SINGLE
-from jobs_lib.layout import ANSWER, DOUBLES, END, JOB, JOIN, WHOLE
+from jobs_lib.layout import ANSWER, DOUBLES, END, JOB, STATE, WHOLE
 from jobs_lib.records import walk
 
 ONE, NAN, MINUS = 0x3FF0000000000000, DOUBLE.nan, 1 << 63
@@ -137,7 +137,7 @@ def ended(data, refused=0):
 EX_SIZE = ANSWER[b"EX"].size  # the first record of the answers below
 
 
-SINGLES = [mark for mark in JOB if mark not in (*DOUBLES, *JOIN)]
+SINGLES = [mark for mark in JOB if mark not in (*DOUBLES, *STATE)]
 
 
 def answers(marks=DOUBLES):

@@ -28,10 +28,10 @@ def as_a_program():
 
 
 def help_has_examples():
-    for words in [["--help"], *([name, "--help"] for name in ("make", "show", "diff", "arms", "near", "sort", "run", "format"))]:
+    for words in [["--help"], *([name, "--help"] for name in ("make", "show", "diff", "arms", "near", "sort", "sheets", "run", "format"))]:
         holds(jobs(*words)[0].decode(), "example:\n", "tools/jobs ")
     holds(jobs(status=2)[1], "COMMAND")
-    holds(jobs("shwo", status=2)[1], "shwo", "make", "show", "diff", "arms")
+    holds(jobs("shwo", status=2)[1], "shwo", "make", "show", "diff", "arms", "sheets")
 
 
 def help_says_what_the_page_says():
@@ -118,15 +118,16 @@ def stored_job():
     answer = file("answers", program(data))
     text = jobs("show", answer)[0].decode()
     marks = " ".join(line.split()[0] for line in text.splitlines())
-    same(marks, "EX EX CO CO NO PA AC MU NO IN JI NO AR AR AR ex co co NO pa ac mu in ji RN CH CH NO CH ZZ", "the answers' marks")
+    same(marks, "EX EX CO CO NO PA AC MU NO IN JI NO AR AR AR ex co co NO pa ac mu in ji RN CH CH NO CH SH SH SH NO SQ NO ZZ", "the answers' marks")
     holds(text, "EX pose.q 1.0 0.0 0.0 0.0; pose.t 1.0 2.0 3.0; pose.sigma 0.0; pose.frames 0 0\n",
           "AC point 5.0 7.0 9.0\n", "; product.frames 7 1\nNO refusal 9", "; inverse.frames 1 3\n", "NO refusal 1", "NO refusal 2",
           "  # 11 terms\n", "  # closed; v0, w0 by series\n", "  # closed\n", "ac point 5.0 7.0 9.0\nmu product.q ",
           "RN n 2\nCH running.q 0.8 0.6 0.0 0.0; ", "running.frames 7 1\nNO refusal 9", "running.frames 9 1\n",
-          "ZZ begun 29; answered 24; refused 5; unusable 0\n")
+          "SH outcome 1; before 0  # new\nSH outcome 2; before 1  # replaces\nSH outcome 3; before 3  # older, not kept\nNO refusal 10", "SQ take 3; pose.q 0.8 0.6 ", "NO refusal 12",
+          "ZZ begun 35; answered 28; refused 7; unusable 0\n")
     same(answer.read_bytes(), (ROOT / "examples" / "answers.bin").read_bytes(), "examples/answers.bin")
     again = jobs("diff", answer, file("again", program(data)))[0].decode()
-    holds(again, "equal: 29 records")
+    holds(again, "equal: 35 records")
 
 
 def renew():

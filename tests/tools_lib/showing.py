@@ -14,7 +14,7 @@ def layout_of_the_scope():
     sizes = {"EX": (140, 68), "CO": (96, 160), "PA": (280, 992), "AC": (100, 24), "MU": (144, 68),
              "IN": (76, 68), "JI": (248, 248), "AR": (96, 164), "ex": (72, 36), "co": (48, 80),
              "pa": (140, 496), "ac": (52, 12), "mu": (76, 36), "in": (40, 36), "ji": (124, 124),
-             "CH": (76, 68), "RN": (2, 2)}
+             "CH": (76, 68), "RN": (2, 2), "SH": (72, 3), "SQ": (2, 70)}
     same([layout.mark for layout in JOB.values()], list(sizes), "the marks")
     for layout in JOB.values():
         out = ANSWER[layout.mark.encode()]
@@ -33,7 +33,9 @@ def layout_of_the_scope():
             (ANSWER, b"AR", "series(+)", 1), (ANSWER, b"AR", "arm(-)", 2),
             (ANSWER, b"AR", "coeffs(+).v0", 4), (ANSWER, b"AR", "coeffs(-).scaled", 23),
             (JOB, b"CH", "pose.sigma", 7), (JOB, b"CH", "pose.frames.from", 8), (JOB, b"CH", "up", 10),
-            (ANSWER, b"CH", "running.frames.to", 9), (JOB, b"RN", "n", 0), (ANSWER, b"RN", "n", 0)]:
+            (ANSWER, b"CH", "running.frames.to", 9), (JOB, b"RN", "n", 0), (ANSWER, b"RN", "n", 0),
+            (JOB, b"SH", "sheet", 0), (JOB, b"SH", "take", 1), (JOB, b"SH", "pose.sigma", 9), (JOB, b"SH", "pose.frames.to", 11), (JOB, b"SQ", "sheet", 0),
+            (ANSWER, b"SH", "outcome", 0), (ANSWER, b"SH", "before", 1), (ANSWER, b"SQ", "take", 0), (ANSWER, b"SQ", "pose.q.w", 1), (ANSWER, b"SQ", "pose.frames.from", 9)]:
         same(table[mark].fields[number], field, f"number {number} of {mark.decode()}")
     for table, mark, field, at in [(JOB, b"ex", "frames", 70), (JOB, b"ac", "pose.frames", 34), (JOB, b"ac", "up", 38), (JOB, b"mu", "right.q", 38),
                                    (JOB, b"mu", "right.frames", 70), (JOB, b"mu", "up", 74), (JOB, b"in", "down", 38), (JOB, b"ji", "block.e", 122),
@@ -111,9 +113,9 @@ def stored_counts():
     for place in [("AC", "point.x"), ("AC", "point.z"), ("MU", "product.q.w"), ("MU", "product.sigma"), ("IN", "inverse.sigma"),
                   ("CO", "coeffs(+).chi_delta"), ("CO", "coeffs(-).chi_delta"), ("AR", "coeffs(-).chi_delta"), ("JI", "inverse.f[2]"),
                   ("ac", "point.x"), ("ac", "point.z"), ("mu", "product.q.w"), ("mu", "product.sigma"), ("in", "inverse.sigma"), ("co", "coeffs(-).chi_delta"),
-                  ("CH", "running.sigma")]:
+                  ("CH", "running.sigma"), ("SQ", "pose.q.w"), ("SQ", "pose.sigma")]:
         assert alone[place], f"no stored answer in which {place} alone is not finite"
-    same({mark for mark, _ in alone}, {layout.mark for layout in JOB.values() if layout.mark != "RN"}, "marks with one number alone that is not finite")
+    same({mark for mark, _ in alone}, {layout.mark for layout in JOB.values() if layout.mark not in ("RN", "SH")}, "marks with one number alone that is not finite")
 
 
 def stored_nans():

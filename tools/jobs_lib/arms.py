@@ -3,10 +3,10 @@ import os
 from array import array
 
 from .floats import DOUBLE
-from .layout import ANSWER, ARMS, BY_SERIES, JOB, MOST_RECORDS
+from .layout import ARMS, BY_SERIES
+from .pairs import load_both, pairs, problems
 from .plane import picture
-from .records import guess, load, older, scan, walk
-from .terminal import Failure, Lines, Progress, count
+from .terminal import Failure, Lines, count
 
 # Where the arms 2 to 5 begin, in sigma sigma + z, and below which sigma sigma the closed arm takes
 # v0 and w0 from series.
@@ -14,7 +14,6 @@ ARM_FROM = tuple(map(DOUBLE.from_bits, (0x3F0C70E59CFC9F1F, 0x3FA59742AA36710D,
                                         0x3FD0E8139C96FC79, 0x3FFFB1FFBC2A9C8C)))
 SERIES_BELOW = DOUBLE.from_bits(0x3FE2A77501626657)
 CLOSED = 5
-MOST_MESSAGES = 20
 
 # The rules in the order of the table and of the legend: arm, and whether v0 and w0 are series.
 RULES = [(1, 0), (2, 0), (3, 0), (4, 0), (5, 1), (5, 0)]
@@ -62,14 +61,9 @@ class Found:
         return sum(n for (found, _), n in self.rules.items() if found == arm)
 
 
-def pairs(job, answers, found):
+def fill(job, answers, found):
     """Walks both files record by record and fills `found`."""
-    progress = Progress("arms", 0)
-    both = zip(walk(job, JOB), walk(answers, ANSWER))
-    for number, ((at, asked), (answer_at, answer)) in enumerate(both, 1):
-        if answer.mark not in (asked.mark, "NO"):
-            raise Failure(f"jobs: record {number:,} is {asked.mark} in JOBS and {answer.mark} in "
-                          "ANSWERS; expected a job file and the answers to it")
+    for number, at, asked, answer_at, answer in pairs(job, answers, "arms"):
         if asked.mark != "AR":
             found.others += 1
         elif answer.mark == "NO":
@@ -77,8 +71,6 @@ def pairs(job, answers, found):
         else:
             sigma, z = asked.numbers.unpack_from(job, at + 2)[:2]
             found.add(number, sigma, z, tuple(answers[answer_at + 2:answer_at + 6]))
-        progress(number)
-    progress.end()
 
 
 def table(found):
@@ -90,31 +82,6 @@ def table(found):
     yield f"arm  {'rule':29}  {'records':>{width}}"
     for arm, name, n in rows:
         yield f"{arm:>3}  {name:29}  {n:>{width},}"
-
-
-def problems(job, asked, told, found):
-    """What keeps the two files from being a job and its whole answer."""
-    for damage in told.damages:
-        yield f"ANSWERS: byte {damage.at}: {damage.text}"
-    due = min(asked.records + bool(asked.damages), MOST_RECORDS)
-    if told.records != due:
-        yield f"JOBS has {count(due, 'record')} to be answered, ANSWERS has {told.records:,}"
-    yield from found.wrong[:MOST_MESSAGES]
-    if len(found.wrong) > MOST_MESSAGES:
-        yield f"{len(found.wrong) - MOST_MESSAGES:,} more records with bytes that are not the limits'"
-
-
-def load_both(job_path, answer_path):
-    """Both files and their scans; a file of the other kind is named."""
-    job, answers = load(job_path), load(answer_path)
-    asked, told = scan(job, JOB, "reading"), scan(answers, ANSWER, "reading")
-    for path, data, found, table_of, what in ((job_path, job, asked, JOB, "a job file"),
-                                              (answer_path, answers, told, ANSWER, "an answer file")):
-        if found.damages and older(data):
-            raise Failure(f"jobs: {path}: {older(data)}")
-        if found.damages and len(data) and guess(data) is not table_of:
-            raise Failure(f"jobs: {path} is not {what}; expected JOBS, then ANSWERS")
-    return job, answers, asked, told
 
 
 def write(path, text, inputs):
@@ -130,12 +97,10 @@ def write(path, text, inputs):
 
 def arms(job_path, answer_path, svg_path):
     """The command: 0, or 1 where the files are no job and its answer by the limits, or 2."""
-    if job_path == answer_path == "-":
-        raise Failure("jobs: JOBS and ANSWERS are both standard input; expected two files")
     job, answers, asked, told = load_both(job_path, answer_path)
     found = Found()
-    pairs(job, answers, found)
-    out, said = Lines(), list(problems(job, asked, told, found))
+    fill(job, answers, found)
+    out, said = Lines(), list(problems(asked, told, found.wrong, "with bytes that are not the limits'"))
     out.add(*table(found))
     if found.others:
         out.add(f"{count(found.others, 'record')} of other marks")

@@ -12,12 +12,13 @@ from .layout import ANSWER, JOB
 from .make import MAY_MISS, groups_text, make
 from .near import near
 from .order import diff_by_tangent, sort
+from .sheets import sheets
 from .show import show
 from .terminal import Failure, say
 
 ABOUT = """\
 Job files of the Sim(3) engine: make them from text, show them as text, compare their answers, see
-which arm gave each coefficient set, and which shots lie beside another arm.
+which arm gave each coefficient set, which shots lie beside another arm, and which takes are kept.
 docs/JOB-FORMAT.md has the bytes of every record, and so has `jobs format`. `jobs run` finds the job
 program from any folder.
 
@@ -29,15 +30,16 @@ example:
   tools/jobs arms --svg arms.svg jobs.bin answers.bin
   tools/jobs near --within 1000 jobs.bin
   tools/jobs sort jobs.bin > sorted-jobs.bin
+  tools/jobs sheets jobs.bin answers.bin
 """
 
 MAKE = """\
 Lines of text to a job file on standard output. A line is a mark and its numbers, separated by
 blanks or commas; `;` may stand between groups and a group's name before it. `#` starts a comment.
 A number is a decimal (1.5, -2e-3, -0), a hexadecimal (0x1.8p3), inf, -inf, nan, or 16 digits of
-bits (bits:3ff0000000000000). A frame is a whole number from 0 to 65535; a pose's two, from and to,
-stand behind its eight numbers, under their group's name or `frames`. The line `bytes 51 51` puts
-bytes as they are.
+bits (bits:3ff0000000000000). A frame is a whole number from 0 to 65535, as are n, a sheet and a take;
+a pose's two frames, from and to, stand behind its eight numbers, under their group's name or `frames`.
+The line `bytes 51 51` puts bytes as they are.
 
 Numbers in brackets may be left out; they are then computed by Python's math. CH's up is then that of
 the running pose, as the CH lines before it leave it.
@@ -131,6 +133,23 @@ example:
 """
 
 
+SHEETS = """\
+Which takes a job keeps: for each sheet the highest take, the record (from 1) that brought it, how often
+the sheet was retaken, how many older takes came late, how many were refused as the same take, and how
+often SQ asked for it; then which records were refused, by 10, 11 and 12. JOBS is a job file, ANSWERS
+the answers to it, which are held against the records; without them the records alone are followed.
+With --csv it is one table: a row `kept` for each sheet, a row `refused` for each refused record.
+
+Exit status: 0, or 1 where an answer is not the one that the records before it give, or ANSWERS is not
+the whole answer to JOBS, or JOBS is damaged or cut (what is wrong is named), or 2 if a file cannot be
+read.
+
+example:
+  tools/jobs sheets jobs.bin answers.bin
+  tools/jobs sheets --csv jobs.bin > sheets.csv
+"""
+
+
 def forms_text():
     """Each mark with its groups, those that may be left out in brackets."""
     lines = []
@@ -208,6 +227,10 @@ def parser():
     one.add_argument("file", nargs="?", metavar="FILE", help="the job; standard input if not given")
     one = add_command(commands, "sort", SORT, "a job file in the order of its tangents")
     one.add_argument("job", nargs="?", metavar="JOBS", help="the job file; standard input if not given")
+    one = add_command(commands, "sheets", SHEETS, "which take of each sheet is kept, and what was refused")
+    one.add_argument("--csv", action="store_true", help="as comma-separated values")
+    one.add_argument("job", metavar="JOBS")
+    one.add_argument("answers", nargs="?", metavar="ANSWERS", help="the answers; without them the records alone are followed")
     return top
 
 
@@ -236,6 +259,8 @@ def run(arguments):
         return near(arguments.file, arguments.within)
     if arguments.command == "sort":
         return sort(arguments.job)
+    if arguments.command == "sheets":
+        return sheets(arguments.job, arguments.answers, arguments.csv)
     return arms(arguments.job, arguments.answers, arguments.svg)
 
 

@@ -167,8 +167,8 @@ def ending(found):
     return records + (" could be read" if unreadable(found) else ", no ZZ")
 
 
-def spans(numbers, most):
-    """`3, 7 to 9, 12`: the first numbers of a rising list, and how many more there are."""
+def spans(numbers, most, lister):
+    """`3, 7 to 9, 12`: the first numbers of a rising list, how many more there are, and what lists them."""
     found = []
     for number in numbers:
         if found and number == found[-1][1] + 1:
@@ -177,7 +177,7 @@ def spans(numbers, most):
             found.append([number, number])
     words = [f"{a:,}" if a == b else f"{a:,} to {b:,}" for a, b in found[:most]]
     left = sum(b - a + 1 for a, b in found[most:])
-    return ", ".join(words) + (f" and {left:,} more (jobs show --unusable lists them)" if left else "")
+    return ", ".join(words) + (f" and {left:,} more ({lister} lists them)" if left else "")
 
 
 def say_unusable(names, scans, out):
@@ -187,7 +187,7 @@ def say_unusable(names, scans, out):
     for name, numbers in zip(("both",) if both else names, lists):
         if numbers:
             out.add(f"not usable in {name}: {count(len(numbers), 'answer')}, "
-                    f"record{'s' if len(numbers) > 1 else ''} {spans(numbers, MOST_SPANS)}")
+                    f"record{'s' if len(numbers) > 1 else ''} {spans(numbers, MOST_SPANS, 'jobs show --unusable')}")
 
 
 def diff(old_path, new_path, limit):

@@ -9,8 +9,10 @@ from typing import NamedTuple, Optional, Tuple
 from .floats import DOUBLE, SINGLE, WIDTHS
 
 MOST_RECORDS = 1_000_000  # the job program answers no more
-WHOLE = "H"  # the code of a frame number, or of RN's n: a whole number of 16 bits
-JOIN = (b"CH", b"RN")  # the marks of the running join
+MOST_SHEETS = 512  # it keeps no more
+WHOLE = "H"  # the code of a frame, of RN's n, of a sheet or a take: a whole number of 16 bits
+JOIN, SHEETS = (b"CH", b"RN"), (b"SH", b"SQ")  # the marks of the running join and of the kept sheets
+STATE = JOIN + SHEETS  # those whose answers depend on the records before them
 SCALED, SERIES = ".scaled", "series("  # how the name of a field that is 1 or 0 ends or begins
 
 REFUSALS = {
@@ -23,9 +25,14 @@ REFUSALS = {
     7: "input ends inside a mark or record",
     8: "root of a NaN or of +inf",
     9: "frames do not meet: the left pose's from is not the right pose's to",
+    10: "take equal to the one kept for its sheet",
+    11: "a 513th sheet",
+    12: "SQ on a sheet never kept",
 }
 ARMS = {1: "6 terms", 2: "11 terms", 3: "14 terms", 4: "19 terms", 5: "closed"}
 BY_SERIES = {0: "", 1: "v0, w0 by series"}
+NEW, REPLACES, OLDER = 1, 2, 3
+OUTCOMES = {NEW: "new", REPLACES: "replaces", OLDER: "older, not kept"}
 
 
 class Group(NamedTuple):
@@ -34,7 +41,7 @@ class Group(NamedTuple):
     name: str
     parts: Tuple[str, ...]  # what each number adds to the name: ".x", "[1][2]", nothing
     about: str
-    code: str = DOUBLE.code  # struct's letter: d a double, f a single, B a byte, H a frame or n, I a 32-bit count
+    code: str = DOUBLE.code  # struct's letter: d a double, f a single, B a byte, H a frame, n, sheet or take, I a 32-bit count
     names: Optional[dict] = None  # what its numbers stand for, where each has a name
 
     @property
@@ -99,6 +106,10 @@ UP = Group("up", ONE, "e^sigma")
 UP_OF_RUNNING = Group("up", ONE, "e^sigma of the running pose; in the first CH any number")
 DOWN = Group("down", ONE, "e^-sigma")
 EVERY = Group("n", ONE, "so many products, 2 bytes; 0 for never", WHOLE)
+SHEET = Group("sheet", ONE, "number of the sheet, 2 bytes", WHOLE)
+TAKE = Group("take", ONE, "number of the take, 2 bytes", WHOLE)
+OUTCOME = Group("outcome", ONE, ", ".join(f"{number} = {name}" for number, name in OUTCOMES.items()), "B", OUTCOMES)
+BEFORE = Group("before", ONE, "the take that stood before, 2 bytes; 0 with a new sheet", WHOLE)
 POINT = Group("point", XYZ, "a point")
 TANGENT = (Group("phi", XYZ, "rotation vector"), Group("rho", XYZ, "translation part"), SIGMA)
 ROTATION_JACOBIANS = (Group("J", MATRIX, "rotation Jacobian of phi"),
@@ -172,20 +183,24 @@ def in_singles(layout):
 
 
 # The marks of doubles whose answers follow from their records alone; all but AR are there in small
-# letters too. Behind them stand the marks of the running join.
+# letters too. Behind them stand the marks of the running join and of the kept sheets.
 DOUBLES = tuple(JOB)
 for layouts in (JOB, ANSWER):
     layouts.update(table(*(in_singles(layouts[mark]) for mark in DOUBLES if mark != b"AR")))
 JOB.update(table(Layout("CH", "a pose to be joined to the running one", *pose("pose"), UP_OF_RUNNING),
-                 Layout("RN", "after how many products the running quaternion is renormalised", EVERY)))
+                 Layout("RN", "after how many products the running quaternion is renormalised", EVERY),
+                 Layout("SH", "a take of a sheet", SHEET, TAKE, *pose("pose")),
+                 Layout("SQ", "which take is kept of a sheet", SHEET)))
 ANSWER.update(table(Layout("CH", "the running pose", *pose("running")),
-                    Layout("RN", "the same", EVERY)))
+                    Layout("RN", "the same", EVERY),
+                    Layout("SH", "what became of the take", OUTCOME, BEFORE),
+                    Layout("SQ", "the highest take", TAKE, *pose("pose"))))
 
 
 def without_frames(layouts):
     """A table of the older format, in which poses had no frames."""
     return table(*(Layout(layout.mark, layout.about, *(g for g in layout.groups if not g.frames))
-                   for mark, layout in layouts.items() if layout.width is DOUBLE and mark not in JOIN))
+                   for mark, layout in layouts.items() if layout.width is DOUBLE and mark not in STATE))
 
 
 OLDER_JOB, OLDER_ANSWER = without_frames(JOB), without_frames(ANSWER)

@@ -20,7 +20,7 @@ MOST_MESSAGES = 20
 # Groups that a line may leave out, those that go together in one bracket.
 MAY_MISS = {"EX": [("values",)], "CO": [("values",)], "PA": [("values",), ("J", "Jinv")],
             "AC": [("up",)], "MU": [("up",)], "IN": [("down",)], "JI": [],
-            "AR": [("values",)], "CH": [("up",)], "RN": []}
+            "AR": [("values",)], "CH": [("up",)], "RN": [], "SH": [], "SQ": []}
 
 
 class BadLine(ValueError):
@@ -129,7 +129,7 @@ def read_whole(word, what):
 
 
 def read_all(words, form, width):
-    """The numbers of a line as bits, and as whole numbers where frames or RN's n stand."""
+    """The numbers of a line as bits, and as whole numbers where frames, n, a sheet or a take stand."""
     wholes = [(i, read_whole(words[i], what)) for i, what in form.wholes]
     numbers = read_numbers(words, width)
     for i, whole in wholes:

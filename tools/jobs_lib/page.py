@@ -45,7 +45,7 @@ def in_singles():
 
 
 def refusals():
-    return "\n".join(f"  {number}  {text}" for number, text in REFUSALS.items())
+    return "\n".join(f" {number:2}  {text}" for number, text in REFUSALS.items())
 
 
 def dump(data, table):

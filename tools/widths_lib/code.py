@@ -21,7 +21,8 @@ def clause(sources, text, function, used):
     result = sources.types.get(function.result)
     if said and result and sources.floating(result.name):
         text, count = re.subn(rf"(?<![\w.«]){said.group(1)}(?= ≡)", f"as{result.name} {said.group(1)}", text)
-        used |= {result.name} if count else set()
+        text, last = re.subn(rf"(?<= ){said.group(1)}(?= ⌝)", f"(as{result.name} {said.group(1)})", text)
+        used |= {result.name} if count or last else set()
     elif said and result:
         for name, held in result.fields:
             if sources.floating(held):

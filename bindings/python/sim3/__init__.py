@@ -25,12 +25,14 @@ from .poses import Pose
 from .raw import LibraryMissing
 from .near import Near, nearest_arm
 from .refusals import Refusal
+from .running import Running, renormalize_all
 from .square_root import Root, nearest_root, root
 from .tangents import compare_tangents, sort_tangents
 from .version import __version__
 from .widths import DOUBLE
 
-__all__ = ["LibraryMissing", "Near", "Pose", "Refusal", "Root", "__version__", "f32", "host", "nearest_arm", "nearest_root", "root", "version", *raw.FUNCTIONS, *raw.PATTERNS]
+__all__ = ["LibraryMissing", "Near", "Pose", "Refusal", "Root", "Running", "__version__", "f32", "host", "nearest_arm", "nearest_root", "renormalize_all", "root", "version",
+           *raw.FUNCTIONS, *raw.PATTERNS]
 
 
 def version() -> str:

@@ -6,7 +6,7 @@ from typing import NamedTuple, Sequence
 
 MOST_FRAME = 65_535
 FRAMES = struct.Struct("HH")  # the list of a pose's frames
-EXPECTED = f"expected a frame, a whole number from 0 to {MOST_FRAME:,}"
+EXPECTED = f"a whole number from 0 to {MOST_FRAME:,}"
 
 
 class Pose(NamedTuple):
@@ -18,15 +18,20 @@ class Pose(NamedTuple):
     to: int
 
 
-def frame(where, x):
-    """A frame number."""
+def short(where, x, what):
+    """A number of 16 bits."""
     try:
         found = operator.index(x)
     except TypeError:
-        raise TypeError(f"{where} is {type(x).__name__}; {EXPECTED}") from None
+        raise TypeError(f"{where} is {type(x).__name__}; expected {what}, {EXPECTED}") from None
     if not 0 <= found <= MOST_FRAME:
-        raise OverflowError(f"{where} is {found:,}; {EXPECTED}")
+        raise OverflowError(f"{where} is {found:,}; expected {what}, {EXPECTED}")
     return found
+
+
+def frame(where, x):
+    """A frame number."""
+    return short(where, x, "a frame")
 
 
 def frames(where, from_, to):

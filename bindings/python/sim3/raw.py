@@ -77,6 +77,17 @@ PATTERNS = {
     "sort_tangents": (("list", ctypes.c_uint64),),
 }
 
+# So do those of a running join and of a list of poses: each argument's name, its type, and whether it is
+# a list that is written, a list that is read, or a number.
+WRITTEN, READ = "written", "read"
+RUNNING = {
+    "running_start": (("pose", ctypes.c_double, WRITTEN), ("state", ctypes.c_uint16, WRITTEN)),
+    "running_push": (("pose", ctypes.c_double, WRITTEN), ("state", ctypes.c_uint16, WRITTEN), ("x", ctypes.c_double, READ),
+                     ("x_frames", ctypes.c_uint16, READ), ("up", ctypes.c_double, NUMBER)),
+    "running_every": (("state", ctypes.c_uint16, WRITTEN), ("n", ctypes.c_uint16, NUMBER)),
+    "renormalize_all": (("poses", ctypes.c_double, WRITTEN),),
+}
+
 
 class LibraryMissing(OSError):
     """The shared library is not there or is none of this engine; the text says what to do."""
@@ -126,6 +137,7 @@ def library():
         found = {name + width.ending: declared(loaded["sim3_" + name + width.ending], made, width)
                  for width in WIDTHS for name, made in FUNCTIONS.items()}
         found.update((name, declared_lists(loaded["sim3_" + name], made)) for name, made in PATTERNS.items())
+        found.update((name, declared_running(loaded["sim3_" + name], made)) for name, made in RUNNING.items())
         return {**found, "root": declared_root(loaded["sim3_root"]),
                 "nearest_arm": declared_near(loaded["sim3_nearest_arm"]), "version": declared_version(loaded["sim3_version"])}
     except (OSError, AttributeError) as error:
@@ -174,6 +186,14 @@ def declared_near(symbol):
 def declared_lists(symbol, made):
     """A C function of lists alone, each with its own type."""
     symbol.argtypes = [word for _, kind in made for word in (ctypes.POINTER(kind), ctypes.c_size_t)]
+    symbol.restype = ctypes.c_uint32
+    return symbol
+
+
+def declared_running(symbol, made):
+    """A C function of the running join with the types of its arguments."""
+    symbol.argtypes = [word for _, kind, use in made
+                       for word in ([kind] if use == NUMBER else [ctypes.POINTER(kind), ctypes.c_size_t])]
     symbol.restype = ctypes.c_uint32
     return symbol
 

@@ -1,2 +1,5 @@
 pub mod Holds
 pub mod Flags
+pub mod Opposite
+pub mod Turned
+pub mod TurnedExamples

@@ -1,7 +1,8 @@
 // What is said of several calls together. Each function here makes the calls of which a demand speaks,
 // and its contract is the demand: it rests on the contracts of these functions and on nothing else of
 // them. The third demand: the paired evaluation gives for both signs what the one-sign functions give.
-// And of the arms: the flags that are told with them are those by which the block pair scales.
+// And of the arms: the flags that are told with them are those by which the block pair scales. Of a
+// tangent with its translation turned round: module ways.
 ghost use lib.Ieee.{binary64};
 ghost use Rattle.coeffs.specs.Entries.{armedPairTold};
 ghost use Rattle.demands.specs.Demand3.{Demand3};
@@ -16,6 +17,8 @@ use sides::blocks::JacAndInverse;
 use sides::pair::BlockPair;
 use sim3::sim3::Sim3;
 use sim3::tangent::Sim3Tangent;
+
+pub mod ways; // both ways along rho
 
 // What the eight calls return: the pair of coefficients, and those of each sign apart; the pair of
 // blocks, and those of each sign apart; the exponential of the tangent and of its negative.

@@ -1,2 +1,3 @@
--- Written by tools/widths from crates/demands: edit that one. Digest b6433e4fa07f7aeb.
+-- Written by tools/widths from crates/demands: edit that one. Digest 00bf2209c3cb6efd.
+pub mod As
 pub mod Told

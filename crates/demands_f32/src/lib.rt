@@ -1,8 +1,9 @@
-// Written by tools/widths from crates/demands/src/lib.rt: edit that one. Digest b09503aceb39eb99.
+// Written by tools/widths from crates/demands/src/lib.rt: edit that one. Digest 4fda3dedf5e6d0e4.
 // What is said of several calls together. Each function here makes the calls of which a demand speaks,
 // and its contract is the demand: it rests on the contracts of these functions and on nothing else of
 // them. The third demand: the paired evaluation gives for both signs what the one-sign functions give.
-// And of the arms: the flags that are told with them are those by which the block pair scales.
+// And of the arms: the flags that are told with them are those by which the block pair scales. Of a
+// tangent with its translation turned round: module ways.
 ghost use lib.Ieee.{binary32};
 ghost use Rattle.coeffs_f32.specs.Told.{armedPairTold};
 ghost use Rattle.demands.specs.Demand3.{Demand3};
@@ -21,6 +22,8 @@ use sides_f32::blocks::JacAndInverse;
 use sides_f32::pair::BlockPair;
 use sim3_f32::sim3_f32::Sim3;
 use sim3_f32::tangent::Sim3Tangent;
+
+pub mod ways; // both ways along rho
 
 // What the eight calls return: the pair of coefficients, and those of each sign apart; the pair of
 // blocks, and those of each sign apart; the exponential of the tangent and of its negative.

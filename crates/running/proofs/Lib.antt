@@ -1,2 +1,3 @@
--- Any history of the running join.
+-- Any history of the running join; a step on each element of a list.
 pub mod Past
+mod Each

@@ -1,6 +1,7 @@
 -- The running join: what a pose and a new n do to the running pose, in any format.
 use Prim.Native.Nat.{ℕ, _+_}
 use mathlib.Core.Bool.{Bool, cond, _&&_}
+use mathlib.Core.List.{List, map}
 use lib.Dec.{ltb, leb}
 use lib.Ieee.{Float, Format}
 use Rattle.linalg.specs.Answer.{Answer, answers, refuses}
@@ -55,3 +56,7 @@ joinOf f r x up = joinOn f (r .pose) r x up
 -- ---- a new n
 abbrev pub everyOf : Running → ℕ → Running
 everyOf r n = record { pose = r .pose; every = n; since = r .since }
+
+-- ---- a list of poses, each with its quaternion renormalised
+unfoldable pub allRenormalized : Format → List Pose → List Pose
+allRenormalized f l = map (framedRenormalized f) l

@@ -1,10 +1,13 @@
 // A running join: poses are joined as they come, each with the running pose as the left one, and the
-// running pose's quaternion is renormalised after every nth product.
+// running pose's quaternion is renormalised after every nth product. And the quaternions of a whole list
+// of poses renormalised.
 ghost use mathlib.Core.Path.{_≡_};
 ghost use lib.Ieee.{binary64};
-ghost use Rattle.running.specs.Running.{runningNone, oneMore, due, jointTold, stands, producedOf, joinOf, everyOf};
+ghost use Rattle.frames.specs.Joins.{poseTold, framedMul};
+ghost use Rattle.running.specs.Running.{runningNone, oneMore, due, jointTold, stands, producedOf, joinOf, everyOf, allRenormalized};
 use frames::Pose;
 use frames::PoseAnswer;
+use sim3::sim3::Sim3;
 
 // The running pose; none before the first pose comes.
 pub enum Start {
@@ -41,6 +44,30 @@ fn due(n: u16, k: u16) -> bool
     ensures { λ r. ⌜ r ≡ due n k ⌝ }
 {
     (0 < n) & (n <= k)
+}
+
+// P X as `Pose::mul` has it, by its parts. The job's MU has that function for itself: with one caller it
+// is inlined there.
+fn product(p: Pose, x: Pose, up: f64) -> PoseAnswer
+    ensures { λ r. ⌜ poseTold r ≡ framedMul binary64 p x up ⌝ }
+{
+    if p.from != x.to {
+        return PoseAnswer::Refused(9);
+    }
+    let a = p.sim3;
+    let b = x.sim3;
+    let q = a.q.mul(b.q);
+    let t = a.act(up, b.t);
+    let sim3 = Sim3 {
+        q,
+        t,
+        sigma: a.sigma + b.sigma,
+    };
+    PoseAnswer::Pose(Pose {
+        sim3,
+        from: x.from,
+        to: p.to,
+    })
 }
 
 // The running pose p, which is answered too.
@@ -87,7 +114,7 @@ impl Running {
         let start = self.pose;
         match start {
             Start::Unset => stand(x, self.every, self.since),
-            Start::Posed(p) => match p.mul(x, up) {
+            Start::Posed(p) => match product(p, x, up) {
                 PoseAnswer::Pose(y) => produced(y, self.every, one_more(self.since)),
                 PoseAnswer::Refused(number) => Joined {
                     running: self,
@@ -108,5 +135,16 @@ impl Running {
             every: n,
             since,
         }
+    }
+}
+
+// `Pose::renormalized` on every pose of a list that is lent; nothing else is altered.
+pub fn renormalize_all(poses: &mut [Pose])
+    ensures { λ _. ⌜ now (poses .exit) ≡ allRenormalized binary64 (now (poses .entry)) ⌝ }
+{
+    let mut i = 0;
+    while i < poses.len() {
+        poses[i] = poses[i].renormalized();
+        i += 1;
     }
 }

@@ -125,6 +125,13 @@ unfoldable pub pairTurns : Format → Float → Float → ℕ → TurnsPair
 pairTurns f sigma z zero = record { level = seriesFirst; pos = sumsNone; neg = sumsNone }
 pairTurns f sigma z (suc j) = pairTurn f sigma z (recipFact f (j + 1)) (recipFact f (j + 2)) (odd j) (pairTurns f sigma z j)
 
+-- a level, and the loop's numbers, with -p for p
+unfoldable pub levelMinus : Level → Level
+levelMinus l = record { xi = l .xi; dxi = l .dxi; zeta = l .zeta; dzeta = l .dzeta; p = neg (l .p) }
+
+unfoldable pub turnsMinus : TurnsPair → TurnsPair
+turnsMinus s = record { level = levelMinus (s .level); pos = s .pos; neg = s .neg }
+
 unfoldable pub pairSums : Format → Float → Float → ℕ → SumsPair
 pairSums f sigma z k =
     let s = pairTurns f sigma z (k + 1) in

@@ -8,21 +8,21 @@ use crate::sim3::Sim3Coeffs;
 
 // Level j: p = sigma^j, xi and zeta, and the z-derivatives of these two.
 pub struct Level {
-    pub p: f64,
     pub xi: f64,
-    pub zeta: f64,
     pub dxi: f64,
+    pub zeta: f64,
     pub dzeta: f64,
+    pub p: f64,
 }
 
 // The six sums over the levels, or the six terms that one level gives them.
 pub struct Sums {
     pub v1: f64,
+    pub dv1: f64,
     pub v2: f64,
+    pub dv2: f64,
     pub w1: f64,
     pub w2: f64,
-    pub dv1: f64,
-    pub dv2: f64,
 }
 
 // The terms that the sums take after level k: one for v2 and for w2, two for dv1, three for dv2.

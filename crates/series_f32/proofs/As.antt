@@ -1,4 +1,4 @@
--- Written by tools/widths from crates/series: edit that one. Digest f34821546f5e5a92.
+-- Written by tools/widths from crates/series: edit that one. Digest 34c3d16af61c2bb1.
 -- The structs of series_f32 field by field, as rules for `simp`: a number that the code reads of a struct is the number of the definitions' record. Assumes nothing.
 use mathlib.Core.Path.{_≡_, refl}
 use lib.Ieee.{Float}
@@ -16,37 +16,45 @@ use Rattle.series_f32.specs.declared.sim3.GPair.{GPair}
 use Rattle.series_f32.specs.declared.sim3.Horner.{Horner}
 use Rattle.series_f32.specs.As.{asCoeffs4, asCoeffsPair, asGPair, asHorner, asLevel, asSim3Coeffs, asSums, asSumsPair, asTail, asTurns, asTurnsPair, asTurnsV}
 
-pub p-of-Level : (a : Level) → a .p ≡ asLevel a .p
-unfolding asLevel
-p-of-Level a = refl
-
 pub xi-of-Level : (a : Level) → a .xi ≡ asLevel a .xi
 unfolding asLevel
 xi-of-Level a = refl
-
-pub zeta-of-Level : (a : Level) → a .zeta ≡ asLevel a .zeta
-unfolding asLevel
-zeta-of-Level a = refl
 
 pub dxi-of-Level : (a : Level) → a .dxi ≡ asLevel a .dxi
 unfolding asLevel
 dxi-of-Level a = refl
 
+pub zeta-of-Level : (a : Level) → a .zeta ≡ asLevel a .zeta
+unfolding asLevel
+zeta-of-Level a = refl
+
 pub dzeta-of-Level : (a : Level) → a .dzeta ≡ asLevel a .dzeta
 unfolding asLevel
 dzeta-of-Level a = refl
 
-pub made-Level : (p : Float) (xi : Float) (zeta : Float) (dxi : Float) (dzeta : Float) → asLevel (record { p = p; xi = xi; zeta = zeta; dxi = dxi; dzeta = dzeta }) ≡ record { p = p; xi = xi; zeta = zeta; dxi = dxi; dzeta = dzeta }
+pub p-of-Level : (a : Level) → a .p ≡ asLevel a .p
 unfolding asLevel
-made-Level p xi zeta dxi dzeta = refl
+p-of-Level a = refl
+
+pub made-Level : (xi : Float) (dxi : Float) (zeta : Float) (dzeta : Float) (p : Float) → asLevel (record { xi = xi; dxi = dxi; zeta = zeta; dzeta = dzeta; p = p }) ≡ record { xi = xi; dxi = dxi; zeta = zeta; dzeta = dzeta; p = p }
+unfolding asLevel
+made-Level xi dxi zeta dzeta p = refl
 
 pub v1-of-Sums : (a : Sums) → a .v1 ≡ asSums a .v1
 unfolding asSums
 v1-of-Sums a = refl
 
+pub dv1-of-Sums : (a : Sums) → a .dv1 ≡ asSums a .dv1
+unfolding asSums
+dv1-of-Sums a = refl
+
 pub v2-of-Sums : (a : Sums) → a .v2 ≡ asSums a .v2
 unfolding asSums
 v2-of-Sums a = refl
+
+pub dv2-of-Sums : (a : Sums) → a .dv2 ≡ asSums a .dv2
+unfolding asSums
+dv2-of-Sums a = refl
 
 pub w1-of-Sums : (a : Sums) → a .w1 ≡ asSums a .w1
 unfolding asSums
@@ -56,17 +64,9 @@ pub w2-of-Sums : (a : Sums) → a .w2 ≡ asSums a .w2
 unfolding asSums
 w2-of-Sums a = refl
 
-pub dv1-of-Sums : (a : Sums) → a .dv1 ≡ asSums a .dv1
+pub made-Sums : (v1 : Float) (dv1 : Float) (v2 : Float) (dv2 : Float) (w1 : Float) (w2 : Float) → asSums (record { v1 = v1; dv1 = dv1; v2 = v2; dv2 = dv2; w1 = w1; w2 = w2 }) ≡ record { v1 = v1; dv1 = dv1; v2 = v2; dv2 = dv2; w1 = w1; w2 = w2 }
 unfolding asSums
-dv1-of-Sums a = refl
-
-pub dv2-of-Sums : (a : Sums) → a .dv2 ≡ asSums a .dv2
-unfolding asSums
-dv2-of-Sums a = refl
-
-pub made-Sums : (v1 : Float) (v2 : Float) (w1 : Float) (w2 : Float) (dv1 : Float) (dv2 : Float) → asSums (record { v1 = v1; v2 = v2; w1 = w1; w2 = w2; dv1 = dv1; dv2 = dv2 }) ≡ record { v1 = v1; v2 = v2; w1 = w1; w2 = w2; dv1 = dv1; dv2 = dv2 }
-unfolding asSums
-made-Sums v1 v2 w1 w2 dv1 dv2 = refl
+made-Sums v1 dv1 v2 dv2 w1 w2 = refl
 
 pub v2-of-Tail : (a : Tail) → a .v2 ≡ asTail a .v2
 unfolding asTail
@@ -260,4 +260,4 @@ pub made-Horner : (v0 : GPair) (w0 : GPair) → asHorner (record { v0 = v0; w0 =
 unfolding asHorner
 made-Horner v0 w0 = refl
 
-pub ruleset series-singles = (p-of-Level, xi-of-Level, zeta-of-Level, dxi-of-Level, dzeta-of-Level, made-Level, v1-of-Sums, v2-of-Sums, w1-of-Sums, w2-of-Sums, dv1-of-Sums, dv2-of-Sums, made-Sums, v2-of-Tail, w2-of-Tail, dv1-of-Tail, dv1-next-of-Tail, dv2-of-Tail, dv2-next-of-Tail, dv2-last-of-Tail, made-Tail, level-of-Turns, sums-of-Turns, made-Turns, p-of-TurnsV, xi-of-TurnsV, zeta-of-TurnsV, v1-of-TurnsV, v2-of-TurnsV, made-TurnsV, level-of-TurnsPair, pos-of-TurnsPair, neg-of-TurnsPair, made-TurnsPair, pos-of-SumsPair, neg-of-SumsPair, made-SumsPair, v0-of-Sim3Coeffs, v1-of-Sim3Coeffs, v2-of-Sim3Coeffs, w0-of-Sim3Coeffs, w1-of-Sim3Coeffs, w2-of-Sim3Coeffs, dv1-of-Sim3Coeffs, dv2-of-Sim3Coeffs, chi-delta-of-Sim3Coeffs, made-Sim3Coeffs, v0-of-Coeffs4, v1-of-Coeffs4, v2-of-Coeffs4, chi-delta-of-Coeffs4, made-Coeffs4, pos-of-CoeffsPair, neg-of-CoeffsPair, made-CoeffsPair, pos-of-GPair, neg-of-GPair, made-GPair, v0-of-Horner, w0-of-Horner, made-Horner)
+pub ruleset series-singles = (xi-of-Level, dxi-of-Level, zeta-of-Level, dzeta-of-Level, p-of-Level, made-Level, v1-of-Sums, dv1-of-Sums, v2-of-Sums, dv2-of-Sums, w1-of-Sums, w2-of-Sums, made-Sums, v2-of-Tail, w2-of-Tail, dv1-of-Tail, dv1-next-of-Tail, dv2-of-Tail, dv2-next-of-Tail, dv2-last-of-Tail, made-Tail, level-of-Turns, sums-of-Turns, made-Turns, p-of-TurnsV, xi-of-TurnsV, zeta-of-TurnsV, v1-of-TurnsV, v2-of-TurnsV, made-TurnsV, level-of-TurnsPair, pos-of-TurnsPair, neg-of-TurnsPair, made-TurnsPair, pos-of-SumsPair, neg-of-SumsPair, made-SumsPair, v0-of-Sim3Coeffs, v1-of-Sim3Coeffs, v2-of-Sim3Coeffs, w0-of-Sim3Coeffs, w1-of-Sim3Coeffs, w2-of-Sim3Coeffs, dv1-of-Sim3Coeffs, dv2-of-Sim3Coeffs, chi-delta-of-Sim3Coeffs, made-Sim3Coeffs, v0-of-Coeffs4, v1-of-Coeffs4, v2-of-Coeffs4, chi-delta-of-Coeffs4, made-Coeffs4, pos-of-CoeffsPair, neg-of-CoeffsPair, made-CoeffsPair, pos-of-GPair, neg-of-GPair, made-GPair, v0-of-Horner, w0-of-Horner, made-Horner)

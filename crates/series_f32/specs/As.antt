@@ -1,4 +1,4 @@
--- Written by tools/widths from crates/series: edit that one. Digest 59546dca1d533331.
+-- Written by tools/widths from crates/series: edit that one. Digest 6a751196337b3e2d.
 -- The structs of series_f32 as the records that the definitions speak of, number by number: a float of either width is one type of the logic.
 use Rattle.series.specs.declared.recurrence.Level as wideLevel
 use Rattle.series_f32.specs.declared.recurrence.Level.{Level}
@@ -26,10 +26,10 @@ use Rattle.series.specs.declared.sim3.Horner as wideHorner
 use Rattle.series_f32.specs.declared.sim3.Horner.{Horner}
 
 unfoldable pub asLevel : Level → wideLevel.Level
-asLevel a = record { p = a .p; xi = a .xi; zeta = a .zeta; dxi = a .dxi; dzeta = a .dzeta }
+asLevel a = record { xi = a .xi; dxi = a .dxi; zeta = a .zeta; dzeta = a .dzeta; p = a .p }
 
 unfoldable pub asSums : Sums → wideSums.Sums
-asSums a = record { v1 = a .v1; v2 = a .v2; w1 = a .w1; w2 = a .w2; dv1 = a .dv1; dv2 = a .dv2 }
+asSums a = record { v1 = a .v1; dv1 = a .dv1; v2 = a .v2; dv2 = a .dv2; w1 = a .w1; w2 = a .w2 }
 
 unfoldable pub asTail : Tail → wideTail.Tail
 asTail a = record { v2 = a .v2; w2 = a .w2; dv1 = a .dv1; «dv1_next» = a .«dv1_next»; dv2 = a .dv2; «dv2_next» = a .«dv2_next»; «dv2_last» = a .«dv2_last» }

@@ -1,4 +1,4 @@
-// Written by tools/widths from crates/series/src/recurrence.rt: edit that one. Digest a8d4c8b3f989bfda.
+// Written by tools/widths from crates/series/src/recurrence.rt: edit that one. Digest 60552bb2d5c96285.
 // The recurrence of the total-degree series: its levels, the terms that a level gives, and the six
 // sums of them, for one sign.
 ghost use mathlib.Core.Path.{_≡_};
@@ -10,21 +10,21 @@ use crate::sim3::Sim3Coeffs;
 
 // Level j: p = sigma^j, xi and zeta, and the z-derivatives of these two.
 pub struct Level {
-    pub p: f32,
     pub xi: f32,
-    pub zeta: f32,
     pub dxi: f32,
+    pub zeta: f32,
     pub dzeta: f32,
+    pub p: f32,
 }
 
 // The six sums over the levels, or the six terms that one level gives them.
 pub struct Sums {
     pub v1: f32,
+    pub dv1: f32,
     pub v2: f32,
+    pub dv2: f32,
     pub w1: f32,
     pub w2: f32,
-    pub dv1: f32,
-    pub dv2: f32,
 }
 
 // The terms that the sums take after level k: one for v2 and for w2, two for dv1, three for dv2.

@@ -3,13 +3,14 @@
 // where a sum at sigma adds a term, the one at -sigma adds or subtracts it.
 ghost use mathlib.Core.Path.{_≡_};
 ghost use mathlib.Core.Bool.{true, false};
-ghost use Prim.Native.Nat.{_+_, _≤_};
+ghost use Prim.Native.Nat.{_+_, _%_, _≤_};
 ghost use lib.Ieee.{binary64, neg};
-ghost use Rattle.series.specs.Series.{gSeriesPair, seriesFull, seriesPairTold, seriesPairAnswer};
+ghost use Rattle.series.specs.Series.{seriesNext, gSeriesPair, seriesFull, seriesPairTold, seriesPairAnswer};
 ghost use Rattle.series.specs.Pass.{bothStopped};
-ghost use Rattle.series.specs.Turns.{sumsGainMirrored, sumsLastMirrored, pairTurn, pairTurns, pairSums};
+ghost use Rattle.series.specs.Turns.{sumsGainMirrored, sumsLastMirrored, levelMinus, turnsMinus, pairTurn, pairTurns, pairSums};
 use crate::reciprocal::recip;
 use series::recurrence;
+use series::recurrence::Level;
 use series::recurrence::Sums;
 use series::recurrence::SumsPair;
 use series::recurrence::Tail;
@@ -60,26 +61,69 @@ fn sums_pair_at(sigma: f64, z: f64, k: usize) -> SumsPair
     }
 }
 
-// The levels to k, which give a term to every sum: an even and an odd level at each turn of the
-// loop, and an even one after it where k is even.
+// The levels to k, which give a term to every sum: an even one by itself where k is even.
 fn turns_at(sigma: f64, z: f64, k: usize) -> TurnsPair
     requires { ⌜ k ≤ 28 ⌝ }
     ensures { λ r. ⌜ r ≡ pairTurns binary64 sigma z (k + 1) ⌝ }
 {
-    let mut s = TurnsPair {
+    if k % 2 == 0 {
+        let s = turns_below(sigma, z, k);
+        return even_turn(sigma, z, recip(k + 1), recip(k + 2), s);
+    }
+    turns_below(sigma, z, k + 1)
+}
+
+// The levels below n, which is even: an even and an odd one at each turn. This is called from two
+// places, so that it is compiled as a function of its own, which stores its answer: it is from these
+// stores that the compiler sees which numbers of a turn to compute in twos.
+fn turns_below(sigma: f64, z: f64, n: usize) -> TurnsPair
+    requires { ⌜ (n ≤ 28) × (n % 2 ≡ 0) ⌝ }
+    ensures { λ r. ⌜ r ≡ pairTurns binary64 sigma z n ⌝ }
+{
+    let mut s = turns_minus(TurnsPair {
         level: recurrence::first(),
         pos: recurrence::none(),
         neg: recurrence::none(),
-    };
+    });
     let mut j = 0;
-    while j < k {
+    while j < n {
         s = two_turns(sigma, z, recip(j + 1), recip(j + 2), recip(j + 3), s);
         j += 2;
     }
-    if j == k {
-        return even_turn(sigma, z, recip(k + 1), recip(k + 2), s);
+    turns_minus(s)
+}
+
+// The same with the level's -p for its p, or p for -p.
+fn turns_minus(s: TurnsPair) -> TurnsPair
+    ensures { λ r. ⌜ r ≡ turnsMinus s ⌝ }
+{
+    let l = s.level;
+    let pos = s.pos;
+    let neg = s.neg;
+    TurnsPair {
+        level: Level {
+            xi: l.xi,
+            dxi: l.dxi,
+            zeta: l.zeta,
+            dzeta: l.dzeta,
+            p: -l.p,
+        },
+        pos,
+        neg,
     }
-    s
+}
+
+// The level after l, where both hold -p for p: x - (-p) is x + p, and xi and dxi are formed alike.
+fn next_minus(sigma: f64, z: f64, l: Level) -> Level
+    ensures { λ r. ⌜ r ≡ levelMinus (seriesNext binary64 sigma z (levelMinus l)) ⌝ }
+{
+    Level {
+        xi: (sigma * l.xi - l.p) - z * l.zeta,
+        dxi: (sigma * l.dxi - l.zeta) - z * l.dzeta,
+        zeta: sigma * l.zeta + l.xi,
+        dzeta: sigma * l.dzeta + l.dxi,
+        p: l.p * sigma,
+    }
 }
 
 // One even level, with r1 = 1/(j + 1)! and r2 = 1/(j + 2)!.
@@ -94,15 +138,15 @@ fn even_turn(sigma: f64, z: f64, r1: f64, r2: f64, s: TurnsPair) -> TurnsPair
     }
 }
 
-// An even level and the odd one after it, with r3 = 1/(j + 3)!.
+// An even level and the odd one after it, with r3 = 1/(j + 3)!, where the levels hold -p for p.
 fn two_turns(sigma: f64, z: f64, r1: f64, r2: f64, r3: f64, s: TurnsPair) -> TurnsPair
-    ensures { λ r. ⌜ r ≡ pairTurn binary64 sigma z r2 r3 true (pairTurn binary64 sigma z r1 r2 false s) ⌝ }
+    ensures { λ r. ⌜ r ≡ turnsMinus (pairTurn binary64 sigma z r2 r3 true (pairTurn binary64 sigma z r1 r2 false (turnsMinus s))) ⌝ }
 {
-    let l = recurrence::next(sigma, z, s.level);
+    let l = next_minus(sigma, z, s.level);
     let t = recurrence::terms(s.level, r1, r2);
     let u = recurrence::terms(l, r2, r3);
     TurnsPair {
-        level: recurrence::next(sigma, z, l),
+        level: next_minus(sigma, z, l),
         pos: recurrence::gain(recurrence::gain(s.pos, t), u),
         neg: gain_odd(gain_even(s.neg, t), u),
     }

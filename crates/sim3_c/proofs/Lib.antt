@@ -2,3 +2,5 @@
 pub mod Lists
 pub mod Stores
 mod Patterns
+mod PoseRuns
+mod Held

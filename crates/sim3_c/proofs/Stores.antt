@@ -81,13 +81,13 @@ pub scaled-stored :
 unfolding scaledNumbers coeffsNumbers
 scaled-stored s l i = let nine : i + 9 ≡ suc (i + 8) = omega arith in simp (nine, towards-suc)
 
--- ---- from the first place on
 pub pose-stored :
-    (x : Sim3) (l : List Float) →
-    set (sets (sets l 0 (quatNumbers (x .q))) 4 (vecNumbers (x .t))) 7 (x .sigma) ≡ sets l 0 (poseNumbers x)
+    (x : Sim3) (l : List Float) (i : ℕ) →
+    set (sets (sets l i (quatNumbers (x .q))) (i + 4) (vecNumbers (x .t))) (i + 7) (x .sigma) ≡ sets l i (poseNumbers x)
 unfolding poseNumbers
-pose-stored x l = simp runs
+pose-stored x l i = simp runs
 
+-- ---- from the first place on
 pub scaled-pair-stored : (p : ScaledPair) (l : List Float) → sets (sets l 0 (scaledNumbers (p .pos))) 10 (scaledNumbers (p .neg)) ≡ sets l 0 (scaledPairNumbers p)
 unfolding scaledPairNumbers
 scaled-pair-stored p l = simp runs

@@ -2,3 +2,4 @@ pub mod Lists
 pub mod Calls
 pub mod Near
 pub mod Order
+pub mod Join

@@ -11,6 +11,7 @@ pub mod jacobians; // inverse, adjoint, and the Jacobians of the group's operati
 pub mod square_root; // the square root with what is left
 pub mod near; // how near another arm is
 pub mod tangents; // the order of tangents, and of a list of them
+pub mod join; // a running join between calls, and the Newton step on a list of poses
 
 // A list has not the length that is due. No refusal of the engine has this number or one near it.
 const LIST_LENGTH: u32 = 100;

@@ -3,7 +3,7 @@
 ghost use mathlib.Core.Path.{_≡_};
 ghost use Prim.Native.Nat.{_+_, _≤_};
 ghost use lib.ListN.{length};
-ghost use Rattle.layout.specs.Layout.{vecIn, matIn};
+ghost use Rattle.layout.specs.Layout.{vecIn, matIn, poseIn};
 ghost use Rattle.sim3_c.specs.Lists.{numberIn, vecFrom, matFrom, poseFrom, tangentFrom, valuesFrom, blockFrom, poseLists, framesFrom, framedFrom};
 ghost use Rattle.sim3_c.specs.Lists.{vecReadTold, matReadTold, poseReadTold, framesReadTold, framedReadTold, tangentReadTold, valuesReadTold, blockReadTold};
 use crate::FRAMES;
@@ -109,23 +109,30 @@ pub(crate) fn mat_from(l: &[f64]) -> MatRead
 }
 
 // Quaternion w x y z, t, sigma.
+pub(crate) fn pose_in(l: &[f64], at: usize) -> Sim3
+    requires { ⌜ at + 8 ≤ length (now l) ⌝ }
+    ensures { λ r. ⌜ r ≡ poseIn (numberIn (now (l .entry))) at ⌝ }
+{
+    let q = Quat {
+        w: l[at],
+        x: l[at + 1],
+        y: l[at + 2],
+        z: l[at + 3],
+    };
+    Sim3 {
+        q,
+        t: vec_in(l, at + 4),
+        sigma: l[at + 7],
+    }
+}
+
 pub(crate) fn pose_from(l: &[f64]) -> PoseRead
     ensures { λ r. ⌜ poseReadTold r ≡ poseFrom (now (l .entry)) ⌝ }
 {
     if l.len() != POSE {
         return PoseRead::Wrong;
     }
-    let q = Quat {
-        w: l[0],
-        x: l[1],
-        y: l[2],
-        z: l[3],
-    };
-    PoseRead::Got(Sim3 {
-        q,
-        t: vec_in(l, 4),
-        sigma: l[7],
-    })
+    PoseRead::Got(pose_in(l, 0))
 }
 
 // From, to.

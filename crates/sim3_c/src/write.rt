@@ -95,13 +95,13 @@ fn set_scaled(out: &mut [f64], at: usize, c: Sim3Coeffs, scaled: bool)
     out[at + 9] = ieee::pick(scaled, 1.0, 0.0);
 }
 
-fn set_pose(out: &mut [f64], x: Sim3)
-    requires { ⌜ 8 ≤ length (now out) ⌝ }
-    ensures { λ _. ⌜ now (out .exit) ≡ sets (now (out .entry)) 0 (poseNumbers x) ⌝ }
+pub(crate) fn set_pose(out: &mut [f64], at: usize, x: Sim3)
+    requires { ⌜ at + 8 ≤ length (now out) ⌝ }
+    ensures { λ _. ⌜ now (out .exit) ≡ sets (now (out .entry)) at (poseNumbers x) ⌝ }
 {
-    set_quat(out, 0, x.q);
-    set_three(out, 4, x.t);
-    out[7] = x.sigma;
+    set_quat(out, at, x.q);
+    set_three(out, at + 4, x.t);
+    out[at + 7] = x.sigma;
 }
 
 pub(crate) fn put_pose(out: &mut [f64], x: Sim3) -> u32
@@ -111,7 +111,7 @@ pub(crate) fn put_pose(out: &mut [f64], x: Sim3) -> u32
     if out.len() != POSE {
         return LIST_LENGTH;
     }
-    set_pose(out, x);
+    set_pose(out, 0, x);
     0
 }
 
@@ -129,7 +129,7 @@ pub(crate) fn put_framed(out: &mut [f64], out_frames: &mut [u16], x: Pose) -> u3
     if out_frames.len() != FRAMES {
         return LIST_LENGTH;
     }
-    set_pose(out, x.sim3);
+    set_pose(out, 0, x.sim3);
     out_frames[0] = x.from;
     out_frames[1] = x.to;
     0

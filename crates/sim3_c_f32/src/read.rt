@@ -1,13 +1,14 @@
-// Written by tools/widths from crates/sim3_c/src/read.rt: edit that one. Digest d9e99c1eac250851.
+// Written by tools/widths from crates/sim3_c/src/read.rt: edit that one. Digest 614a0eaa912859ad.
 // The things that stand in a list's numbers; Wrong where the list has another length. Matrices go
 // column by column.
 ghost use mathlib.Core.Path.{_≡_};
 ghost use Prim.Native.Nat.{_+_, _≤_};
 ghost use lib.ListN.{length};
-ghost use Rattle.layout.specs.Layout.{vecIn, matIn};
+ghost use Rattle.layout.specs.Layout.{vecIn, matIn, poseIn};
 ghost use Rattle.sim3_c.specs.Lists.{numberIn, vecFrom, matFrom, poseFrom, tangentFrom, valuesFrom, blockFrom, poseLists, framesFrom, framedFrom};
 ghost use Rattle.sim3_c_f32.specs.Told.{vecReadTold, matReadTold, poseReadTold, framesReadTold, framedReadTold, tangentReadTold, valuesReadTold, blockReadTold};
 ghost use Rattle.linalg_f32.specs.As.{asMat3, asVec3};
+ghost use Rattle.sim3_f32.specs.As.{asSim3};
 use crate::FRAMES;
 use coeffs_f32::values::Values;
 use frames_f32::Pose;
@@ -111,23 +112,30 @@ pub(crate) fn mat_from(l: &[f32]) -> MatRead
 }
 
 // Quaternion w x y z, t, sigma.
+pub(crate) fn pose_in(l: &[f32], at: usize) -> Sim3
+    requires { ⌜ at + 8 ≤ length (now l) ⌝ }
+    ensures { λ r. ⌜ asSim3 r ≡ poseIn (numberIn (now (l .entry))) at ⌝ }
+{
+    let q = Quat {
+        w: l[at],
+        x: l[at + 1],
+        y: l[at + 2],
+        z: l[at + 3],
+    };
+    Sim3 {
+        q,
+        t: vec_in(l, at + 4),
+        sigma: l[at + 7],
+    }
+}
+
 pub(crate) fn pose_from(l: &[f32]) -> PoseRead
     ensures { λ r. ⌜ poseReadTold r ≡ poseFrom (now (l .entry)) ⌝ }
 {
     if l.len() != POSE {
         return PoseRead::Wrong;
     }
-    let q = Quat {
-        w: l[0],
-        x: l[1],
-        y: l[2],
-        z: l[3],
-    };
-    PoseRead::Got(Sim3 {
-        q,
-        t: vec_in(l, 4),
-        sigma: l[7],
-    })
+    PoseRead::Got(pose_in(l, 0))
 }
 
 // From, to.

@@ -1,4 +1,4 @@
-// Written by tools/widths from crates/sim3_c/src/write.rt: edit that one. Digest 3bdac036ca1cad50.
+// Written by tools/widths from crates/sim3_c/src/write.rt: edit that one. Digest dfe48c502ee5b8c3.
 // The numbers of a thing, written to a list that has just their length: 0, or LIST_LENGTH and nothing
 // written.
 ghost use mathlib.Core.Path.{_≡_};
@@ -104,13 +104,13 @@ fn set_scaled(out: &mut [f32], at: usize, c: Sim3Coeffs, scaled: bool)
     out[at + 9] = ieee_f32::pick(scaled, 1.0, 0.0);
 }
 
-fn set_pose(out: &mut [f32], x: Sim3)
-    requires { ⌜ 8 ≤ length (now out) ⌝ }
-    ensures { λ _. ⌜ now (out .exit) ≡ sets (now (out .entry)) 0 (poseNumbers (asSim3 x)) ⌝ }
+pub(crate) fn set_pose(out: &mut [f32], at: usize, x: Sim3)
+    requires { ⌜ at + 8 ≤ length (now out) ⌝ }
+    ensures { λ _. ⌜ now (out .exit) ≡ sets (now (out .entry)) at (poseNumbers (asSim3 x)) ⌝ }
 {
-    set_quat(out, 0, x.q);
-    set_three(out, 4, x.t);
-    out[7] = x.sigma;
+    set_quat(out, at, x.q);
+    set_three(out, at + 4, x.t);
+    out[at + 7] = x.sigma;
 }
 
 pub(crate) fn put_pose(out: &mut [f32], x: Sim3) -> u32
@@ -120,7 +120,7 @@ pub(crate) fn put_pose(out: &mut [f32], x: Sim3) -> u32
     if out.len() != POSE {
         return LIST_LENGTH;
     }
-    set_pose(out, x);
+    set_pose(out, 0, x);
     0
 }
 
@@ -138,7 +138,7 @@ pub(crate) fn put_framed(out: &mut [f32], out_frames: &mut [u16], x: Pose) -> u3
     if out_frames.len() != FRAMES {
         return LIST_LENGTH;
     }
-    set_pose(out, x.sim3);
+    set_pose(out, 0, x.sim3);
     out_frames[0] = x.from;
     out_frames[1] = x.to;
     0

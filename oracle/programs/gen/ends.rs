@@ -1,6 +1,6 @@
 //! How a job file ends: cleanly, or damaged in every way.
 
-use crate::sources::{bytes_in, is_join, marks, Letters, Sources};
+use crate::sources::{bytes_in, is_join, is_sheet, marks, Letters, Sources};
 
 /// Marks that are in no job table: other case, other order, one letter wrong, the answers' own.
 const UNKNOWN: [&Letters; 25] = [
@@ -40,6 +40,10 @@ const UNKNOWN_SMALL: [&Letters; 23] = [
 /// The same beside the marks of the running join.
 const UNKNOWN_JOIN: [&Letters; 8] = [b"rn", b"Ch", b"cH", b"Rn", b"rN", b"NR", b"CI", b"RM"];
 
+/// The same beside the marks of the kept sheets.
+const UNKNOWN_SHEET: [&Letters; 10] =
+    [b"sh", b"sq", b"Sh", b"sH", b"Sq", b"sQ", b"HS", b"QS", b"SI", b"SP"];
+
 /// An end of a file.
 #[derive(Clone, Copy, Debug)]
 pub enum End {
@@ -55,6 +59,7 @@ pub enum End {
 /// Every end: 0 is the clean one, the others are damaged.
 pub fn ends() -> Vec<End> {
     let (join, rest): (Vec<_>, Vec<_>) = marks().into_iter().partition(is_join);
+    let (sheet, rest): (Vec<_>, Vec<_>) = rest.into_iter().partition(is_sheet);
     let (single, double): (Vec<_>, Vec<_>) =
         rest.into_iter().partition(|letters| letters[0].is_ascii_lowercase());
     let cut = |letters: Letters| (0..bytes_in(letters)).map(move |n| End::Cut(letters, n));
@@ -72,11 +77,16 @@ pub fn ends() -> Vec<End> {
     for behind in 0..3 {
         all.extend(UNKNOWN_JOIN.iter().map(|letters| End::Unknown(letters, behind)));
     }
+    all.extend(sheet.into_iter().flat_map(cut));
+    for behind in 0..3 {
+        all.extend(UNKNOWN_SHEET.iter().map(|letters| End::Unknown(letters, behind)));
+    }
     all
 }
 
 /// Writes an end. A cut record of CO, AR, JI, MU or CH, or of co, ji or mu, would earn refusal 1, 2
-/// or 9 if it were whole; CH where a pose is running.
+/// or 9 if it were whole; CH where a pose is running. One of SH, where a sheet is kept, would earn 10,
+/// and one of SQ 12.
 pub fn end(end: End, source: &mut Sources, out: &mut Vec<u8>) {
     match end {
         End::Clean => {}

@@ -4,7 +4,7 @@ mod ends;
 mod sources;
 
 use ends::{end, ends};
-use sources::{ids, is_join, marks, Letters, Sources};
+use sources::{ids, is_join, is_sheet, is_state, marks, Letters, Sources};
 use std::io::{self, BufWriter, Write};
 use std::process::ExitCode;
 
@@ -13,11 +13,12 @@ gen --seed S --count N [--mark XX | --marks M] [--end E]
                                                 adversarial job records, of one mark or of the
                                                 first M of the table in turn (--marks small: of
                                                 those in small letters; --marks chain: of CH and RN,
-                                                a history), then end number E
+                                                a history; --marks sheets: of SH and SQ, a history;
+                                                --marks state: of both), then end number E
                                                 (without --end: number S modulo their count)
 gen --mode lone --seed S --count N [--mark XX | --marks M]
                                                 records whose answer has one number alone that is
-                                                a NaN or an infinity; none of CH and RN
+                                                a NaN or an infinity; none of CH, RN, SH, SQ
 gen --mode good --seed S --count N --mark XX [--arm A]
                                                 well-formed ordinary records of one mark,
                                                 the coefficients in arm A (1 to 5)
@@ -54,6 +55,8 @@ fn settings() -> Result<Settings, String> {
             "--count" => s.count = number()?,
             "--arm" => s.arm = number()?.min(5) as usize,
             "--marks" if value == "chain" => s.marks.retain(is_join),
+            "--marks" if value == "sheets" => s.marks.retain(is_sheet),
+            "--marks" if value == "state" => s.marks.retain(is_state),
             "--marks" if value == "small" => s.marks.retain(|m| m[0].is_ascii_lowercase()),
             "--marks" => s.marks.truncate((number()? as usize).max(1)),
             "--id" => s.id = Some(number()? as u8),
@@ -72,15 +75,15 @@ fn settings() -> Result<Settings, String> {
             _ => return Err(format!("{name}: no such setting")),
         }
     }
-    let only_join = s.mark.as_ref().map_or(s.marks.iter().all(is_join), is_join);
-    if s.mode == "lone" && only_join {
-        return Err("--mode lone has no records of CH and RN".into());
+    let only_state = s.mark.as_ref().map_or(s.marks.iter().all(is_state), is_state);
+    if s.mode == "lone" && only_state {
+        return Err("--mode lone has no records of CH, RN, SH and SQ".into());
     }
     Ok(s)
 }
 
 /// Adversarial records of each mark in turn, and an end. In the places of CH and RN stands a history
-/// of both.
+/// of both, and in those of SH and SQ another.
 fn job(s: &Settings, source: &mut Sources, out: &mut impl Write) -> io::Result<()> {
     let mut record = Vec::new();
     for i in 0..s.count as usize {
@@ -88,6 +91,7 @@ fn job(s: &Settings, source: &mut Sources, out: &mut impl Write) -> io::Result<(
         match (s.mark, s.marks[i % s.marks.len()]) {
             (Some(mark), _) => source.job_record(mark, &mut record),
             (None, mark) if is_join(&mark) => source.history_record(&mut record),
+            (None, mark) if is_sheet(&mark) => source.sheet_record(&mut record),
             (None, mark) => source.job_record(mark, &mut record),
         }
         out.write_all(&record)?;
@@ -99,11 +103,11 @@ fn job(s: &Settings, source: &mut Sources, out: &mut impl Write) -> io::Result<(
     out.write_all(&record)
 }
 
-/// Records with one number alone that is not finite, of each mark in turn but CH and RN: what CH
-/// answers lies with the records before it.
+/// Records with one number alone that is not finite, of each mark in turn but CH, RN, SH and SQ: what
+/// CH and SQ answer lies with the records before them.
 fn lone(s: &Settings, source: &mut Sources, out: &mut impl Write) -> io::Result<()> {
     let mut record = Vec::new();
-    let marks: Vec<_> = s.marks.iter().copied().filter(|mark| !is_join(mark)).collect();
+    let marks: Vec<_> = s.marks.iter().copied().filter(|mark| !is_state(mark)).collect();
     for i in 0..s.count as usize {
         record.clear();
         source.lone_record(s.mark.unwrap_or(marks[i % marks.len()]), &mut record);

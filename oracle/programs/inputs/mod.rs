@@ -8,12 +8,14 @@ mod lone;
 mod numbers;
 mod poses;
 mod records;
+mod retakes;
 mod rng;
 mod values;
 
 pub use history::History;
 pub use numbers::Mood;
 pub use records::{marks, Letters};
+pub use retakes::Retakes;
 pub use rng::Rng;
 
 /// A source of inputs; the same seed gives the same inputs.

@@ -1,4 +1,4 @@
--- Written by tools/proofs from Proof.template: edit that one. Digest 9764861cbf27476c.
+-- Written by tools/proofs from Proof.template: edit that one. Digest e257643fef50ddcc.
 -- `running::Running::join` meets its contract: by whether there is a pose, and by whether the product is accepted. Assumes nothing.
 use borrow.Author.Needs.{needs}
 use mathlib.Core.Path.{refl, sym, ap, _∙_}
@@ -15,13 +15,13 @@ returns-2 : tie.Need-returns-2
 unfolding joinOn productOn poseTold
 returns-2 c =
     let c1 = c .before .before .before .before .before in
-    rw (c1 .before .before .start .given .1, sym (c1 .mul .ensures) ∙ ap poseTold (c .before .before .before .y .given .1), ← (c .before .one-more .ensures)) (c .produced .ensures)
+    rw (c1 .before .before .start .given .1, sym (c1 .product .ensures) ∙ ap poseTold (c .before .before .before .y .given .1), ← (c .before .one-more .ensures)) (c .produced .ensures)
 
 returns-3 : tie.Need-returns-3
 unfolding joinOn productOn poseTold
 returns-3 c =
     let c1 = c .before .before .before .before .before in
-    rw (c1 .start .given .1, sym (c .before .before .before .mul .ensures) ∙ ap poseTold (c .before .number .given .1)) refl
+    rw (c1 .start .given .1, sym (c .before .before .before .product .ensures) ∙ ap poseTold (c .before .number .given .1)) refl
 
 pub join-spec : {M : Type 1} → statement M
 join-spec =

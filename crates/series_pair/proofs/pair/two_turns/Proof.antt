@@ -1,11 +1,13 @@
--- Written by tools/proofs, plain, opening pairTurn. Digest 42f989aec4a44b55.
+-- Written by tools/proofs from Proof.template: edit that one. Digest 9ca76bcbfda5cd40.
+-- `series_pair::pair::two_turns` meets its contract: each turn's level holds -p for p, which its terms do not see, and done twice it is nothing. Assumes nothing.
 use borrow.Author.Needs.{needs}
-use Rattle.series.specs.Turns.{pairTurn}
+use Rattle.series.specs.Turns.{pairTurn, turnsMinus}
+use Rattle.series_pair.proofs.Minus.{level-twice, terms-minus}
 use Rattle.series_pair.proofs.pair.two_turns.Statement.{statement}
 use Rattle.series_pair.proofs.pair.two_turns.Tie as tie
 
 returns : tie.Need-returns
-unfolding pairTurn
+unfolding pairTurn turnsMinus
 returns c =
     let c1 = c .before .before .before .before .before in
     simp (
@@ -13,10 +15,12 @@ returns c =
       c .before .gain-even .ensures,
       c .before .before .gain2 .ensures,
       c .before .before .before .gain .ensures,
-      c .before .before .before .before .next2 .ensures,
+      c .before .before .before .before .next-minus2 .ensures,
       c1 .terms2 .ensures,
       c1 .before .terms .ensures,
-      c1 .before .before .next .ensures,
+      c1 .before .before .next-minus .ensures,
+      level-twice,
+      terms-minus,
     )
 
 pub two-turns-spec : {M : Type 1} → statement M

@@ -1,71 +1,35 @@
--- Written by tools/widths from crates/series_pair/proofs/pair/turns_at/Proof.antt: edit that one. Digest eedfd2b8ce37a353.
--- `series_pair_f32::pair::turns_at` meets its contract: the loop holds `pairTurns` at an even j, which ends at k or at k + 1, and the turn after it is the one that is left. Assumes nothing.
-use mathlib.Core.Path.{_≡_}
-use Prim.Native.Nat.{_+_, _-_, _%_, _≤_}
+-- Written by tools/widths from crates/series_pair/proofs/pair/turns_at/Proof.antt: edit that one. Digest e73c347bedf046b9.
+-- `series_pair_f32::pair::turns_at` meets its contract: the levels below k and one even level more, or, where k is odd, those below k + 1, which is even. Assumes nothing.
 use native.Mathlib.Omega.{arith}
+use borrow.Author.Needs.{needs}
 use lib.Ieee.{binary32}
-use Rattle.series.specs.Turns.{pairTurns}
-use Rattle.series_pair.proofs.Pairs.{even-more, two-more}
+use Rattle.series_pair.proofs.Pairs.{even-more}
 use Rattle.series_pair_f32.proofs.pair.turns_at.Statement.{statement}
 use Rattle.series_pair_f32.proofs.pair.turns_at.Tie as tie
-use Rattle.series_f32.specs.As.{asTurnsPair}
 use Rattle.linalg_f32.proofs.As.{linalg-singles}
 use Rattle.series_f32.proofs.As.{series-singles}
 
-abbrev Inv-loop : tie.InvT-loop
-Inv-loop sigma z k s₀ j₀ s j = (j ≤ k + 1) × (j % 2 ≡ 0) × (asTurnsPair s ≡ pairTurns binary32 sigma z j)
-
-abbrev μ-loop : tie.MeasureT-loop
-μ-loop sigma z k s₀ j₀ s j = k + 1 - j
-
-loop-holds : tie.Need-loop-holds Inv-loop μ-loop
-unfolding pairTurns
-loop-holds c = (omega arith, omega arith, simp (linalg-singles, series-singles, c .none2 .ensures, c .before .none .ensures, c .before .before .first .ensures))
-
-loop-again : tie.Need-loop-again Inv-loop μ-loop
-loop-again c =
-    let l = c .before .before .before .before .before in
-    let a = l .before .before .before .before .args in
-    let r = c .before .before .before .recip .ensures in
-    let m = two-more binary32 (a .sigma) (a .z) (l .loop .j) (omega arith) in
-    (omega arith, omega arith, simp (linalg-singles, series-singles, c .two-turns .ensures, c .before .recip3 .ensures, c .before .before .recip2 .ensures, r, l .loop .inv .2, m))
-
-returns : tie.Need-returns Inv-loop μ-loop
+returns : tie.Need-returns
 returns c =
-    let l = c .before .before .before .before .before in
-    let a = l .before .before .before .before .args in
-    let d : l .loop .j ≡ a .k = omega arith in
-    simp (linalg-singles, series-singles, c .even-turn .ensures, c .before .recip5 .ensures, c .before .before .recip4 .ensures, l .loop .inv .2, d, even-more binary32 (a .sigma) (a .z) (a .k) (omega arith))
+    let c1 = c .before .before .before .before .before in
+    let a = c1 .args in
+    let m = even-more binary32 (a .sigma) (a .z) (a .k) (omega arith) in
+    simp (linalg-singles, series-singles, c .even-turn .ensures, c .before .recip2 .ensures, c .before .before .recip .ensures, c .before .before .before .turns-below .ensures, m)
 
-returns-2 : tie.Need-returns-2 Inv-loop μ-loop
-returns-2 c =
-    let d : c .before .before .loop .j ≡ c .before .before .before .before .before .before .args .k + 1 = omega arith in
-    simp (linalg-singles, series-singles, c .before .before .loop .inv .2, d)
+returns-2 : tie.Need-returns-2
+returns-2 c = c .turns-below2 .ensures
 
 pub turns-at-spec : {M : Type 1} → statement M
 turns-at-spec =
     tie.close
     (tie.spec
-    Inv-loop
-    μ-loop
-    (λ c κs. tt)
-    (λ c κs. tt)
-    (λ c κs. tt)
-    loop-holds
-    (λ c. omega arith)
-    (λ c κs. omega arith)
-    (λ c. omega arith)
-    (λ c κs. omega arith)
-    (λ c. omega arith)
-    (λ c κs. omega arith)
-    (λ c κs. tt)
-    (λ c. omega arith)
-    (λ c. omega arith)
-    loop-again
-    (λ c. omega arith)
-    (λ c κs. omega arith)
-    (λ c. omega arith)
-    (λ c κs. omega arith)
-    (λ c κs. tt)
+    (λ c κs. search needs)
+    (λ c. search needs)
+    (λ c κs. search needs)
+    (λ c. search needs)
+    (λ c κs. search needs)
+    (λ c κs. search needs)
     returns
+    (λ c. search needs)
+    (λ c κs. search needs)
     returns-2)

@@ -1,7 +1,6 @@
 -- `sim3_c::read::pose_from` meets its contract: a list of the length that is due is read, and any other is told. Assumes nothing.
 use borrow.Author.Needs.{needs}
 use mathlib.Core.Path.{sym}
-use Rattle.layout.specs.Layout.{poseIn, quatIn}
 use Rattle.sim3_c.specs.Lists.{poseFrom, poseReadTold}
 use Rattle.sim3_c.proofs.Lists.{sized-right, sized-wrong}
 use Rattle.sim3_c.proofs.read.pose_from.Statement.{statement}
@@ -12,8 +11,8 @@ unfolding poseFrom poseReadTold
 returns c = sym (sized-wrong _ _ _ (c .if1 .taken))
 
 returns-2 : tie.Need-returns-2
-unfolding poseIn quatIn poseFrom poseReadTold
-returns-2 c = rw (c .before .vec-in .ensures) (sym (sized-right _ _ _ (c .before .before .before .before .before .before .if1 .left)))
+unfolding poseFrom poseReadTold
+returns-2 c = rw (c .pose-in .ensures) (sym (sized-right _ _ _ (c .before .if1 .left)))
 
 pub pose-from-spec : {M : Type 1} → statement M
-pose-from-spec = tie.close (tie.spec returns (λ c. search needs) (λ c. search needs) (λ c. search needs) (λ c. search needs) (λ c κs. search needs) (λ c. search needs) returns-2)
+pose-from-spec = tie.close (tie.spec returns (λ c κs. search needs) returns-2)

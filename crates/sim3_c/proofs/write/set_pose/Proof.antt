@@ -1,4 +1,4 @@
--- Written by tools/proofs from Proof.template: edit that one. Digest 78e4e810db1e3ceb.
+-- Written by tools/proofs from Proof.template: edit that one. Digest fa4c8d94733e0d91.
 -- `sim3_c::write::set_pose` meets its contract: the quaternion, the translation and the store of the log scale are the run of the numbers. Assumes nothing.
 use borrow.Author.Needs.{needs}
 use native.Mathlib.Omega.{arith}
@@ -11,7 +11,7 @@ returns : tie.Need-returns
 returns c =
     let c1 = c .before .before .before .before .before in
     let a = c1 .before .before .before .before .args in
-    rw (c .before .before .set-three .ensures, c1 .before .set-quat .ensures) (pose-stored (a .x) (a .out .now))
+    rw (c .before .before .set-three .ensures, c1 .before .set-quat .ensures) (pose-stored (a .x) (a .out .now) (a .at))
 
 same-length : tie.Need-same-length
 same-length c = simp length-set (search needs)
@@ -21,7 +21,10 @@ set-pose-spec =
     tie.close
     (tie.spec
     (λ c κs. search needs)
+    (λ c. search needs)
     (λ c κs. search needs)
+    (λ c. search needs)
+    (λ c. search needs)
     (λ c. search needs)
     same-length
     returns)

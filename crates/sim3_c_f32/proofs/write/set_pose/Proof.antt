@@ -1,4 +1,4 @@
--- Written by tools/widths from crates/sim3_c/proofs/write/set_pose/Proof.antt: edit that one. Digest e4ddf90001b13d1a.
+-- Written by tools/widths from crates/sim3_c/proofs/write/set_pose/Proof.antt: edit that one. Digest 7b810c7ecc9dd79d.
 -- `sim3_c_f32::write::set_pose` meets its contract: the quaternion, the translation and the store of the log scale are the run of the numbers. Assumes nothing.
 use borrow.Author.Needs.{needs}
 use native.Mathlib.Omega.{arith}
@@ -15,7 +15,7 @@ unfolding asQuat asSim3 asVec3
 returns c =
     let c1 = c .before .before .before .before .before in
     let a = c1 .before .before .before .before .args in
-    rw (c .before .before .set-three .ensures, c1 .before .set-quat .ensures) (pose-stored (asSim3 (a .x)) (a .out .now))
+    rw (c .before .before .set-three .ensures, c1 .before .set-quat .ensures) (pose-stored (asSim3 (a .x)) (a .out .now) (a .at))
 
 same-length : tie.Need-same-length
 same-length c = simp length-set (search needs)
@@ -25,7 +25,10 @@ set-pose-spec =
     tie.close
     (tie.spec
     (λ c κs. search needs)
+    (λ c. search needs)
     (λ c κs. search needs)
+    (λ c. search needs)
+    (λ c. search needs)
     (λ c. search needs)
     same-length
     returns)

@@ -1,6 +1,6 @@
 //! Numbers in bytes: little endian, of 8 bytes, or at the narrow width of 4; matrices column by
 //! column, a block as `a, b, c, f, e`, a pose as quaternion, translation, log scale. Frames are two
-//! 2-byte whole numbers, from and to, little endian too.
+//! 2-byte whole numbers, from and to, little endian too, as are n, sheets and takes.
 
 use super::frames::Frames;
 use super::Values;
@@ -32,6 +32,12 @@ impl Reader<'_> {
     #[inline(always)]
     pub fn word(&mut self) -> u64 {
         u64::from_le_bytes(self.take())
+    }
+
+    /// A whole number of 16 bits.
+    #[inline(always)]
+    pub fn short(&mut self) -> u16 {
+        u16::from_le_bytes(self.take())
     }
 
     #[inline(always)]
@@ -125,6 +131,11 @@ impl Writer<'_> {
     #[inline(always)]
     pub fn raw(&mut self, a: &[u8]) {
         self.0.extend_from_slice(a);
+    }
+
+    #[inline(always)]
+    pub fn short(&mut self, n: u16) {
+        self.raw(&n.to_le_bytes());
     }
 
     #[inline(always)]

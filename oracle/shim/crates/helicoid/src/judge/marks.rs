@@ -1,11 +1,12 @@
 //! The marks of the job program: what a record's numbers are and which published function answers
 //! them; the frames by their own rules. A refusal is its number. At the narrow width the letters
-//! are small and the numbers have 4 bytes; AR, CH and RN are of the wide one alone.
+//! are small and the numbers have 4 bytes; AR and the marks behind it are of the wide one alone.
 
-use super::chain::Chain;
 use super::counts::all_finite;
 use super::frames::Frames;
 use super::layout::{Reader, Writer, WIDTH};
+use super::sheets::Take;
+use super::state::State;
 use super::{arms, reads, Values};
 use crate::sim3::access::{jl_and_inverse_from, squared_angle};
 use crate::{coefficients, Jac, LieGroup, Sim3, Sim3Tangent, Tangent};
@@ -27,7 +28,7 @@ pub struct Mark {
 /// What gives an answer: from the record alone, or also from what the job's records before it left.
 pub enum Answer {
     Alone(fn(Reader<'_>, Writer<'_>) -> Result<(), u8>),
-    Running(fn(&mut Chain, Reader<'_>, Writer<'_>) -> Result<(), u8>),
+    Running(fn(&mut State, Reader<'_>, Writer<'_>) -> Result<(), u8>),
 }
 
 /// The bytes of a pose's frames.
@@ -49,13 +50,13 @@ const fn plain(
     Mark { letters, bytes_in, bytes_before: 0, bytes_out, bytes_behind: 0, answer }
 }
 
-/// A mark that reads or changes the running join, its answer made of bytes before its numbers, of
+/// A mark that reads or changes the job's state, its answer made of bytes before its numbers, of
 /// these, and of bytes behind them.
 const fn running(
     letters: &[u8; 2],
     bytes_in: usize,
     [bytes_before, bytes_out, bytes_behind]: [usize; 3],
-    answer: fn(&mut Chain, Reader<'_>, Writer<'_>) -> Result<(), u8>,
+    answer: fn(&mut State, Reader<'_>, Writer<'_>) -> Result<(), u8>,
 ) -> Mark {
     let answer = Answer::Running(answer);
     Mark { letters: *letters, bytes_in, bytes_before, bytes_out, bytes_behind, answer }
@@ -67,7 +68,7 @@ const fn posed(mark: Mark, poses: usize) -> Mark {
 }
 
 /// The paper's job table with the frames of its poses, and the requested marks behind it.
-const ALL: [Mark; 10] = [
+const ALL: [Mark; 12] = [
     posed(plain(b"EX", 17, 8, ex), 1),
     plain(b"CO", 12, 20, co),
     plain(b"PA", 35, 124, pa),
@@ -78,10 +79,12 @@ const ALL: [Mark; 10] = [
     Mark { bytes_before: 4, ..plain(b"AR", 12, 20, ar) },
     running(b"CH", 9 * WIDTH + FRAMES, [0, 8 * WIDTH, FRAMES], ch),
     running(b"RN", 2, [2, 0, 0], rn),
+    running(b"SH", 2 + 2 + 8 * WIDTH + FRAMES, [3, 0, 0], sh),
+    running(b"SQ", 2, [2, 8 * WIDTH, FRAMES], sq),
 ];
 
 /// The marks of this width, in the order of the job table.
-pub const MARKS: &[Mark] = ALL.split_at(by_width(10, 7)).0;
+pub const MARKS: &[Mark] = ALL.split_at(by_width(12, 7)).0;
 
 impl Mark {
     /// The bytes of a whole answer, its letters included.
@@ -105,13 +108,13 @@ pub fn mark(letters: [u8; 2]) -> Option<&'static Mark> {
 
 /// Takes a record, whose bytes behind its mark begin `rest`: writes its answer, the letters
 /// included, and says how many of those bytes it has and whether the answer's numbers are all
-/// finite; or writes nothing and says, in place of the latter, by what it is refused. `chain` is the
-/// job's running join. `Err` is 6 where the letters are no mark, and 7 where the record is not all there.
+/// finite; or writes nothing and says, in place of the latter, by what it is refused. `state` is the
+/// job's. `Err` is 6 where the letters are no mark, and 7 where the record is not all there.
 #[inline(always)]
 pub fn take(
     letters: [u8; 2],
     rest: &[u8],
-    chain: &mut Chain,
+    state: &mut State,
     out: &mut Vec<u8>,
 ) -> Result<(usize, Result<bool, u8>), u8> {
     let mark = mark(letters).ok_or(6)?;
@@ -120,7 +123,7 @@ pub fn take(
     out.extend_from_slice(&letters);
     let answered = match mark.answer {
         Answer::Alone(answer) => answer(Reader(record), Writer(out)),
-        Answer::Running(answer) => answer(chain, Reader(record), Writer(out)),
+        Answer::Running(answer) => answer(state, Reader(record), Writer(out)),
     };
     let told = match answered {
         Ok(()) => {
@@ -254,18 +257,37 @@ fn ji(mut r: Reader<'_>, mut w: Writer<'_>) -> Result<(), u8> {
 }
 
 /// The running pose, with this one joined to it.
-fn ch(chain: &mut Chain, mut r: Reader<'_>, mut w: Writer<'_>) -> Result<(), u8> {
+fn ch(state: &mut State, mut r: Reader<'_>, mut w: Writer<'_>) -> Result<(), u8> {
     let (x, frames, up) = (r.pose(), r.frames(), r.number());
-    let (running, at) = chain.join(x, frames, up)?;
+    let (running, at) = state.chain.join(x, frames, up)?;
     w.pose(&running);
     w.frames(at);
     Ok(())
 }
 
 /// After how many products the running quaternion is renormalised, said back.
-fn rn(chain: &mut Chain, r: Reader<'_>, mut w: Writer<'_>) -> Result<(), u8> {
+fn rn(state: &mut State, r: Reader<'_>, mut w: Writer<'_>) -> Result<(), u8> {
     let n = [r.0[0], r.0[1]];
-    chain.set_every(u16::from_le_bytes(n));
+    state.chain.set_every(u16::from_le_bytes(n));
     w.raw(&n);
+    Ok(())
+}
+
+/// What a take is to its sheet, and the take that stood before it.
+fn sh(state: &mut State, mut r: Reader<'_>, mut w: Writer<'_>) -> Result<(), u8> {
+    let (sheet, number) = (r.short(), r.short());
+    let (pose, frames) = (r.pose(), r.frames());
+    let (outcome, before) = state.sheets.bring(sheet, Take { number, pose, frames })?;
+    w.raw(&[outcome]);
+    w.short(before);
+    Ok(())
+}
+
+/// The take that is kept of a sheet.
+fn sq(state: &mut State, mut r: Reader<'_>, mut w: Writer<'_>) -> Result<(), u8> {
+    let take = state.sheets.kept(r.short())?;
+    w.short(take.number);
+    w.pose(&take.pose);
+    w.frames(take.frames);
     Ok(())
 }

@@ -8,6 +8,8 @@ pub mod frames;
 pub mod layout;
 pub mod marks;
 pub mod reads;
+pub mod sheets;
+pub mod state;
 mod values;
 
 pub use values::Values;

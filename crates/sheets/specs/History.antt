@@ -1,0 +1,43 @@
+-- Any shots, one after the other: of each sheet the highest take among those accepted is kept, and answered. Proved as `history` in proofs/Past.antt.
+use Prim.Native.Nat.{ℕ}
+use mathlib.Core.Path.{_≡_}
+use mathlib.Core.Bool.{cond}
+use mathlib.Core.List.{List, [], _∷_}
+use lib.Dec.{ltb, eqb}
+use Rattle.linalg.specs.Answer.{Answer, answers, refuses}
+use Rattle.sheets.specs.Sheets.{Kept, none, kept, Sheets, noSheets, Shelved, shelve, askOn, ask}
+use Rattle.sheets.specs.declared.Shot.{Shot}
+
+-- a shot, with the number of its sheet
+pub record Sent : Type 0 where
+  pub sheet : ℕ
+  pub shot : Shot
+
+-- what is kept after them
+unfoldable pub after : Sheets → List Sent → Sheets
+after s [] = s
+after s (x ∷ h) = after (shelve s (x .sheet) (x .shot) .sheets) h
+
+-- those of them that are not refused
+unfoldable pub unlessRefused : Answer Shelved → Sent → List Sent → List Sent
+unlessRefused (answers a) x l = x ∷ l
+unlessRefused (refuses k) x l = l
+
+unfoldable pub accepted : Sheets → List Sent → List Sent
+accepted s [] = []
+accepted s (x ∷ h) = let r = shelve s (x .sheet) (x .shot) in unlessRefused (r .answer) x (accepted (r .sheets) h)
+
+-- the one with the higher take
+unfoldable pub higher : Kept → Shot → Kept
+higher none x = kept x
+higher (kept y) x = cond (ltb (y .take) (x .take)) (kept x) (kept y)
+
+-- the one of the sheet n with the highest take among k and these
+unfoldable pub highest : ℕ → Kept → List Sent → Kept
+highest n k [] = k
+highest n k (x ∷ h) = highest n (cond (eqb n (x .sheet)) (higher k (x .shot)) k) h
+
+abbrev pub HistoryTheorem : Type 0
+HistoryTheorem =
+    (h : List Sent) (n : ℕ) → let best = highest n none (accepted noSheets h) in
+    (after noSheets h .at n ≡ best) × (ask (after noSheets h) n ≡ askOn best)
