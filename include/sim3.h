@@ -1,5 +1,5 @@
-/* sim3.h: the proved Sim(3) engine for C. Link target/staticlib/libsim3_c.a, and libsim3_c_f32.a for the functions at f32; bindings/build makes them
- * (x86-64).
+/* sim3.h: the proved Sim(3) engine for C and C++ (x86-64). bindings/install puts it and its library where `pkg-config --cflags --libs sim3` finds them; in the
+ * source tree bindings/build makes target/bindings/libsim3.a.
  *
  * Lists. Every list is a pointer and the count of its numbers. A pointer is never null, points to that many numbers of its type, and a list that is written
  * overlaps no other list of the call. That is all that is asked of a caller: every count and every number is taken, NaN and infinities included.
@@ -44,6 +44,15 @@
 #ifdef __cplusplus
 extern "C" {
 #endif
+
+/* The version of this header, written by tools/version from the file VERSION; docs/ABI.md says what a change of it means. sim3_version gives that of the library
+ * which is linked. */
+#define SIM3_VERSION_MAJOR 1
+#define SIM3_VERSION_MINOR 0
+#define SIM3_VERSION_PATCH 0
+#define SIM3_VERSION "1.0.0"
+
+const char *sim3_version(void);
 
 /* What a call returns. */
 enum {

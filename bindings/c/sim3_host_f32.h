@@ -8,7 +8,7 @@
 
 /* n numbers in double, and n numbers rounded. */
 static inline void sim3_host_widened_f32(const float *numbers, int n, double *out) {
-    for (int i = 0; i < n; i++) out[i] = numbers[i];
+    for (int i = 0; i < n; i++) out[i] = (double)numbers[i];
 }
 static inline void sim3_host_rounded_f32(const double *numbers, int n, float *out) {
     for (int i = 0; i < n; i++) out[i] = (float)numbers[i];
@@ -24,7 +24,7 @@ static inline float sim3_host_norm_sq_f32(const float *phi) {
 /* The ten values for a log scale and a squared angle. */
 static inline void sim3_host_values_f32(float sigma, float z, float values[10]) {
     double wide[10];
-    sim3_host_values(sigma, z, wide);
+    sim3_host_values((double)sigma, (double)z, wide);
     sim3_host_rounded_f32(wide, 10, values);
 }
 

@@ -1,5 +1,8 @@
 //! The functions over `f64`, each by one C function.
 
+#![forbid(unsafe_code)]
+
+use crate::lists::list;
 use crate::near::{told, Near};
 use crate::raw;
 use crate::{foreign, Arm, Join, Refusal};
@@ -13,16 +16,25 @@ pub struct Pose {
     pub to: u16,
 }
 
-/// phi x y z, rho x y z, sigma.
-pub type Tangent = [f64; 7];
-/// root, sin_half, cos_half, sin, e, m, e0, m0, up, down.
-pub type Values = [f64; 10];
+list! {
+    /// A tangent: phi x y z, rho x y z, sigma.
+    Tangent: [f64; 7] { sigma 6 }
+}
+list! {
+    /// The host's ten function values of a tangent.
+    Values: [f64; 10] {
+        root 0, sin_half 1, cos_half 2, sin 3, e 4, m 5, e0 6, m0 7, up 8, down 9
+    }
+}
+list! {
+    /// A block Jacobian: a 9, b 9, c 9, f 3, e: the 7 by 7 matrix with the rows (a 0 0), (b c f),
+    /// (0 0 e).
+    Block: [f64; 31] { e 30 }
+}
 /// x y z.
 pub type Vector = [f64; 3];
 /// Column by column.
 pub type Matrix = [f64; 9];
-/// a 9, b 9, c 9, f 3, e: the 7 by 7 matrix with the rows (a 0 0), (b c f), (0 0 e).
-pub type Block = [f64; 31];
 /// v0 v1 v2 w0 w1 w2 dv1 dv2 chi_delta, and the flag: 1 where they are still to be multiplied by
 /// e^sigma, else 0.
 pub type Coefficients = [f64; 10];
@@ -45,6 +57,40 @@ pub struct ActJacobians {
     pub point: Matrix,
 }
 
+impl Tangent {
+    /// The rotation vector.
+    pub fn phi(&self) -> Vector {
+        part(self, 0)
+    }
+
+    /// The translation part.
+    pub fn rho(&self) -> Vector {
+        part(self, 3)
+    }
+}
+
+impl Block {
+    /// The block that takes phi to phi.
+    pub fn a(&self) -> Matrix {
+        part(self, 0)
+    }
+
+    /// The block that takes phi to rho.
+    pub fn b(&self) -> Matrix {
+        part(self, 9)
+    }
+
+    /// The block that takes rho to rho.
+    pub fn c(&self) -> Matrix {
+        part(self, 18)
+    }
+
+    /// The column that takes sigma to rho.
+    pub fn f(&self) -> Vector {
+        part(self, 27)
+    }
+}
+
 // ---- what a C function answered
 
 /// N numbers from a place on; `all` has them.
@@ -52,6 +98,11 @@ fn part<const N: usize>(all: &[f64], at: usize) -> [f64; N] {
     let mut found = [0.0; N];
     found.copy_from_slice(&all[at..at + N]);
     found
+}
+
+/// A block from a place on.
+fn block(all: &[f64], at: usize) -> Block {
+    Block(part(all, at))
 }
 
 /// The numbers of a call that refuses nothing, since the lengths are in the types.
@@ -225,10 +276,10 @@ pub fn nearest_arm(sigma: f64, z: f64) -> Result<Option<Near>, Refusal> {
 pub fn block_pair(tau: &Tangent, values: &Values, jl: &Matrix, jl_inv: &Matrix) -> BlockPair {
     let out: [f64; 124] = sure(|out| raw::block_pair(tau, values, jl, jl_inv, out));
     BlockPair {
-        left: part(&out, 0),
-        left_inv: part(&out, 31),
-        right: part(&out, 62),
-        right_inv: part(&out, 93),
+        left: block(&out, 0),
+        left_inv: block(&out, 31),
+        right: block(&out, 62),
+        right_inv: block(&out, 93),
     }
 }
 
@@ -236,12 +287,12 @@ pub fn block_pair(tau: &Tangent, values: &Values, jl: &Matrix, jl_inv: &Matrix) 
 
 /// The inverse of a block, by adjugates; refused where e is a zero.
 pub fn block_inverse(j: &Block) -> Result<Block, Refusal> {
-    or_refusal(Refusal::EIsZero, |out| raw::block_inverse(j, out))
+    or_refusal(Refusal::EIsZero, |out| raw::block_inverse(j, out)).map(Block)
 }
 
 /// Ad_X; `up` is e^sigma of X.
 pub fn adjoint(x: &Pose, up: f64) -> Block {
-    sure(|out| raw::adjoint(&x.numbers, up, out))
+    Block(sure(|out| raw::adjoint(&x.numbers, up, out)))
 }
 
 fn act_jacobians(out: [f64; 30]) -> ActJacobians {
@@ -266,21 +317,21 @@ pub fn act_jacobians_left(x: &Pose, up: f64, p: &Vector) -> ActJacobians {
 /// Of X Y, right: by X and by Y, which read Y alone; `down` is e^-sigma of Y.
 pub fn compose_jacobians_right(y: &Pose, down: f64) -> (Block, Block) {
     let out: [f64; 62] = sure(|out| raw::compose_jacobians_right(&y.numbers, down, out));
-    (part(&out, 0), part(&out, 31))
+    (block(&out, 0), block(&out, 31))
 }
 
 /// Of X Y, left: by X and by Y, which read X alone; `up` is e^sigma of X.
 pub fn compose_jacobians_left(x: &Pose, up: f64) -> (Block, Block) {
     let out: [f64; 62] = sure(|out| raw::compose_jacobians_left(&x.numbers, up, out));
-    (part(&out, 0), part(&out, 31))
+    (block(&out, 0), block(&out, 31))
 }
 
 /// Of X⁻¹, right; `up` is e^sigma of X.
 pub fn inverse_jacobian_right(x: &Pose, up: f64) -> Block {
-    sure(|out| raw::inverse_jacobian_right(&x.numbers, up, out))
+    Block(sure(|out| raw::inverse_jacobian_right(&x.numbers, up, out)))
 }
 
 /// Of X⁻¹, left; `down` is e^-sigma of X.
 pub fn inverse_jacobian_left(x: &Pose, down: f64) -> Block {
-    sure(|out| raw::inverse_jacobian_left(&x.numbers, down, out))
+    Block(sure(|out| raw::inverse_jacobian_left(&x.numbers, down, out)))
 }

@@ -6,6 +6,8 @@
 //! of the tangent: up and down change places; e and e0, m and m0 change places where sigma is a
 //! zero; the rest stays. Its rotation Jacobians are the transposed ones.
 
+#![forbid(unsafe_code)]
+
 use crate::{Matrix, Pose, Refusal, Tangent, Values, Vector};
 
 /// z = |phi|², by the same sum as the engine's.
@@ -15,7 +17,7 @@ pub fn norm_sq(phi: &Vector) -> f64 {
 
 /// The rotation vector of a tangent.
 pub fn phi(tau: &Tangent) -> Vector {
-    [tau[0], tau[1], tau[2]]
+    tau.phi()
 }
 
 /// t = -|sigma|, but sigma itself where it is a zero, whose sign counts, or a NaN.
@@ -43,7 +45,7 @@ pub fn root(z: f64) -> f64 {
 pub fn values_by(root: impl Fn(f64) -> f64, sigma: f64, z: f64) -> Values {
     let r = root(z);
     let (here, there) = (shrinking(sigma), shrinking(-sigma));
-    [
+    Values([
         r,
         (0.5 * r).sin(),
         (0.5 * r).cos(),
@@ -54,7 +56,7 @@ pub fn values_by(root: impl Fn(f64) -> f64, sigma: f64, z: f64) -> Values {
         there.exp_m1(),
         sigma.exp(),
         (-sigma).exp(),
-    ]
+    ])
 }
 
 /// The same with the machine's root.

@@ -1,5 +1,7 @@
 //! The host's function values for singles: those of host.rs, computed in doubles, and each rounded once.
 
+#![forbid(unsafe_code)]
+
 use crate::functions_f32::{Matrix, Pose, Tangent, Values, Vector};
 use crate::host;
 
@@ -15,17 +17,17 @@ pub fn norm_sq(phi: &Vector) -> f32 {
 
 /// The rotation vector of a tangent.
 pub fn phi(tau: &Tangent) -> Vector {
-    [tau[0], tau[1], tau[2]]
+    tau.phi()
 }
 
 /// The ten values for a log scale and a squared angle.
 pub fn values(sigma: f32, z: f32) -> Values {
-    singles(host::values(sigma.into(), z.into()))
+    Values(singles(host::values(sigma.into(), z.into()).0))
 }
 
 /// The ten values of a tangent, whose squared angle is not rounded before the root.
 pub fn tangent_values(tau: &Tangent) -> Values {
-    singles(host::tangent_values(&tau.map(f64::from)))
+    Values(singles(host::tangent_values(&crate::Tangent(tau.0.map(f64::from))).0))
 }
 
 /// e^sigma of a pose.

@@ -1,5 +1,7 @@
 //! How near another arm of the coefficients is: what `nearest_arm` of either width gives.
 
+#![forbid(unsafe_code)]
+
 #[derive(Clone, Copy, Debug, PartialEq, Eq)]
 pub enum Direction {
     Down,

@@ -1,11 +1,15 @@
-//! The C functions of include/sim3.h at one width, each called through a function over slices. Outside of
-//! raw.rs and raw_f32.rs this crate has no unsafe code. The declarations are trusted; tests/bindings
-//! compares them with the header.
+//! The C functions of include/sim3.h at one width, each called through a function over slices. This is the
+//! one module with unsafe code, at both widths: every other one forbids it. The declarations are trusted;
+//! tests/bindings compares them with the header.
 
 #![allow(unsafe_code)]
 
-#[link(name = "sim3_c", kind = "static")]
+#[path = "raw_f32.rs"]
+pub mod single;
+
+#[link(name = "sim3", kind = "static")]
 extern "C" {
+    fn sim3_version() -> *const std::ffi::c_char;
     fn sim3_exp(
         tau: *const f64,
         tau_n: usize,
@@ -217,6 +221,11 @@ extern "C" {
 // list. A pointer and a count here are one slice's own, which is never null and aligned, even when it is
 // empty; and what is written is borrowed mutably, so no other slice overlaps it. All else, every count and
 // every number, they are proved to take.
+
+pub fn version() -> &'static std::ffi::CStr {
+    // SAFETY: it gives a text that ends in a zero and stays as long as the library is loaded.
+    unsafe { std::ffi::CStr::from_ptr(sim3_version()) }
+}
 
 pub fn exp(
     tau: &[f64],
@@ -504,8 +513,9 @@ pub fn compare_tangents(a: &[f64; 7], b: &[f64; 7], out: &mut [i64]) -> u32 {
     }
 }
 
-pub fn sort_tangents(list: &mut [[f64; 7]]) -> u32 {
-    // The arrays of a slice stand in a row, so there are seven times as many numbers.
+pub fn sort_tangents(list: &mut [crate::Tangent]) -> u32 {
+    // A tangent is its seven numbers (repr(transparent)) and those of a slice stand in a row, so there are
+    // seven times as many numbers.
     // SAFETY: LISTS, and patterns as above.
     unsafe { sim3_sort_tangents(list.as_mut_ptr().cast(), list.len() * 7) }
 }

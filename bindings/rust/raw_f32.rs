@@ -1,11 +1,10 @@
-// Written by tools/widths from bindings/rust/raw.rs: edit that one. Digest 2793147c4ee3b90d.
-//! The C functions of include/sim3.h at one width, each called through a function over slices. Outside of
-//! raw.rs and raw_f32.rs this crate has no unsafe code. The declarations are trusted; tests/bindings
-//! compares them with the header.
+// Written by tools/widths from bindings/rust/raw.rs: edit that one. Digest 916d195a0ed2bd91.
+//! The C functions of include/sim3.h at one width, each called through a function over slices. This is the
+//! one module with unsafe code, at both widths: every other one forbids it. The declarations are trusted;
+//! tests/bindings compares them with the header.
 
 #![allow(unsafe_code)]
 
-#[link(name = "sim3_c_f32", kind = "static")]
 extern "C" {
     fn sim3_exp_f32(
         tau: *const f32,

@@ -1,5 +1,7 @@
 //! What the engine does not answer.
 
+#![forbid(unsafe_code)]
+
 use std::fmt;
 
 /// A refusal of the engine. The arrays' sizes are in the types, so number 100, another list of a

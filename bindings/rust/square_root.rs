@@ -1,5 +1,7 @@
 //! The square root with what is left.
 
+#![forbid(unsafe_code)]
+
 use crate::{foreign, raw, Refusal};
 
 /// What [`root`] gives. For a finite z > 0, z = m·4^exponent with m whole, 2^104 <= m < 2^106; a zero

@@ -1,13 +1,15 @@
 //! Tangents in a fixed order: each number by IEEE 754's totalOrder, the first difference deciding. NaNs
 //! with different bits differ, and keep them.
 
+#![forbid(unsafe_code)]
+
 use crate::{foreign, raw, Refusal, Tangent};
 use std::cmp::Ordering;
 
 /// The tangent a against b; `Equal` where all bits are the same.
 pub fn compare_tangents(a: &Tangent, b: &Tangent) -> Ordering {
     let mut order = [0];
-    match raw::compare_tangents(a, b, &mut order) {
+    match raw::compare_tangents(&a.0, &b.0, &mut order) {
         0 => order[0].cmp(&0),
         refused => foreign(refused),
     }

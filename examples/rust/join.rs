@@ -3,7 +3,7 @@
 //! what is left, a line is moved in singles, and refusals are shown. Every answer is compared with numbers known by hand; exit status
 //! 1 and a message where one is wrong. examples/rust/run builds and runs it.
 
-use sim3::{f32 as single, host, Block, Pose, Refusal, Running, Tangent};
+use sim3::{f32 as single, host, Block, Pose, Refusal, Running, Tangent, Values};
 use std::f64::consts::{FRAC_1_SQRT_2 as HALF_ROOT, FRAC_PI_2, LN_2};
 use std::process::ExitCode;
 
@@ -42,7 +42,7 @@ fn known_pose(what: &str, found: &Pose, due: &Pose) -> bool {
 /// The camera hand: a shot stands in both runs, at x in the first and at y in the second. X Y⁻¹ takes
 /// the second run's places to the first's.
 fn join_runs() -> Result<(Pose, bool), Refusal> {
-    let turn = [0.0, 0.0, FRAC_PI_2, 0.0, 0.0, 0.0, LN_2]; // a quarter turn about z, and twice the size
+    let turn = Tangent([0.0, 0.0, FRAC_PI_2, 0.0, 0.0, 0.0, LN_2]); // a quarter turn about z, and twice the size
     let turned = sim3::exp(&turn, &host::tangent_values(&turn), SHOT, FIRST);
     let shift = [1.0, 0.0, 0.0, 0.0, 10.0, 22.0, 30.0, 0.0];
     let shift = Pose { numbers: shift, from: FIRST, to: FIRST };
@@ -79,7 +79,7 @@ fn move_line(join: &Pose) -> Result<bool, Refusal> {
 
 /// A block times a tangent: the rows (a 0 0), (b c f), (0 0 e).
 fn times(block: &Block, tau: &Tangent) -> Tangent {
-    let mut out = [0.0; 7];
+    let mut out = Tangent([0.0; 7]);
     for row in 0..3 {
         out[3 + row] = block[27 + row] * tau[6];
         for k in 0..3 {
@@ -93,7 +93,7 @@ fn times(block: &Block, tau: &Tangent) -> Tangent {
 
 /// The adjuster: both sides from one evaluation. Each block leaves its own tangent as it is.
 fn adjust(join: &Pose) -> bool {
-    let tau = [0.1, -0.2, 0.3, 1.0, 2.0, 3.0, 0.5];
+    let tau = Tangent([0.1, -0.2, 0.3, 1.0, 2.0, 3.0, 0.5]);
     let (jl, jl_inv) = host::rotation_jacobians(&host::phi(&tau));
     let pair = sim3::block_pair(&tau, &host::tangent_values(&tau), &jl, &jl_inv);
     let by = sim3::act_jacobians_left(join, host::up(join), &[1.0, 0.0, 0.0]);
@@ -111,7 +111,7 @@ fn adjust(join: &Pose) -> bool {
 /// engine's root of z.
 fn root_left() -> Result<bool, Refusal> {
     let two = sim3::root(2.0)?;
-    let turn = [0.0, 0.0, FRAC_PI_2, 0.0, 0.0, 0.0, LN_2];
+    let turn = Tangent([0.0, 0.0, FRAC_PI_2, 0.0, 0.0, 0.0, LN_2]);
     let z = host::norm_sq(&host::phi(&turn));
     let turned = sim3::exp(&turn, &host::values_by(host::root, turn[6], z), SHOT, FIRST);
     let found = [two.root as f64, two.remainder as f64, two.exponent as f64, two.nearest];
@@ -122,7 +122,7 @@ fn root_left() -> Result<bool, Refusal> {
 
 /// The second camera, whose board sends singles: a line is turned and moved by the engine at f32.
 fn in_singles() -> Result<bool, Refusal> {
-    let turn = [0.0, 0.0, FRAC_PI_2 as f32, 0.0, 0.0, 0.0, LN_2 as f32];
+    let turn = single::Tangent([0.0, 0.0, FRAC_PI_2 as f32, 0.0, 0.0, 0.0, LN_2 as f32]);
     let turned = single::exp(&turn, &single::host::tangent_values(&turn), SHOT, FIRST);
     let mut moved = [0.0; 6];
     single::act_many(&turned, single::host::up(&turned), &[1.0, 0.0, 0.0, 2.0, 0.0, 0.0], &mut moved)?;
@@ -172,8 +172,8 @@ fn refusals(join: &Pose) -> bool {
             5,
             sim3::act_many(join, 2.0, &[0.0; 7], &mut [0.0; 7]),
         ),
-        refused("block_inverse with e = 0", 2, sim3::block_inverse(&[0.0; 31])),
-        refused("scaled_pair with z = -1", 1, sim3::scaled_pair(0.0, -1.0, &[0.0; 10])),
+        refused("block_inverse with e = 0", 2, sim3::block_inverse(&Block([0.0; 31]))),
+        refused("scaled_pair with z = -1", 1, sim3::scaled_pair(0.0, -1.0, &Values([0.0; 10]))),
         refused("root of infinity", 8, sim3::root(f64::INFINITY)),
     ];
     good.iter().all(|&x| x)

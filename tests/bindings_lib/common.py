@@ -46,7 +46,7 @@ def rust_program(source, work, width=DOUBLE):
     rust = [compiler("rustc", None), "--edition", "2021", "-O", "-D", "warnings"]
     compiler("cc", None)  # by which rustc links
     program = f"{work}/program"
-    run([*rust, "--crate-type", "rlib", "-L", "target/staticlib", "--out-dir", work, "bindings/rust/sim3.rs"])
+    run([*rust, "--crate-type", "rlib", "-L", "target/bindings", "--out-dir", work, "bindings/rust/sim3.rs"])
     run([*rust, *(["--cfg", "single"] if width is SINGLE else []), "--check-cfg", "cfg(single)", "-L", work, "--extern", "sim3", "-o", program, source])
     return program
 

@@ -84,9 +84,11 @@ def header_and_rust():
 
 
 def unsafe_in_one_file():
-    """Each unsafe block has its reason on the line before, and there is none outside raw.rs and its twin."""
+    """Each unsafe block has its reason on the line before, and there is none outside raw.rs and its twin: every other module forbids it."""
     for path in sorted((ROOT / "bindings/rust").glob("*.rs")):
         lines = path.read_text().splitlines()
+        level = {"sim3": "deny", "raw": "allow", "raw_f32": "allow"}.get(path.stem, "forbid")
+        assert any(line.startswith(f"#![{level}(unsafe_code)]") for line in lines), f"{path.name} has no line #![{level}(unsafe_code)]"
         for number, line in enumerate(lines, 1):
             if re.search(r"\bunsafe\b", line.split("//")[0]):
                 assert path.stem in ("raw", "raw_f32"), f"{path.name}:{number}: unsafe outside raw.rs and raw_f32.rs"

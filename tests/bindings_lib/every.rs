@@ -39,13 +39,13 @@ struct Arguments {
 fn read(mut from: &[Number]) -> Arguments {
     let from = &mut from;
     Arguments {
-        tau: next(from),
-        values: next(from),
+        tau: Tangent(next(from)),
+        values: Values(next(from)),
         x: Pose { numbers: next(from), from: 0, to: 0 },
         y: Pose { numbers: next(from), from: 0, to: 0 },
         jl: next(from),
         jl_inv: next(from),
-        j: next(from),
+        j: Block(next(from)),
         p: next(from),
         pts: next(from),
         numbers: next(from),
@@ -92,19 +92,19 @@ fn blocks(a: &Arguments, out: &mut Vec<Number>) -> Result<(), Refusal> {
     out.extend([told(at), told(at_neg)].as_flattened());
     out.extend([pos, neg].as_flattened());
     let pair = block_pair(&a.tau, &a.values, &a.jl, &a.jl_inv);
-    out.extend([pair.left, pair.left_inv, pair.right, pair.right_inv].as_flattened());
-    out.extend(block_inverse(&a.j)?);
-    out.extend(adjoint(&a.x, up));
+    for block in [pair.left, pair.left_inv, pair.right, pair.right_inv, block_inverse(&a.j)?, adjoint(&a.x, up)] {
+        out.extend(block.0);
+    }
     for by in [act_jacobians_right(&a.x, up, &a.p), act_jacobians_left(&a.x, up, &a.p)] {
         out.extend([by.phi, by.rho].as_flattened());
         out.extend(by.sigma);
         out.extend(by.point);
     }
     for (first, second) in [compose_jacobians_right(&a.y, down), compose_jacobians_left(&a.x, up)] {
-        out.extend([first, second].as_flattened());
+        out.extend([first.0, second.0].as_flattened());
     }
-    out.extend(inverse_jacobian_right(&a.x, up));
-    out.extend(inverse_jacobian_left(&a.x, down));
+    out.extend(inverse_jacobian_right(&a.x, up).0);
+    out.extend(inverse_jacobian_left(&a.x, down).0);
     Ok(())
 }
 

@@ -16,7 +16,7 @@ fn answers(record: &[u16]) -> [[u16; 3]; 6] {
     let numbers = [1.0, 0.5, 0.25, 0.125, 1.0, 2.0, 3.0, 0.5];
     let x = Pose { numbers, from: record[0], to: record[1] };
     let y = Pose { numbers, from: record[2], to: record[3] };
-    let tau = [0.1, 0.2, 0.3, 1.0, 2.0, 3.0, 0.5];
+    let tau = Tangent([0.1, 0.2, 0.3, 1.0, 2.0, 3.0, 0.5]);
     let mut kept = x;
     renormalize(&mut kept);
     [

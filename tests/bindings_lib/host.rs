@@ -22,11 +22,11 @@ fn main() -> io::Result<()> {
         .collect();
     let mut out: Vec<Number> = Vec::new();
     for record in numbers.chunks_exact(23) {
-        let tau: Tangent = record[..7].try_into().unwrap();
+        let tau = Tangent(record[..7].try_into().unwrap());
         let x = Pose { numbers: record[7..15].try_into().unwrap(), from: 0, to: 0 };
         let y = Pose { numbers: record[15..].try_into().unwrap(), from: 0, to: 0 };
         let (jl, jl_inv) = host::rotation_jacobians(&host::phi(&tau));
-        out.extend(host::tangent_values(&tau));
+        out.extend(host::tangent_values(&tau).0);
         out.extend(jl);
         out.extend(jl_inv);
         out.extend([host::up(&x), host::down(&x), host::ds(&x, &y)]);

@@ -60,7 +60,7 @@ def parts_in_python():
 
 def c_program(work):
     run([compiler("cc", "CC"), "-std=c99", "-O2", "-Wall", "-Wextra", "-Werror", "-Iinclude", "-Ibindings/c", "-o", f"{work}/roots",
-         "tests/bindings_lib/roots.c", "target/staticlib/libsim3_c.a", "-lm"])
+         "tests/bindings_lib/roots.c", "target/bindings/libsim3.a", "-lm"])
     return f"{work}/roots"
 
 

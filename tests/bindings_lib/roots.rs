@@ -26,7 +26,7 @@ fn by(root: impl Fn(f64) -> f64, tau: &Tangent) -> Vec<u64> {
 fn values(words: &[u64]) -> usize {
     let mut wrong = 0;
     for record in words.chunks_exact(7) {
-        let tau: Tangent = std::array::from_fn(|i| f64::from_bits(record[i]));
+        let tau = Tangent(std::array::from_fn(|i| f64::from_bits(record[i])));
         if by(f64::sqrt, &tau) != by(host::root, &tau) {
             println!("tangent {tau:?}: other bits by host::root");
             wrong += 1;

@@ -71,6 +71,13 @@ def in_words():
             assert "sim3.sort_tangents: refusal 5" in str(refusal) and part in str(refusal), str(refusal)
         else:
             raise AssertionError(f"sim3.sort_tangents answered {answer}")
+    for wrong in ([0.0] * 6, array.array("Q", [0] * 8)):
+        try:
+            answer = sim3.compare_tangents([0.0] * 7, wrong)
+        except sim3.Refusal as refusal:
+            assert refusal.number == 100 and f"b has {len(wrong)} numbers; expected 7" in str(refusal), str(refusal)
+        else:
+            raise AssertionError(f"sim3.compare_tangents answered {answer}")
     for wrong in ("1234567", None, 7.0):
         try:
             answer = sim3.compare_tangents(wrong, [0.0] * 7)

@@ -7,7 +7,7 @@ use sim3::{compare_tangents, sort_tangents, Tangent};
 use std::io::{self, Read, Write};
 
 fn tangent(words: &[u64]) -> Tangent {
-    std::array::from_fn(|i| f64::from_bits(words[i]))
+    Tangent(std::array::from_fn(|i| f64::from_bits(words[i])))
 }
 
 fn compare(words: &[u64]) -> Vec<u64> {
@@ -21,7 +21,7 @@ fn sort(mut words: &[u64]) -> Vec<u64> {
         let (numbers, others) = rest.split_at(count as usize);
         let mut list: Vec<Tangent> = numbers.chunks_exact(7).map(tangent).collect();
         told.push(sort_tangents(&mut list).map_or_else(|refusal| refusal.number() as u64, |()| 0));
-        told.extend(list.iter().flatten().map(|x| x.to_bits()));
+        told.extend(list.iter().flat_map(|tau| tau.0).map(|x| x.to_bits()));
         words = others;
     }
     told

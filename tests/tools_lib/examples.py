@@ -1,7 +1,12 @@
 """The tool as a program, the page docs/JOB-FORMAT.md, examples/format and examples/jobs.bin."""
+import os
+import pathlib
+import re
+import shutil
 import subprocess
+import tempfile
 
-from .common import ROOT, TOOL, file, holds, jobs, program, same, with_program
+from .common import PROGRAM, ROOT, TOOL, file, holds, jobs, program, same, with_program
 from jobs_lib import page
 from jobs_lib.floats import SINGLE
 from jobs_lib.layout import JOB
@@ -23,10 +28,44 @@ def as_a_program():
 
 
 def help_has_examples():
-    for words in [["--help"], *([name, "--help"] for name in ("make", "show", "diff", "arms", "near", "sort", "sheets", "totals"))]:
+    for words in [["--help"], *([name, "--help"] for name in ("make", "show", "diff", "arms", "near", "sort", "sheets", "totals", "run", "format"))]:
         holds(jobs(*words)[0].decode(), "example:\n", "tools/jobs ")
     holds(jobs(status=2)[1], "COMMAND")
     holds(jobs("shwo", status=2)[1], "shwo", "make", "show", "diff", "arms", "sheets", "totals")
+
+
+def help_says_what_the_page_says():
+    """The bytes by `jobs format`, and the exit statuses by the script's help, are the page's."""
+    told, whole = jobs("format")[0].decode(), PAGE.read_text()
+    for name, part in page.page_parts("").items():
+        holds(told, part.rstrip())
+        assert not part or f"<!-- generated: {name} -->\n```\n{part.rstrip()}\n" in whole, f"{PAGE.name} has other {name} {RENEW}"
+    holds(jobs("format", "AC", "mu")[0].decode(), "AC in, 102 bytes", "AC out, 26 bytes", "mu in,")
+    holds(jobs("format", "XX", status=2)[1], "'XX' is no mark", "AC")
+    script = subprocess.run([ROOT / "sim3-job", "--help"], stdout=subprocess.PIPE, text=True, check=True).stdout
+    holds(script, f"{TOOL}", f"{PAGE}")
+    statuses = re.findall(r"^  (\S+(?: \+ n)?) {2,}(.*)$", script, re.M)
+    same([status for status, _ in statuses], ["0", "1", "2", "128 + n", "141"], "the exit statuses of sim3-job --help")
+    holds(" ".join(whole.split()), *(f"{status}: {text}" for status, text in statuses))
+
+
+@with_program
+def from_any_folder():
+    """The tool finds the script from another folder and through links; in a tree whose script is a stand-in, so that nothing is proved here."""
+    job, due = ((ROOT / "examples" / name).read_bytes() for name in ("jobs.bin", "answers.bin"))
+    with tempfile.TemporaryDirectory() as work:
+        for part in ("tools", "bindings/python"):
+            shutil.copytree(ROOT / part, f"{work}/a tree/{part}", ignore=shutil.ignore_patterns("__pycache__"))
+        script = pathlib.Path(work, "a tree", "sim3-job")
+        script.write_text(f'#!/bin/sh\nexec "{PROGRAM}"\n')
+        script.chmod(0o755)
+        os.symlink("a tree/tools/jobs", f"{work}/jobs")
+        os.symlink(f"{work}/jobs", f"{work}/again")
+        for words in (["jobs", "run", ROOT / "examples" / "jobs.bin"], ["again", "run"]):
+            done = subprocess.run([f"{work}/{words[0]}", *words[1:]], cwd="/", input=job, stdout=subprocess.PIPE, stderr=subprocess.PIPE)
+            same((done.returncode, done.stdout), (0, due), f"{words[0]} {done.stderr.decode()}")
+        done = subprocess.run([f"{work}/jobs", "run", "none.bin"], cwd=work, stdout=subprocess.PIPE, stderr=subprocess.PIPE)
+        same((done.returncode, done.stdout), (2, b""), "jobs run of no file")
 
 
 def same_lines(found, expected, what):
@@ -99,4 +138,4 @@ def renew():
     return 0
 
 
-TESTS = [as_a_program, help_has_examples, page_is_current, example_jobs, example_answers, stored_job]
+TESTS = [as_a_program, help_has_examples, help_says_what_the_page_says, from_any_folder, page_is_current, example_jobs, example_answers, stored_job]

@@ -4,6 +4,7 @@ import re
 import signal
 import sys
 
+from .answer import add_program, program
 from .arms import arms
 from .diff import diff
 from .floats import DOUBLE, SINGLE
@@ -20,11 +21,12 @@ ABOUT = """\
 Job files of the Sim(3) engine: make them from text, show them as text, compare their answers, see
 which arm gave each coefficient set, which shots lie beside another arm, which takes are kept, and how
 many records of each mark several answers have.
-docs/JOB-FORMAT.md has the bytes of every record.
+docs/JOB-FORMAT.md has the bytes of every record, and so has `jobs format`. `jobs run` finds the job
+program from any folder.
 
 example:
   tools/jobs make examples/jobs.txt > jobs.bin
-  ./sim3-job < jobs.bin > answers.bin
+  tools/jobs run jobs.bin > answers.bin
   tools/jobs show answers.bin
   tools/jobs diff last-answers.bin answers.bin
   tools/jobs arms --svg arms.svg jobs.bin answers.bin
@@ -237,6 +239,7 @@ def parser():
     commands = top.add_subparsers(dest="command", metavar="COMMAND", required=True)
     one = add_command(commands, "make", MAKE.format(forms=forms_text(), singles=singles_text()), "text to a job file")
     one.add_argument("file", nargs="?", metavar="FILE", help="the text; standard input if not given")
+    add_program(commands, add_command)
     one = add_command(commands, "show", SHOW, "a job or answer file to text")
     kind = one.add_mutually_exclusive_group()
     kind.add_argument("--in", dest="table", action="store_const", const=JOB, help="it is a job file")
@@ -271,6 +274,8 @@ def run_diff(files, by_tangent, most):
 def run(arguments):
     if arguments.command == "make":
         return make(arguments.file)
+    if arguments.command in ("run", "format"):
+        return program(arguments)
     if arguments.command == "show":
         if arguments.unusable and (arguments.hex or arguments.record):
             raise Failure("jobs: --unusable stands alone; expected neither --hex nor --record with it")

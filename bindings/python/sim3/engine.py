@@ -1,10 +1,18 @@
 """The engine at one width: a class whose methods are the functions of the package, over the C functions."""
-import array
+from __future__ import annotations
 
-from . import near, raw
+import array
+import ctypes
+import struct
+from typing import Optional, Tuple
+
+from . import near, points, raw
+from .hints import Buffer, Numbers, PoseOrNumbers
 from .numbers import lent, number, over
-from .poses import Pose, expected, frames, numbers_of, room
+from .poses import FRAMES, Pose, expected, frames, numbers_of
 from .refusals import explained, wrong_length
+
+TWO = bytes(FRAMES.size)  # zeros, for frames to be written
 
 
 def parts(out, kinds):
@@ -29,89 +37,114 @@ class Engine:
 
     def __init__(self, width, host):
         self.width, self.host = width, host
+        self.eight = bytes(8 * width.size)  # of zeros, for a pose to be written
 
     # ---- asking the C functions
 
     def number(self, name, argument, x):
         """A number of one argument."""
+        if type(x) is float and self.width.size == 8:
+            return x
         return number(f"{self.width.package}.{name}: {argument}", x, self.width)
 
     def read(self, name, argument, x):
         """A list of one argument, which has the length of its kind."""
-        kind = dict(raw.FUNCTIONS[name].takes)[argument]
+        kind = raw.kinds(name)[argument]
+        if isinstance(x, ctypes.Array) and self.is_read(kind, x):
+            return x
         found = lent(f"{self.width.package}.{name}: {argument}", numbers_of(x) if kind == "pose" else x, self.width)
         count = len(found)
-        if kind != raw.POINTS and count != raw.KINDS[kind][0]:
+        if count != raw.KINDS[kind][0]:
             del found  # so that who catches the refusal can change the length of x
             raise wrong_length(name, argument, kind, count, self.width)
         return found
+
+    def is_read(self, kind, x):
+        """Whether a ctypes array is what `read` gives for this kind, so that it goes to C as it is."""
+        return x._type_ is self.width.number and len(x) == raw.KINDS[kind][0] and ctypes.addressof(x) % self.width.size == 0
 
     def ask(self, name, *arguments):
         """The answer of a C function, or Refusal."""
         made, given = raw.FUNCTIONS[name], {}
         for (argument, kind), x in zip(made.takes, arguments):
             given[argument] = self.number(name, argument, x) if kind == raw.NUMBER else self.read(name, argument, x)
-        size = len(given["pts"]) if "pts" in given else sum(raw.KINDS[kind][0] for kind in made.gives)
+        size = sum(raw.KINDS[kind][0] for kind in made.gives)
         out = array.array(self.width.code, [0.0]) * size
         refused = raw.call(name, *given.values(), over(out, size, self.width), width=self.width)
         if refused:
             refusal = explained(refused, name, given, self.width)
-            given.clear()  # so that who catches it can change the length of pts
+            given.clear()  # so that who catches it can change the length of a list
             raise refusal
         return parts(out, made.gives)
 
     def read_pose(self, name, argument, x):
-        """The two lists of a pose, by their names in C."""
-        x = expected(f"{self.width.package}.{name}: {argument}", x)
-        return {argument: self.read(name, argument, x.numbers),
-                argument + "_frames": frames(f"{self.width.package}.{name}: {argument}.", x.from_, x.to)}
+        """A pose's numbers in an array, its own where it has one; their bytes, a copy of eight numbers; and the bytes of
+        its frames."""
+        if not isinstance(x, Pose):
+            expected(f"{self.width.package}.{name}: {argument}", x)
+        numbers, from_, to = x
+        data = numbers.tobytes() if type(numbers) is array.array and numbers.typecode == self.width.code else b""
+        if len(data) != len(self.eight):
+            data = bytes(self.read(name, argument, numbers))
+            numbers = array.array(self.width.code, data)
+        return numbers, data, self.read_frames(name, argument + ".", from_, to)
 
-    def ask_pose(self, name, given):
-        """The pose that a C function writes, or Refusal; `given` has its arguments by name, in their order."""
-        numbers, told = room(self.width)
-        refused = raw.call(name, *given.values(), over(numbers, len(numbers), self.width), told, width=self.width)
+    def read_frames(self, name, argument, from_, to):
+        """The bytes of the list of a pose's frames."""
+        try:
+            return FRAMES.pack(from_, to)
+        except struct.error:
+            return bytes(frames(f"{self.width.package}.{name}: {argument}", from_, to))
+
+    def ask_pose(self, name, *words, given=()):
+        """The pose that a C function writes, or Refusal. The words are what it takes before its outs; a list goes as
+        bytes, a copy that nobody changes, and `given` has the two poses that it joins."""
+        numbers, told = array.array(self.width.code, self.eight), array.array("H", TWO)
+        refused = raw.quick(name + self.width.ending)(*words, numbers.buffer_info()[0], 8, told.buffer_info()[0], 2)
         if refused:
-            refusal = explained(refused, name, given, self.width)
-            given.clear()  # so that who catches it can change the length of a list
-            raise refusal
+            joined = {argument + "_frames": pose[1:] for argument, pose in zip("xy", given)}
+            raise explained(refused, name, joined, self.width)
         return Pose(numbers, *told)
 
     # ---- poses
 
-    def exp(self, tau, from_, to, values=None):
+    def exp(self, tau: Numbers, from_: int, to: int, values: Optional[Numbers] = None) -> Pose:
         """Exp(tau), a pose with these frames."""
         tau = self.read("exp", "tau", tau)
         values = self.read("exp", "values", or_host(values, self.host.tangent_values, tau))
-        return self.ask_pose("exp", {"tau": tau, "values": values, "frames": frames(f"{self.width.package}.exp: ", from_, to)})
+        return self.ask_pose("exp", tau, 7, values, 10, self.read_frames("exp", "", from_, to), 2)
 
-    def mul(self, x, y, up=None):
+    def mul(self, x: Pose, y: Pose, up: Optional[float] = None) -> Pose:
         """X Y, from where Y starts to where X goes; up is e^sigma of X. Refusal 9 where X does not start from
         the frame to which Y goes."""
-        given = {**self.read_pose("mul", "x", x), **self.read_pose("mul", "y", y)}
-        given["up"] = self.number("mul", "up", or_host(up, self.host.up, given["x"]))
-        return self.ask_pose("mul", given)
+        of_x, x_data, x_frames = self.read_pose("mul", "x", x)
+        _, y_data, y_frames = self.read_pose("mul", "y", y)
+        up = self.number("mul", "up", or_host(up, self.host.up, of_x))
+        return self.ask_pose("mul", x_data, 8, x_frames, 2, y_data, 8, y_frames, 2, up, given=(x, y))
 
-    def inverse(self, x, down=None):
+    def inverse(self, x: Pose, down: Optional[float] = None) -> Pose:
         """X^-1, with the frames exchanged; down is e^-sigma of X."""
-        given = self.read_pose("inverse", "x", x)
-        given["down"] = self.number("inverse", "down", or_host(down, self.host.down, given["x"]))
-        return self.ask_pose("inverse", given)
+        of_x, x_data, x_frames = self.read_pose("inverse", "x", x)
+        down = self.number("inverse", "down", or_host(down, self.host.down, of_x))
+        return self.ask_pose("inverse", x_data, 8, x_frames, 2, down)
 
-    def mul_inv(self, x, y, ds=None):
+    def mul_inv(self, x: Pose, y: Pose, ds: Optional[float] = None) -> Pose:
         """X Y^-1, from where Y goes to where X goes; ds is e^(sigma of X - sigma of Y). Refusal 9 where they
         start from two frames."""
-        given = {**self.read_pose("mul_inv", "x", x), **self.read_pose("mul_inv", "y", y)}
-        given["ds"] = self.number("mul_inv", "ds", or_host(ds, self.host.ds, given["x"], given["y"]))
-        return self.ask_pose("mul_inv", given)
+        of_x, x_data, x_frames = self.read_pose("mul_inv", "x", x)
+        of_y, y_data, y_frames = self.read_pose("mul_inv", "y", y)
+        ds = self.number("mul_inv", "ds", or_host(ds, self.host.ds, of_x, of_y))
+        return self.ask_pose("mul_inv", x_data, 8, x_frames, 2, y_data, 8, y_frames, 2, ds, given=(x, y))
 
-    def inv_mul(self, x, y, down=None):
+    def inv_mul(self, x: Pose, y: Pose, down: Optional[float] = None) -> Pose:
         """Y^-1 X, from where X starts to where Y starts; down is e^-sigma of Y. Refusal 9 where they go to two
         frames."""
-        given = {**self.read_pose("inv_mul", "x", x), **self.read_pose("inv_mul", "y", y)}
-        given["down"] = self.number("inv_mul", "down", or_host(down, self.host.down, given["y"]))
-        return self.ask_pose("inv_mul", given)
+        _, x_data, x_frames = self.read_pose("inv_mul", "x", x)
+        of_y, y_data, y_frames = self.read_pose("inv_mul", "y", y)
+        down = self.number("inv_mul", "down", or_host(down, self.host.down, of_y))
+        return self.ask_pose("inv_mul", x_data, 8, x_frames, 2, y_data, 8, y_frames, 2, down, given=(x, y))
 
-    def renormalize(self, x):
+    def renormalize(self, x: Pose) -> Pose:
         """The pose after one Newton step that brings its quaternion nearer to length 1, with the frames of x,
         which stays as it is."""
         x = expected(f"{self.width.package}.renormalize: x", x)
@@ -121,42 +154,48 @@ class Engine:
             raise explained(refused, "renormalize", {}, self.width)
         return Pose(out, x.from_, x.to)
 
-    # ---- lists of points, flat: x y z of every point, at most 65,535 numbers; up is e^sigma of X
+    # ---- lists of points: any buffer of x y z of every point, flat or of the shape (n, 3), or a flat list; up is
+    # e^sigma of X. The answer is `out`, any buffer of as many numbers, which may be pts itself, or a new list: of
+    # numpy and pts's shape where pts is such, else a flat array.
 
-    def act_many(self, x, pts, up=None):
+    def move(self, name, x, pts, up, out):
+        """Every point moved by the C function of this name."""
+        x = self.read(name, "x", x)
+        return points.move(name, x, self.number(name, "up", or_host(up, self.host.up, x)), pts, out, self.width)
+
+    def act_many(self, x: PoseOrNumbers, pts: Numbers, up: Optional[float] = None, out: Optional[Buffer] = None) -> Buffer:
         """Every point moved by the matrix s R, formed once: the bits of helicoid's act_many."""
-        x = self.read("act_many", "x", x)
-        return self.ask("act_many", x, or_host(up, self.host.up, x), pts)
+        return self.move("act_many", x, pts, up, out)
 
-    def act_each(self, x, pts, up=None):
+    def act_each(self, x: PoseOrNumbers, pts: Numbers, up: Optional[float] = None, out: Optional[Buffer] = None) -> Buffer:
         """Every point moved by itself: the bits of the job's mark AC, ac at f32."""
-        x = self.read("act_each", "x", x)
-        return self.ask("act_each", x, or_host(up, self.host.up, x), pts)
+        return self.move("act_each", x, pts, up, out)
 
     # ---- both signs, both sides, from one evaluation
 
-    def scaled_pair(self, sigma, z, values=None):
+    def scaled_pair(self, sigma: float, z: float, values: Optional[Numbers] = None) -> Tuple[array.array[float], array.array[float]]:
         """The nine coefficients and the flag at sigma, and those at -sigma; Refusal 1 where z is below zero."""
         sigma, z = self.number("scaled_pair", "sigma", sigma), self.number("scaled_pair", "z", z)
         return self.ask("scaled_pair", sigma, z, or_host(values, self.host.values, sigma, z))
 
-    def coeffs_armed(self, sigma, z, values=None):
+    def coeffs_armed(self, sigma: float, z: float, values: Optional[Numbers] = None) -> Tuple[array.array[float], array.array[float]]:
         """The arm and its ends, and the nine coefficients and the flag, at sigma; Refusal 1 where z is below zero."""
         sigma, z = self.number("coeffs_armed", "sigma", sigma), self.number("coeffs_armed", "z", z)
         return self.ask("coeffs_armed", sigma, z, or_host(values, self.host.values, sigma, z))
 
-    def armed_pair(self, sigma, z, values=None):
+    def armed_pair(self, sigma: float, z: float, values: Optional[Numbers] = None) -> Tuple[array.array[float], ...]:
         """Arm and ends at sigma, those at -sigma, and the two of scaled_pair; Refusal 1 where z is below zero."""
         sigma, z = self.number("armed_pair", "sigma", sigma), self.number("armed_pair", "z", z)
         return self.ask("armed_pair", sigma, z, or_host(values, self.host.values, sigma, z))
 
-    def nearest_arm(self, sigma, z):
+    def nearest_arm(self, sigma: float, z: float) -> Optional[near.Near]:
         """The least number of neighbouring numbers of this width that z must move, staying finite and not below
         zero, for the arm to change, a Near; None where every such z has the same arm. Where both directions need
         the same count, up is given. Refusal 1 where z is below zero, then 8 where sigma or z is a NaN or infinite."""
         return near.asked(self.width, sigma, z)
 
-    def block_pair(self, tau, values=None, jl=None, jl_inv=None):
+    def block_pair(self, tau: Numbers, values: Optional[Numbers] = None, jl: Optional[Numbers] = None,
+                   jl_inv: Optional[Numbers] = None) -> Tuple[array.array[float], ...]:
         """Four blocks: J_l(tau), its inverse, J_r(tau), its inverse; jl is J_l(phi) of the rotation, jl_inv its inverse."""
         tau = self.read("block_pair", "tau", tau)
         values = or_host(values, self.host.tangent_values, tau)
@@ -167,41 +206,41 @@ class Engine:
 
     # ---- blocks
 
-    def block_inverse(self, j):
+    def block_inverse(self, j: Numbers) -> array.array[float]:
         """The inverse of a block; Refusal 2 where e is a zero."""
         return self.ask("block_inverse", j)
 
-    def adjoint(self, x, up=None):
+    def adjoint(self, x: PoseOrNumbers, up: Optional[float] = None) -> array.array[float]:
         """Ad_X, a block; up is e^sigma of X."""
         x = self.read("adjoint", "x", x)
         return self.ask("adjoint", x, or_host(up, self.host.up, x))
 
-    def act_jacobians_right(self, x, p, up=None):
+    def act_jacobians_right(self, x: PoseOrNumbers, p: Numbers, up: Optional[float] = None) -> Tuple[array.array[float], ...]:
         """Of X p for X Exp(tau): by phi 9, by rho 9, by sigma 3, and by p 9; up is e^sigma of X."""
         x = self.read("act_jacobians_right", "x", x)
         return self.ask("act_jacobians_right", x, or_host(up, self.host.up, x), p)
 
-    def act_jacobians_left(self, x, p, up=None):
+    def act_jacobians_left(self, x: PoseOrNumbers, p: Numbers, up: Optional[float] = None) -> Tuple[array.array[float], ...]:
         """Of X p for Exp(tau) X: by phi 9, by rho 9, by sigma 3, and by p 9; up is e^sigma of X."""
         x = self.read("act_jacobians_left", "x", x)
         return self.ask("act_jacobians_left", x, or_host(up, self.host.up, x), p)
 
-    def compose_jacobians_right(self, y, down=None):
+    def compose_jacobians_right(self, y: PoseOrNumbers, down: Optional[float] = None) -> Tuple[array.array[float], array.array[float]]:
         """Of X Y, right: by X and by Y, two blocks that read Y alone; down is e^-sigma of Y."""
         y = self.read("compose_jacobians_right", "y", y)
         return self.ask("compose_jacobians_right", y, or_host(down, self.host.down, y))
 
-    def compose_jacobians_left(self, x, up=None):
+    def compose_jacobians_left(self, x: PoseOrNumbers, up: Optional[float] = None) -> Tuple[array.array[float], array.array[float]]:
         """Of X Y, left: by X and by Y, two blocks that read X alone; up is e^sigma of X."""
         x = self.read("compose_jacobians_left", "x", x)
         return self.ask("compose_jacobians_left", x, or_host(up, self.host.up, x))
 
-    def inverse_jacobian_right(self, x, up=None):
+    def inverse_jacobian_right(self, x: PoseOrNumbers, up: Optional[float] = None) -> array.array[float]:
         """Of X^-1, right, a block; up is e^sigma of X."""
         x = self.read("inverse_jacobian_right", "x", x)
         return self.ask("inverse_jacobian_right", x, or_host(up, self.host.up, x))
 
-    def inverse_jacobian_left(self, x, down=None):
+    def inverse_jacobian_left(self, x: PoseOrNumbers, down: Optional[float] = None) -> array.array[float]:
         """Of X^-1, left, a block; down is e^-sigma of X."""
         x = self.read("inverse_jacobian_left", "x", x)
         return self.ask("inverse_jacobian_left", x, or_host(down, self.host.down, x))

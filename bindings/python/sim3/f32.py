@@ -14,7 +14,26 @@ from .widths import SINGLE
 
 __all__ = ["host", "nearest_arm", *raw.FUNCTIONS]
 
-# Each function of the table, by the method of its name.
+# Each function of the table, by the method of its name; they stand one by one for type checkers.
 ENGINE = Engine(SINGLE, host)
-globals().update({name: getattr(ENGINE, name) for name in raw.FUNCTIONS})
+exp = ENGINE.exp
+mul = ENGINE.mul
+inverse = ENGINE.inverse
+mul_inv = ENGINE.mul_inv
+inv_mul = ENGINE.inv_mul
+renormalize = ENGINE.renormalize
+act_many = ENGINE.act_many
+act_each = ENGINE.act_each
+scaled_pair = ENGINE.scaled_pair
+coeffs_armed = ENGINE.coeffs_armed
+armed_pair = ENGINE.armed_pair
+block_pair = ENGINE.block_pair
+block_inverse = ENGINE.block_inverse
+adjoint = ENGINE.adjoint
+act_jacobians_right = ENGINE.act_jacobians_right
+act_jacobians_left = ENGINE.act_jacobians_left
+compose_jacobians_right = ENGINE.compose_jacobians_right
+compose_jacobians_left = ENGINE.compose_jacobians_left
+inverse_jacobian_right = ENGINE.inverse_jacobian_right
+inverse_jacobian_left = ENGINE.inverse_jacobian_left
 nearest_arm = ENGINE.nearest_arm

@@ -6,6 +6,7 @@ of the tangent: up and down change places; e and e0, m and m0 change places wher
 the rest stays. Its rotation Jacobians are the transposed ones.
 """
 import math
+from typing import Callable, List, Sequence, Tuple
 
 NAN, INF = float("nan"), float("inf")
 CLOSED_FROM = 1.0  # squared angle from which the closed forms lose no digits
@@ -27,7 +28,7 @@ root, sine, cosine, tangent = (guarded(f) for f in (math.sqrt, math.sin, math.co
 exponential, exponential_less_1 = guarded(math.exp), guarded(math.expm1)
 
 
-def norm_sq(phi):
+def norm_sq(phi: Sequence[float]) -> float:
     """z, by the same sum as the engine's."""
     x, y, z = phi
     return (x * x + y * y) + z * z
@@ -38,7 +39,7 @@ def shrinking(sigma):
     return -abs(sigma) if sigma != 0 and sigma == sigma else sigma
 
 
-def values(sigma, z, root=root):
+def values(sigma: float, z: float, root: Callable[[float], float] = root) -> List[float]:
     """The ten function values for a log scale and a squared angle: root, sin_half, cos_half, sin,
     e, m, e0, m0, up, down. `root` takes the root: math's, or sim3.nearest_root."""
     r = root(z)
@@ -49,22 +50,22 @@ def values(sigma, z, root=root):
             exponential(sigma), exponential(-sigma)]
 
 
-def tangent_values(tau, root=root):
+def tangent_values(tau: Sequence[float], root: Callable[[float], float] = root) -> List[float]:
     """The ten values of a tangent."""
     return values(tau[6], norm_sq(tau[:3]), root)
 
 
-def up(x):
+def up(x: Sequence[float]) -> float:
     """e^sigma of a pose's eight numbers."""
     return exponential(x[7])
 
 
-def down(x):
+def down(x: Sequence[float]) -> float:
     """e^-sigma of a pose's eight numbers."""
     return exponential(-x[7])
 
 
-def ds(x, y):
+def ds(x: Sequence[float], y: Sequence[float]) -> float:
     """e^(sigma of X - sigma of Y), which X Y^-1 reads."""
     return exponential(x[7] - y[7])
 
@@ -92,7 +93,7 @@ def rotation_coefficients(z):
     return 2 * s * s / z, (r - sine(r)) / (r * z), (1 - 0.5 * r / t) / z
 
 
-def rotation_jacobians(phi):
+def rotation_jacobians(phi: Sequence[float]) -> Tuple[List[float], List[float]]:
     """SO(3)'s left Jacobian at phi and its inverse, each column by column."""
     x, y, z = phi
     hat = [0.0, z, -y, -z, 0.0, x, y, -x, 0.0]

@@ -7,7 +7,6 @@ import ctypes
 
 from .widths import DOUBLE
 
-ORDERS = ("", "<", "=", "@")  # before the code in a buffer's format; the engine is for x86-64
 TEXT = (str, bytes, bytearray, memoryview)
 
 
@@ -49,7 +48,7 @@ def lent(where, x, width=DOUBLE):
         view = memoryview(x)
     except TypeError:
         view = None
-    if view is not None and view.format in [order + width.code for order in ORDERS]:
+    if view is not None and view.format in width.formats:
         if not view.c_contiguous:
             raise TypeError(f"{where} is a buffer with gaps; expected {width.word}s without gaps: copy it first")
         return over(x, view.nbytes // width.size, width)

@@ -1,10 +1,11 @@
 """Poses with their frames, as Python holds them and as the C functions take them."""
 import ctypes
 import operator
-from array import array
+import struct
 from typing import NamedTuple, Sequence
 
 MOST_FRAME = 65_535
+FRAMES = struct.Struct("HH")  # the list of a pose's frames
 EXPECTED = f"a whole number from 0 to {MOST_FRAME:,}"
 
 
@@ -49,8 +50,3 @@ def expected(where, x):
         raise TypeError(f"{where} is {type(x).__name__}; expected a sim3.Pose, "
                         "whose fields are numbers, from_ and to")
     return x
-
-
-def room(width):
-    """The two lists that a pose is written to."""
-    return array(width.code, bytes(8 * width.size)), (ctypes.c_uint16 * 2)()

@@ -93,11 +93,36 @@ class LibraryMissing(OSError):
     """The shared library is not there or is none of this engine; the text says what to do."""
 
 
+LIBRARY = "libsim3.so"
+
+
 def library_path():
-    """The environment variable SIM3_LIBRARY, or where bindings/build puts the library."""
-    named = os.environ.get("SIM3_LIBRARY")
-    return pathlib.Path(named) if named else \
-        pathlib.Path(__file__).resolve().parents[3] / "target" / "bindings" / "libsim3_c.so"
+    """The environment variable SIM3_LIBRARY, or beside this file, where an installed package has the library,
+    or where bindings/build puts it in the source tree."""
+    named, here = os.environ.get("SIM3_LIBRARY"), pathlib.Path(__file__).resolve()
+    if named:
+        return pathlib.Path(named)
+    beside = here.with_name(LIBRARY)
+    return beside if beside.exists() or len(here.parents) < 4 else here.parents[3] / "target" / "bindings" / LIBRARY
+
+
+@functools.lru_cache(maxsize=None)
+def kinds(name):
+    """The kinds of a function's arguments by their names."""
+    return dict(FUNCTIONS[name].takes)
+
+
+@functools.lru_cache(maxsize=None)
+def quick(name):
+    """A C function that takes each list as an address or as bytes, which costs less at a call. Its name has
+    the width's ending."""
+    found = library()[name]
+    symbol = ctypes.CDLL(str(library_path().resolve()))["sim3_" + name]
+    lists = (ctypes.POINTER(width.number) for width in WIDTHS)
+    pointers = (*lists, ctypes.POINTER(ctypes.c_uint16))
+    symbol.argtypes = [ctypes.c_void_p if kind in pointers else kind for kind in found.argtypes]
+    symbol.restype = found.restype
+    return symbol
 
 
 @functools.lru_cache(maxsize=None)
@@ -114,7 +139,7 @@ def library():
         found.update((name, declared_lists(loaded["sim3_" + name], made)) for name, made in PATTERNS.items())
         found.update((name, declared_running(loaded["sim3_" + name], made)) for name, made in RUNNING.items())
         found.update(("nearest_arm" + width.ending, declared_near(loaded["sim3_nearest_arm" + width.ending], width)) for width in WIDTHS)
-        return {**found, "root": declared_root(loaded["sim3_root"])}
+        return {**found, "root": declared_root(loaded["sim3_root"]), "version": declared_version(loaded["sim3_version"])}
     except (OSError, AttributeError) as error:
         raise LibraryMissing(f"sim3: {path} is no library of this engine: {error}; "
                              "remove it and run bindings/build") from None
@@ -133,6 +158,12 @@ def declared(symbol, made, width):
     kinds = [*(kind for _, kind in made.takes), *written]
     symbol.argtypes = [word for kind in kinds for word in words(kind, width)]
     symbol.restype = ctypes.c_uint32
+    return symbol
+
+
+def declared_version(symbol):
+    """sim3_version, which gives a text."""
+    symbol.argtypes, symbol.restype = [], ctypes.c_char_p
     return symbol
 
 

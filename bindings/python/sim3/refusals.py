@@ -2,7 +2,7 @@
 from .raw import KINDS
 from .widths import DOUBLE
 
-MOST_NUMBERS = 65_535  # of a list of points
+MOST_NUMBERS = 65_535  # of a list of points at one call of a C function
 LIST_LENGTH = 100  # the number of sim3.h for a list of a wrong length, the boundary's own
 
 
@@ -30,11 +30,12 @@ def wrong_length(name, argument, kind, found, width=DOUBLE):
     return refusal(LIST_LENGTH, name, f"{argument} has {numbers(found)}; expected {due} ({kind}: {order})", width)
 
 
-def points_text(found):
-    if found % 3:
-        return f"pts has {numbers(found)}, which is no multiple of 3; hand in x y z of every point, flat"
-    return f"pts has {numbers(found)}; at most {MOST_NUMBERS:,} ({MOST_NUMBERS // 3:,} points) are " \
-           "taken at once, so move it in pieces"
+def points_length(name, found, width):
+    return refusal(5, name, f"pts has {numbers(found)}, which is no multiple of 3; hand in x y z of every point", width)
+
+
+def out_length(name, found, due, width):
+    return refusal(5, name, f"out has {numbers(found)} where pts has {due:,}; hand in an out of the same length", width)
 
 
 # By the function: which frame of x, and which of y, must be one and the same (0 from, 1 to), and words.
@@ -63,8 +64,6 @@ def text_of(number, name, given, width):
     if number == 2:
         return f"e, the last number of j, is {given['j'][30]!r}; such a block has no inverse, so leave it " \
                "out or look at e first"
-    if number == 5:
-        return points_text(len(given["pts"]))
     if number == 8:
         return f"z is {given['z']!r}; such a z has no root with what is left, so look at z first"
     if number == 9:

@@ -17,7 +17,7 @@ class Root(NamedTuple):
     nearest: float
 
 
-def root(z):
+def root(z: float) -> Root:
     """The square root of z with what is left, a Root; Refusal 1 where z is below zero, 8 where it is a
     NaN or infinite."""
     z = number("sim3.root: z", z)
@@ -28,7 +28,7 @@ def root(z):
     return Root(*whole, *exponent, *nearest)
 
 
-def nearest_root(z):
+def nearest_root(z: float) -> float:
     """The double of root(z), for host.values(sigma, z, root=sim3.nearest_root). What root refuses has
     the root that IEEE 754 gives it: a NaN below zero; a NaN and +infinity are their own."""
     try:

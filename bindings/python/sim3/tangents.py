@@ -4,6 +4,7 @@ import array
 import ctypes
 
 from . import raw
+from .hints import Numbers
 from .numbers import lent
 from .refusals import explained, refusal, wrong_length
 
@@ -38,7 +39,7 @@ def tangent(argument, x):
     return over(words)
 
 
-def compare_tangents(a, b):
+def compare_tangents(a: Numbers, b: Numbers) -> int:
     """-1 where the tangent a stands before b, 0 where all bits are the same, 1 where it stands after."""
     out = (ctypes.c_int64 * 1)()
     refused = raw.call("compare_tangents", tangent("a", a), tangent("b", b), out)
@@ -47,7 +48,7 @@ def compare_tangents(a, b):
     return out[0]
 
 
-def sort_tangents(tangents):
+def sort_tangents(tangents: Numbers) -> array.array:
     """The tangents of a flat list, seven numbers each, smallest first: array('d'), or array('Q') where
     patterns were handed in. `tangents` stays as it is. Refusal 5 where it is no multiple of seven or longer
     than 7,168 numbers (1,024 tangents)."""

@@ -1,0 +1,2 @@
+"""The version of this package; tools/version writes it."""
+__version__ = "1.0.0"
