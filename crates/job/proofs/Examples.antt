@@ -193,6 +193,8 @@ table =
     ∷ record { first = 0x6a; second = 0x69; bytes = 124 }
     ∷ record { first = 0x43; second = 0x48; bytes = 76 }
     ∷ record { first = 0x52; second = 0x4e; bytes = 2 }
+    ∷ record { first = 0x53; second = 0x48; bytes = 72 }
+    ∷ record { first = 0x53; second = 0x51; bytes = 2 }
     ∷ []
 
 found : Row → ℕ → Found

@@ -302,7 +302,7 @@ pub fn run(input: &[u8], out: &mut [u8]) -> Fed
     ensures { λ r. ⌜ now (out .exit) ≡ (feedOf jobLimit true standingNone (now (input .entry)) true (length (now (out .entry))) .bytes) ++ drop (r .written) (now (out .entry)) ⌝ }
     ensures { λ r. ⌜ (ends (r .reason) ≡ true → now (out .exit) ≡ jobOf jobLimit (now (input .entry)) ++ drop (r .written) (now (out .entry))) ⌝ }
 {
-    let mut mem: [u8; 73] = [0; 73];
+    let mut mem: [u8; marks::MEMORY] = [0; marks::MEMORY];
     fresh(&mut mem);
     feed(no_counts(), &mut mem, input, true, out)
 }

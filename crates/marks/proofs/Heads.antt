@@ -22,10 +22,13 @@ use Rattle.wire.specs.Wire.{wordBytes, itemBytes, itemsBytes}
 use Rattle.replies.specs.Table.{framedItems, entryFound}
 use Rattle.replies.proofs.Frames.{framed-length}
 use Rattle.replies.proofs.Replies.{width-most, entry-most}
+use Rattle.sheets.specs.Sheets.{Shelved}
+use Rattle.sheets.specs.declared.Shot.{Shot}
 use Rattle.marks.specs.State.{State, stateOf, memory, holds}
 use Rattle.marks.specs.Chain.{chReply, rnReply, tookOf}
+use Rattle.marks.specs.Retakes.{shReply, sqReply}
 use Rattle.marks.specs.declared.Mark.{Mark}
-use Rattle.marks.specs.declared.Mark.the-variants.{Double, Single, Ch, Rn}
+use Rattle.marks.specs.declared.Mark.the-variants.{Double, Single, Ch, Rn, Sh, Sq}
 use Rattle.marks.specs.Marks.{markOf, longestRecord, sizeOf, stepOf, markFound, markNext, foundAt, nextAt, foundOf, nextOf, metOf, metBytes, metState}
 
 -- ---- no record and no reply is longer than the longest
@@ -34,6 +37,8 @@ size-most (Double e) = omega (arith, width-most binary64 e)
 size-most (Single e) = omega (arith, width-most binary32 e)
 size-most Ch = omega arith
 size-most Rn = omega arith
+size-most Sh = omega arith
+size-most Sq = omega arith
 
 ch-most : (a : Answer Pose) → length (chReply a .bytes) ≤ longest
 unfolding chReply replyOf
@@ -44,12 +49,24 @@ rn-most : (n : ℕ) → length (rnReply n .bytes) ≤ longest
 unfolding rnReply replyOf markBytes itemsBytes itemBytes wordBytes
 rn-most n = omega arith
 
+sh-most : (a : Answer Shelved) → length (shReply a .bytes) ≤ longest
+unfolding shReply replyOf markBytes itemsBytes itemBytes wordBytes
+sh-most (answers x) = omega arith
+sh-most (refuses k) = rw (no-length k) (omega arith)
+
+sq-most : (a : Answer Shot) → length (sqReply a .bytes) ≤ longest
+unfolding sqReply replyOf markBytes itemsBytes itemBytes wordBytes
+sq-most (answers x) = omega (arith, framed-length binary64 (x .pose))
+sq-most (refuses k) = rw (no-length k) (omega arith)
+
 step-most : (m : Mark) (z : State) (r : List ℕ) → length (stepOf m z r .reply .bytes) ≤ longest
 unfolding stepOf
 step-most (Double e) z r = entry-most binary64 e r
 step-most (Single e) z r = entry-most binary32 e r
 step-most Ch z r = ch-most _
 step-most Rn z r = rn-most _
+step-most Sh z r = sh-most _
+step-most Sq z r = sq-most _
 
 -- ---- by the length and the mark
 abbrev pub Meets : State → List ℕ → Found → State → Type 0
@@ -91,6 +108,10 @@ double-meets z s e = (refl, same (ltb (length s) (sizeOf (Double e))) z)
 pub single-meets : (z : State) (s : List ℕ) (e : Entry) → (markFound (Single e) z s ≡ entryFound binary32 e s) × (markNext (Single e) z s ≡ z)
 unfolding markFound markNext stepOf
 single-meets z s e = (refl, same (ltb (length s) (sizeOf (Single e))) z)
+
+pub sq-still : (z : State) (s : List ℕ) → markNext Sq z s ≡ z
+unfolding markNext stepOf
+sq-still z s = same (ltb (length s) (sizeOf Sq)) z
 
 -- ---- a record lies within the input, and its answer within the room of the longest
 pub record Taken (s : List ℕ) (k : ℕ) (b : List ℕ) : Type 0 where

@@ -1,5 +1,8 @@
--- What stands at the head of the input and the state behind it, the bytes of the state, and any history of records.
+-- What stands at the head of the input and the state behind it, the bytes of the state, what the marks that move it tell, any history of records, and examples.
 pub mod Heads
 pub mod State
 pub mod Lent
+pub mod Shelf
 pub mod Past
+pub mod Back
+mod Examples

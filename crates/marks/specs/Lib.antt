@@ -1,4 +1,5 @@
 pub mod State
 pub mod Chain
+pub mod Retakes
 pub mod Marks
 pub mod History

@@ -10,11 +10,13 @@ use Rattle.outcome.specs.declared.Entry.the-variants.{Ex, Co, Pa, Ac, Mu, In, J
 use Rattle.outcome.specs.Outcome.{longest, unknownMark, Reply, Found, ended, unknown, cut, recordFound, Became, roomless, becameOf, writtenOf}
 use Rattle.replies.specs.Table.{widthOf, entryReply}
 use Rattle.running.specs.Running.{everyOf}
+use Rattle.sheets.specs.Sheets.{ask}
 use Rattle.wire.specs.Wire.{wordAt}
 use Rattle.marks.specs.State.{State, stateOf, holds}
 use Rattle.marks.specs.Chain.{chSize, rnSize, chOf, chReply, rnReply}
+use Rattle.marks.specs.Retakes.{shSize, sqSize, shOf, shReply, sqReply}
 use Rattle.marks.specs.declared.Mark.{Mark}
-use Rattle.marks.specs.declared.Mark.the-variants.{Double, Single, Ch, Rn}
+use Rattle.marks.specs.declared.Mark.the-variants.{Double, Single, Ch, Rn, Sh, Sq}
 use Rattle.marks.specs.declared.Look.{Look}
 use Rattle.marks.specs.declared.Look.the-variants.{Known, Unknown}
 
@@ -38,7 +40,9 @@ markKnown k =
     (cond (eqb k 0x696e) (answers (Single In))
     (cond (eqb k 0x6a69) (answers (Single Ji))
     (cond (eqb k 0x4348) (answers Ch)
-    (cond (eqb k 0x524e) (answers Rn) (refuses unknownMark)))))))))))))))))
+    (cond (eqb k 0x524e) (answers Rn)
+    (cond (eqb k 0x5348) (answers Sh)
+    (cond (eqb k 0x5351) (answers Sq) (refuses unknownMark)))))))))))))))))))
 
 unfoldable pub markOf : ℕ → ℕ → Answer Mark
 markOf a b = markKnown (a * 256 + b)
@@ -63,13 +67,17 @@ sizeOf (Double e) = 2 + widthOf binary64 e
 sizeOf (Single e) = 2 + widthOf binary32 e
 sizeOf Ch = chSize
 sizeOf Rn = rnSize
+sizeOf Sh = shSize
+sizeOf Sq = sqSize
 
--- an entry of the engine leaves the state as it is
+-- an entry of the engine leaves the state as it is, and so does a question for a sheet
 unfoldable pub stepOf : Mark → State → List ℕ → Stepped
 stepOf (Double e) z r = record { state = z; reply = entryReply binary64 e r }
 stepOf (Single e) z r = record { state = z; reply = entryReply binary32 e r }
-stepOf Ch z r = let j = chOf (z .running) (drop 2 r) in record { state = record { running = j .running }; reply = chReply (j .answer) }
-stepOf Rn z r = let n = wordAt 2 (drop 2 r) 0 in record { state = record { running = everyOf (z .running) n }; reply = rnReply n }
+stepOf Ch z r = let j = chOf (z .running) (drop 2 r) in record { state = record { running = j .running; sheets = z .sheets }; reply = chReply (j .answer) }
+stepOf Rn z r = let n = wordAt 2 (drop 2 r) 0 in record { state = record { running = everyOf (z .running) n; sheets = z .sheets }; reply = rnReply n }
+stepOf Sh z r = let j = shOf (z .sheets) (drop 2 r) in record { state = record { running = z .running; sheets = j .sheets }; reply = shReply (j .answer) }
+stepOf Sq z r = record { state = z; reply = sqReply (ask (z .sheets) (wordAt 2 (drop 2 r) 0)) }
 
 -- ---- what stands at the head of the input s, where z is the state; and the state behind it, which is z where no whole record stands there
 unfoldable pub markFound : Mark → State → List ℕ → Found

@@ -9,22 +9,32 @@ ghost use Rattle.marks.specs.State.{stateNone, stateOf, holds};
 ghost use Rattle.marks.specs.Marks.{markKnown, markOf, lookTold, metOf, metBytes, metState};
 use crate::chain::ch;
 use crate::chain::rn;
+use crate::retakes::sh;
+use crate::retakes::sq;
 use outcome::Entry;
 use outcome::Step;
+use sheets::STORE;
 
-// How many bytes are lent for the state of a job: n and the count of the running join, whether it has
-// a pose, and the pose with its frames.
-pub const MEMORY: usize = 2 + 2 + 1 + 8 * 8 + 2 * 2;
+// How many bytes are lent for the running join: n and the count, whether there is a pose, and the pose
+// with its frames.
+pub(crate) const RUNNING: usize = 2 + 2 + 1 + 8 * 8 + 2 * 2;
 
+// How many are lent for the state of a job: those, and behind them the store of the retaken sheets.
+pub const MEMORY: usize = RUNNING + STORE;
+
+mod bytes; // numbers and poses at a place of a list of bytes
 mod chain; // the running join
+mod retakes; // the retaken sheets
 
-// A mark of the table: it asks for an entry of the engine, on doubles or on singles, or for the running
-// join.
+// A mark of the table: it asks for an entry of the engine, on doubles or on singles, for the running
+// join, or for the retaken sheets.
 pub enum Mark {
     Double(Entry),
     Single(Entry),
     Ch,
     Rn,
+    Sh,
+    Sq,
 }
 
 // A mark of the table; or none.
@@ -62,6 +72,8 @@ fn known(k: u16) -> Look
         0x6a69 => Look::Known(Mark::Single(Entry::Ji)),
         0x4348 => Look::Known(Mark::Ch),
         0x524e => Look::Known(Mark::Rn),
+        0x5348 => Look::Known(Mark::Sh),
+        0x5351 => Look::Known(Mark::Sq),
         _ => Look::Unknown,
     }
 }
@@ -83,6 +95,7 @@ pub fn fresh(mem: &mut [u8])
         mem[2] = 0;
         mem[3] = 0;
         mem[4] = 0;
+        sheets::fresh(&mut mem[RUNNING..]);
     }
 }
 
@@ -111,5 +124,7 @@ pub fn reply(s: &[u8], mem: &mut [u8], out: &mut [u8]) -> Step
         Mark::Single(e) => replies_f32::reply(e, s, out),
         Mark::Ch => ch(s, mem, out),
         Mark::Rn => rn(s, mem, out),
+        Mark::Sh => sh(s, mem, out),
+        Mark::Sq => sq(s, mem, out),
     }
 }

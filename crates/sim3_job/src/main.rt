@@ -249,7 +249,7 @@ fn run(live: bool, tape: &[u8], cuts: &[usize], sink: &mut [u8]) -> Ran
     let buf: &mut [u8] = &mut space;
     let mut room = io::large_buffer();
     let out: &mut [u8] = &mut room;
-    let mut place: [u8; 73] = [0; 73];
+    let mut place: [u8; marks::MEMORY] = [0; marks::MEMORY];
     let mem: &mut [u8] = &mut place;
     job::fresh(mem);
     let mut c = job::no_counts();

@@ -1,4 +1,4 @@
--- Written by tools/proofs from Proof.template: edit that one. Digest 134fceb6c01945c1.
+-- Written by tools/proofs from Proof.template: edit that one. Digest d52dcc3a4e9f5acf.
 -- `marks::known` meets its contract: by the number, and by its being none of the table's. Assumes nothing.
 use borrow.Author.Tests.{ne-eqb}
 use Rattle.marks.specs.Marks.{markKnown}
@@ -75,7 +75,15 @@ returns-17 c = simp (c .match .keys17)
 
 returns-18 : tie.Need-returns-18
 unfolding markKnown
-returns-18 c =
+returns-18 c = simp (c .match .keys18)
+
+returns-19 : tie.Need-returns-19
+unfolding markKnown
+returns-19 c = simp (c .match .keys19)
+
+returns-20 : tie.Need-returns-20
+unfolding markKnown
+returns-20 c =
     simp (
       ne-eqb _ _ (c .match .rest .1),
       ne-eqb _ _ (c .match .rest .0 .1),
@@ -94,6 +102,8 @@ returns-18 c =
       ne-eqb _ _ (c .match .rest .0 .0 .0 .0 .0 .0 .0 .0 .0 .0 .0 .0 .0 .0 .1),
       ne-eqb _ _ (c .match .rest .0 .0 .0 .0 .0 .0 .0 .0 .0 .0 .0 .0 .0 .0 .0 .1),
       ne-eqb _ _ (c .match .rest .0 .0 .0 .0 .0 .0 .0 .0 .0 .0 .0 .0 .0 .0 .0 .0 .1),
+      ne-eqb _ _ (c .match .rest .0 .0 .0 .0 .0 .0 .0 .0 .0 .0 .0 .0 .0 .0 .0 .0 .0 .1),
+      ne-eqb _ _ (c .match .rest .0 .0 .0 .0 .0 .0 .0 .0 .0 .0 .0 .0 .0 .0 .0 .0 .0 .0 .1),
     )
 
 pub known-spec : {M : Type 1} → statement M
@@ -117,4 +127,6 @@ known-spec =
     returns-15
     returns-16
     returns-17
-    returns-18)
+    returns-18
+    returns-19
+    returns-20)

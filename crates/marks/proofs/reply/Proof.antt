@@ -1,4 +1,4 @@
--- Written by tools/proofs from Proof.template: edit that one. Digest ee6df7c13f058888.
+-- Written by tools/proofs from Proof.template: edit that one. Digest 623e165590112c35.
 -- `marks::reply` meets its contract: by the lent bytes, by the length of the input, by its mark, and by the reply of its entry. Assumes nothing.
 use borrow.Author.Needs.{needs}
 use native.Mathlib.Omega.{arith}
@@ -7,9 +7,9 @@ use Rattle.outcome.specs.declared.Step.the-variants as step
 use Rattle.outcome.specs.Outcome.{ended, unknown, cut, becameOf, writtenOf}
 use Rattle.marks.specs.State.{stateOf}
 use Rattle.marks.specs.Marks.{lookTold}
-use Rattle.marks.specs.declared.Mark.the-variants.{Ch, Rn}
+use Rattle.marks.specs.declared.Mark.the-variants.{Ch, Rn, Sh, Sq}
 use Rattle.marks.specs.declared.Look.the-variants.{Known}
-use Rattle.marks.proofs.Heads.{found-none, found-half, found-unknown, found-mark, double-meets, single-meets, met-unheld, met-held, met-still}
+use Rattle.marks.proofs.Heads.{found-none, found-half, found-unknown, found-mark, double-meets, single-meets, sq-still, met-unheld, met-held, met-still}
 use Rattle.marks.proofs.reply.Statement.{statement}
 use Rattle.marks.proofs.reply.Tie as tie
 
@@ -85,6 +85,28 @@ returns-8 c =
     let f = found-mark (stateOf (a .mem .now)) (a .s .now) Rn (omega arith) known in
     met-held (a .mem .now) (a .s .now) (a .out .now) (c3 .before .before .if1 .left) _ _ f (c .before .before .before .before .rn .result) _ _ (c .before .before .before .before .rn .ensures .0) (c .before .before .before .before .rn .ensures .1 .0) (c .before .before .before .before .rn .ensures .1 .1)
 
+returns-9 : tie.Need-returns-9
+returns-9 c =
+    let c1 = c .before .before .before .before .before in
+    let c2 = c1 .before .before .before .before .before in
+    let c3 = c2 .before .before .before .before .before in
+    let c4 = c3 .before .before .before .before .before in
+    let a = c4 .before .args in
+    let known = sym (c2 .before .before .look-up .ensures) ∙ ap lookTold (c2 .m .given .1 ∙ ap Known (c1 .before .before .enum-told4 .given .1)) in
+    let f = found-mark (stateOf (a .mem .now)) (a .s .now) Sh (omega arith) known in
+    met-held (a .mem .now) (a .s .now) (a .out .now) (c3 .before .before .if1 .left) _ _ f (c .before .before .before .before .sh .result) _ _ (c .before .before .before .before .sh .ensures .0) (c .before .before .before .before .sh .ensures .1 .0) (c .before .before .before .before .sh .ensures .1 .1)
+
+returns-10 : tie.Need-returns-10
+returns-10 c =
+    let c1 = c .before .before .before .before .before in
+    let c2 = c1 .before .before .before .before .before in
+    let c3 = c2 .before .before .before .before .before in
+    let a = c3 .before .before .before .before .args in
+    let z = stateOf (a .mem .now) in
+    let known = sym (c2 .look-up .ensures) ∙ ap lookTold (c1 .before .before .before .m .given .1 ∙ ap Known (c1 .enum-told5 .given .1)) in
+    let f = found-mark z (a .s .now) Sq (omega arith) known in
+    met-still (a .mem .now) (a .s .now) (a .out .now) (c3 .if1 .left) _ (f .0, f .1 ∙ sq-still z (a .s .now)) (c .before .before .sq .result) _ (c .before .before .sq .ensures .0) (c .before .before .sq .ensures .1)
+
 pub reply-spec : {M : Type 1} → statement M
 reply-spec =
     tie.close
@@ -107,6 +129,10 @@ reply-spec =
     (λ c. search needs)
     (λ c κs. search needs)
     (λ c. search needs)
+    (λ c κs. search needs)
+    (λ c. search needs)
+    (λ c κs. search needs)
+    (λ c. search needs)
     returns-5
     (λ c. search needs)
     returns-6
@@ -115,4 +141,10 @@ reply-spec =
     returns-7
     (λ c. search needs)
     (λ c. search needs)
-    returns-8)
+    returns-8
+    (λ c. search needs)
+    (λ c. search needs)
+    returns-9
+    (λ c. search needs)
+    (λ c. search needs)
+    returns-10)

@@ -1,11 +1,12 @@
--- Written by tools/proofs from Proof.template: edit that one. Digest f30dc86d69fb1d76.
+-- Written by tools/proofs from Proof.template: edit that one. Digest 53a4cdfa86acf05f.
 -- `marks::chain::put_posed` meets its contract: the stores are the whole state, and a pose of doubles reads back. Assumes nothing.
 use borrow.Author.Needs.{needs}
 use native.Mathlib.Omega.{arith}
 use mathlib.Core.Path.{_∙_, ap}
 use lib.ListN.{length-set}
 use Rattle.marks.specs.State.{runningOf}
-use Rattle.marks.proofs.Lent.{Fit, posed-stored}
+use Rattle.sheets.proofs.Framed.{Fit}
+use Rattle.marks.proofs.Lent.{posed-stored}
 use Rattle.marks.proofs.chain.put_posed.Statement.{statement}
 use Rattle.marks.proofs.chain.put_posed.Tie as tie
 

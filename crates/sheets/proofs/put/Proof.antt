@@ -1,0 +1,71 @@
+-- Written by tools/proofs from Proof.template: edit that one. Digest 65498f81c2e89c1c.
+-- `sheets::put` meets its contract: by the length of the bytes, by whether the slot is the sheet's, and by whether another can be added. Assumes nothing.
+use borrow.Author.Needs.{needs}
+use native.Mathlib.Omega.{arith}
+use mathlib.Core.Path.{sym, _∙_}
+use Rattle.sheets.specs.Store.{usedOf}
+use Rattle.sheets.proofs.Framed.{Fit}
+use Rattle.sheets.proofs.Told.{put-storeless, put-full, put-new, put-again}
+use Rattle.sheets.proofs.put.Statement.{statement}
+use Rattle.sheets.proofs.put.Tie as tie
+
+-- the numbers are doubles, and the frames have 16 bits
+fit : (c : tie.After-slot-of) → let a = c .before .before .before .before .args in Fit (a .shot .pose)
+fit c = record {
+  w = search needs;
+  x₁ = search needs;
+  y₁ = search needs;
+  z₁ = search needs;
+  x₂ = search needs;
+  y₂ = search needs;
+  z₂ = search needs;
+  s = search needs;
+  from = search needs;
+  to = search needs;
+}
+
+returns : tie.Need-returns
+returns c = put-storeless (c .before .before .args .store .now) (c .before .before .args .sheet) (c .before .before .args .shot) (c .if1 .taken)
+
+returns-2 : tie.Need-returns-2
+returns-2 c =
+    let c1 = c .before .before .before .before .before in
+    let c2 = c1 .before .before .before .before .before in
+    let a = c2 .before .args in
+    put-again (a .store .now) (a .sheet) (a .shot) (c1 .before .before .slot-of .result) (search needs) (c1 .before .before .slot-of .ensures .0) (c1 .before .before .before .before .if1 .left) (search needs) (fit (c1 .before .before))
+    (sym (c1 .held .ensures) ∙ c .before .before .before .before .if2 .taken) (c .before .before .retake .result) _ (c .before .before .retake .ensures .0) (c .before .before .retake .ensures .1)
+
+returns-3 : tie.Need-returns-3
+unfolding usedOf
+returns-3 c =
+    let c1 = c .before .before .before .before .before in
+    let c2 = c1 .before .before .before .before .before in
+    let a = c2 .before .before .before .before .args in
+    put-new (a .store .now) (a .sheet) (a .shot) (c2 .slot-of .result) (search needs) (c2 .slot-of .ensures .0) (c2 .before .before .if1 .left) (search needs) (fit (c2))
+    (sym (c1 .before .before .before .held .ensures) ∙ c1 .before .before .if2 .left) (c1 .short-at .result) (c1 .short-at .ensures) (c .before .before .before .before .if3 .taken) _ (c .before .before .add .ensures)
+
+returns-4 : tie.Need-returns-4
+unfolding usedOf
+returns-4 c =
+    let c1 = c .before .before .before .before .before in
+    let c2 = c1 .before .before .before .before .before in
+    let a = c2 .args in
+    put-full (a .store .now) (a .sheet) (a .shot) (c1 .before .slot-of .result) (search needs) (c1 .before .slot-of .ensures .0) (c1 .before .before .before .if1 .left)
+    (sym (c .before .before .before .before .held .ensures) ∙ c .before .before .before .if2 .left) (c .before .short-at .result) (c .before .short-at .ensures) (c .if3 .left)
+
+pub put-spec : {M : Type 1} → statement M
+put-spec =
+    tie.close
+    (tie.spec
+    returns
+    (λ c κs. search needs)
+    (λ c κs. search needs)
+    (λ c κs. search needs)
+    (λ c. search needs)
+    returns-2
+    (λ c κs. search needs)
+    (λ c κs. search needs)
+    (λ c. search needs)
+    returns-3
+    (λ c. search needs)
+    returns-4)

@@ -1,0 +1,106 @@
+-- The lent bytes in which the code keeps the sheets: for each sheet number two bytes that name a slot; 512 slots, each with a sheet number, a take and a pose with its frames; and
+-- how many slots are in use. All bytes of that many are a store: a slot is a sheet's if it is in use and holds that sheet's number.
+use Prim.Native.Nat.{ℕ, _+_, _*_, _%_}
+use mathlib.Core.Bool.{Bool, cond, _&&_}
+use mathlib.Core.List.{List, _++_}
+use lib.ListN.{length, take, drop}
+use lib.Seq.{sets}
+use lib.Dec.{ltb, eqb}
+use lib.Ieee.{binary64}
+use Rattle.linalg.specs.Answer.{Answer, answers, refuses}
+use Rattle.wire.specs.Wire.{wordAt, wordBytes, itemsBytes}
+use Rattle.replies.specs.Table.{framedWidth, framedIn, framedItems}
+use Rattle.sheets.specs.Sheets.{Kept, none, kept, Sheets, most, sameTake, Shelved, shelved, shelve, ask}
+use Rattle.sheets.specs.declared.Shot.{Shot}
+use Rattle.sheets.specs.declared.PutAnswer.{PutAnswer}
+use Rattle.sheets.specs.declared.PutAnswer.the-variants as put
+use Rattle.sheets.specs.declared.GetAnswer.{GetAnswer}
+use Rattle.sheets.specs.declared.GetAnswer.the-variants as get
+
+-- ---- the parts: how many bytes a slot has, where the slots begin, where their number stands, and how many bytes there are
+abbrev pub slotWidth : ℕ
+slotWidth = 2 + 2 + framedWidth binary64
+
+abbrev pub slots : ℕ
+slots = 65536 * 2
+
+abbrev pub tail : ℕ
+tail = slots + most * slotWidth
+
+abbrev pub size : ℕ
+size = tail + 2
+
+unfoldable pub holds : List ℕ → Bool
+holds m = eqb (length m) size
+
+-- ---- read
+unfoldable pub usedOf : List ℕ → ℕ
+usedOf m = wordAt 2 m tail
+
+-- the slot that is named for the sheet n
+unfoldable pub slotOf : List ℕ → ℕ → ℕ
+slotOf m n = wordAt 2 m (2 * n) % most
+
+-- the bytes of the slot i
+unfoldable pub slotAt : List ℕ → ℕ → List ℕ
+slotAt m i = take slotWidth (drop (slots + slotWidth * i) m)
+
+-- the shot in a slot's bytes
+unfoldable pub shotIn : List ℕ → Shot
+shotIn b = record { take = wordAt 2 b 2; pose = framedIn binary64 (drop 4 b) }
+
+-- whether the slot i is that of the sheet n
+unfoldable pub heldAt : List ℕ → ℕ → ℕ → Bool
+heldAt m n i = ltb i (usedOf m) && eqb (wordAt 2 m (slots + slotWidth * i)) n
+
+unfoldable pub keptOf : List ℕ → ℕ → Kept
+keptOf m n = cond (ltb n 65536 && heldAt m n (slotOf m n)) (kept (shotIn (slotAt m (slotOf m n)))) none
+
+unfoldable pub sheetsOf : List ℕ → Sheets
+sheetsOf m = record { count = usedOf m; at = keptOf m }
+
+-- ---- written: a slot's bytes; and the slot u, the next, named for the sheet n, with the shot x in it
+unfoldable pub slotBytes : ℕ → Shot → List ℕ
+slotBytes n x = wordBytes 2 n ++ (wordBytes 2 (x .take) ++ itemsBytes binary64 (framedItems (x .pose)))
+
+unfoldable pub addOf : List ℕ → ℕ → ℕ → Shot → List ℕ
+addOf m n u x = sets (sets (sets m (2 * n) (wordBytes 2 u)) (slots + slotWidth * u) (slotBytes n x)) tail (wordBytes 2 (u + 1))
+
+-- ---- what the functions tell: there is no answer where the lent bytes are no store
+pub data Lent (A : Type 0) : Type 0 where
+  lent : A → Lent A
+  storeless : Lent A
+
+unfoldable pub putTold : PutAnswer → Lent (Answer Shelved)
+putTold put.New = lent (shelved 1 0)
+putTold (put.Replaced t) = lent (shelved 2 t)
+putTold (put.Older t) = lent (shelved 3 t)
+putTold (put.Refused k) = lent (refuses k)
+putTold put.Storeless = storeless
+
+unfoldable pub getTold : GetAnswer → Lent (Answer Shot)
+getTold (get.Kept x) = lent (answers x)
+getTold (get.Refused k) = lent (refuses k)
+getTold get.Storeless = storeless
+
+-- a shot x of the sheet n: what is told, and what is kept then
+unfoldable pub putAnswer : List ℕ → ℕ → Shot → Lent (Answer Shelved)
+putAnswer m n x = cond (holds m) (lent (shelve (sheetsOf m) n x .answer)) storeless
+
+unfoldable pub putSheets : List ℕ → ℕ → Shot → Sheets
+putSheets m n x = cond (holds m) (shelve (sheetsOf m) n x .sheets) (sheetsOf m)
+
+-- a question for the sheet n
+unfoldable pub getAnswer : List ℕ → ℕ → Lent (Answer Shot)
+getAnswer m n = cond (holds m) (lent (ask (sheetsOf m) n)) storeless
+
+-- where the slot i holds a shot of the sheet: what is told of another, and the bytes then
+unfoldable pub retakeTold : List ℕ → ℕ → Shot → Lent (Answer Shelved)
+retakeTold m i x =
+    let t = wordAt 2 m (slots + slotWidth * i + 2) in
+    cond (eqb (x .take) t) (lent (refuses sameTake)) (cond (ltb t (x .take)) (lent (shelved 2 t)) (lent (shelved 3 t)))
+
+unfoldable pub retakeBytes : List ℕ → ℕ → ℕ → Shot → List ℕ
+retakeBytes m i n x =
+    let t = wordAt 2 m (slots + slotWidth * i + 2) in
+    cond (eqb (x .take) t) m (cond (ltb t (x .take)) (sets m (slots + slotWidth * i) (slotBytes n x)) m)

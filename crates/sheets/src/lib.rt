@@ -1,0 +1,178 @@
+// Retaken sheets: the pose of the highest take for each of up to 512 sheets, in bytes that the caller
+// lends. They are an index that names a slot for each sheet number, the slots, and how many of these
+// are in use. A slot is a sheet's if it is in use and holds that sheet's number: so nothing is searched,
+// whatever bytes are lent are a store, and only the last two must be set before the first use.
+ghost use mathlib.Core.Path.{_≡_};
+ghost use mathlib.Core.Bool.{cond, false};
+ghost use Prim.Native.Nat.{_+_, _*_, _<_};
+ghost use lib.ListN.{length};
+ghost use lib.Seq.{sets};
+ghost use Rattle.sheets.specs.Sheets.{noSheets, most};
+ghost use Rattle.sheets.specs.Store.{slotWidth, slots, size, usedOf, slotOf, shotIn, slotBytes, heldAt, addOf, sheetsOf, holds};
+ghost use Rattle.sheets.specs.Store.{putTold, putAnswer, putSheets, getTold, getAnswer, retakeTold, retakeBytes};
+use crate::bytes::framed_at;
+use crate::bytes::put_framed;
+use crate::bytes::put_short;
+use crate::bytes::short_at;
+use frames::Pose;
+
+mod bytes; // numbers and poses at a place of the bytes
+
+// How many sheets are kept at most.
+const MOST: u16 = 512;
+
+// Sheet, take, and the pose with its frames.
+const SLOT: usize = 2 + 2 + 8 * 8 + 2 * 2;
+
+// Where the slots begin: two bytes for each sheet number stand before them.
+const SLOTS: usize = 65_536 * 2;
+
+// Where the number of slots in use stands.
+const TAIL: usize = SLOTS + 512 * SLOT;
+
+// How many bytes are lent for a store.
+pub const STORE: usize = TAIL + 2;
+
+// A sheet as it was photographed: the number of the take, and its pose.
+pub struct Shot {
+    pub take: u16,
+    pub pose: Pose,
+}
+
+// What became of a shot: the first of its sheet; kept instead of the take named; not kept, being older
+// than the take named; refused, with 10 where its take is the one kept, with 11 where its sheet would
+// be the 513th; or the bytes lent are no store.
+pub enum PutAnswer {
+    New,
+    Replaced(u16),
+    Older(u16),
+    Refused(u8),
+    Storeless,
+}
+
+// What is kept of a sheet; refusal 12 where nothing is; or the bytes lent are no store.
+pub enum GetAnswer {
+    Kept(Shot),
+    Refused(u8),
+    Storeless,
+}
+
+// ---- slots
+// The slot that the index names for a sheet.
+fn slot_of(store: &[u8], sheet: u16) -> usize
+    requires { ⌜ length (now store) ≡ size ⌝ }
+    ensures { λ r. ⌜ (r ≡ slotOf (now (store .entry)) sheet) × (r < most) ⌝ }
+{
+    (short_at(store, 2 * (sheet as usize)) % MOST) as usize
+}
+
+// Whether that slot is the sheet's.
+fn held(store: &[u8], sheet: u16, slot: usize) -> bool
+    requires { ⌜ length (now store) ≡ size ⌝ }
+    requires { ⌜ slot < most ⌝ }
+    ensures { λ r. ⌜ r ≡ heldAt (now (store .entry)) sheet slot ⌝ }
+{
+    (slot < short_at(store, TAIL) as usize) & (short_at(store, SLOTS + SLOT * slot) == sheet)
+}
+
+// The shot in the bytes of a slot.
+fn shot_in(b: &[u8]) -> Shot
+    requires { ⌜ length (now b) ≡ slotWidth ⌝ }
+    ensures { λ r. ⌜ r ≡ shotIn (now (b .entry)) ⌝ }
+{
+    Shot {
+        take: short_at(b, 2),
+        pose: framed_at(b, 4),
+    }
+}
+
+// A shot, into a slot.
+fn put_slot(store: &mut [u8], slot: usize, sheet: u16, shot: Shot)
+    requires { ⌜ length (now store) ≡ size ⌝ }
+    requires { ⌜ slot < most ⌝ }
+    ensures { λ _. ⌜ now (store .exit) ≡ sets (now (store .entry)) (slots + slotWidth * slot) (slotBytes sheet shot) ⌝ }
+{
+    let at = SLOTS + SLOT * slot;
+    let take = shot.take;
+    let pose = shot.pose;
+    put_short(store, at, sheet);
+    put_short(store, at + 2, take);
+    put_framed(store, at + 4, pose);
+}
+
+// ---- shots
+// Of a sheet of which none is kept: the next slot becomes its own.
+fn add(store: &mut [u8], sheet: u16, used: u16, shot: Shot)
+    requires { ⌜ length (now store) ≡ size ⌝ }
+    requires { ⌜ used < most ⌝ }
+    ensures { λ _. ⌜ now (store .exit) ≡ addOf (now (store .entry)) sheet used shot ⌝ }
+{
+    put_short(store, 2 * (sheet as usize), used);
+    put_slot(store, used as usize, sheet, shot);
+    put_short(store, TAIL, used + 1);
+}
+
+// Of a sheet of which that slot holds one: the higher take stays.
+fn retake(store: &mut [u8], sheet: u16, slot: usize, shot: Shot) -> PutAnswer
+    requires { ⌜ length (now store) ≡ size ⌝ }
+    requires { ⌜ slot < most ⌝ }
+    ensures { λ r. ⌜ putTold r ≡ retakeTold (now (store .entry)) slot shot ⌝ }
+    ensures { λ _. ⌜ now (store .exit) ≡ retakeBytes (now (store .entry)) slot sheet shot ⌝ }
+{
+    let before = short_at(store, SLOTS + SLOT * slot + 2);
+    let take = shot.take;
+    if take == before {
+        return PutAnswer::Refused(10);
+    }
+    if before < take {
+        put_slot(store, slot, sheet, shot);
+        return PutAnswer::Replaced(before);
+    }
+    PutAnswer::Older(before)
+}
+
+// Makes the lent bytes a store in which nothing is kept, if they are as many as a store has.
+pub fn fresh(store: &mut [u8])
+    ensures { λ _. ⌜ sheetsOf (now (store .exit)) ≡ cond (holds (now (store .entry))) noSheets (sheetsOf (now (store .entry))) ⌝ }
+    ensures { λ _. ⌜ (holds (now (store .entry)) ≡ false → now (store .exit) ≡ now (store .entry)) ⌝ }
+{
+    if store.len() == STORE {
+        put_short(store, TAIL, 0);
+    }
+}
+
+// A shot of a sheet: it is kept if none of that sheet is, or one of a lower take.
+pub fn put(store: &mut [u8], sheet: u16, shot: Shot) -> PutAnswer
+    ensures { λ r. ⌜ putTold r ≡ putAnswer (now (store .entry)) sheet shot ⌝ }
+    ensures { λ _. ⌜ sheetsOf (now (store .exit)) ≡ putSheets (now (store .entry)) sheet shot ⌝ }
+    ensures { λ _. ⌜ (holds (now (store .entry)) ≡ false → now (store .exit) ≡ now (store .entry)) ⌝ }
+{
+    if store.len() != STORE {
+        return PutAnswer::Storeless;
+    }
+    let slot = slot_of(store, sheet);
+    if held(store, sheet, slot) {
+        return retake(store, sheet, slot, shot);
+    }
+    let used = short_at(store, TAIL);
+    if used < MOST {
+        add(store, sheet, used, shot);
+        return PutAnswer::New;
+    }
+    PutAnswer::Refused(11)
+}
+
+// The shot that is kept of a sheet.
+pub fn get(store: &[u8], sheet: u16) -> GetAnswer
+    ensures { λ r. ⌜ getTold r ≡ getAnswer (now (store .entry)) sheet ⌝ }
+{
+    if store.len() != STORE {
+        return GetAnswer::Storeless;
+    }
+    let slot = slot_of(store, sheet);
+    if held(store, sheet, slot) {
+        let at = SLOTS + SLOT * slot;
+        return GetAnswer::Kept(shot_in(&store[at..at + SLOT]));
+    }
+    GetAnswer::Refused(12)
+}
