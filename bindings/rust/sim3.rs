@@ -23,6 +23,7 @@ mod raw;
 mod raw_f32;
 mod refusal;
 mod running;
+mod sheets;
 mod square_root;
 mod tangents;
 
@@ -30,6 +31,7 @@ pub use functions::*;
 pub use near::{nearest_arm, Direction, Near};
 pub use refusal::{Join, Refusal};
 pub use running::{renormalize_all, Running};
+pub use sheets::{Sheets, Shelved};
 pub use square_root::{root, Root};
 pub use tangents::{compare_tangents, sort_tangents};
 
