@@ -11,6 +11,9 @@
  *     5  a list of points has a wrong length    (sim3_act_many, sim3_act_each: a multiple of 3, at most 65,535 numbers, `out` as long as `pts`)
  *     8  z is a NaN or +infinity                (sim3_root; sim3_nearest_arm: or sigma is a NaN or an infinity)
  *     9  the frames do not meet                 (sim3_mul, sim3_mul_inv, sim3_inv_mul, sim3_running_push)
+ *    10  the take is the one that is kept      (sim3_sheets_put)
+ *    11  the sheet would be the 513th           (sim3_sheets_put)
+ *    12  nothing was ever kept of the sheet     (sim3_sheets_get)
  *   100  another list has a wrong length; the right one stands in brackets below. This number is the boundary's own: in Rattle no such list can be made
  * A wrong length of an input is refused before the numbers are looked at, and of what is written after.
  *
@@ -62,6 +65,9 @@ enum {
     SIM3_POINTS_LENGTH = 5,
     SIM3_NOT_FINITE = 8,
     SIM3_FRAMES = 9,
+    SIM3_SAME_TAKE = 10,
+    SIM3_TOO_MANY_SHEETS = 11,
+    SIM3_NEVER_KEPT = 12,
     SIM3_LIST_LENGTH = 100
 };
 
@@ -112,6 +118,22 @@ uint32_t sim3_running_push(double *pose, size_t pose_n, uint16_t *state, size_t 
 
 /* From here on after every nth product, 0 for never. The count goes on, also while n is 0, and the pose stays as it is. state [5]. */
 uint32_t sim3_running_every(uint16_t *state, size_t state_n, uint16_t n);
+
+/* ---- retaken sheets: for each of up to 512 sheets the pose of the highest take is kept, in bytes of the caller's. Any bytes of that many are a store. */
+enum { SIM3_SHEETS_SIZE = 167938 };
+
+/* Nothing is kept yet. store [SIM3_SHEETS_SIZE]. */
+uint32_t sim3_sheets_start(uint8_t *store, size_t store_n);
+
+/* A shot of a sheet. store [SIM3_SHEETS_SIZE], x [8], x_frames [2]; out [2]: 1 where the sheet is new, 2 where the shot replaces one of a lower take, 3 where it is
+ * older and not kept; and the take that stood before, 0 with a new sheet. Refusal 10 where the take is the one that is kept, 11 where the sheet would be the
+ * 513th; then nothing changes. */
+uint32_t sim3_sheets_put(uint8_t *store, size_t store_n, uint16_t sheet, uint16_t take, const double *x, size_t x_n, const uint16_t *x_frames,
+                         size_t x_frames_n, uint16_t *out, size_t out_n);
+
+/* What is kept of a sheet. store [SIM3_SHEETS_SIZE]; take [1], out [8], out_frames [2]. Refusal 12 where nothing was ever kept of it. */
+uint32_t sim3_sheets_get(const uint8_t *store, size_t store_n, uint16_t sheet, uint16_t *take, size_t take_n, double *out, size_t out_n, uint16_t *out_frames,
+                         size_t out_frames_n);
 
 /* ---- lists of points, three numbers each: every point moved to s R p + t. x [8], up = e^sigma of X. */
 
@@ -182,7 +204,7 @@ uint32_t sim3_compare_tangents(const uint64_t *a, size_t a_n, const uint64_t *b,
  * multiple of seven. */
 uint32_t sim3_sort_tangents(uint64_t *list, size_t list_n);
 
-/* ---- the same at f32: each function above but sim3_root, sim3_renormalize_all and those of the running join and of tangents in order, on singles, with the ending _f32. Arguments, orders, counts, refusals and the numbers of the arms are
+/* ---- the same at f32: each function above but sim3_root, sim3_renormalize_all and those of the running join, of sheets and of tangents in order, on singles, with the ending _f32. Arguments, orders, counts, refusals and the numbers of the arms are
  * as above; the arms' series have 4, 7, 9 and 11 terms. The answers are those of the engine at binary32, and not the doubles' rounded; where a number is a NaN,
  * so are those that are computed from it. The function values are the caller's here too; sim3_host_f32.h computes them in double and rounds each once. */
 

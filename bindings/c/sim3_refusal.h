@@ -20,6 +20,12 @@ static inline const char *sim3_refusal_text(uint32_t number) {
     case SIM3_FRAMES:
         return "the frames do not meet; sim3_mul wants from of x to be to of y, sim3_mul_inv equal froms, sim3_inv_mul equal tos, sim3_running_push from of the running "
                "pose to be to of x, so look which way round the poses are handed in";
+    case SIM3_SAME_TAKE:
+        return "the take is the one that is kept of its sheet; number the takes of a sheet anew";
+    case SIM3_TOO_MANY_SHEETS:
+        return "the sheet would be the 513th; 512 are kept, so begin another store";
+    case SIM3_NEVER_KEPT:
+        return "nothing was ever kept of the sheet; look which sheets were put";
     case SIM3_LIST_LENGTH:
         return "a list has a wrong length; sim3.h states the right one of each argument in brackets";
     default:

@@ -214,6 +214,30 @@ extern "C" {
     ) -> u32;
     fn sim3_running_every(state: *mut u16, state_n: usize, n: u16) -> u32;
     fn sim3_renormalize_all(poses: *mut f64, poses_n: usize) -> u32;
+    fn sim3_sheets_start(store: *mut u8, store_n: usize) -> u32;
+    fn sim3_sheets_put(
+        store: *mut u8,
+        store_n: usize,
+        sheet: u16,
+        take: u16,
+        x: *const f64,
+        x_n: usize,
+        x_frames: *const u16,
+        x_frames_n: usize,
+        out: *mut u16,
+        out_n: usize,
+    ) -> u32;
+    fn sim3_sheets_get(
+        store: *const u8,
+        store_n: usize,
+        sheet: u16,
+        take: *mut u16,
+        take_n: usize,
+        out: *mut f64,
+        out_n: usize,
+        out_frames: *mut u16,
+        out_frames_n: usize,
+    ) -> u32;
 }
 
 // LISTS, the reason why each call below is sound. The C functions ask of their caller that no pointer is
@@ -556,4 +580,57 @@ pub fn running_every(state: &mut [u16], n: u16) -> u32 {
 pub fn renormalize_all(poses: &mut [f64]) -> u32 {
     // SAFETY: LISTS.
     unsafe { sim3_renormalize_all(poses.as_mut_ptr(), poses.len()) }
+}
+
+pub fn sheets_start(store: &mut [u8]) -> u32 {
+    // SAFETY: LISTS.
+    unsafe { sim3_sheets_start(store.as_mut_ptr(), store.len()) }
+}
+
+pub fn sheets_put(
+    store: &mut [u8],
+    sheet: u16,
+    take: u16,
+    x: &[f64],
+    x_frames: &[u16],
+    out: &mut [u16],
+) -> u32 {
+    // SAFETY: LISTS.
+    unsafe {
+        sim3_sheets_put(
+            store.as_mut_ptr(),
+            store.len(),
+            sheet,
+            take,
+            x.as_ptr(),
+            x.len(),
+            x_frames.as_ptr(),
+            x_frames.len(),
+            out.as_mut_ptr(),
+            out.len(),
+        )
+    }
+}
+
+pub fn sheets_get(
+    store: &[u8],
+    sheet: u16,
+    take: &mut [u16],
+    out: &mut [f64],
+    out_frames: &mut [u16],
+) -> u32 {
+    // SAFETY: LISTS.
+    unsafe {
+        sim3_sheets_get(
+            store.as_ptr(),
+            store.len(),
+            sheet,
+            take.as_mut_ptr(),
+            take.len(),
+            out.as_mut_ptr(),
+            out.len(),
+            out_frames.as_mut_ptr(),
+            out_frames.len(),
+        )
+    }
 }

@@ -22,6 +22,12 @@ pub enum Refusal {
     /// to in X Y, both froms in X Y⁻¹, both tos in Y⁻¹ X; of [`crate::Running::push`], the running pose's
     /// from and X's to.
     Frames { join: Join, x: u16, y: u16 },
+    /// 10: the take is the one that is kept of its sheet.
+    SameTake { sheet: u16, take: u16 },
+    /// 11: the sheet would be the 513th.
+    TooManySheets { sheet: u16 },
+    /// 12: nothing was ever kept of the sheet.
+    NeverKept { sheet: u16 },
 }
 
 /// The functions that join two poses.
@@ -43,6 +49,9 @@ impl Refusal {
             Refusal::NotFinite => 8,
             Refusal::Frames { .. } => 9,
             Refusal::TooManyTangents { .. } => 5,
+            Refusal::SameTake { .. } => 10,
+            Refusal::TooManySheets { .. } => 11,
+            Refusal::NeverKept { .. } => 12,
         }
     }
 }
@@ -83,6 +92,15 @@ impl fmt::Display for Refusal {
             }
             Refusal::Frames { join: Join::Push, x, y } => {
                 write!(f, "the running pose starts from frame {x}, and x goes to frame {y}; running X wants one frame there, so hand in a pose that goes to it")
+            }
+            Refusal::SameTake { sheet, take } => {
+                write!(f, "take {take} is the one that is kept of sheet {sheet}; number the takes of a sheet anew")
+            }
+            Refusal::TooManySheets { sheet } => {
+                write!(f, "sheet {sheet} would be the 513th; 512 are kept, so begin another store")
+            }
+            Refusal::NeverKept { sheet } => {
+                write!(f, "nothing was ever kept of sheet {sheet}; look which sheets were put")
             }
             Refusal::TooManyTangents { tangents } => {
                 write!(f, "there are {tangents} tangents; at most 1024 are put in order at once, so hand in fewer")

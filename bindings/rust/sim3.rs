@@ -39,6 +39,7 @@ mod near;
 mod raw;
 mod refusal;
 mod running;
+mod sheets;
 mod square_root;
 mod tangents;
 
@@ -46,6 +47,7 @@ pub use functions::*;
 pub use near::{Direction, Near};
 pub use refusal::{Join, Refusal};
 pub use running::{renormalize_all, Running};
+pub use sheets::{Sheets, Shelved};
 pub use square_root::{root, Root};
 pub use tangents::{compare_tangents, sort_tangents};
 

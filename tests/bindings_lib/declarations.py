@@ -12,9 +12,11 @@ TYPES = {"const double *": "in", "double *": "out", "size_t": "count", "double":
          "*const f32": "singles in", "*mut f32": "singles out", "f32": "single",
          "const uint16_t *": "frames in", "uint16_t *": "frames out", "*const u16": "frames in", "*mut u16": "frames out",
          "uint64_t *": "whole out", "int64_t *": "signed out", "*mut u64": "whole out", "*mut i64": "signed out",
-         "const uint64_t *": "whole in", "*const u64": "whole in", "uint16_t": "short", "u16": "short"}
+         "const uint64_t *": "whole in", "*const u64": "whole in", "uint16_t": "short", "u16": "short",
+         "uint8_t *": "bytes out", "const uint8_t *": "bytes in", "*mut u8": "bytes out", "*const u8": "bytes in"}
 RUNNING = {(ctypes.c_double, raw.WRITTEN): "out", (ctypes.c_double, raw.READ): "in", (ctypes.c_double, raw.NUMBER): "number",
-           (ctypes.c_uint16, raw.WRITTEN): "frames out", (ctypes.c_uint16, raw.READ): "frames in", (ctypes.c_uint16, raw.NUMBER): "short"}
+           (ctypes.c_uint16, raw.WRITTEN): "frames out", (ctypes.c_uint16, raw.READ): "frames in", (ctypes.c_uint16, raw.NUMBER): "short",
+           (ctypes.c_uint8, raw.WRITTEN): "bytes out", (ctypes.c_uint8, raw.READ): "bytes in"}
 WRITTEN = {ctypes.c_uint64: "whole out", ctypes.c_int64: "signed out", ctypes.c_double: "out"}
 
 

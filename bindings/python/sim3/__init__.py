@@ -12,7 +12,7 @@ a numpy array come back as one of the same shape, and `out=` names a buffer to b
 the frames meet. What reads no frame, the action and the Jacobians, also takes the eight numbers alone.
 The host's values (values, up, down, ds, jl, jl_inv) may be left out: sim3.host then computes them.
 Every number is taken, NaN and infinities too. What is not answered raises Refusal, whose `number` is
-1, 2, 5, 8, 9 or 100; what holds no numbers raises TypeError.
+1, 2, 5, 8, 9, 10, 11, 12 or 100; what holds no numbers raises TypeError.
 
 sim3.f32 has the same functions over singles.
 
@@ -26,12 +26,13 @@ from .raw import LibraryMissing
 from .near import Near
 from .refusals import Refusal
 from .running import Running, renormalize_all
+from .sheets import Sheets, Shelved
 from .square_root import Root, nearest_root, root
 from .tangents import compare_tangents, sort_tangents
 from .version import __version__
 from .widths import DOUBLE
 
-__all__ = ["LibraryMissing", "Near", "Pose", "Refusal", "Root", "Running", "__version__", "f32", "host", "nearest_arm", "nearest_root", "renormalize_all", "root", "version",
+__all__ = ["LibraryMissing", "Near", "Pose", "Refusal", "Root", "Running", "Sheets", "Shelved", "__version__", "f32", "host", "nearest_arm", "nearest_root", "renormalize_all", "root", "version",
            *raw.FUNCTIONS, *raw.PATTERNS]
 
 

@@ -77,7 +77,7 @@ PATTERNS = {
     "sort_tangents": (("list", ctypes.c_uint64),),
 }
 
-# So do those of a running join and of a list of poses: each argument's name, its type, and whether it is
+# So do those of a running join, of a list of poses and of sheets: each argument's name, its type, and whether it is
 # a list that is written, a list that is read, or a number.
 WRITTEN, READ = "written", "read"
 RUNNING = {
@@ -86,7 +86,13 @@ RUNNING = {
                      ("x_frames", ctypes.c_uint16, READ), ("up", ctypes.c_double, NUMBER)),
     "running_every": (("state", ctypes.c_uint16, WRITTEN), ("n", ctypes.c_uint16, NUMBER)),
     "renormalize_all": (("poses", ctypes.c_double, WRITTEN),),
+    "sheets_start": (("store", ctypes.c_uint8, WRITTEN),),
+    "sheets_put": (("store", ctypes.c_uint8, WRITTEN), ("sheet", ctypes.c_uint16, NUMBER), ("take", ctypes.c_uint16, NUMBER), ("x", ctypes.c_double, READ),
+                   ("x_frames", ctypes.c_uint16, READ), ("out", ctypes.c_uint16, WRITTEN)),
+    "sheets_get": (("store", ctypes.c_uint8, READ), ("sheet", ctypes.c_uint16, NUMBER), ("take", ctypes.c_uint16, WRITTEN), ("out", ctypes.c_double, WRITTEN),
+                   ("out_frames", ctypes.c_uint16, WRITTEN)),
 }
+SHEETS_SIZE = 167_938  # bytes of a store
 
 
 class LibraryMissing(OSError):

@@ -7,7 +7,7 @@ LIST_LENGTH = 100  # the number of sim3.h for a list of a wrong length, the boun
 
 
 class Refusal(ValueError):
-    """A refusal of the engine. `number` is its number in include/sim3.h: 1, 2, 5, 8, 9 or 100."""
+    """A refusal of the engine. `number` is its number in include/sim3.h: 1, 2, 5, 8, 9, 10, 11, 12 or 100."""
 
     def __init__(self, number, text):
         super().__init__(number, text)

@@ -3,3 +3,4 @@ pub mod Calls
 pub mod Near
 pub mod Order
 pub mod Join
+pub mod Shelf

@@ -12,6 +12,7 @@ pub mod square_root; // the square root with what is left
 pub mod near; // how near another arm is
 pub mod tangents; // the order of tangents, and of a list of them
 pub mod join; // a running join between calls, and the Newton step on a list of poses
+pub mod shelf; // the sheets between calls
 
 // A list has not the length that is due. No refusal of the engine has this number or one near it.
 const LIST_LENGTH: u32 = 100;
