@@ -1,22 +1,26 @@
--- The records that came, and what each means to the running join and to the retaken sheets. Proved as `records` and `retakes` in proofs/Past.antt.
+-- The records that came, and what each means to the running join and to the retaken sheets. Proved as `records` and `retakes` in proofs/Past.antt,
+-- and what comes back of a shot as `asked-back` in proofs/Back.antt.
 use Prim.Native.Nat.{ℕ}
 use mathlib.Core.Path.{_≡_}
-use mathlib.Core.Bool.{cond}
-use mathlib.Core.List.{List, [], _∷_}
+use mathlib.Core.Bool.{true, cond}
+use mathlib.Core.List.{List, [], _∷_, _++_}
 use lib.ListN.{length, take, drop}
 use lib.Dec.{ltb}
 use lib.Ieee.{binary64}
 use Rattle.linalg.specs.Answer.{Answer, answers, refuses}
 use Rattle.running.specs.History.{Event, join, renew, ran, Small}
 use Rattle.running.specs.declared.Start.the-variants.{Unset}
-use Rattle.sheets.specs.Sheets.{none, noSheets}
-use Rattle.sheets.specs.Store.{shotIn}
+use Rattle.sheets.specs.Sheets.{none, Sheets, noSheets, ask}
+use Rattle.sheets.specs.Store.{slotWidth, shotIn}
+use Rattle.sheets.specs.Back.{keeps, Bytes, nansOne}
 use Rattle.sheets.specs.History.{Sent, accepted, highest}
+use Rattle.layout.specs.Layout.{poseCount}
+use Rattle.outcome.specs.Outcome.{markBytes}
 use Rattle.wire.specs.Wire.{wordAt, numberAt}
 use Rattle.replies.specs.Table.{framedWidth, framedIn}
 use Rattle.marks.specs.State.{State, stateNone}
 use Rattle.marks.specs.Chain.{chSize, rnSize}
-use Rattle.marks.specs.Retakes.{shSize}
+use Rattle.marks.specs.Retakes.{shSize, shOf, sqReply}
 use Rattle.marks.specs.Marks.{markOf, nextOf}
 use Rattle.marks.specs.declared.Mark.{Mark}
 use Rattle.marks.specs.declared.Mark.the-variants.{Double, Single, Ch, Rn, Sh, Sq}
@@ -75,3 +79,9 @@ shotsOf (r ∷ rs) = shotFrom r (shotsOf rs)
 -- after any records of a job what is kept of a sheet is the highest take among its SH that were accepted
 abbrev pub SheetsTheorem : Type 0
 SheetsTheorem = (rs : List (List ℕ)) (n : ℕ) → keptAfter stateNone rs .sheets .at n ≡ highest n none (accepted noSheets (shotsOf rs))
+
+-- SH with the bytes b behind its mark, where it is kept, and then SQ for its sheet: take and pose come back as they were sent, but every NaN as the one NaN
+abbrev pub AskedBackTheorem : Type 0
+AskedBackTheorem =
+    (s : Sheets) (b : List ℕ) → Bytes b → length b ≡ slotWidth → keeps (shOf s b .answer) ≡ true →
+    sqReply (ask (shOf s b .sheets) (wordAt 2 b 0)) .bytes ≡ markBytes 0x53 0x51 ++ (take 2 (drop 2 b) ++ nansOne poseCount (drop 4 b))

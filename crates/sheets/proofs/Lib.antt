@@ -1,6 +1,8 @@
--- The laws of poses with frames as bytes, of parts of a list, of the store, of what is told, and of any history of shots.
+-- The laws of poses with frames as bytes, of parts of a list, of the store, of what is told, of any history of shots, and of what is asked back.
 pub mod Framed
 mod Parts
 mod Stored
 mod Told
 pub mod Past
+pub mod Counted
+pub mod Back

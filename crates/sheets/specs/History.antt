@@ -1,11 +1,12 @@
--- Any shots, one after the other: of each sheet the highest take among those accepted is kept, and answered. Proved as `history` in proofs/Past.antt.
-use Prim.Native.Nat.{ℕ}
+-- Any shots, one after the other: of each sheet the highest take among those accepted is kept, and answered; and the count is that of the sheets of which one is kept, which are
+-- never more than 512. Proved as `history` in proofs/Past.antt and `counted` in proofs/Counted.antt.
+use Prim.Native.Nat.{ℕ, zero, suc, _+_, _<_, _≤_}
 use mathlib.Core.Path.{_≡_}
 use mathlib.Core.Bool.{cond}
 use mathlib.Core.List.{List, [], _∷_}
 use lib.Dec.{ltb, eqb}
 use Rattle.linalg.specs.Answer.{Answer, answers, refuses}
-use Rattle.sheets.specs.Sheets.{Kept, none, kept, Sheets, noSheets, Shelved, shelve, askOn, ask}
+use Rattle.sheets.specs.Sheets.{Kept, none, kept, Sheets, noSheets, most, Shelved, shelve, askOn, ask}
 use Rattle.sheets.specs.declared.Shot.{Shot}
 
 -- a shot, with the number of its sheet
@@ -41,3 +42,20 @@ abbrev pub HistoryTheorem : Type 0
 HistoryTheorem =
     (h : List Sent) (n : ℕ) → let best = highest n none (accepted noSheets h) in
     (after noSheets h .at n ≡ best) × (ask (after noSheets h) n ≡ askOn best)
+
+-- of how many sheets with a number below n one is kept
+abbrev pub one : Kept → ℕ
+one none = 0
+one (kept x) = 1
+
+unfoldable pub keptBelow : (ℕ → Kept) → ℕ → ℕ
+keptBelow at zero = 0
+keptBelow at (suc n) = keptBelow at n + one (at n)
+
+-- every sheet number has 16 bits
+unfoldable pub Small : List Sent → Type 0
+Small [] = Unit {0}
+Small (x ∷ h) = (x .sheet < 65536) × Small h
+
+abbrev pub CountTheorem : Type 0
+CountTheorem = (h : List Sent) → Small h → let s = after noSheets h in (s .count ≡ keptBelow (s .at) 65536) × (s .count ≤ most)

@@ -1,3 +1,4 @@
 pub mod Sheets
 pub mod Store
 pub mod History
+pub mod Back
