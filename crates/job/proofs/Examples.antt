@@ -126,6 +126,17 @@ unfolding wordBytes countBytes markKnown markOf markBytes noBytes countsMore row
     rowsBytes trailer jobOn jobFrom words counts nowhere only
 cut-short = refl
 
+-- SH and SQ that are cut behind their letters
+sh-cut : jobOf jobLimit (0x53 ∷ 0x48 ∷ []) ≡ 0x4e ∷ 0x4f ∷ 7 ∷ counts 1 0 1 0 (only 17)
+unfolding wordBytes countBytes markKnown markOf markBytes noBytes countsMore rowsMore recordFound stepOf markFound foundAt foundOf rowAt rowKnown rowOf capitalRow smallRow
+    rowsBytes trailer jobOn jobFrom words counts nowhere only
+sh-cut = refl
+
+sq-cut : jobOf jobLimit (0x53 ∷ 0x51 ∷ []) ≡ 0x4e ∷ 0x4f ∷ 7 ∷ counts 1 0 1 0 (only 18)
+unfolding wordBytes countBytes markKnown markOf markBytes noBytes countsMore rowsMore recordFound stepOf markFound foundAt foundOf rowAt rowKnown rowOf capitalRow smallRow
+    rowsBytes trailer jobOn jobFrom words counts nowhere only
+sq-cut = refl
+
 -- a mark that is not in the table, with nothing behind it
 unlisted : jobOf jobLimit (0x51 ∷ 0x51 ∷ []) ≡ 0x4e ∷ 0x4f ∷ 6 ∷ counts 1 0 1 0 (only 19)
 unfolding wordBytes countBytes markKnown markOf markBytes noBytes countsMore rowsMore recordFound stepOf markFound foundAt foundOf rowAt rowKnown rowOf capitalRow smallRow
@@ -161,7 +172,9 @@ apart-cut = refl
 ch-in : ℕ → ℕ → List ℕ
 ch-in from to = 0x43 ∷ 0x48 ∷ (replicate 64 0 ++ (frames from to ++ replicate 8 0))
 
-joined : jobOf jobLimit (ch-in 3 5 ++ (ch-in 3 7 ++ (0x52 ∷ 0x4e ∷ 2 ∷ 1 ∷ []))) ≡ 0x43 ∷ 0x48 ∷ (replicate 64 0 ++ (frames 3 5 ++ (0x4e ∷ 0x4f ∷ 9 ∷ 0x52 ∷ 0x4e ∷ 2 ∷ 1 ∷ counts 3 2 1 0 (set (set nowhere 15 2) 16 1))))
+joined :
+    jobOf jobLimit (ch-in 3 5 ++ (ch-in 3 7 ++ (0x52 ∷ 0x4e ∷ 2 ∷ 1 ∷ [])))
+    ≡ 0x43 ∷ 0x48 ∷ (replicate 64 0 ++ (frames 3 5 ++ (0x4e ∷ 0x4f ∷ 9 ∷ 0x52 ∷ 0x4e ∷ 2 ∷ 1 ∷ counts 3 2 1 0 (set (set nowhere 15 2) 16 1))))
 unfolding ofBits toBits vecIn quatIn poseIn vecNumbers quatNumbers poseNumbers wordOf wordAt wordBytes numberOf numberAt numberBytes itemBytes itemsBytes allFinite isFinite numbers
     countBytes markKnown markOf markBytes noBytes replyOf framedIn framedItems framedMul productOn joinOn chOf chReply rnReply countsMore rowsMore recordFound stepOf markFound
     markNext foundAt nextAt foundOf rowAt rowKnown rowOf capitalRow smallRow nextOf rowsBytes trailer jobOn jobFrom words counts nowhere only frames ch-in

@@ -94,6 +94,7 @@ module _ {limit : ℕ} {input : List ℕ} {last : Bool} {j₀ : Standing} {out�
       let n : length (take to out ++ b) ≡ to + length b = length-append (take to out) b ∙ ap (λ (x : ℕ). x + length b) (length-take-le to out (g .room)) in
       let tk : take (to + length b) (sets out to b) ≡ take to out ++ b = ap (take (to + length b)) eq ∙ take-at (take to out ++ b) _ (to + length b) n in
       let one-less : limit - j .counts .begun ≡ suc (limit - (j .counts .begun + 1)) = omega arith in
+      let one-more : j .counts .begun + 1 ≡ moved how (drop at input) j .counts .begun = sym (counted-begun how (rowAt (drop at input)) (j .counts)) in
       let room : length out₀ - to - length b ≡ length out₀ - (to + length b) = omega arith in
       let P = recordsOf (limit - (j .counts .begun + 1)) (moved how (drop at input) j) (drop (at + k) input) last (length out₀ - (to + length b)) in
       let next : recordsOf (limit - j .counts .begun) j (drop at input) last (length out₀ - to) ≡ after k b P =
@@ -110,5 +111,5 @@ module _ {limit : ℕ} {input : List ℕ} {last : Bool} {j₀ : Standing} {out�
             ∙ sym (drop-drop (length b) to out) ∙ ap (drop (length b)) (g .rest) ∙ drop-drop (length b) to out₀;
         same =
             g .same ∙ ap (after at (take to out)) next ∙ after-after at k (take to out) b P
-            ∙ (λ i. after (at + k) (sym tk i) (recordsOf (limit - sym (counted-begun how (rowAt (drop at input)) (j .counts)) i) (moved how (drop at input) j) (drop (at + k) input) last (length out₀ - (to + length b))));
+            ∙ (λ i. after (at + k) (sym tk i) (recordsOf (limit - one-more i) (moved how (drop at input) j) (drop (at + k) input) last (length out₀ - (to + length b))));
       }

@@ -184,7 +184,8 @@ module _
   left-pause e l f is = stop (quiet-end e) (stayed ended (found-ended e) refl) More j f refl is (λ n r. records-ended n j _ last _ r (found-ended e) ∙ rw l)
 
   pub left-unknown : q ≡ step.Unknown → (f : Fed) → f ≡ stopOf Unknown (j .counts) (countsMore Refused p (j .counts)) at to (length after-it - to) → Left limit input last j₀ out₀ f after-it w
-  left-unknown e f is = stop (quiet-unknown e) (stayed unknown (found-unknown e) refl) Unknown (lost (drop at input) j) f refl (rw lost-here at is) (λ n r. records-unknown n j _ last _ r (found-unknown e))
+  left-unknown e f is =
+      stop (quiet-unknown e) (stayed unknown (found-unknown e) refl) Unknown (lost (drop at input) j) f refl (rw lost-here at is) (λ n r. records-unknown n j _ last _ r (found-unknown e))
 
   pub left-cut : q ≡ step.Cut → last ≡ true → (f : Fed) → f ≡ stopOf Cut (j .counts) (countsMore Refused p (j .counts)) at to (length after-it - to) → Left limit input last j₀ out₀ f after-it w
   left-cut e l f is = stop (quiet-cut e) (stayed cut (found-cut e) refl) Cut (lost (drop at input) j) f refl (rw lost-here at is) (λ n r. records-cut n j _ last _ r (found-cut e) ∙ rw l)

@@ -82,7 +82,8 @@ module _ (limit : ℕ) (ys : List ℕ) (last : Bool) (alone : last ≡ true → 
       let whole : k ≤ length xs = taken (j .state) xs how k b q .whole in
       let one-less : limit - moved how xs j .counts .begun ≡ n = rw (counted-begun how (rowAt xs) (j .counts)) (omega arith) in
       job-took n j (xs ++ ys) how k b (found-more (j .state) xs ys (took how k b) q refl)
-      ∙ ap (λ (p : ℕ). b ++ jobFrom n (standing (countsMore how p (j .counts)) (nextOf (j .state) (xs ++ ys))) (drop k (xs ++ ys))) (row-more (j .state) xs ys (took how k b) q refl)
+      ∙ ap (λ (p : ℕ). b ++ jobFrom n (standing (countsMore how p (j .counts)) (nextOf (j .state) (xs ++ ys))) (drop k (xs ++ ys)))
+      (row-more (j .state) xs ys (took how k b) q refl)
       ∙ ap (λ (z : State). b ++ jobFrom n (standing (countsMore how (rowAt xs) (j .counts)) z) (drop k (xs ++ ys))) (next-more (j .state) xs ys how k b q)
       ∙ ap (λ (l : List ℕ). b ++ jobFrom n (moved how xs j) l) (drop-append-le k xs ys whole)
       ∙ ap (λ (l : List ℕ). b ++ l) (ih one-less)
