@@ -83,6 +83,11 @@ class Engine:
         if not isinstance(x, Pose):
             expected(f"{self.width.package}.{name}: {argument}", x)
         numbers, from_, to = x
+        if type(numbers) in (list, tuple):
+            try:
+                numbers = array.array(self.width.code, numbers)
+            except (TypeError, OverflowError):
+                pass  # `read` says which of them is no number
         data = numbers.tobytes() if type(numbers) is array.array and numbers.typecode == self.width.code else b""
         if len(data) != len(self.eight):
             data = bytes(self.read(name, argument, numbers))
