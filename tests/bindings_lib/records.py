@@ -48,7 +48,7 @@ def stored_records():
         assert len(told_records) >= len(records), f"{name}: {len(told_records)} answers to {len(records)} records"
         for number, ((at, asked), (answer_at, answer)) in enumerate(zip(records, told_records), 1):
             if asked.mark.upper() not in CALLS:
-                continue  # the running join, which is no C function
+                continue  # the running join and the sheets, which have tests of their own
             width = width_of(asked)
             data, frames = parted(asked, job[at + 2:at + asked.size])
             numbers, frames_told = parted(answer, answers[answer_at + 2:answer_at + answer.size])
