@@ -9,10 +9,10 @@ use Rattle.linalg.specs.Answer.{Answer, answers, refuses}
 use Rattle.linalg.specs.Matrix.{matTranspose}
 use Rattle.linalg.specs.declared.matrix.Mat3.{Mat3}
 use Rattle.so3.specs.Quat.{quatConjugate}
-use Rattle.coeffs.specs.Values.{mirrored}
+use Rattle.closed.specs.Values.{mirrored}
 use Rattle.coeffs.specs.Group.{coeffsScaled}
 use Rattle.coeffs.specs.Entries.{beside}
-use Rattle.coeffs.specs.declared.values.Values.{Values}
+use Rattle.closed.specs.declared.values.Values.{Values}
 use Rattle.coeffs.specs.declared.sim3.Scaled.{Scaled}
 use Rattle.coeffs.specs.declared.sim3.ScaledPair.{ScaledPair}
 use Rattle.sim3.specs.Tangent.{tangentNeg}

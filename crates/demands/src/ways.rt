@@ -3,7 +3,7 @@
 ghost use mathlib.Core.Path.{_≡_};
 ghost use lib.Ieee.{binary64};
 ghost use Rattle.demands.specs.Turned.{turnedRound, waysOf, Turned};
-use coeffs::values::Values;
+use closed::values::Values;
 use frames::Pose;
 use jacobian::jac::Sim3Jac;
 use linalg::matrix::Mat3;

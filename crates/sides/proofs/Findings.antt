@@ -10,7 +10,7 @@ use Rattle.linalg.specs.declared.vector.Vec3.{Vec3}
 use Rattle.linalg.specs.declared.matrix.Mat3.{Mat3}
 use Rattle.series.specs.Series.{seriesFirst, seriesNext, seriesLevel, seriesAnswer, seriesVAnswer}
 use Rattle.coeffs.specs.Entries.{scaledAnswer}
-use Rattle.coeffs.specs.declared.values.Values.{Values}
+use Rattle.closed.specs.declared.values.Values.{Values}
 use Rattle.so3.specs.Quat.{quat, quatIdentity, quatToMatrix}
 use Rattle.so3.specs.So3.{so3Act}
 use Rattle.sim3.specs.Pose.{pose, poseIdentity, poseAct}

@@ -6,7 +6,7 @@ use Rattle.linalg.specs.Matrix.{matIdentity, matScale, matAdd, matNeg, matMulVe
 use Rattle.linalg.specs.declared.vector.Vec3.{Vec3}
 use Rattle.linalg.specs.declared.matrix.Mat3.{Mat3}
 use Rattle.so3.specs.Quat.{quatToMatrix}
-use Rattle.coeffs.specs.declared.values.Values.{Values}
+use Rattle.closed.specs.declared.values.Values.{Values}
 use Rattle.sim3.specs.Tangent.{tangentNeg}
 use Rattle.sim3.specs.Pose.{poseInverse, poseAct}
 use Rattle.sim3.specs.Exp.{poseExp}

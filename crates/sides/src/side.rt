@@ -7,7 +7,7 @@ ghost use Rattle.sides.specs.Side.{poseAdjoint, tangentAd, jacJr, jacJlI
 use crate::blocks::JacAndInverse;
 use crate::blocks::jl_and_inverse_from;
 use crate::blocks::jl_blocks_with;
-use coeffs::values::Values;
+use closed::values::Values;
 use jacobian::jac::Sim3Jac;
 use linalg::matrix::Mat3;
 use linalg::matrix::hat;

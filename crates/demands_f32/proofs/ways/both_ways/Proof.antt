@@ -1,4 +1,4 @@
--- Written by tools/widths from crates/demands/proofs/ways/both_ways/Proof.antt: edit that one. Digest 743f58eda560e6d8.
+-- Written by tools/widths from crates/demands/proofs/ways/both_ways/Proof.antt: edit that one. Digest 5c91a64cb2272b00.
 -- `demands_f32::ways::both_ways` meets its contract: the ten answers are the definitions' by what the calls ensure, and so they are turned, as the theorem says.
 use borrow.Author.Needs.{needs}
 use mathlib.Core.Path.{_≡_, _∙_}
@@ -12,7 +12,7 @@ use Rattle.demands.proofs.Turned.{ways-turned}
 use Rattle.demands_f32.proofs.ways.both_ways.Statement.{statement}
 use Rattle.demands_f32.proofs.ways.both_ways.Tie as tie
 use Rattle.linalg_f32.specs.As.{asMat3, asVec3}
-use Rattle.coeffs_f32.specs.As.{asValues}
+use Rattle.closed_f32.specs.As.{asValues}
 use Rattle.so3_f32.specs.As.{asQuat}
 use Rattle.sim3_f32.specs.As.{asSim3, asSim3Tangent}
 use Rattle.jacobian_f32.specs.As.{asSim3Jac}

@@ -1,10 +1,11 @@
--- Written by tools/widths from crates/sides/proofs/blocks/combine/Proof.antt: edit that one. Digest 77f1a482b71ca26d.
+-- Written by tools/widths from crates/sides/proofs/blocks/combine/Proof.antt: edit that one. Digest 44984836d4248344.
 use borrow.Author.Needs.{needs}
 use Rattle.sides_f32.proofs.blocks.combine.Statement.{statement}
 use Rattle.sides_f32.proofs.blocks.combine.Tie as tie
 use Rattle.linalg_f32.proofs.As.{linalg-singles}
 use Rattle.circle_f32.proofs.As.{circle-singles}
 use Rattle.series_f32.proofs.As.{series-singles}
+use Rattle.closed_f32.proofs.As.{closed-singles}
 use Rattle.coeffs_f32.proofs.As.{coeffs-singles}
 use Rattle.so3_f32.proofs.As.{so3-singles}
 use Rattle.sim3_f32.proofs.As.{sim3-singles}
@@ -17,6 +18,7 @@ returns c =
       linalg-singles,
       circle-singles,
       series-singles,
+      closed-singles,
       coeffs-singles,
       so3-singles,
       sim3-singles,

@@ -1,4 +1,4 @@
--- Written by tools/widths from crates/sides/proofs/blocks/jl_and_inverse_at/Proof.antt: edit that one. Digest 107748f6f39207a7.
+-- Written by tools/widths from crates/sides/proofs/blocks/jl_and_inverse_at/Proof.antt: edit that one. Digest 1f3aee64d3b9d0d6.
 use borrow.Author.Needs.{needs}
 use Rattle.sides.specs.Blocks.{jlAndInverseFrom}
 use lib.Ieee.{ofBits}
@@ -7,6 +7,7 @@ use Rattle.sides_f32.proofs.blocks.jl_and_inverse_at.Tie as tie
 use Rattle.linalg_f32.proofs.As.{linalg-singles}
 use Rattle.circle_f32.proofs.As.{circle-singles}
 use Rattle.series_f32.proofs.As.{series-singles}
+use Rattle.closed_f32.proofs.As.{closed-singles}
 use Rattle.coeffs_f32.proofs.As.{coeffs-singles}
 use Rattle.so3_f32.proofs.As.{so3-singles}
 use Rattle.sim3_f32.proofs.As.{sim3-singles}
@@ -22,6 +23,7 @@ returns c =
       linalg-singles,
       circle-singles,
       series-singles,
+      closed-singles,
       coeffs-singles,
       so3-singles,
       sim3-singles,

@@ -1,4 +1,4 @@
--- Written by tools/widths from crates/sides/proofs/blocks/jl_blocks_with/Proof.antt: edit that one. Digest e8df0e0c7af571f8.
+-- Written by tools/widths from crates/sides/proofs/blocks/jl_blocks_with/Proof.antt: edit that one. Digest 8a2b5d4a0804299c.
 use borrow.Author.Needs.{needs}
 use Rattle.sides.specs.Blocks.{jlBlocks}
 use lib.Ieee.{ofBits}
@@ -7,6 +7,7 @@ use Rattle.sides_f32.proofs.blocks.jl_blocks_with.Tie as tie
 use Rattle.linalg_f32.proofs.As.{linalg-singles}
 use Rattle.circle_f32.proofs.As.{circle-singles}
 use Rattle.series_f32.proofs.As.{series-singles}
+use Rattle.closed_f32.proofs.As.{closed-singles}
 use Rattle.coeffs_f32.proofs.As.{coeffs-singles}
 use Rattle.so3_f32.proofs.As.{so3-singles}
 use Rattle.sim3_f32.proofs.As.{sim3-singles}
@@ -21,6 +22,7 @@ returns c =
       linalg-singles,
       circle-singles,
       series-singles,
+      closed-singles,
       coeffs-singles,
       so3-singles,
       sim3-singles,

@@ -1,4 +1,4 @@
--- Written by tools/widths from crates/sides/proofs/side/ad/Proof.antt: edit that one. Digest 9c17d7dbb9872d55.
+-- Written by tools/widths from crates/sides/proofs/side/ad/Proof.antt: edit that one. Digest 6135cb489c18ecdf.
 use borrow.Author.Needs.{needs}
 use Rattle.sides.specs.Side.{tangentAd}
 use lib.Ieee.{ofBits}
@@ -7,6 +7,7 @@ use Rattle.sides_f32.proofs.side.ad.Tie as tie
 use Rattle.linalg_f32.proofs.As.{linalg-singles}
 use Rattle.circle_f32.proofs.As.{circle-singles}
 use Rattle.series_f32.proofs.As.{series-singles}
+use Rattle.closed_f32.proofs.As.{closed-singles}
 use Rattle.coeffs_f32.proofs.As.{coeffs-singles}
 use Rattle.so3_f32.proofs.As.{so3-singles}
 use Rattle.sim3_f32.proofs.As.{sim3-singles}
@@ -21,6 +22,7 @@ returns c =
       linalg-singles,
       circle-singles,
       series-singles,
+      closed-singles,
       coeffs-singles,
       so3-singles,
       sim3-singles,

@@ -1,4 +1,4 @@
--- Written by tools/widths from crates/sides/proofs/side/exp_and_jl/Proof.antt: edit that one. Digest 96eb9d82f46cbba7.
+-- Written by tools/widths from crates/sides/proofs/side/exp_and_jl/Proof.antt: edit that one. Digest a23499b202c07323.
 use borrow.Author.Needs.{needs}
 use Rattle.sides.specs.Side.{expAndJl}
 use Rattle.sides.specs.Blocks.{jacJl}
@@ -10,6 +10,7 @@ use Rattle.sides_f32.proofs.side.exp_and_jl.Tie as tie
 use Rattle.linalg_f32.proofs.As.{linalg-singles}
 use Rattle.circle_f32.proofs.As.{circle-singles}
 use Rattle.series_f32.proofs.As.{series-singles}
+use Rattle.closed_f32.proofs.As.{closed-singles}
 use Rattle.coeffs_f32.proofs.As.{coeffs-singles}
 use Rattle.so3_f32.proofs.As.{so3-singles}
 use Rattle.sim3_f32.proofs.As.{sim3-singles}
@@ -18,7 +19,7 @@ use Rattle.sides_f32.proofs.As.{sides-singles}
 
 returns : tie.Need-returns
 unfolding expAndJl jacJl poseExp coeffsV coeffs4
-returns c = simp (linalg-singles, circle-singles, series-singles, coeffs-singles, so3-singles, sim3-singles, jacobian-singles, sides-singles, c .jl-blocks-with .ensures, c .before .v-apply .ensures, c .before .before .exp .ensures, c .before .before .before .sim3-coeffs-of .ensures)
+returns c = simp (linalg-singles, circle-singles, series-singles, closed-singles, coeffs-singles, so3-singles, sim3-singles, jacobian-singles, sides-singles, c .jl-blocks-with .ensures, c .before .v-apply .ensures, c .before .before .exp .ensures, c .before .before .before .sim3-coeffs-of .ensures)
 
 pub exp-and-jl-spec : {M : Type 1} → statement M
 exp-and-jl-spec = tie.close (tie.spec (λ c κs. search needs) (λ c κs. search needs) (λ c κs. search needs) (λ c κs. search needs) returns)

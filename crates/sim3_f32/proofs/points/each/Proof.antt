@@ -1,4 +1,4 @@
--- Written by tools/widths from crates/sim3/proofs/points/each/Proof.antt: edit that one. Digest 4af304e37017f0c3.
+-- Written by tools/widths from crates/sim3/proofs/points/each/Proof.antt: edit that one. Digest a504f17219c2ebba.
 -- `sim3_f32::points::each` meets its contract: after i turns the first i triples are moved and the rest is as it was, and what is left to read begins at triple i. Assumes nothing.
 use borrow.Author.Needs.{needs}
 use Prim.Native.Nat.{_+_, _*_, _-_, _≤_}
@@ -18,6 +18,7 @@ use Rattle.sim3_f32.specs.As.{asSim3}
 use Rattle.linalg_f32.proofs.As.{linalg-singles}
 use Rattle.circle_f32.proofs.As.{circle-singles}
 use Rattle.series_f32.proofs.As.{series-singles}
+use Rattle.closed_f32.proofs.As.{closed-singles}
 use Rattle.coeffs_f32.proofs.As.{coeffs-singles}
 use Rattle.so3_f32.proofs.As.{so3-singles}
 use Rattle.sim3_f32.proofs.As.{sim3-singles}
@@ -42,7 +43,7 @@ loop-again c =
     let a = L .before .before .before .args in
     let more = moved-more (poseAct binary32 (asSim3 (a .x)) (a .up)) (a .pts .now) (a .out .now) (L .loop .i) (omega arith) in (
       omega arith,
-      simp (linalg-singles, circle-singles, series-singles, coeffs-singles, so3-singles, sim3-singles, P .put-point .ensures, M .act .ensures, M .before .point-at .ensures, L .loop .inv .3, left-first (a .pts .now) (L .loop .i), L .loop .inv .1) more,
+      simp (linalg-singles, circle-singles, series-singles, closed-singles, coeffs-singles, so3-singles, sim3-singles, P .put-point .ensures, M .act .ensures, M .before .point-at .ensures, L .loop .inv .3, left-first (a .pts .now) (L .loop .i), L .loop .inv .1) more,
       P .put-point .kept .0 ∙ L .loop .inv .2,
       left-next (a .pts .now) (L .loop .rest .now) (L .loop .i) (L .loop .inv .3),
       left-length (a .pts .now) (L .loop .rest .now) (L .loop .i) (L .loop .inv .3) (omega arith),

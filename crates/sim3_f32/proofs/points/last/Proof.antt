@@ -1,4 +1,4 @@
--- Written by tools/widths from crates/sim3/proofs/points/last/Proof.antt: edit that one. Digest 4c442c97fd2a89af.
+-- Written by tools/widths from crates/sim3/proofs/points/last/Proof.antt: edit that one. Digest 92369aae82a3acaf.
 -- `sim3_f32::points::last` meets its contract: where e is n nothing is left, and else the one triple that is left is put in its place. Assumes nothing.
 use borrow.Author.Needs.{needs}
 use Prim.Native.Nat.{_+_}
@@ -13,6 +13,7 @@ use Rattle.linalg_f32.specs.As.{asMat3, asVec3}
 use Rattle.linalg_f32.proofs.As.{linalg-singles}
 use Rattle.circle_f32.proofs.As.{circle-singles}
 use Rattle.series_f32.proofs.As.{series-singles}
+use Rattle.closed_f32.proofs.As.{closed-singles}
 use Rattle.coeffs_f32.proofs.As.{coeffs-singles}
 use Rattle.so3_f32.proofs.As.{so3-singles}
 use Rattle.sim3_f32.proofs.As.{sim3-singles}
@@ -35,7 +36,7 @@ returns-2 c =
     let q : a .e + 1 ≡ a .n = omega arith in
     let moved = moved-last g (a .pts .now) (a .out .now) (a .e) (omega arith) ∙ ap (pointsMoved g (a .pts .now)) q in
     let P = c .before .before in
-    simp (linalg-singles, circle-singles, series-singles, coeffs-singles, so3-singles, sim3-singles, P .put-point .ensures, P .before .mat-act .ensures, P .before .before .point-at .ensures) moved
+    simp (linalg-singles, circle-singles, series-singles, closed-singles, coeffs-singles, so3-singles, sim3-singles, P .put-point .ensures, P .before .mat-act .ensures, P .before .before .point-at .ensures) moved
 
 pub last-spec : {M : Type 1} → statement M
 last-spec = tie.close (tie.spec returns (λ c. omega arith) (λ c κs. omega arith) (λ c κs. search needs) (λ c κs. omega arith) same-length returns-2)

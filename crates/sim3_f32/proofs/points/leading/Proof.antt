@@ -1,4 +1,4 @@
--- Written by tools/widths from crates/sim3/proofs/points/leading/Proof.antt: edit that one. Digest 7ac6ce9aceb24cd3.
+-- Written by tools/widths from crates/sim3/proofs/points/leading/Proof.antt: edit that one. Digest 8aff8b201cdf7b5f.
 -- `sim3_f32::points::leading` meets its contract: after i turns the first i triples are moved and the rest is as it was, and what is left to read begins at triple i. Assumes nothing.
 use borrow.Author.Needs.{needs}
 use Prim.Native.Nat.{ℕ, _+_, _*_, _-_, _≤_}
@@ -15,6 +15,7 @@ use Rattle.linalg_f32.specs.As.{asMat3, asVec3}
 use Rattle.linalg_f32.proofs.As.{linalg-singles}
 use Rattle.circle_f32.proofs.As.{circle-singles}
 use Rattle.series_f32.proofs.As.{series-singles}
+use Rattle.closed_f32.proofs.As.{closed-singles}
 use Rattle.coeffs_f32.proofs.As.{coeffs-singles}
 use Rattle.so3_f32.proofs.As.{so3-singles}
 use Rattle.sim3_f32.proofs.As.{sim3-singles}
@@ -39,7 +40,7 @@ loop-again c =
     let a = L .before .before .before .args in
     let more = moved-more (matAct binary32 (asMat3 (a .m)) (asVec3 (a .t))) (a .pts .now) (a .out .now) (L .loop .i) (omega arith) in (
       omega arith,
-      simp (linalg-singles, circle-singles, series-singles, coeffs-singles, so3-singles, sim3-singles, P .put-point .ensures, M .mat-act .ensures, M .before .point-at .ensures, L .loop .inv .3, left-first (a .pts .now) (L .loop .i), L .loop .inv .1) more,
+      simp (linalg-singles, circle-singles, series-singles, closed-singles, coeffs-singles, so3-singles, sim3-singles, P .put-point .ensures, M .mat-act .ensures, M .before .point-at .ensures, L .loop .inv .3, left-first (a .pts .now) (L .loop .i), L .loop .inv .1) more,
       P .put-point .kept .0 ∙ L .loop .inv .2,
       left-next (a .pts .now) (L .loop .rest .now) (L .loop .i) (L .loop .inv .3),
       left-length (a .pts .now) (L .loop .rest .now) (L .loop .i) (L .loop .inv .3) (omega arith),
