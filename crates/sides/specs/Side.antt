@@ -13,7 +13,7 @@ use Rattle.sim3.specs.Exp.{poseExp}
 use Rattle.sim3.specs.declared.sim3.Sim3.{Sim3}
 use Rattle.sim3.specs.declared.tangent.Sim3Tangent.{Sim3Tangent}
 use Rattle.jacobian.specs.Jac.{blocks, jacIdentity, jacNeg}
-use Rattle.sides.specs.Blocks.{jacJl, jlAndInverse}
+use Rattle.blocks.specs.Blocks.{jacJl, jlAndInverse}
 use Rattle.jacobian.specs.declared.jac.Sim3Jac.{Sim3Jac}
 use Rattle.sides.specs.declared.side.ActJacobians.{ActJacobians}
 use Rattle.sides.specs.declared.side.TwoJacobians.{TwoJacobians}

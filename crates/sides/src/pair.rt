@@ -2,7 +2,7 @@
 ghost use mathlib.Core.Path.{_≡_};
 ghost use lib.Ieee.{binary64};
 ghost use Rattle.sides.specs.Pair.{blockPair};
-use crate::blocks::jl_and_inverse_at;
+use blocks::jl_and_inverse_at;
 use closed::values::Values;
 use coeffs::sim3::ArmedPairAnswer;
 use coeffs::sim3::sim3_coeffs_armed_pair;

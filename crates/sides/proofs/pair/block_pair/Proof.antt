@@ -9,7 +9,7 @@ use Rattle.coeffs.specs.Group.{coeffsArmed, coeffsArmedPair}
 use Rattle.closed.specs.Values.{mirrored}
 use Rattle.sim3.specs.Tangent.{tangentNeg}
 use Rattle.sides.specs.Pair.{blockPair}
-use Rattle.sides.specs.Blocks.{jlAndInverse}
+use Rattle.blocks.specs.Blocks.{jlAndInverse}
 use Rattle.sides.proofs.pair.block_pair.Statement.{statement}
 use Rattle.sides.proofs.pair.block_pair.Tie as tie
 
