@@ -10,7 +10,7 @@ HEAD = """\
 // Made by tests/calls/build from tests/calls/functions.py.
 ghost use Prim.Native.Nat.{_+_, _≤_};
 ghost use lib.ListN.{length};
-use coeffs::values::Values;
+use closed::values::Values;
 use jacobian::jac::Sim3Jac;
 use linalg::matrix::Mat3;
 use linalg::vector::Vec3;

@@ -16,13 +16,14 @@ use Rattle.circle.specs.declared.kernel.SincABD.{SincABD}
 use Rattle.circle.specs.declared.kernel.SincA.{SincA}
 use Rattle.circle.proofs.Angle.{norm-not-below}
 use Rattle.series.specs.Series.{seriesFull, seriesV, coeffs4, seriesMost, seriesVMost, seriesGuard, seriesAnswer, seriesPairAnswer}
-use Rattle.coeffs.specs.Limits.{coeffsDelta, formBBelow, w0Below}
-use Rattle.coeffs.specs.Arm.{coeffsArm, armTerms, armEnds}
-use Rattle.coeffs.specs.Closed.{closedFrom, closedV, closedVFrom, closedNine, closedJoined}
-use Rattle.coeffs.specs.Shared.{closedOnly, closedOne, seriesArm}
+use Rattle.closed.specs.Limits.{coeffsDelta, formBBelow, w0Below}
+use Rattle.closed.specs.Arm.{coeffsArm, armTerms, armEnds}
+use Rattle.closed.specs.Closed.{closedFrom, closedV, closedVFrom, closedOnly, closedNine, closedJoined}
+use Rattle.closed.proofs.Arm.{ends-closed}
+use Rattle.coeffs.specs.Shared.{closedOne, seriesArm}
 use Rattle.coeffs.specs.Group.{closedScaled, coeffsScaled, coeffsArmed, coeffsVScaled, coeffsUnscale, coeffsUnscaleV, coeffsPlain, coeffsV}
 use Rattle.coeffs.specs.Entries.{scaledAnswer, armedAnswer}
-use Rattle.coeffs.specs.declared.values.Values.{Values}
+use Rattle.closed.specs.declared.values.Values.{Values}
 use Rattle.coeffs.specs.declared.sim3.Scaled.{Scaled}
 use Rattle.coeffs.specs.declared.sim3.VScaled.{VScaled}
 use Rattle.coeffs.specs.declared.sim3.Armed.{Armed}
@@ -62,15 +63,6 @@ pub scaled-series :
     coeffsScaled f sigma z v ≡ record { c = seriesFull f sigma z k; scaled = false }
 unfolding coeffsScaled
 scaled-series f sigma z v k t e = rw (t, e) refl
-
--- whether v₀ and w₀ come from series of their own, on either arm
-pub ends-series : (f : Format) (sigma : Float) (arm : ℕ) → ltb arm 5 ≡ true → armEnds f sigma arm ≡ false
-unfolding armEnds
-ends-series f sigma arm t = rw t refl
-
-pub ends-closed : (f : Format) (sigma : Float) (arm : ℕ) → ltb arm 5 ≡ false → armEnds f sigma arm ≡ lt (mul f sigma sigma) (w0Below f)
-unfolding armEnds
-ends-closed f sigma arm t = rw t refl
 
 abbrev small : Format → Float → Bool
 small f sigma = lt (mul f sigma sigma) (w0Below f)

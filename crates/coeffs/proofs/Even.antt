@@ -13,27 +13,17 @@ use Rattle.circle.specs.Kernel.{notBelowZero, circleSincABD}
 use Rattle.circle.specs.declared.kernel.SincABD.{SincABD}
 use Rattle.series.specs.Series.{seriesFull}
 use Rattle.ieee.proofs.Sign.{mul-neg-neg}
-use Rattle.coeffs.specs.Values.{mirrored}
-use Rattle.coeffs.specs.Limits.{coeffsDelta, w0Below}
-use Rattle.coeffs.specs.Arm.{coeffsArm, armTerms, armEnds}
+use Rattle.closed.specs.Values.{mirrored}
+use Rattle.closed.specs.Limits.{coeffsDelta, w0Below}
+use Rattle.closed.specs.Arm.{coeffsArm, armTerms, armEnds}
 use Rattle.coeffs.specs.Group.{coeffsScaled, coeffsPair, coeffsArmed, coeffsArmedPair}
 use Rattle.coeffs.specs.Entries.{scaledAnswer, beside, pairAnswer, armedAnswer, besideArmed, armedPairAnswer}
 use Rattle.coeffs.specs.Shared.{closedPair, seriesArms}
-use Rattle.coeffs.specs.declared.values.Values.{Values}
+use Rattle.closed.specs.declared.values.Values.{Values}
 use Rattle.coeffs.specs.declared.sim3.ScaledPair.{ScaledPair}
 use Rattle.coeffs.specs.declared.sim3.ArmedPair.{ArmedPair}
+use Rattle.closed.proofs.Arm.{delta-even, arm-even, ends-even}
 use Rattle.coeffs.proofs.Arms.{arm-answers, arm-refuses, scaled-series, scaled-closed, then-as, told-at, angle-answers, angle-refuses}
-
-pub delta-even : (f : Format) (sigma z : Float) → coeffsDelta f (neg sigma) z ≡ coeffsDelta f sigma z
-unfolding coeffsDelta
-delta-even f sigma z = rw (mul-neg-neg f sigma sigma) refl
-
-arm-even : (f : Format) (sigma z : Float) → coeffsArm f (coeffsDelta f (neg sigma) z) ≡ coeffsArm f (coeffsDelta f sigma z)
-arm-even f sigma z = ap (coeffsArm f) (delta-even f sigma z)
-
-ends-even : (f : Format) (sigma : Float) (arm : ℕ) → armEnds f (neg sigma) arm ≡ armEnds f sigma arm
-unfolding armEnds
-ends-even f sigma arm = rw (mul-neg-neg f sigma sigma) refl
 
 -- ---- the pair in its two arms
 pub pair-series :
@@ -122,14 +112,18 @@ unasked : (arm : ℕ) (ends : Bool) (r : Answer ScaledPair) (n : ℕ) → andThe
 unasked arm ends (answers q) n e = never (told-both arm ends q) n e
 unasked arm ends (refuses k) n e = let h : k ≡ n = cc in ap (λ (m : ℕ). refuses m) h
 
-pub armed-answers : (f : Format) (sigma z : Float) (v : Values) (p : ArmedPair) → armedPairAnswer f sigma z v ≡ answers p → pairAnswer f sigma z v ≡ answers (record { pos = p .pos .s; neg = p .neg .s })
+pub armed-answers :
+    (f : Format) (sigma z : Float) (v : Values) (p : ArmedPair) → armedPairAnswer f sigma z v ≡ answers p →
+    pairAnswer f sigma z v ≡ answers (record { pos = p .pos .s; neg = p .neg .s })
 armed-answers f sigma z v p r = untold _ _ (pairAnswer f sigma z v) p (sym (armed-pair-told f sigma z v) ∙ r)
 
 pub armed-refused : (f : Format) (sigma z : Float) (v : Values) (n : ℕ) → armedPairAnswer f sigma z v ≡ refuses n → pairAnswer f sigma z v ≡ refuses n
 armed-refused f sigma z v n r = unasked _ _ (pairAnswer f sigma z v) n (sym (armed-pair-told f sigma z v) ∙ r)
 
 -- ---- at |φ|²
-pub angle-armed-answers : (f : Format) (phi : Vec3) (sigma : Float) (v : Values) (p : ArmedPair) → armedPairAnswer f sigma (vecNormSq f phi) v ≡ answers p → p ≡ coeffsArmedPair f sigma (vecNormSq f phi) v
+pub angle-armed-answers :
+    (f : Format) (phi : Vec3) (sigma : Float) (v : Values) (p : ArmedPair) → armedPairAnswer f sigma (vecNormSq f phi) v ≡ answers p →
+    p ≡ coeffsArmedPair f sigma (vecNormSq f phi) v
 angle-armed-answers f phi sigma v p r = angle-answers f phi _ p (sym (armed-pair-answer-is f sigma (vecNormSq f phi) v) ∙ r)
 
 pub angle-armed-refuses : {B : Type 0} (f : Format) (phi : Vec3) (sigma : Float) (v : Values) (n : ℕ) → armedPairAnswer f sigma (vecNormSq f phi) v ≡ refuses n → B

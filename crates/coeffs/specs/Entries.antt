@@ -4,9 +4,9 @@ use Rattle.linalg.specs.Answer.{Answer, answers, refuses, andThen}
 use Rattle.circle.specs.Kernel.{notBelowZero}
 use Rattle.series.specs.declared.sim3.Sim3Coeffs.{Sim3Coeffs}
 use Rattle.series.specs.declared.sim3.Coeffs4.{Coeffs4}
-use Rattle.coeffs.specs.Values.{mirrored}
+use Rattle.closed.specs.Values.{mirrored}
 use Rattle.coeffs.specs.Group.{coeffsScaled, coeffsArmed, coeffsPlain, coeffsV, coeffsVScaled}
-use Rattle.coeffs.specs.declared.values.Values.{Values}
+use Rattle.closed.specs.declared.values.Values.{Values}
 use Rattle.coeffs.specs.declared.sim3.Scaled.{Scaled}
 use Rattle.coeffs.specs.declared.sim3.VScaled.{VScaled}
 use Rattle.coeffs.specs.declared.sim3.ScaledPair.{ScaledPair}

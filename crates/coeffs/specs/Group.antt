@@ -8,11 +8,11 @@ use Rattle.series.specs.declared.sim3.Sim3Coeffs.{Sim3Coeffs}
 use Rattle.series.specs.declared.sim3.Coeffs4.{Coeffs4}
 use Rattle.circle.specs.Kernel.{circleSincABD}
 use Rattle.circle.specs.declared.kernel.SincABD.{SincABD}
-use Rattle.coeffs.specs.Values.{mirrored}
-use Rattle.coeffs.specs.Limits.{coeffsDelta, formBBelow}
-use Rattle.coeffs.specs.Arm.{coeffsArm, armTerms, armEnds}
-use Rattle.coeffs.specs.Closed.{closedFrom}
-use Rattle.coeffs.specs.declared.values.Values.{Values}
+use Rattle.closed.specs.Values.{mirrored}
+use Rattle.closed.specs.Limits.{coeffsDelta, formBBelow}
+use Rattle.closed.specs.Arm.{coeffsArm, armTerms, armEnds}
+use Rattle.closed.specs.Closed.{closedFrom}
+use Rattle.closed.specs.declared.values.Values.{Values}
 use Rattle.coeffs.specs.declared.sim3.Scaled.{Scaled}
 use Rattle.coeffs.specs.declared.sim3.VScaled.{VScaled}
 use Rattle.coeffs.specs.declared.sim3.ScaledPair.{ScaledPair}

@@ -7,34 +7,13 @@ use Rattle.linalg.specs.Answer.{Answer}
 use Rattle.series.specs.Series.{seriesFull}
 use Rattle.circle.specs.Kernel.{notBelowZero}
 use Rattle.circle.specs.declared.kernel.SincABD.{SincABD}
-use Rattle.circle.specs.declared.kernel.SincA.{SincA}
-use Rattle.coeffs.specs.Values.{atZero}
-use Rattle.coeffs.specs.Limits.{formBBelow}
-use Rattle.coeffs.specs.Arm.{armTerms}
-use Rattle.coeffs.specs.Closed.{closedE, closedM, closedG, closedV0, closedW0, closedFrom}
-use Rattle.coeffs.specs.declared.closed.Exps.{Exps}
-use Rattle.coeffs.specs.declared.closed.Ends.{Ends}
-use Rattle.coeffs.specs.declared.values.Values.{Values}
+use Rattle.closed.specs.Values.{atZero}
+use Rattle.closed.specs.Limits.{formBBelow}
+use Rattle.closed.specs.Arm.{armTerms}
+use Rattle.closed.specs.Closed.{closedFrom}
+use Rattle.closed.specs.declared.values.Values.{Values}
 use Rattle.coeffs.specs.declared.sim3.Scaled.{Scaled}
 use Rattle.coeffs.specs.declared.sim3.ScaledPair.{ScaledPair}
-
--- the circle functions with those alone that v reads
-unfoldable pub closedOnly : SincA → SincABD
-closedOnly t = record { a = t .a; b = f0; sinc = t .sinc; d = f0 }
-
--- e, m₁ and g of one sign
-unfoldable pub closedExps : Float → Float → Float → Exps
-closedExps sigma et mt = record { e = closedE sigma et; m1 = closedM sigma mt; g = closedG sigma et }
-
--- v₀ and w₀ of both signs
-unfoldable pub closedEnds : Format → Float → Exps → Exps → Bool → Ends
-closedEnds f sigma x y small =
-    record {
-      v0 = closedV0 f sigma (x .g) (x .m1) small;
-      w0 = closedW0 f sigma (x .g) (x .m1) small;
-      «v0_neg» = closedV0 f (neg sigma) (y .g) (y .m1) small;
-      «w0_neg» = closedW0 f (neg sigma) (y .g) (y .m1) small;
-    }
 
 -- one sign of the closed arm at Δ, v₀ and w₀ by their series where `small`; and both
 unfoldable pub closedOne : Format → Float → Float → Float → Bool → SincABD → Values → Scaled

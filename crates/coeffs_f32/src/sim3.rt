@@ -1,4 +1,4 @@
-// Written by tools/widths from crates/coeffs/src/sim3.rt: edit that one. Digest fab18752dc9d7e17.
+// Written by tools/widths from crates/coeffs/src/sim3.rt: edit that one. Digest 33bf2df6a0a068ea.
 // The entries of the coefficient group: scaled, with the arm told, unscaled, v alone, and the pair for
 // both signs. Each finds the arm once.
 ghost use mathlib.Core.Path.{_≡_};
@@ -14,21 +14,22 @@ ghost use Rattle.coeffs_f32.specs.Told.{armedTold, armedPairTold};
 ghost use Rattle.linalg_f32.specs.As.{asVec3};
 ghost use Rattle.circle_f32.specs.As.{asSincABD};
 ghost use Rattle.series_f32.specs.As.{asCoeffs4, asSim3Coeffs};
-ghost use Rattle.coeffs_f32.specs.As.{asScaled, asScaledPair, asValues};
-use crate::closed::EtMt;
-use crate::closed::closed_both;
-use crate::closed::closed_from;
-use crate::closed::closed_v;
-use crate::limits::CLOSED;
-use crate::limits::arm;
-use crate::limits::on_form_b;
-use crate::limits::terms;
-use crate::limits::w0_small;
-use crate::values::Values;
-use crate::values::at_zero;
+ghost use Rattle.closed_f32.specs.As.{asValues};
+ghost use Rattle.coeffs_f32.specs.As.{asScaled, asScaledPair};
 use circle_f32::kernel::SincAAnswer;
 use circle_f32::kernel::SincABD;
 use circle_f32::kernel::SincABDAnswer;
+use closed_f32::EtMt;
+use closed_f32::closed_both;
+use closed_f32::closed_from;
+use closed_f32::closed_v;
+use closed_f32::limits::CLOSED;
+use closed_f32::limits::arm;
+use closed_f32::limits::on_form_b;
+use closed_f32::limits::terms;
+use closed_f32::limits::w0_small;
+use closed_f32::values::Values;
+use closed_f32::values::at_zero;
 use linalg_f32::vector::Vec3;
 use series_f32::sim3::Coeffs4;
 use series_f32::sim3::SeriesAnswer;

@@ -7,17 +7,17 @@ use Rattle.linalg.specs.Matrix.{matTranspose}
 use Rattle.linalg.specs.declared.matrix.Mat3.{Mat3}
 use Rattle.linalg.proofs.Even.{norm-sq-even}
 use Rattle.circle.proofs.Angle.{norm-not-below}
-use Rattle.coeffs.specs.Values.{mirrored}
+use Rattle.closed.specs.Values.{mirrored}
 use Rattle.coeffs.specs.Group.{coeffsScaled, coeffsArmed, coeffsArmedPair}
 use Rattle.coeffs.specs.Entries.{armedAnswer, besideArmed, armedPairAnswer}
-use Rattle.coeffs.specs.declared.values.Values.{Values}
+use Rattle.closed.specs.declared.values.Values.{Values}
 use Rattle.coeffs.specs.declared.sim3.ArmedPair.{ArmedPair}
 use Rattle.sim3.specs.Tangent.{tangentNeg}
 use Rattle.sim3.specs.declared.tangent.Sim3Tangent.{Sim3Tangent}
-use Rattle.sides.specs.Blocks.{jlAndInverseFrom, jlAndInverse}
+use Rattle.blocks.specs.Blocks.{jlAndInverseFrom, jlAndInverse}
 use Rattle.sides.specs.Pair.{blockPair}
 use Rattle.sides.specs.declared.pair.BlockPair.{BlockPair}
-use Rattle.sides.specs.declared.blocks.JacAndInverse.{JacAndInverse}
+use Rattle.blocks.specs.declared.JacAndInverse.{JacAndInverse}
 use Rattle.demands.specs.Flags.{FlagsScale}
 
 module _ (f : Format) (tau : Sim3Tangent) (v : Values) (jl jlInv : Mat3) where

@@ -8,15 +8,15 @@ use Rattle.linalg.specs.Matrix.{matTranspose}
 use Rattle.linalg.specs.declared.matrix.Mat3.{Mat3}
 use Rattle.so3.specs.Quat.{quatConjugate}
 use Rattle.so3.proofs.Even.{exp-conjugate}
-use Rattle.coeffs.specs.Values.{mirrored}
+use Rattle.closed.specs.Values.{mirrored}
 use Rattle.coeffs.specs.Group.{coeffsScaled}
 use Rattle.coeffs.specs.Entries.{scaledAnswer, beside, pairAnswer}
-use Rattle.coeffs.specs.declared.values.Values.{Values}
+use Rattle.closed.specs.declared.values.Values.{Values}
 use Rattle.sim3.specs.Tangent.{tangentNeg}
 use Rattle.sim3.specs.Exp.{poseExp}
 use Rattle.sim3.specs.declared.sim3.Sim3.{Sim3}
 use Rattle.sim3.specs.declared.tangent.Sim3Tangent.{Sim3Tangent}
-use Rattle.sides.specs.Blocks.{jlAndInverse}
+use Rattle.blocks.specs.Blocks.{jlAndInverse}
 use Rattle.sides.specs.Pair.{blockPair}
 use Rattle.demands.specs.Demand3.{Signs, Demand3}
 

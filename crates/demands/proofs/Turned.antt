@@ -13,10 +13,10 @@ use Rattle.tables.specs.Tables.{bRow}
 use Rattle.circle.specs.Limits.{rowLimit}
 use Rattle.series.specs.declared.sim3.Coeffs4.{Coeffs4}
 use Rattle.series.specs.declared.sim3.Sim3Coeffs.{Sim3Coeffs}
-use Rattle.coeffs.specs.declared.values.Values.{Values}
+use Rattle.closed.specs.declared.values.Values.{Values}
 use Rattle.sim3.specs.Exp.{polyApply, vApply, poseExp}
 use Rattle.sim3.specs.declared.tangent.Sim3Tangent.{Sim3Tangent}
-use Rattle.sides.specs.Blocks.{combined, jlQ, jlBlocks, jacJl, jlAndInverseFrom, jlAndInverse}
+use Rattle.blocks.specs.Blocks.{combined, jlQ, jlBlocks, jacJl, jlAndInverseFrom, jlAndInverse}
 use Rattle.sides.specs.Side.{expAndJl}
 use Rattle.sides.specs.Pair.{blockPair}
 use Rattle.frames.specs.Pose.{framedExp}

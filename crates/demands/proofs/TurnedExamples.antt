@@ -10,12 +10,12 @@ use Rattle.tables.specs.Tables.{rowRule, rowTable, recipRule, recipFact}
 use Rattle.linalg.specs.Vector.{vecScale, vecDot, vecNormSq, vecCross, vecAdd, vecSub, vecNeg}
 use Rattle.linalg.specs.Matrix.{matIdentity, matScale, matAdd, matSub, matMul, matMulVec, matHat, matMulHat, vecHatMul, matHatMul}
 use Rattle.series.specs.Series.{seriesFirst, seriesNext, seriesLevel, levelTerms, seriesSum, seriesSums, gSeries, coeffsDelta, seriesChi, seriesCoeffs, seriesFull, coeffs4}
-use Rattle.coeffs.specs.Arm.{coeffsArm}
+use Rattle.closed.specs.Arm.{coeffsArm}
 use Rattle.coeffs.specs.Group.{coeffsScaled, coeffsUnscale, coeffsPlain, coeffsV}
-use Rattle.coeffs.specs.declared.values.Values.{Values}
+use Rattle.closed.specs.declared.values.Values.{Values}
 use Rattle.sim3.specs.Tangent.{tangentZero}
 use Rattle.sim3.specs.Exp.{polyApply, vApply, poseExp}
-use Rattle.sides.specs.Blocks.{matOuter, jlQ, jlBlocks, polyMatrix, jacJl}
+use Rattle.blocks.specs.Blocks.{matOuter, jlQ, jlBlocks, polyMatrix, jacJl}
 use Rattle.demands.specs.Turned.{turnedRound}
 use Rattle.demands.specs.TurnedExamples.{StepTurned, TurnedExamples}
 

@@ -9,18 +9,18 @@ use Rattle.linalg.specs.Answer.{Answer, answers, refuses}
 use Rattle.linalg.specs.Matrix.{matTranspose}
 use Rattle.linalg.specs.declared.matrix.Mat3.{Mat3}
 use Rattle.so3.specs.Quat.{quatConjugate}
-use Rattle.coeffs.specs.Values.{mirrored}
+use Rattle.closed.specs.Values.{mirrored}
 use Rattle.coeffs.specs.Group.{coeffsScaled}
 use Rattle.coeffs.specs.Entries.{beside}
-use Rattle.coeffs.specs.declared.values.Values.{Values}
+use Rattle.closed.specs.declared.values.Values.{Values}
 use Rattle.coeffs.specs.declared.sim3.Scaled.{Scaled}
 use Rattle.coeffs.specs.declared.sim3.ScaledPair.{ScaledPair}
 use Rattle.sim3.specs.Tangent.{tangentNeg}
 use Rattle.sim3.specs.Exp.{poseExp}
 use Rattle.sim3.specs.declared.sim3.Sim3.{Sim3}
 use Rattle.sim3.specs.declared.tangent.Sim3Tangent.{Sim3Tangent}
-use Rattle.sides.specs.Blocks.{jlAndInverse}
-use Rattle.sides.specs.declared.blocks.JacAndInverse.{JacAndInverse}
+use Rattle.blocks.specs.Blocks.{jlAndInverse}
+use Rattle.blocks.specs.declared.JacAndInverse.{JacAndInverse}
 use Rattle.sides.specs.declared.pair.BlockPair.{BlockPair}
 
 -- what the eight calls answer: the pair of coefficients and each sign's, the pair of blocks and each sign's, the exponential of the tangent and of its negative

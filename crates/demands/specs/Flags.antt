@@ -6,10 +6,10 @@ use Rattle.linalg.specs.Answer.{Answer, answers}
 use Rattle.linalg.specs.Vector.{vecNormSq, vecNeg}
 use Rattle.linalg.specs.Matrix.{matTranspose}
 use Rattle.linalg.specs.declared.matrix.Mat3.{Mat3}
-use Rattle.coeffs.specs.declared.values.Values.{Values}
+use Rattle.closed.specs.declared.values.Values.{Values}
 use Rattle.coeffs.specs.declared.sim3.ArmedPair.{ArmedPair}
 use Rattle.sim3.specs.declared.tangent.Sim3Tangent.{Sim3Tangent}
-use Rattle.sides.specs.Blocks.{jlAndInverseFrom}
+use Rattle.blocks.specs.Blocks.{jlAndInverseFrom}
 use Rattle.sides.specs.declared.pair.BlockPair.{BlockPair}
 
 -- told is what the armed pair answers at σ and z = |φ|², and block the block pair of the tangent

@@ -9,12 +9,12 @@ use Rattle.ieee.specs.Signs.{Same}
 use Rattle.linalg.specs.Vector.{vecNeg}
 use Rattle.linalg.specs.declared.vector.Vec3.{Vec3}
 use Rattle.linalg.specs.declared.matrix.Mat3.{Mat3}
-use Rattle.coeffs.specs.declared.values.Values.{Values}
+use Rattle.closed.specs.declared.values.Values.{Values}
 use Rattle.sim3.specs.Tangent.{tangent}
 use Rattle.sim3.specs.declared.sim3.Sim3.{Sim3}
 use Rattle.sim3.specs.declared.tangent.Sim3Tangent.{Sim3Tangent}
 use Rattle.jacobian.specs.declared.jac.Sim3Jac.{Sim3Jac}
-use Rattle.sides.specs.Blocks.{jacJl, jlAndInverse}
+use Rattle.blocks.specs.Blocks.{jacJl, jlAndInverse}
 use Rattle.sides.specs.Side.{expAndJl}
 use Rattle.sides.specs.Pair.{blockPair}
 use Rattle.frames.specs.Pose.{framedExp}

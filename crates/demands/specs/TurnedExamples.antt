@@ -7,11 +7,11 @@ use Rattle.ieee.specs.Numbers.{f0, f1, f2, f3}
 use Rattle.linalg.specs.Vector.{vec}
 use Rattle.linalg.specs.Matrix.{matIdentity}
 use Rattle.linalg.specs.declared.vector.Vec3.{Vec3}
-use Rattle.coeffs.specs.declared.values.Values.{Values}
+use Rattle.closed.specs.declared.values.Values.{Values}
 use Rattle.sim3.specs.Tangent.{tangent, tangentZero}
 use Rattle.sim3.specs.Exp.{poseExp}
 use Rattle.sim3.specs.declared.tangent.Sim3Tangent.{Sim3Tangent}
-use Rattle.sides.specs.Blocks.{jacJl}
+use Rattle.blocks.specs.Blocks.{jacJl}
 use Rattle.demands.specs.Turned.{turnedRound}
 
 -- at the zero tangent the first number of t and of b is +0 both ways, and that of f is -0 both ways, whatever the values; so y ≡ −x, bit for bit, holds of none

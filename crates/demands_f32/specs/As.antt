@@ -1,9 +1,10 @@
--- Written by tools/widths from crates/demands: edit that one. Digest 96568a7d0bc56db1.
+-- Written by tools/widths from crates/demands: edit that one. Digest b3e8a39bba28bf0b.
 -- The structs of demands_f32 as the records that the definitions speak of, number by number: a float of either width is one type of the logic.
 use Rattle.demands.specs.declared.ways.BothWays as wideBothWays
 use Rattle.demands_f32.specs.declared.ways.BothWays.{BothWays}
 use Rattle.jacobian_f32.specs.As.{asSim3Jac}
-use Rattle.sides_f32.specs.As.{asBlockPair, asExpAndJl, asJacAndInverse}
+use Rattle.blocks_f32.specs.As.{asJacAndInverse}
+use Rattle.sides_f32.specs.As.{asBlockPair, asExpAndJl}
 use Rattle.frames_f32.specs.As.{asPose}
 
 unfoldable pub asBothWays : BothWays → wideBothWays.BothWays

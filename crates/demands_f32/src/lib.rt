@@ -1,4 +1,4 @@
-// Written by tools/widths from crates/demands/src/lib.rt: edit that one. Digest 4fda3dedf5e6d0e4.
+// Written by tools/widths from crates/demands/src/lib.rt: edit that one. Digest e08a719183d8d8b1.
 // What is said of several calls together. Each function here makes the calls of which a demand speaks,
 // and its contract is the demand: it rests on the contracts of these functions and on nothing else of
 // them. The third demand: the paired evaluation gives for both signs what the one-sign functions give.
@@ -10,15 +10,15 @@ ghost use Rattle.demands.specs.Demand3.{Demand3};
 ghost use Rattle.demands.specs.Flags.{FlagsScale};
 ghost use Rattle.demands_f32.specs.Told.{signsTold};
 ghost use Rattle.linalg_f32.specs.As.{asMat3};
-ghost use Rattle.coeffs_f32.specs.As.{asValues};
+ghost use Rattle.closed_f32.specs.As.{asValues};
 ghost use Rattle.sim3_f32.specs.As.{asSim3Tangent};
 ghost use Rattle.sides_f32.specs.As.{asBlockPair};
+use blocks_f32::JacAndInverse;
+use closed_f32::values::Values;
 use coeffs_f32::sim3::ArmedPairAnswer;
 use coeffs_f32::sim3::PairAnswer;
 use coeffs_f32::sim3::ScaledAnswer;
-use coeffs_f32::values::Values;
 use linalg_f32::matrix::Mat3;
-use sides_f32::blocks::JacAndInverse;
 use sides_f32::pair::BlockPair;
 use sim3_f32::sim3_f32::Sim3;
 use sim3_f32::tangent::Sim3Tangent;

@@ -3,7 +3,7 @@ use mathlib.Core.Path.{_≡_}
 use Prim.Native.Nat.{ℕ}
 use lib.Ieee.{Float, Format}
 use Rattle.linalg.specs.Answer.{Answer, answers, refuses, andThen}
-use Rattle.coeffs.specs.declared.values.Values.{Values}
+use Rattle.closed.specs.declared.values.Values.{Values}
 use Rattle.sim3.specs.Pose.{poseMul}
 use Rattle.sim3.specs.declared.tangent.Sim3Tangent.{Sim3Tangent}
 use Rattle.frames.specs.Pose.{framed, framedIdentity, framedExp, framedInverse, framedRenormalized, framedRplus, framedLplus}

@@ -2,7 +2,7 @@
 -- What starts from a pose keeps its frames, and the inverse exchanges them; what starts from none is given both.
 use Prim.Native.Nat.{ℕ}
 use lib.Ieee.{Float, Format}
-use Rattle.coeffs.specs.declared.values.Values.{Values}
+use Rattle.closed.specs.declared.values.Values.{Values}
 use Rattle.sim3.specs.Pose.{poseIdentity, poseInverse, poseRenormalized}
 use Rattle.sim3.specs.Exp.{poseExp, poseRplus, poseLplus}
 use Rattle.sim3.specs.declared.sim3.Sim3.{Sim3}

@@ -7,7 +7,7 @@ ghost use lib.Ieee.{binary64};
 ghost use Rattle.sim3.specs.Pose.{pose};
 ghost use Rattle.frames.specs.Pose.{framed, framedIdentity, framedExp, framedInverse, framedRenormalized, framedRplus, framedLplus};
 ghost use Rattle.frames.specs.Joins.{poseTold, meets, framedMul, framedMulInv, framedInvMul};
-use coeffs::values::Values;
+use closed::values::Values;
 use linalg::vector::Vec3;
 use sim3::sim3::Sim3;
 use sim3::tangent::Sim3Tangent;

@@ -1,4 +1,4 @@
-// Written by tools/widths from crates/frames/src/lib.rt: edit that one. Digest b7ceef1f0774c1b9.
+// Written by tools/widths from crates/frames/src/lib.rt: edit that one. Digest 6a427c0995c498c6.
 // Poses with their frames: a pose maps points of the frame `from` to points of the frame `to`. Poses
 // are joined only where the frames meet. The numbers are those of crate sim3, whose functions these
 // call and whose argument orders they keep; the action and the Jacobians read no frame, and take
@@ -10,11 +10,11 @@ ghost use Rattle.frames.specs.Pose.{framed, framedIdentity, framedExp, framedIn
 ghost use Rattle.frames.specs.Joins.{meets, framedMul, framedMulInv, framedInvMul};
 ghost use Rattle.frames_f32.specs.Told.{poseTold};
 ghost use Rattle.linalg_f32.specs.As.{asVec3};
-ghost use Rattle.coeffs_f32.specs.As.{asValues};
+ghost use Rattle.closed_f32.specs.As.{asValues};
 ghost use Rattle.so3_f32.specs.As.{asQuat};
 ghost use Rattle.sim3_f32.specs.As.{asSim3, asSim3Tangent};
 ghost use Rattle.frames_f32.specs.As.{asPose};
-use coeffs_f32::values::Values;
+use closed_f32::values::Values;
 use linalg_f32::vector::Vec3;
 use sim3_f32::sim3_f32::Sim3;
 use sim3_f32::tangent::Sim3Tangent;

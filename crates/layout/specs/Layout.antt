@@ -10,7 +10,7 @@ use Rattle.linalg.specs.Matrix.{mat}
 use Rattle.linalg.specs.declared.vector.Vec3.{Vec3}
 use Rattle.linalg.specs.declared.matrix.Mat3.{Mat3}
 use Rattle.series.specs.declared.sim3.Sim3Coeffs.{Sim3Coeffs}
-use Rattle.coeffs.specs.declared.values.Values.{Values}
+use Rattle.closed.specs.declared.values.Values.{Values}
 use Rattle.coeffs.specs.declared.sim3.Scaled.{Scaled}
 use Rattle.coeffs.specs.declared.sim3.ScaledPair.{ScaledPair}
 use Rattle.coeffs.specs.declared.sim3.ArmedPair.{ArmedPair}

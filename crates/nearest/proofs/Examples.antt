@@ -10,8 +10,8 @@ use lib.Ieee.{Float, Format, binary32, binary64, ofBits, round, units, odd, size
 use lib.Ieee.Fits.{and-l, and-r}
 use Rattle.ieee.specs.Numbers.{f0}
 use Rattle.ieee.specs.Patterns.{patterns}
-use Rattle.coeffs.specs.Limits.{coeffsDelta}
-use Rattle.coeffs.specs.Arm.{coeffsArm}
+use Rattle.closed.specs.Limits.{coeffsDelta}
+use Rattle.closed.specs.Arm.{coeffsArm}
 use Rattle.nearest.specs.Nearest.{Way, down, up, step, none, nearestFrom, armAt}
 use Rattle.nearest.specs.Parts.{Parts}
 use Rattle.nearest.proofs.Rising.{arm-rising, all-closed}

@@ -13,8 +13,8 @@ use Rattle.ieee.specs.Patterns.{patterns}
 use Rattle.ieee.proofs.Order.{number, nan-or, le-lt-trans}
 use Rattle.ieee.proofs.Mono.{add-mono-r}
 use Rattle.ieee.proofs.Patterns.{rising, pattern-finite}
-use Rattle.coeffs.specs.Limits.{coeffsDelta, shortBelow, midBelow, upperBelow, seriesBelow}
-use Rattle.coeffs.specs.Arm.{coeffsArm}
+use Rattle.closed.specs.Limits.{coeffsDelta, shortBelow, midBelow, upperBelow, seriesBelow}
+use Rattle.closed.specs.Arm.{coeffsArm}
 use Rattle.nearest.specs.Nearest.{armAt}
 use Rattle.nearest.specs.Theorem.{OneArm}
 use Rattle.nearest.proofs.Sums.{sum-number}

@@ -8,8 +8,8 @@ use Rattle.ieee.specs.Finite.{isFinite}
 use Rattle.ieee.specs.Patterns.{patterns}
 use Rattle.ieee.specs.Signs.{plain}
 use Rattle.linalg.specs.Answer.{Answer, answers, refuses, unlessBelowZero}
-use Rattle.coeffs.specs.Limits.{coeffsDelta}
-use Rattle.coeffs.specs.Arm.{coeffsArm}
+use Rattle.closed.specs.Limits.{coeffsDelta}
+use Rattle.closed.specs.Arm.{coeffsArm}
 use Rattle.nearest.specs.declared.Direction.{Direction}
 use Rattle.nearest.specs.declared.Direction.the-variants as toward
 use Rattle.nearest.specs.declared.Step.{Step}

@@ -41,7 +41,7 @@ fn arm_at(sigma: f64, p: u64) -> u8
     requires { ⌜ p < patterns binary64 ⌝ }
     ensures { λ r. ⌜ (r ≡ armAt binary64 sigma p) × (1 ≤ r) ⌝ }
 {
-    coeffs::limits::arm(sigma * sigma + value(p))
+    closed::limits::arm(sigma * sigma + value(p))
 }
 
 // The first pattern with an arm above a, or END where there is none: each turn halves what is left.

@@ -1,4 +1,4 @@
-// Written by tools/widths from crates/nearest/src/lib.rt: edit that one. Digest cd3717705225b552.
+// Written by tools/widths from crates/nearest/src/lib.rt: edit that one. Digest 67128c0f8941d402.
 // How near another arm of the coefficients is: the fewest neighbouring values that z must move, down
 // or up, for the arm at (sigma, z) to change. Neighbouring values have neighbouring bit patterns, and
 // the arm does not fall as z grows; so the two ends of z's arm are found by halving the patterns.
@@ -43,7 +43,7 @@ fn arm_at(sigma: f32, p: u64) -> u8
     requires { ⌜ p < patterns binary32 ⌝ }
     ensures { λ r. ⌜ (r ≡ armAt binary32 sigma p) × (1 ≤ r) ⌝ }
 {
-    coeffs_f32::limits::arm(sigma * sigma + value(p))
+    closed_f32::limits::arm(sigma * sigma + value(p))
 }
 
 // The first pattern with an arm above a, or END where there is none: each turn halves what is left.

@@ -8,8 +8,8 @@ use lib.Ieee.{Float, Format}
 use Rattle.linalg.specs.Answer.{Answer, answers, refuses, andThen}
 use Rattle.linalg.proofs.Answers.{never, answers-is}
 use Rattle.coeffs.specs.Entries.{pairAnswer}
-use Rattle.coeffs.specs.Limits.{coeffsDelta}
-use Rattle.coeffs.specs.Arm.{coeffsArm, armEnds}
+use Rattle.closed.specs.Limits.{coeffsDelta}
+use Rattle.closed.specs.Arm.{coeffsArm, armEnds}
 use Rattle.coeffs.specs.declared.sim3.ScaledPair.{ScaledPair}
 use Rattle.coeffs.proofs.Even.{told-both, armed-pair-told}
 use Rattle.layout.specs.Layout.{valuesIn, scaledPairNumbers}

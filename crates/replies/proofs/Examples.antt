@@ -7,11 +7,11 @@ use lib.Ieee.{Float, binary64, nan, ofBits, toBits, add, sub, mul, lt, le}
 use Rattle.ieee.specs.Finite.{isFinite}
 use Rattle.linalg.specs.Vector.{vecScale, vecCross, vecAdd, vecNumbers}
 use Rattle.ieee.specs.Numbers.{f0}
-use Rattle.coeffs.specs.Limits.{coeffsDelta}
-use Rattle.coeffs.specs.Arm.{coeffsArm, armEnds}
+use Rattle.closed.specs.Limits.{coeffsDelta}
+use Rattle.closed.specs.Arm.{coeffsArm, armEnds}
 use Rattle.coeffs.specs.Group.{coeffsArmed}
 use Rattle.coeffs.specs.Entries.{beside, scaledAnswer, pairAnswer, besideArmed, armedAnswer, armedPairAnswer}
-use Rattle.coeffs.specs.declared.values.Values.{Values}
+use Rattle.closed.specs.declared.values.Values.{Values}
 use Rattle.so3.specs.So3.{so3Act}
 use Rattle.so3.specs.Quat.{quatMul}
 use Rattle.sim3.specs.Pose.{poseAct, poseMul}

@@ -1,4 +1,4 @@
-// Written by tools/widths from crates/replies/src/places.rt: edit that one. Digest 8bc6524dc6056c59.
+// Written by tools/widths from crates/replies/src/places.rt: edit that one. Digest f940e0cf52d7b1d4.
 // Things of several numbers, from the i-th number of a list of bytes on: what is read, and what is
 // written, in the same order.
 ghost use mathlib.Core.Path.{_≡_};
@@ -13,7 +13,8 @@ ghost use Rattle.wire.specs.Wire.{width, numberAt, numbersBytes, itemsBytes};
 ghost use Rattle.replies.specs.Table.{armItems, framedWidth, framedIn};
 ghost use Rattle.linalg_f32.specs.As.{asMat3, asVec3};
 ghost use Rattle.series_f32.specs.As.{asSim3Coeffs};
-ghost use Rattle.coeffs_f32.specs.As.{asArmed, asValues};
+ghost use Rattle.closed_f32.specs.As.{asValues};
+ghost use Rattle.coeffs_f32.specs.As.{asArmed};
 ghost use Rattle.sim3_f32.specs.As.{asSim3, asSim3Tangent};
 ghost use Rattle.jacobian_f32.specs.As.{asSim3Jac};
 ghost use Rattle.frames_f32.specs.As.{asPose};
@@ -23,8 +24,8 @@ use crate::bytes::number_at;
 use crate::bytes::put_number;
 use crate::bytes::put_word;
 use crate::bytes::short_at;
+use closed_f32::values::Values;
 use coeffs_f32::sim3::Armed;
-use coeffs_f32::values::Values;
 use frames_f32::Pose;
 use jacobian_f32::jac::Sim3Jac;
 use layout::POSE;

@@ -11,10 +11,11 @@ use Rattle.ieee.specs.Table.{factorial, rounded, entries}
 use Rattle.tables.specs.Tables.{rowRule, rowTable, recipRule, recipFact}
 use Rattle.linalg.specs.Vector.{vecScale, vecDot, vecNormSq, vecCross, vecAdd}
 use Rattle.circle.specs.Kernel.{hornerSum, rowSeries, rowShort, rowMember, rowOwn, rowWhole, exactA, exactB, exactD, sincFrom, circleExp, circleSincABD}
-use Rattle.series.specs.Series.{seriesFirst, seriesNext, seriesLevel, levelTerms, seriesSum, seriesSums, gSeries, coeffsDelta, seriesChi, seriesCoeffs, seriesFull, coeffs4, seriesAnswer, seriesVAnswer, seriesPairAnswer}
-use Rattle.coeffs.specs.Arm.{coeffsArm, armEnds}
-use Rattle.coeffs.specs.Values.{atZero}
-use Rattle.coeffs.specs.Closed.{closedV0, closedW0, closedV, closedWs, closedDvs, closedJoined, closedNine, closedVFrom, closedFrom}
+use Rattle.series.specs.Series.{seriesFirst, seriesNext, seriesLevel, levelTerms, seriesSum, seriesSums, gSeries, coeffsDelta, seriesChi, seriesCoeffs, seriesFull, coeffs4}
+use Rattle.series.specs.Series.{seriesAnswer, seriesVAnswer, seriesPairAnswer}
+use Rattle.closed.specs.Arm.{coeffsArm, armEnds}
+use Rattle.closed.specs.Values.{atZero}
+use Rattle.closed.specs.Closed.{closedV0, closedW0, closedV, closedWs, closedDvs, closedJoined, closedNine, closedVFrom, closedFrom}
 use Rattle.coeffs.specs.Group.{coeffsScaled, coeffsUnscale, coeffsPlain, coeffsV}
 use Rattle.so3.specs.Quat.{quatNormSq, quatRenormalized}
 use Rattle.so3.specs.So3.{so3Exp}

@@ -12,10 +12,10 @@ use Rattle.linalg.specs.Vector.{vec}
 use Rattle.linalg.specs.declared.vector.Vec3.{Vec3}
 use Rattle.series.specs.Series.{seriesFull, seriesAnswer, seriesVAnswer, seriesPairAnswer}
 use Rattle.series.specs.declared.sim3.Sim3Coeffs.{Sim3Coeffs}
-use Rattle.coeffs.specs.Limits.{coeffsDelta, formBBelow}
-use Rattle.coeffs.specs.Arm.{coeffsArm, armTerms}
+use Rattle.closed.specs.Limits.{coeffsDelta, formBBelow}
+use Rattle.closed.specs.Arm.{coeffsArm, armTerms}
 use Rattle.coeffs.specs.Group.{coeffsScaled}
-use Rattle.coeffs.specs.declared.values.Values.{Values}
+use Rattle.closed.specs.declared.values.Values.{Values}
 use Rattle.so3.specs.Quat.{quat, quatRenormalized}
 use Rattle.so3.specs.declared.quat.Quat.{Quat}
 use Rattle.sim3.specs.Tangent.{tangent}

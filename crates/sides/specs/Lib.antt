@@ -1,4 +1,3 @@
-pub mod Blocks
 pub mod Side
 pub mod Pair
 pub mod Examples

@@ -3,11 +3,11 @@
 use lib.Ieee.{Format}
 use Rattle.linalg.specs.Matrix.{matTranspose}
 use Rattle.linalg.specs.declared.matrix.Mat3.{Mat3}
-use Rattle.coeffs.specs.Values.{mirrored}
-use Rattle.coeffs.specs.declared.values.Values.{Values}
+use Rattle.closed.specs.Values.{mirrored}
+use Rattle.closed.specs.declared.values.Values.{Values}
 use Rattle.sim3.specs.Tangent.{tangentNeg}
 use Rattle.sim3.specs.declared.tangent.Sim3Tangent.{Sim3Tangent}
-use Rattle.sides.specs.Blocks.{jlAndInverse}
+use Rattle.blocks.specs.Blocks.{jlAndInverse}
 use Rattle.sides.specs.declared.pair.BlockPair.{BlockPair}
 
 unfoldable pub blockPair : Format → Sim3Tangent → Values → Mat3 → Mat3 → BlockPair

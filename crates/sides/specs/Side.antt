@@ -6,14 +6,14 @@ use Rattle.linalg.specs.Matrix.{matIdentity, matScale, matAdd, matNeg, matMulVe
 use Rattle.linalg.specs.declared.vector.Vec3.{Vec3}
 use Rattle.linalg.specs.declared.matrix.Mat3.{Mat3}
 use Rattle.so3.specs.Quat.{quatToMatrix}
-use Rattle.coeffs.specs.declared.values.Values.{Values}
+use Rattle.closed.specs.declared.values.Values.{Values}
 use Rattle.sim3.specs.Tangent.{tangentNeg}
 use Rattle.sim3.specs.Pose.{poseInverse, poseAct}
 use Rattle.sim3.specs.Exp.{poseExp}
 use Rattle.sim3.specs.declared.sim3.Sim3.{Sim3}
 use Rattle.sim3.specs.declared.tangent.Sim3Tangent.{Sim3Tangent}
 use Rattle.jacobian.specs.Jac.{blocks, jacIdentity, jacNeg}
-use Rattle.sides.specs.Blocks.{jacJl, jlAndInverse}
+use Rattle.blocks.specs.Blocks.{jacJl, jlAndInverse}
 use Rattle.jacobian.specs.declared.jac.Sim3Jac.{Sim3Jac}
 use Rattle.sides.specs.declared.side.ActJacobians.{ActJacobians}
 use Rattle.sides.specs.declared.side.TwoJacobians.{TwoJacobians}

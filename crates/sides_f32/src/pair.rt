@@ -1,16 +1,16 @@
-// Written by tools/widths from crates/sides/src/pair.rt: edit that one. Digest 61d59db15565f771.
+// Written by tools/widths from crates/sides/src/pair.rt: edit that one. Digest c03eb3235f1b69c4.
 // The blocks of both sides from one paired evaluation of the coefficients.
 ghost use mathlib.Core.Path.{_≡_};
 ghost use lib.Ieee.{binary32};
 ghost use Rattle.sides.specs.Pair.{blockPair};
 ghost use Rattle.linalg_f32.specs.As.{asMat3};
-ghost use Rattle.coeffs_f32.specs.As.{asValues};
+ghost use Rattle.closed_f32.specs.As.{asValues};
 ghost use Rattle.sim3_f32.specs.As.{asSim3Tangent};
 ghost use Rattle.sides_f32.specs.As.{asBlockPair};
-use crate::blocks::jl_and_inverse_at;
+use blocks_f32::jl_and_inverse_at;
+use closed_f32::values::Values;
 use coeffs_f32::sim3::ArmedPairAnswer;
 use coeffs_f32::sim3::sim3_coeffs_armed_pair;
-use coeffs_f32::values::Values;
 use jacobian_f32::jac::Sim3Jac;
 use linalg_f32::matrix::Mat3;
 use sim3_f32::tangent::Sim3Tangent;

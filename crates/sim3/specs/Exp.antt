@@ -7,9 +7,9 @@ use Rattle.so3.specs.So3.{so3Exp}
 use Rattle.tables.specs.Tables.{bRow}
 use Rattle.circle.specs.Limits.{rowLimit}
 use Rattle.series.specs.declared.sim3.Coeffs4.{Coeffs4}
-use Rattle.coeffs.specs.Limits.{coeffsDelta}
+use Rattle.closed.specs.Limits.{coeffsDelta}
 use Rattle.coeffs.specs.Group.{coeffsV}
-use Rattle.coeffs.specs.declared.values.Values.{Values}
+use Rattle.closed.specs.declared.values.Values.{Values}
 use Rattle.sim3.specs.Pose.{pose, poseMul}
 use Rattle.sim3.specs.declared.sim3.Sim3.{Sim3}
 use Rattle.sim3.specs.declared.tangent.Sim3Tangent.{Sim3Tangent}

@@ -2,4 +2,3 @@
 // Jacobians.
 pub mod tangent; // Sim3Tangent
 pub mod sim3; // Sim3: composition, inverse, action, exponential
-pub mod points; // the action on lists of points

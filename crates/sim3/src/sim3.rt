@@ -4,7 +4,7 @@ ghost use lib.Ieee.{binary64};
 ghost use Rattle.sim3.specs.Pose.{poseIdentity, poseInverse, poseAct, poseMul, poseMulInv, poseInvMul, poseRenormalized};
 ghost use Rattle.sim3.specs.Exp.{polyApply, vApply, poseExp, poseRplus, poseLplus};
 use crate::tangent::Sim3Tangent;
-use coeffs::values::Values;
+use closed::values::Values;
 use linalg::vector::Vec3;
 use series::sim3::Coeffs4;
 use so3::quat::Quat;

@@ -11,7 +11,7 @@ use lib.Ieee.{Float}
 use Rattle.linalg.specs.Answer.{answers, refuses}
 use Rattle.linalg.specs.declared.vector.Vec3.{Vec3}
 use Rattle.linalg.proofs.Answers.{never}
-use Rattle.sim3.specs.Points.{pointsAccepted, pointsAnswer, pointsOut}
+use Rattle.point_lists.specs.Points.{pointsAccepted, pointsAnswer, pointsOut}
 use Rattle.layout.proofs.Runs.{sets-front}
 use Rattle.sim3_c.specs.Lists.{wrongLength, sized}
 use Rattle.sim3_c.specs.Calls.{status, written, fitting}

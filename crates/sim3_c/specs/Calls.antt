@@ -16,7 +16,7 @@ use Rattle.coeffs.specs.Entries.{pairAnswer, armedAnswer, armedPairAnswer}
 use Rattle.coeffs.specs.declared.sim3.Armed.{Armed}
 use Rattle.coeffs.specs.declared.sim3.ArmedPair.{ArmedPair}
 use Rattle.sim3.specs.Pose.{poseRenormalized}
-use Rattle.sim3.specs.Points.{pointsAnswer, pointsOut, poseActMany, poseActEach}
+use Rattle.point_lists.specs.Points.{pointsAnswer, pointsOut, poseActMany, poseActEach}
 use Rattle.frames.specs.Pose.{framedExp, framedInverse}
 use Rattle.frames.specs.Joins.{framedMul, framedMulInv, framedInvMul}
 use Rattle.frames.specs.declared.Pose.{Pose}

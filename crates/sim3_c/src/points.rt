@@ -6,9 +6,9 @@ ghost use Rattle.sim3_c.specs.Calls.{status, written, actManyCall, actEa
 use crate::LIST_LENGTH;
 use crate::read::PoseRead;
 use crate::read::pose_from;
-use sim3::points::Listed;
-use sim3::points::act_each;
-use sim3::points::act_many;
+use point_lists::Listed;
+use point_lists::act_each;
+use point_lists::act_many;
 
 // Every point by the matrix s R; up is e^sigma of X.
 #[no_mangle]

@@ -7,7 +7,7 @@ ghost use Rattle.layout.specs.Layout.{vecIn, matIn, poseIn};
 ghost use Rattle.sim3_c.specs.Lists.{numberIn, vecFrom, matFrom, poseFrom, tangentFrom, valuesFrom, blockFrom, poseLists, framesFrom, framedFrom};
 ghost use Rattle.sim3_c.specs.Lists.{vecReadTold, matReadTold, poseReadTold, framesReadTold, framedReadTold, tangentReadTold, valuesReadTold, blockReadTold};
 use crate::FRAMES;
-use coeffs::values::Values;
+use closed::values::Values;
 use frames::Pose;
 use jacobian::jac::Sim3Jac;
 use layout::BLOCK;

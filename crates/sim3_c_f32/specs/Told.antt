@@ -1,4 +1,4 @@
--- Written by tools/widths from crates/sim3_c: edit that one. Digest 8f7913805d6105f4.
+-- Written by tools/widths from crates/sim3_c: edit that one. Digest d4d6979a3698700b.
 -- What each answer of sim3_c_f32 says.
 use Rattle.sim3_c_f32.specs.declared.read.VecRead as codeVecRead
 use Rattle.sim3_c_f32.specs.declared.read.VecRead.the-variants as inVecRead
@@ -21,13 +21,13 @@ use Rattle.linalg.specs.declared.vector.Vec3.{Vec3}
 use Rattle.frames.specs.declared.Pose.{Pose}
 use Rattle.sim3_c.specs.Lists.{wrongLength}
 use Rattle.linalg.specs.declared.matrix.Mat3.{Mat3}
-use Rattle.coeffs.specs.declared.values.Values.{Values}
+use Rattle.closed.specs.declared.values.Values.{Values}
 use Rattle.sim3.specs.declared.sim3.Sim3.{Sim3}
 use Rattle.sim3.specs.declared.tangent.Sim3Tangent.{Sim3Tangent}
 use Rattle.jacobian.specs.declared.jac.Sim3Jac.{Sim3Jac}
 use Rattle.sim3_c.specs.declared.read.Frames.{Frames}
 use Rattle.linalg_f32.specs.As.{asMat3, asVec3}
-use Rattle.coeffs_f32.specs.As.{asValues}
+use Rattle.closed_f32.specs.As.{asValues}
 use Rattle.sim3_f32.specs.As.{asSim3, asSim3Tangent}
 use Rattle.jacobian_f32.specs.As.{asSim3Jac}
 use Rattle.frames_f32.specs.As.{asPose}

@@ -1,4 +1,4 @@
-// Written by tools/widths from crates/sim3_c/src/read.rt: edit that one. Digest 614a0eaa912859ad.
+// Written by tools/widths from crates/sim3_c/src/read.rt: edit that one. Digest 2c77fe6ff4a8c9df.
 // The things that stand in a list's numbers; Wrong where the list has another length. Matrices go
 // column by column.
 ghost use mathlib.Core.Path.{_≡_};
@@ -10,7 +10,7 @@ ghost use Rattle.sim3_c_f32.specs.Told.{vecReadTold, matReadTold, poseRe
 ghost use Rattle.linalg_f32.specs.As.{asMat3, asVec3};
 ghost use Rattle.sim3_f32.specs.As.{asSim3};
 use crate::FRAMES;
-use coeffs_f32::values::Values;
+use closed_f32::values::Values;
 use frames_f32::Pose;
 use jacobian_f32::jac::Sim3Jac;
 use layout::BLOCK;

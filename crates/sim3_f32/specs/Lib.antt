@@ -1,3 +1,2 @@
--- Written by tools/widths from crates/sim3: edit that one. Digest 00bf2209c3cb6efd.
+-- Written by tools/widths from crates/sim3: edit that one. Digest a61e728cdc0f9fb4.
 pub mod As
-pub mod Told

@@ -1,4 +1,4 @@
-// Written by tools/widths from crates/sim3/src/sim3.rt: edit that one. Digest 60452bbcb8914a70.
+// Written by tools/widths from crates/sim3/src/sim3.rt: edit that one. Digest 10918f4f63bdc63e.
 // A pose of Sim(3), X p = e^sigma R p + t. Exponentials of log scales are handed in.
 ghost use mathlib.Core.Path.{_≡_};
 ghost use lib.Ieee.{binary32};
@@ -6,11 +6,11 @@ ghost use Rattle.sim3.specs.Pose.{poseIdentity, poseInverse, poseAct, poseMul, 
 ghost use Rattle.sim3.specs.Exp.{polyApply, vApply, poseExp, poseRplus, poseLplus};
 ghost use Rattle.linalg_f32.specs.As.{asVec3};
 ghost use Rattle.series_f32.specs.As.{asCoeffs4};
-ghost use Rattle.coeffs_f32.specs.As.{asValues};
+ghost use Rattle.closed_f32.specs.As.{asValues};
 ghost use Rattle.so3_f32.specs.As.{asQuat};
 ghost use Rattle.sim3_f32.specs.As.{asSim3, asSim3Tangent};
 use crate::tangent::Sim3Tangent;
-use coeffs_f32::values::Values;
+use closed_f32::values::Values;
 use linalg_f32::vector::Vec3;
 use series_f32::sim3::Coeffs4;
 use so3_f32::quat::Quat;

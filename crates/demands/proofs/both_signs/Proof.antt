@@ -1,14 +1,14 @@
--- Written by tools/proofs from Proof.template: edit that one. Digest 2d1da032ff2f2550.
+-- Written by tools/proofs from Proof.template: edit that one. Digest 6414ea60f5862323.
 -- `demands::both_signs` meets its contract, demand 3: by what the eight calls ensure, and what negation, mirroring and transposing ensure of their arguments.
 use borrow.Author.Needs.{needs}
 use mathlib.Core.Path.{_≡_, ap, _∙_}
 use lib.Ieee.{binary64, neg}
 use Rattle.linalg.specs.Matrix.{matTranspose}
-use Rattle.coeffs.specs.Values.{mirrored}
+use Rattle.closed.specs.Values.{mirrored}
 use Rattle.coeffs.specs.Entries.{scaledAnswer}
 use Rattle.sim3.specs.Tangent.{tangentNeg}
 use Rattle.sim3.specs.Exp.{poseExp}
-use Rattle.sides.specs.Blocks.{jlAndInverse}
+use Rattle.blocks.specs.Blocks.{jlAndInverse}
 use Rattle.demands.proofs.Holds.{demand-3}
 use Rattle.demands.proofs.both_signs.Statement.{statement}
 use Rattle.demands.proofs.both_signs.Tie as tie

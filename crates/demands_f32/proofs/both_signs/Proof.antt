@@ -1,19 +1,19 @@
--- Written by tools/widths from crates/demands/proofs/both_signs/Proof.antt: edit that one. Digest f5a92c3262e22d22.
+-- Written by tools/widths from crates/demands/proofs/both_signs/Proof.antt: edit that one. Digest e137f8ce512a6386.
 -- `demands_f32::both_signs` meets its contract, demand 3: by what the eight calls ensure, and what negation, mirroring and transposing ensure of their arguments.
 use borrow.Author.Needs.{needs}
 use mathlib.Core.Path.{_≡_, ap, _∙_}
 use lib.Ieee.{binary32, neg}
 use Rattle.linalg.specs.Matrix.{matTranspose}
-use Rattle.coeffs.specs.Values.{mirrored}
+use Rattle.closed.specs.Values.{mirrored}
 use Rattle.coeffs.specs.Entries.{scaledAnswer}
 use Rattle.sim3.specs.Tangent.{tangentNeg}
 use Rattle.sim3.specs.Exp.{poseExp}
-use Rattle.sides.specs.Blocks.{jlAndInverse}
+use Rattle.blocks.specs.Blocks.{jlAndInverse}
 use Rattle.demands.proofs.Holds.{demand-3}
 use Rattle.demands_f32.proofs.both_signs.Statement.{statement}
 use Rattle.demands_f32.proofs.both_signs.Tie as tie
 use Rattle.linalg_f32.specs.As.{asMat3, asVec3}
-use Rattle.coeffs_f32.specs.As.{asValues}
+use Rattle.closed_f32.specs.As.{asValues}
 use Rattle.so3_f32.specs.As.{asQuat}
 use Rattle.sim3_f32.specs.As.{asSim3, asSim3Tangent}
 

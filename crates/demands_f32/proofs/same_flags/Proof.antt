@@ -1,4 +1,4 @@
--- Written by tools/widths from crates/demands/proofs/same_flags/Proof.antt: edit that one. Digest 39f1f939579f4a3b.
+-- Written by tools/widths from crates/demands/proofs/same_flags/Proof.antt: edit that one. Digest ae95ce480c8edd9b.
 -- `demands_f32::same_flags` meets its contract: by what its two calls ensure, and the square of phi. Assumes nothing.
 use borrow.Author.Needs.{needs}
 use mathlib.Core.Path.{ap, _∙_}
@@ -8,7 +8,7 @@ use Rattle.demands.proofs.Flags.{flags-scale}
 use Rattle.demands_f32.proofs.same_flags.Statement.{statement}
 use Rattle.demands_f32.proofs.same_flags.Tie as tie
 use Rattle.linalg_f32.specs.As.{asMat3, asVec3}
-use Rattle.coeffs_f32.specs.As.{asValues}
+use Rattle.closed_f32.specs.As.{asValues}
 use Rattle.sim3_f32.specs.As.{asSim3Tangent}
 
 returns : tie.Need-returns

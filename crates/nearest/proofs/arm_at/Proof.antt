@@ -1,10 +1,10 @@
--- Written by tools/proofs from Proof.template: edit that one. Digest f3125e9b46eb4526.
+-- Written by tools/proofs from Proof.template: edit that one. Digest f1eb3d96954fa535.
 -- `nearest::arm_at` meets its contract: it is the arm at the sum that the definition names, and the arms start at 1. Assumes nothing.
 use borrow.Author.Needs.{needs}
 use mathlib.Core.Path.{_≡_, sym, subst}
 use Prim.Native.Nat.{ℕ, _≤_}
 use lib.Ieee.{binary64}
-use Rattle.coeffs.specs.Limits.{coeffsDelta}
+use Rattle.closed.specs.Limits.{coeffsDelta}
 use Rattle.nearest.specs.Nearest.{armAt}
 use Rattle.nearest.proofs.Rising.{arm-from}
 use Rattle.nearest.proofs.arm_at.Statement.{statement}

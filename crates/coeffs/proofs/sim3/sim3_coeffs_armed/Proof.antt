@@ -1,4 +1,4 @@
--- Written by tools/proofs from Proof.template: edit that one. Digest f0f989a2e536f063.
+-- Written by tools/proofs from Proof.template: edit that one. Digest 765de2a3aed7adef.
 -- `coeffs::sim3::sim3_coeffs_armed` meets its contract: the answer is that of the arm at Δ, with that arm told. Assumes nothing.
 use borrow.Author.Needs.{needs}
 use mathlib.Core.Path.{_≡_, sym, ap, _∙_}
@@ -7,11 +7,12 @@ use lib.Dec.{ltb}
 use lib.Ieee.{binary64}
 use Rattle.linalg.specs.Answer.{answers, andThen}
 use Rattle.circle.specs.Kernel.{sincABDTold, circleSincABDAnswer}
-use Rattle.coeffs.specs.Limits.{coeffsDelta}
-use Rattle.coeffs.specs.Arm.{coeffsArm}
+use Rattle.closed.specs.Limits.{coeffsDelta}
+use Rattle.closed.specs.Arm.{coeffsArm}
 use Rattle.coeffs.specs.Shared.{seriesArm}
 use Rattle.coeffs.specs.Entries.{scaledTold, armedTold}
-use Rattle.coeffs.proofs.Arms.{ends-series, ends-closed, by-series, by-closed, closed-refuses, armed-told, armed-refuses, told-at}
+use Rattle.closed.proofs.Arm.{ends-series, ends-closed}
+use Rattle.coeffs.proofs.Arms.{by-series, by-closed, closed-refuses, armed-told, armed-refuses, told-at}
 use Rattle.coeffs.proofs.sim3.sim3_coeffs_armed.Statement.{statement}
 use Rattle.coeffs.proofs.sim3.sim3_coeffs_armed.Tie as tie
 

@@ -1,4 +1,4 @@
--- Written by tools/proofs from Proof.template: edit that one. Digest 5e51b15ef76cf84a.
+-- Written by tools/proofs from Proof.template: edit that one. Digest fa34c78f97934557.
 -- `coeffs::sim3::sim3_coeffs_armed_pair` meets its contract: the answer is that of the arm at Δ, with that arm told. Assumes nothing.
 use borrow.Author.Needs.{needs}
 use mathlib.Core.Path.{_≡_, sym, ap, _∙_}
@@ -7,11 +7,11 @@ use lib.Dec.{ltb}
 use lib.Ieee.{binary64}
 use Rattle.linalg.specs.Answer.{answers, andThen}
 use Rattle.circle.specs.Kernel.{sincABDTold, circleSincABDAnswer}
-use Rattle.coeffs.specs.Limits.{coeffsDelta}
-use Rattle.coeffs.specs.Arm.{coeffsArm}
+use Rattle.closed.specs.Limits.{coeffsDelta}
+use Rattle.closed.specs.Arm.{coeffsArm}
 use Rattle.coeffs.specs.Shared.{seriesArms}
 use Rattle.coeffs.specs.Entries.{pairTold, armedPairTold}
-use Rattle.coeffs.proofs.Arms.{ends-series, ends-closed}
+use Rattle.closed.proofs.Arm.{ends-series, ends-closed}
 use Rattle.coeffs.proofs.Even.{pair-by-series, pair-by-closed, pair-closed-refuses, armed-pair-told, armed-pair-refuses, told-both}
 use Rattle.coeffs.proofs.sim3.sim3_coeffs_armed_pair.Statement.{statement}
 use Rattle.coeffs.proofs.sim3.sim3_coeffs_armed_pair.Tie as tie

@@ -1,4 +1,4 @@
--- Written by tools/proofs from Proof.template: edit that one. Digest 5fcf6bb07db4fb41.
+-- Written by tools/proofs from Proof.template: edit that one. Digest 615a0891243a1d32.
 -- `coeffs::sim3::sim3_coeffs_scaled` meets its contract: the answer is that of the arm at Δ. Assumes nothing.
 use borrow.Author.Needs.{needs}
 use mathlib.Core.Path.{sym, ap, _∙_}
@@ -6,7 +6,7 @@ use borrow.Author.Tests.{lt-ltb, le-ltb}
 use lib.Dec.{ltb}
 use lib.Ieee.{binary64}
 use Rattle.circle.specs.Kernel.{sincABDTold, circleSincABDAnswer}
-use Rattle.coeffs.specs.Limits.{coeffsDelta}
+use Rattle.closed.specs.Limits.{coeffsDelta}
 use Rattle.coeffs.specs.Shared.{seriesArm}
 use Rattle.coeffs.specs.Entries.{scaledTold}
 use Rattle.coeffs.proofs.Arms.{by-series, by-closed, closed-refuses}

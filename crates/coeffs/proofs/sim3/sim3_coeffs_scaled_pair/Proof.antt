@@ -1,4 +1,4 @@
--- Written by tools/proofs from Proof.template: edit that one. Digest 2f3342611d849bd8.
+-- Written by tools/proofs from Proof.template: edit that one. Digest f40217eec1a482e0.
 -- `coeffs::sim3::sim3_coeffs_scaled_pair` meets its contract: the answer is that of the arm at Δ. Assumes nothing.
 use borrow.Author.Needs.{needs}
 use mathlib.Core.Path.{sym, ap, _∙_}
@@ -6,7 +6,7 @@ use borrow.Author.Tests.{lt-ltb, le-ltb}
 use lib.Dec.{ltb}
 use lib.Ieee.{binary64}
 use Rattle.circle.specs.Kernel.{sincABDTold, circleSincABDAnswer}
-use Rattle.coeffs.specs.Limits.{coeffsDelta}
+use Rattle.closed.specs.Limits.{coeffsDelta}
 use Rattle.coeffs.specs.Shared.{seriesArms}
 use Rattle.coeffs.specs.Entries.{pairTold}
 use Rattle.coeffs.proofs.Even.{pair-by-series, pair-by-closed, pair-closed-refuses}

@@ -7,8 +7,8 @@ use mathlib.Core.Bool.{false}
 use lib.Ieee.{binary64, ofBits}
 use Rattle.series.specs.Series.{seriesVTold, seriesVAnswer}
 use Rattle.circle.specs.Kernel.{sincATold, circleSincAAnswer}
-use Rattle.coeffs.specs.Limits.{coeffsDelta}
-use Rattle.coeffs.specs.Arm.{armTerms}
+use Rattle.closed.specs.Limits.{coeffsDelta}
+use Rattle.closed.specs.Arm.{armTerms}
 use Rattle.coeffs.specs.Entries.{vScaledTold, vScaledAnswer}
 use Rattle.coeffs.proofs.Arms.{series-answers, series-refuses, arm-refuses, within-v, v-series, v-closed-answers}
 use Rattle.coeffs.proofs.sim3.sim3_v_scaled.Statement.{statement}

@@ -1,4 +1,4 @@
--- Written by tools/widths from crates/coeffs/proofs/sim3/closed_one/Proof.antt: edit that one. Digest 510b246c5b305aa7.
+-- Written by tools/widths from crates/coeffs/proofs/sim3/closed_one/Proof.antt: edit that one. Digest e415050434b0bab4.
 use borrow.Author.Needs.{needs}
 use Rattle.coeffs.specs.Shared.{closedOne}
 use lib.Ieee.{ofBits}
@@ -7,11 +7,12 @@ use Rattle.coeffs_f32.proofs.sim3.closed_one.Tie as tie
 use Rattle.linalg_f32.proofs.As.{linalg-singles}
 use Rattle.circle_f32.proofs.As.{circle-singles}
 use Rattle.series_f32.proofs.As.{series-singles}
+use Rattle.closed_f32.proofs.As.{closed-singles}
 use Rattle.coeffs_f32.proofs.As.{coeffs-singles}
 
 returns : tie.Need-returns
 unfolding closedOne ofBits
-returns c = simp (linalg-singles, circle-singles, series-singles, coeffs-singles, c .closed-from .ensures, c .before .on-form-b .ensures)
+returns c = simp (linalg-singles, circle-singles, series-singles, closed-singles, coeffs-singles, c .closed-from .ensures, c .before .on-form-b .ensures)
 
 pub closed-one-spec : {M : Type 1} → statement M
 closed-one-spec = tie.close (tie.spec (λ c κs. search needs) (λ c κs. search needs) returns)

@@ -1,4 +1,4 @@
--- Written by tools/widths from crates/coeffs/proofs/sim3/closed_pair/Proof.antt: edit that one. Digest cc466e8bc335cc1a.
+-- Written by tools/widths from crates/coeffs/proofs/sim3/closed_pair/Proof.antt: edit that one. Digest 853c7912ad91c8cf.
 use borrow.Author.Needs.{needs}
 use Rattle.coeffs.specs.Shared.{closedPair}
 use lib.Ieee.{ofBits}
@@ -7,6 +7,7 @@ use Rattle.coeffs_f32.proofs.sim3.closed_pair.Tie as tie
 use Rattle.linalg_f32.proofs.As.{linalg-singles}
 use Rattle.circle_f32.proofs.As.{circle-singles}
 use Rattle.series_f32.proofs.As.{series-singles}
+use Rattle.closed_f32.proofs.As.{closed-singles}
 use Rattle.coeffs_f32.proofs.As.{coeffs-singles}
 
 returns : tie.Need-returns
@@ -17,6 +18,7 @@ returns c =
       linalg-singles,
       circle-singles,
       series-singles,
+      closed-singles,
       coeffs-singles,
       c .before .before .closed-both .ensures,
       c .before .before .before .on-form-b .ensures,

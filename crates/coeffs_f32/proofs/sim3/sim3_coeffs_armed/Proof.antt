@@ -1,4 +1,4 @@
--- Written by tools/widths from crates/coeffs/proofs/sim3/sim3_coeffs_armed/Proof.antt: edit that one. Digest 0465b3169c1d16ec.
+-- Written by tools/widths from crates/coeffs/proofs/sim3/sim3_coeffs_armed/Proof.antt: edit that one. Digest 263ac1932532ea05.
 -- `coeffs_f32::sim3::sim3_coeffs_armed` meets its contract: the answer is that of the arm at Δ, with that arm told. Assumes nothing.
 use borrow.Author.Needs.{needs}
 use mathlib.Core.Path.{_≡_, sym, ap, _∙_}
@@ -8,16 +8,18 @@ use lib.Ieee.{binary32}
 use Rattle.linalg.specs.Answer.{answers, andThen}
 use Rattle.circle.specs.Kernel.{circleSincABDAnswer}
 use Rattle.circle_f32.specs.Told.{sincABDTold}
-use Rattle.coeffs.specs.Limits.{coeffsDelta}
-use Rattle.coeffs.specs.Arm.{coeffsArm}
+use Rattle.closed.specs.Limits.{coeffsDelta}
+use Rattle.closed.specs.Arm.{coeffsArm}
 use Rattle.coeffs.specs.Shared.{seriesArm}
 use Rattle.coeffs_f32.specs.Told.{scaledTold, armedTold}
-use Rattle.coeffs.proofs.Arms.{ends-series, ends-closed, by-series, by-closed, closed-refuses, armed-told, armed-refuses, told-at}
+use Rattle.closed.proofs.Arm.{ends-series, ends-closed}
+use Rattle.coeffs.proofs.Arms.{by-series, by-closed, closed-refuses, armed-told, armed-refuses, told-at}
 use Rattle.coeffs_f32.proofs.sim3.sim3_coeffs_armed.Statement.{statement}
 use Rattle.coeffs_f32.proofs.sim3.sim3_coeffs_armed.Tie as tie
 use Rattle.circle_f32.specs.As.{asSincABD}
 use Rattle.series_f32.specs.As.{asSim3Coeffs}
-use Rattle.coeffs_f32.specs.As.{asArmed, asScaled, asValues}
+use Rattle.closed_f32.specs.As.{asValues}
+use Rattle.coeffs_f32.specs.As.{asArmed, asScaled}
 
 returns : tie.Need-returns
 unfolding coeffsDelta asArmed asScaled asSim3Coeffs asSincABD asValues

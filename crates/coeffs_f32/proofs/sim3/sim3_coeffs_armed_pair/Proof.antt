@@ -1,4 +1,4 @@
--- Written by tools/widths from crates/coeffs/proofs/sim3/sim3_coeffs_armed_pair/Proof.antt: edit that one. Digest 0a6bb1e4846d758b.
+-- Written by tools/widths from crates/coeffs/proofs/sim3/sim3_coeffs_armed_pair/Proof.antt: edit that one. Digest 88eab2dab362be02.
 -- `coeffs_f32::sim3::sim3_coeffs_armed_pair` meets its contract: the answer is that of the arm at Δ, with that arm told. Assumes nothing.
 use borrow.Author.Needs.{needs}
 use mathlib.Core.Path.{_≡_, sym, ap, _∙_}
@@ -8,17 +8,18 @@ use lib.Ieee.{binary32}
 use Rattle.linalg.specs.Answer.{answers, andThen}
 use Rattle.circle.specs.Kernel.{circleSincABDAnswer}
 use Rattle.circle_f32.specs.Told.{sincABDTold}
-use Rattle.coeffs.specs.Limits.{coeffsDelta}
-use Rattle.coeffs.specs.Arm.{coeffsArm}
+use Rattle.closed.specs.Limits.{coeffsDelta}
+use Rattle.closed.specs.Arm.{coeffsArm}
 use Rattle.coeffs.specs.Shared.{seriesArms}
 use Rattle.coeffs_f32.specs.Told.{pairTold, armedPairTold}
-use Rattle.coeffs.proofs.Arms.{ends-series, ends-closed}
+use Rattle.closed.proofs.Arm.{ends-series, ends-closed}
 use Rattle.coeffs.proofs.Even.{pair-by-series, pair-by-closed, pair-closed-refuses, armed-pair-told, armed-pair-refuses, told-both}
 use Rattle.coeffs_f32.proofs.sim3.sim3_coeffs_armed_pair.Statement.{statement}
 use Rattle.coeffs_f32.proofs.sim3.sim3_coeffs_armed_pair.Tie as tie
 use Rattle.circle_f32.specs.As.{asSincABD}
 use Rattle.series_f32.specs.As.{asSim3Coeffs}
-use Rattle.coeffs_f32.specs.As.{asArmed, asArmedPair, asScaled, asScaledPair, asValues}
+use Rattle.closed_f32.specs.As.{asValues}
+use Rattle.coeffs_f32.specs.As.{asArmed, asArmedPair, asScaled, asScaledPair}
 
 returns : tie.Need-returns
 unfolding coeffsDelta asArmed asArmedPair asScaled asScaledPair asSim3Coeffs asSincABD asValues

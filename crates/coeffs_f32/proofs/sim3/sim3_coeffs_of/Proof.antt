@@ -1,4 +1,4 @@
--- Written by tools/widths from crates/coeffs/proofs/sim3/sim3_coeffs_of/Proof.antt: edit that one. Digest 7dd2f980fb26f45d.
+-- Written by tools/widths from crates/coeffs/proofs/sim3/sim3_coeffs_of/Proof.antt: edit that one. Digest ac6208ec9b9997ca.
 -- `coeffs_f32::sim3::sim3_coeffs_of` meets its contract: |phi|² is not below zero, so the entry answers. Assumes nothing.
 use borrow.Author.Needs.{needs}
 use mathlib.Core.Path.{sym, ap, _∙_}
@@ -10,7 +10,7 @@ use Rattle.coeffs_f32.proofs.sim3.sim3_coeffs_of.Statement.{statement}
 use Rattle.coeffs_f32.proofs.sim3.sim3_coeffs_of.Tie as tie
 use Rattle.linalg_f32.specs.As.{asVec3}
 use Rattle.series_f32.specs.As.{asSim3Coeffs}
-use Rattle.coeffs_f32.specs.As.{asValues}
+use Rattle.closed_f32.specs.As.{asValues}
 
 returns : tie.Need-returns
 unfolding coeffsTold coeffsAnswer asSim3Coeffs asValues asVec3

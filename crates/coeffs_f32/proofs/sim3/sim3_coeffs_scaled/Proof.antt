@@ -1,4 +1,4 @@
--- Written by tools/widths from crates/coeffs/proofs/sim3/sim3_coeffs_scaled/Proof.antt: edit that one. Digest f4eb4ba1008396e2.
+-- Written by tools/widths from crates/coeffs/proofs/sim3/sim3_coeffs_scaled/Proof.antt: edit that one. Digest dbcd94b7129ceeae.
 -- `coeffs_f32::sim3::sim3_coeffs_scaled` meets its contract: the answer is that of the arm at Δ. Assumes nothing.
 use borrow.Author.Needs.{needs}
 use mathlib.Core.Path.{sym, ap, _∙_}
@@ -7,7 +7,7 @@ use lib.Dec.{ltb}
 use lib.Ieee.{binary32}
 use Rattle.circle.specs.Kernel.{circleSincABDAnswer}
 use Rattle.circle_f32.specs.Told.{sincABDTold}
-use Rattle.coeffs.specs.Limits.{coeffsDelta}
+use Rattle.closed.specs.Limits.{coeffsDelta}
 use Rattle.coeffs.specs.Shared.{seriesArm}
 use Rattle.coeffs_f32.specs.Told.{scaledTold}
 use Rattle.coeffs.proofs.Arms.{by-series, by-closed, closed-refuses}
@@ -15,10 +15,12 @@ use Rattle.coeffs_f32.proofs.sim3.sim3_coeffs_scaled.Statement.{stateme
 use Rattle.coeffs_f32.proofs.sim3.sim3_coeffs_scaled.Tie as tie
 use Rattle.circle_f32.specs.As.{asSincABD}
 use Rattle.series_f32.specs.As.{asSim3Coeffs}
-use Rattle.coeffs_f32.specs.As.{asScaled, asValues}
+use Rattle.closed_f32.specs.As.{asValues}
+use Rattle.coeffs_f32.specs.As.{asScaled}
 use Rattle.linalg_f32.proofs.As.{linalg-singles}
 use Rattle.circle_f32.proofs.As.{circle-singles}
 use Rattle.series_f32.proofs.As.{series-singles}
+use Rattle.closed_f32.proofs.As.{closed-singles}
 use Rattle.coeffs_f32.proofs.As.{coeffs-singles}
 
 returns : tie.Need-returns
@@ -35,7 +37,7 @@ returns-2 c =
     let c1 = c .before .before .before .before .before in
     let a = c1 .before .before .before .args in
     let t = ap (λ n. ltb n 5) (sym (c1 .before .before .arm .ensures)) ∙ le-ltb _ _ (c1 .before .if1 .left) in
-    simp (linalg-singles, circle-singles, series-singles, coeffs-singles, c .closed-one .ensures, c .before .w0-small .ensures) (sym (by-closed binary32 (a .sigma) (a .z) (asValues (a .v)) _ t (sym (c1 .sinc-a-b-d .ensures) ∙ ap sincABDTold (c .before .before .before .t .given .1))))
+    simp (linalg-singles, circle-singles, series-singles, closed-singles, coeffs-singles, c .closed-one .ensures, c .before .w0-small .ensures) (sym (by-closed binary32 (a .sigma) (a .z) (asValues (a .v)) _ t (sym (c1 .sinc-a-b-d .ensures) ∙ ap sincABDTold (c .before .before .before .t .given .1))))
 
 returns-3 : tie.Need-returns-3
 unfolding scaledTold sincABDTold circleSincABDAnswer asScaled asSim3Coeffs asSincABD asValues

@@ -1,4 +1,4 @@
--- Written by tools/widths from crates/coeffs/proofs/sim3/sim3_coeffs_scaled_of/Proof.antt: edit that one. Digest a4bfc2db654e1a90.
+-- Written by tools/widths from crates/coeffs/proofs/sim3/sim3_coeffs_scaled_of/Proof.antt: edit that one. Digest 99ded0affbc0b5c6.
 -- `coeffs_f32::sim3::sim3_coeffs_scaled_of` meets its contract: |phi|² is not below zero, so the entry answers. Assumes nothing.
 use borrow.Author.Needs.{needs}
 use mathlib.Core.Path.{sym, ap, _∙_}
@@ -10,7 +10,8 @@ use Rattle.coeffs_f32.proofs.sim3.sim3_coeffs_scaled_of.Statement.{stat
 use Rattle.coeffs_f32.proofs.sim3.sim3_coeffs_scaled_of.Tie as tie
 use Rattle.linalg_f32.specs.As.{asVec3}
 use Rattle.series_f32.specs.As.{asSim3Coeffs}
-use Rattle.coeffs_f32.specs.As.{asScaled, asValues}
+use Rattle.closed_f32.specs.As.{asValues}
+use Rattle.coeffs_f32.specs.As.{asScaled}
 
 returns : tie.Need-returns
 unfolding scaledTold scaledAnswer asScaled asSim3Coeffs asValues asVec3

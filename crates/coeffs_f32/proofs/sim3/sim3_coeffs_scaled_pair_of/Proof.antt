@@ -1,4 +1,4 @@
--- Written by tools/widths from crates/coeffs/proofs/sim3/sim3_coeffs_scaled_pair_of/Proof.antt: edit that one. Digest 10de033e245247f4.
+-- Written by tools/widths from crates/coeffs/proofs/sim3/sim3_coeffs_scaled_pair_of/Proof.antt: edit that one. Digest 914bc5b2c2aab234.
 -- `coeffs_f32::sim3::sim3_coeffs_scaled_pair_of` meets its contract: |phi|² is not below zero, so the entry answers. Assumes nothing.
 use borrow.Author.Needs.{needs}
 use mathlib.Core.Path.{sym, ap, _∙_}
@@ -10,7 +10,8 @@ use Rattle.coeffs_f32.proofs.sim3.sim3_coeffs_scaled_pair_of.Statement.
 use Rattle.coeffs_f32.proofs.sim3.sim3_coeffs_scaled_pair_of.Tie as tie
 use Rattle.linalg_f32.specs.As.{asVec3}
 use Rattle.series_f32.specs.As.{asSim3Coeffs}
-use Rattle.coeffs_f32.specs.As.{asScaled, asScaledPair, asValues}
+use Rattle.closed_f32.specs.As.{asValues}
+use Rattle.coeffs_f32.specs.As.{asScaled, asScaledPair}
 
 returns : tie.Need-returns
 unfolding pairTold asScaled asScaledPair asSim3Coeffs asValues asVec3

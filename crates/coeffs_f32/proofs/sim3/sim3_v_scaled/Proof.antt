@@ -1,4 +1,4 @@
--- Written by tools/widths from crates/coeffs/proofs/sim3/sim3_v_scaled/Proof.antt: edit that one. Digest 303516b4b4a4390b.
+-- Written by tools/widths from crates/coeffs/proofs/sim3/sim3_v_scaled/Proof.antt: edit that one. Digest 33135d5ed3d22396.
 -- `coeffs_f32::sim3::sim3_v_scaled` meets its contract: in either arm what the arm answers is answered, and its refusal is handed upward. Assumes nothing.
 use borrow.Author.Needs.{needs}
 use mathlib.Core.Path.{sym, ap, _∙_}
@@ -10,8 +10,8 @@ use Rattle.series.specs.Series.{seriesVAnswer}
 use Rattle.series_f32.specs.Told.{seriesVTold}
 use Rattle.circle.specs.Kernel.{circleSincAAnswer}
 use Rattle.circle_f32.specs.Told.{sincATold}
-use Rattle.coeffs.specs.Limits.{coeffsDelta}
-use Rattle.coeffs.specs.Arm.{armTerms}
+use Rattle.closed.specs.Limits.{coeffsDelta}
+use Rattle.closed.specs.Arm.{armTerms}
 use Rattle.coeffs.specs.Entries.{vScaledAnswer}
 use Rattle.coeffs_f32.specs.Told.{vScaledTold}
 use Rattle.coeffs.proofs.Arms.{series-answers, series-refuses, arm-refuses, within-v, v-series, v-closed-answers}
@@ -19,10 +19,12 @@ use Rattle.coeffs_f32.proofs.sim3.sim3_v_scaled.Statement.{statement}
 use Rattle.coeffs_f32.proofs.sim3.sim3_v_scaled.Tie as tie
 use Rattle.circle_f32.specs.As.{asSincA}
 use Rattle.series_f32.specs.As.{asCoeffs4}
-use Rattle.coeffs_f32.specs.As.{asVScaled, asValues}
+use Rattle.closed_f32.specs.As.{asValues}
+use Rattle.coeffs_f32.specs.As.{asVScaled}
 use Rattle.linalg_f32.proofs.As.{linalg-singles}
 use Rattle.circle_f32.proofs.As.{circle-singles}
 use Rattle.series_f32.proofs.As.{series-singles}
+use Rattle.closed_f32.proofs.As.{closed-singles}
 use Rattle.coeffs_f32.proofs.As.{coeffs-singles}
 
 returns : tie.Need-returns
@@ -48,7 +50,7 @@ returns-3 c =
     let e = c .before .before .before .before .before .before .before .before .arm .ensures in
     let t = ap (λ n. ltb n 5) (sym e) ∙ le-ltb _ _ (c .before .before .before .before .before .before .before .if1 .left) in
     let r = sym (c .before .before .before .before .before .before .sinc-a .ensures) ∙ ap sincATold (c .before .before .before .before .t .given .1) in
-    simp (linalg-singles, circle-singles, series-singles, coeffs-singles, c .closed-v .ensures, c .before .w0-small .ensures, c .before .before .on-form-b .ensures)
+    simp (linalg-singles, circle-singles, series-singles, closed-singles, coeffs-singles, c .closed-v .ensures, c .before .w0-small .ensures, c .before .before .on-form-b .ensures)
     (sym (v-closed-answers binary32 (a .sigma) (a .z) (asValues (a .v)) _ t r))
 
 returns-4 : tie.Need-returns-4

@@ -1,4 +1,4 @@
--- Written by tools/widths from crates/demands/proofs/ways/turned_round/Proof.antt: edit that one. Digest 673693b85c513793.
+-- Written by tools/widths from crates/demands/proofs/ways/turned_round/Proof.antt: edit that one. Digest c6ed921f6efa1b59.
 use borrow.Author.Needs.{needs}
 use Rattle.demands.specs.Turned.{turnedRound}
 use Rattle.demands_f32.proofs.ways.turned_round.Statement.{statement}
@@ -6,17 +6,19 @@ use Rattle.demands_f32.proofs.ways.turned_round.Tie as tie
 use Rattle.linalg_f32.proofs.As.{linalg-singles}
 use Rattle.circle_f32.proofs.As.{circle-singles}
 use Rattle.series_f32.proofs.As.{series-singles}
+use Rattle.closed_f32.proofs.As.{closed-singles}
 use Rattle.coeffs_f32.proofs.As.{coeffs-singles}
 use Rattle.so3_f32.proofs.As.{so3-singles}
 use Rattle.sim3_f32.proofs.As.{sim3-singles}
 use Rattle.jacobian_f32.proofs.As.{jacobian-singles}
+use Rattle.blocks_f32.proofs.As.{blocks-singles}
 use Rattle.sides_f32.proofs.As.{sides-singles}
 use Rattle.frames_f32.proofs.As.{frames-singles}
 use Rattle.demands_f32.proofs.As.{demands-singles}
 
 returns : tie.Need-returns
 unfolding turnedRound
-returns c = simp (linalg-singles, circle-singles, series-singles, coeffs-singles, so3-singles, sim3-singles, jacobian-singles, sides-singles, frames-singles, demands-singles, c .neg .ensures)
+returns c = simp (linalg-singles, circle-singles, series-singles, closed-singles, coeffs-singles, so3-singles, sim3-singles, jacobian-singles, blocks-singles, sides-singles, frames-singles, demands-singles, c .neg .ensures)
 
 pub turned-round-spec : {M : Type 1} → statement M
 turned-round-spec = tie.close (tie.spec (λ c κs. search needs) returns)

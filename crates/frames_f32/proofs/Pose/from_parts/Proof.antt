@@ -1,17 +1,18 @@
--- Written by tools/widths from crates/frames/proofs/Pose/from_parts/Proof.antt: edit that one. Digest 1489ad40145e5395.
+-- Written by tools/widths from crates/frames/proofs/Pose/from_parts/Proof.antt: edit that one. Digest b5f8f7193e76e638.
 use borrow.Author.Needs.{needs}
 use Rattle.frames_f32.proofs.Pose.from_parts.Statement.{statement}
 use Rattle.frames_f32.proofs.Pose.from_parts.Tie as tie
 use Rattle.linalg_f32.proofs.As.{linalg-singles}
 use Rattle.circle_f32.proofs.As.{circle-singles}
 use Rattle.series_f32.proofs.As.{series-singles}
+use Rattle.closed_f32.proofs.As.{closed-singles}
 use Rattle.coeffs_f32.proofs.As.{coeffs-singles}
 use Rattle.so3_f32.proofs.As.{so3-singles}
 use Rattle.sim3_f32.proofs.As.{sim3-singles}
 use Rattle.frames_f32.proofs.As.{frames-singles}
 
 returns : tie.Need-returns
-returns c = simp (linalg-singles, circle-singles, series-singles, coeffs-singles, so3-singles, sim3-singles, frames-singles, c .between .ensures, c .before .from-parts .ensures)
+returns c = simp (linalg-singles, circle-singles, series-singles, closed-singles, coeffs-singles, so3-singles, sim3-singles, frames-singles, c .between .ensures, c .before .from-parts .ensures)
 
 pub from-parts-spec : {M : Type 1} → statement M
 from-parts-spec = tie.close (tie.spec (λ c κs. search needs) (λ c κs. search needs) returns)

@@ -1,4 +1,4 @@
--- Written by tools/widths from crates/jacobian/proofs/dense/write_dense/Proof.antt: edit that one. Digest d4bcef8987f68b90.
+-- Written by tools/widths from crates/jacobian/proofs/dense/write_dense/Proof.antt: edit that one. Digest 362a0231fad598f0.
 use borrow.Author.Needs.{needs}
 use Rattle.jacobian.specs.Dense.{jacDense}
 use lib.Ieee.{ofBits}
@@ -7,6 +7,7 @@ use Rattle.jacobian_f32.proofs.dense.write_dense.Tie as tie
 use Rattle.linalg_f32.proofs.As.{linalg-singles}
 use Rattle.circle_f32.proofs.As.{circle-singles}
 use Rattle.series_f32.proofs.As.{series-singles}
+use Rattle.closed_f32.proofs.As.{closed-singles}
 use Rattle.coeffs_f32.proofs.As.{coeffs-singles}
 use Rattle.so3_f32.proofs.As.{so3-singles}
 use Rattle.sim3_f32.proofs.As.{sim3-singles}
@@ -20,6 +21,7 @@ returns c =
       linalg-singles,
       circle-singles,
       series-singles,
+      closed-singles,
       coeffs-singles,
       so3-singles,
       sim3-singles,

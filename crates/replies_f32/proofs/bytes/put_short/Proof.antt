@@ -1,4 +1,4 @@
--- Written by tools/widths from crates/replies/proofs/bytes/put_short/Proof.antt: edit that one. Digest dbd2d32fe1292432.
+-- Written by tools/widths from crates/replies/proofs/bytes/put_short/Proof.antt: edit that one. Digest 08e41342783a715e.
 -- `replies_f32::bytes::put_short` meets its contract: two stores are a run of the two bytes. Assumes nothing.
 use borrow.Author.Needs.{needs}
 use native.Mathlib.Omega.{arith}
@@ -10,6 +10,7 @@ use Rattle.replies_f32.proofs.bytes.put_short.Tie as tie
 use Rattle.linalg_f32.proofs.As.{linalg-singles}
 use Rattle.circle_f32.proofs.As.{circle-singles}
 use Rattle.series_f32.proofs.As.{series-singles}
+use Rattle.closed_f32.proofs.As.{closed-singles}
 use Rattle.coeffs_f32.proofs.As.{coeffs-singles}
 use Rattle.so3_f32.proofs.As.{so3-singles}
 use Rattle.sim3_f32.proofs.As.{sim3-singles}
@@ -22,10 +23,10 @@ unfolding itemBytes
 returns c = short-stored (c .before .before .args .n) _ (c .before .before .args .out .now) (c .before .before .args .at) (c .short-to-le-bytes .ensures)
 
 slice-write-out-2 : tie.Need-slice-write-out-2
-slice-write-out-2 c = simp (linalg-singles, circle-singles, series-singles, coeffs-singles, so3-singles, sim3-singles, jacobian-singles, sides-singles, frames-singles, length-set) (omega (arith, c .before .before .pre))
+slice-write-out-2 c = simp (linalg-singles, circle-singles, series-singles, closed-singles, coeffs-singles, so3-singles, sim3-singles, jacobian-singles, sides-singles, frames-singles, length-set) (omega (arith, c .before .before .pre))
 
 same-length : tie.Need-same-length
-same-length c = simp (linalg-singles, circle-singles, series-singles, coeffs-singles, so3-singles, sim3-singles, jacobian-singles, sides-singles, frames-singles, length-set)
+same-length c = simp (linalg-singles, circle-singles, series-singles, closed-singles, coeffs-singles, so3-singles, sim3-singles, jacobian-singles, sides-singles, frames-singles, length-set)
 
 pub put-short-spec : {M : Type 1} → statement M
 put-short-spec =

@@ -1,4 +1,4 @@
--- Written by tools/widths from crates/replies/proofs/places/framed_at/Proof.antt: edit that one. Digest b0db4d39adf8eff3.
+-- Written by tools/widths from crates/replies/proofs/places/framed_at/Proof.antt: edit that one. Digest ec49469296a80493.
 -- `replies_f32::places::framed_at` meets its contract: the frames stand behind the numbers. Assumes nothing.
 use borrow.Author.Needs.{needs}
 use Rattle.replies.specs.Table.{framedIn}
@@ -7,6 +7,7 @@ use Rattle.replies_f32.proofs.places.framed_at.Tie as tie
 use Rattle.linalg_f32.proofs.As.{linalg-singles}
 use Rattle.circle_f32.proofs.As.{circle-singles}
 use Rattle.series_f32.proofs.As.{series-singles}
+use Rattle.closed_f32.proofs.As.{closed-singles}
 use Rattle.coeffs_f32.proofs.As.{coeffs-singles}
 use Rattle.so3_f32.proofs.As.{so3-singles}
 use Rattle.sim3_f32.proofs.As.{sim3-singles}
@@ -16,7 +17,7 @@ use Rattle.frames_f32.proofs.As.{frames-singles}
 
 returns : tie.Need-returns
 unfolding framedIn
-returns c = simp (linalg-singles, circle-singles, series-singles, coeffs-singles, so3-singles, sim3-singles, jacobian-singles, sides-singles, frames-singles, c .before .before .pose-at .ensures, c .before .short-at .ensures, c .short-at2 .ensures)
+returns c = simp (linalg-singles, circle-singles, series-singles, closed-singles, coeffs-singles, so3-singles, sim3-singles, jacobian-singles, sides-singles, frames-singles, c .before .before .pose-at .ensures, c .before .short-at .ensures, c .short-at2 .ensures)
 
 pub framed-at-spec : {M : Type 1} → statement M
 framed-at-spec =

@@ -1,4 +1,4 @@
--- Written by tools/widths from crates/replies/proofs/places/mat_at/Proof.antt: edit that one. Digest 578f0a43035d9be0.
+-- Written by tools/widths from crates/replies/proofs/places/mat_at/Proof.antt: edit that one. Digest 053e92fe76536e68.
 -- `replies_f32::places::mat_at` meets its contract: its columns stand three numbers apart. Assumes nothing.
 use borrow.Author.Needs.{needs}
 use Rattle.layout.specs.Layout.{matIn}
@@ -7,6 +7,7 @@ use Rattle.replies_f32.proofs.places.mat_at.Tie as tie
 use Rattle.linalg_f32.proofs.As.{linalg-singles}
 use Rattle.circle_f32.proofs.As.{circle-singles}
 use Rattle.series_f32.proofs.As.{series-singles}
+use Rattle.closed_f32.proofs.As.{closed-singles}
 use Rattle.coeffs_f32.proofs.As.{coeffs-singles}
 use Rattle.so3_f32.proofs.As.{so3-singles}
 use Rattle.sim3_f32.proofs.As.{sim3-singles}
@@ -21,6 +22,7 @@ returns c =
       linalg-singles,
       circle-singles,
       series-singles,
+      closed-singles,
       coeffs-singles,
       so3-singles,
       sim3-singles,

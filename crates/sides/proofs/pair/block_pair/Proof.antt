@@ -6,10 +6,10 @@ use Rattle.so3.proofs.Even.{norm-sq-even}
 use Rattle.coeffs.proofs.Even.{angle-armed-answers, angle-armed-refuses}
 use Rattle.coeffs.specs.Entries.{armedPairTold, armedPairAnswer}
 use Rattle.coeffs.specs.Group.{coeffsArmed, coeffsArmedPair}
-use Rattle.coeffs.specs.Values.{mirrored}
+use Rattle.closed.specs.Values.{mirrored}
 use Rattle.sim3.specs.Tangent.{tangentNeg}
 use Rattle.sides.specs.Pair.{blockPair}
-use Rattle.sides.specs.Blocks.{jlAndInverse}
+use Rattle.blocks.specs.Blocks.{jlAndInverse}
 use Rattle.sides.proofs.pair.block_pair.Statement.{statement}
 use Rattle.sides.proofs.pair.block_pair.Tie as tie
 

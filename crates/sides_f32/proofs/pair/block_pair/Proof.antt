@@ -1,4 +1,4 @@
--- Written by tools/widths from crates/sides/proofs/pair/block_pair/Proof.antt: edit that one. Digest 332ce2cd91dbdadf.
+-- Written by tools/widths from crates/sides/proofs/pair/block_pair/Proof.antt: edit that one. Digest 6e5ff3ba9bbc641f.
 -- `sides_f32::pair::block_pair` meets its contract: |phi|² is not below zero, so the entry answers, and the sides are what their calls ensure. Assumes nothing.
 use borrow.Author.Needs.{needs}
 use mathlib.Core.Path.{sym, ap, _∙_}
@@ -8,25 +8,28 @@ use Rattle.coeffs.proofs.Even.{angle-armed-answers, angle-armed-refuses}
 use Rattle.coeffs.specs.Entries.{armedPairAnswer}
 use Rattle.coeffs_f32.specs.Told.{armedPairTold}
 use Rattle.coeffs.specs.Group.{coeffsArmed, coeffsArmedPair}
-use Rattle.coeffs.specs.Values.{mirrored}
+use Rattle.closed.specs.Values.{mirrored}
 use Rattle.sim3.specs.Tangent.{tangentNeg}
 use Rattle.sides.specs.Pair.{blockPair}
-use Rattle.sides.specs.Blocks.{jlAndInverse}
+use Rattle.blocks.specs.Blocks.{jlAndInverse}
 use Rattle.sides_f32.proofs.pair.block_pair.Statement.{statement}
 use Rattle.sides_f32.proofs.pair.block_pair.Tie as tie
 use Rattle.linalg_f32.specs.As.{asMat3, asVec3}
 use Rattle.series_f32.specs.As.{asSim3Coeffs}
-use Rattle.coeffs_f32.specs.As.{asArmed, asArmedPair, asScaled, asValues}
+use Rattle.closed_f32.specs.As.{asValues}
+use Rattle.coeffs_f32.specs.As.{asArmed, asArmedPair, asScaled}
 use Rattle.sim3_f32.specs.As.{asSim3Tangent}
 use Rattle.jacobian_f32.specs.As.{asSim3Jac}
 use Rattle.sides_f32.specs.As.{asBlockPair}
 use Rattle.linalg_f32.proofs.As.{linalg-singles}
 use Rattle.circle_f32.proofs.As.{circle-singles}
 use Rattle.series_f32.proofs.As.{series-singles}
+use Rattle.closed_f32.proofs.As.{closed-singles}
 use Rattle.coeffs_f32.proofs.As.{coeffs-singles}
 use Rattle.so3_f32.proofs.As.{so3-singles}
 use Rattle.sim3_f32.proofs.As.{sim3-singles}
 use Rattle.jacobian_f32.proofs.As.{jacobian-singles}
+use Rattle.blocks_f32.proofs.As.{blocks-singles}
 use Rattle.sides_f32.proofs.As.{sides-singles}
 
 returns : tie.Need-returns
@@ -53,7 +56,7 @@ returns-2 c =
     let n = right .before in
     let t = n .before .before in
     let other = right .jl-and-inverse-at2 .ensures in
-    simp (linalg-singles, circle-singles, series-singles, coeffs-singles, so3-singles, sim3-singles, jacobian-singles, sides-singles, norm-sq-even, other, n .neg3 .ensures, n .before .neg2 .ensures, t .transpose2 .ensures, t .before .transpose .ensures, left .jl-and-inverse-at .ensures, z .norm-sq .ensures, both)
+    simp (linalg-singles, circle-singles, series-singles, closed-singles, coeffs-singles, so3-singles, sim3-singles, jacobian-singles, blocks-singles, sides-singles, norm-sq-even, other, n .neg3 .ensures, n .before .neg2 .ensures, t .transpose2 .ensures, t .before .transpose .ensures, left .jl-and-inverse-at .ensures, z .norm-sq .ensures, both)
 
 pub block-pair-spec : {M : Type 1} → statement M
 block-pair-spec =

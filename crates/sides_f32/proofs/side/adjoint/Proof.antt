@@ -1,4 +1,4 @@
--- Written by tools/widths from crates/sides/proofs/side/adjoint/Proof.antt: edit that one. Digest 9b5f414eae97328f.
+-- Written by tools/widths from crates/sides/proofs/side/adjoint/Proof.antt: edit that one. Digest 83a99a01bdc42cf6.
 use borrow.Author.Needs.{needs}
 use Rattle.sides.specs.Side.{poseAdjoint}
 use lib.Ieee.{ofBits}
@@ -7,15 +7,17 @@ use Rattle.sides_f32.proofs.side.adjoint.Tie as tie
 use Rattle.linalg_f32.proofs.As.{linalg-singles}
 use Rattle.circle_f32.proofs.As.{circle-singles}
 use Rattle.series_f32.proofs.As.{series-singles}
+use Rattle.closed_f32.proofs.As.{closed-singles}
 use Rattle.coeffs_f32.proofs.As.{coeffs-singles}
 use Rattle.so3_f32.proofs.As.{so3-singles}
 use Rattle.sim3_f32.proofs.As.{sim3-singles}
 use Rattle.jacobian_f32.proofs.As.{jacobian-singles}
+use Rattle.blocks_f32.proofs.As.{blocks-singles}
 use Rattle.sides_f32.proofs.As.{sides-singles}
 
 returns : tie.Need-returns
 unfolding poseAdjoint ofBits
-returns c = simp (linalg-singles, circle-singles, series-singles, coeffs-singles, so3-singles, sim3-singles, jacobian-singles, sides-singles, c .neg .ensures, c .before .scale .ensures, c .before .before .hat-mul .ensures, c .before .before .before .to-matrix .ensures)
+returns c = simp (linalg-singles, circle-singles, series-singles, closed-singles, coeffs-singles, so3-singles, sim3-singles, jacobian-singles, blocks-singles, sides-singles, c .neg .ensures, c .before .scale .ensures, c .before .before .hat-mul .ensures, c .before .before .before .to-matrix .ensures)
 
 pub adjoint-spec : {M : Type 1} → statement M
 adjoint-spec = tie.close (tie.spec (λ c κs. search needs) (λ c κs. search needs) (λ c κs. search needs) (λ c κs. search needs) returns)

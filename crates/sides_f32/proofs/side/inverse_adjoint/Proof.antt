@@ -1,4 +1,4 @@
--- Written by tools/widths from crates/sides/proofs/side/inverse_adjoint/Proof.antt: edit that one. Digest a61c4cc78f7d2b7c.
+-- Written by tools/widths from crates/sides/proofs/side/inverse_adjoint/Proof.antt: edit that one. Digest fae310c1c8c1e51a.
 use borrow.Author.Needs.{needs}
 use Rattle.sides.specs.Side.{poseInverseAdjoint}
 use Rattle.sides_f32.proofs.side.inverse_adjoint.Statement.{statement}
@@ -6,15 +6,17 @@ use Rattle.sides_f32.proofs.side.inverse_adjoint.Tie as tie
 use Rattle.linalg_f32.proofs.As.{linalg-singles}
 use Rattle.circle_f32.proofs.As.{circle-singles}
 use Rattle.series_f32.proofs.As.{series-singles}
+use Rattle.closed_f32.proofs.As.{closed-singles}
 use Rattle.coeffs_f32.proofs.As.{coeffs-singles}
 use Rattle.so3_f32.proofs.As.{so3-singles}
 use Rattle.sim3_f32.proofs.As.{sim3-singles}
 use Rattle.jacobian_f32.proofs.As.{jacobian-singles}
+use Rattle.blocks_f32.proofs.As.{blocks-singles}
 use Rattle.sides_f32.proofs.As.{sides-singles}
 
 returns : tie.Need-returns
 unfolding poseInverseAdjoint
-returns c = simp (linalg-singles, circle-singles, series-singles, coeffs-singles, so3-singles, sim3-singles, jacobian-singles, sides-singles, c .adjoint .ensures, c .before .inverse .ensures)
+returns c = simp (linalg-singles, circle-singles, series-singles, closed-singles, coeffs-singles, so3-singles, sim3-singles, jacobian-singles, blocks-singles, sides-singles, c .adjoint .ensures, c .before .inverse .ensures)
 
 pub inverse-adjoint-spec : {M : Type 1} → statement M
 inverse-adjoint-spec = tie.close (tie.spec (λ c κs. search needs) (λ c κs. search needs) returns)

@@ -1,4 +1,4 @@
--- Written by tools/widths from crates/sides/proofs/side/inverse_jacobian_left/Proof.antt: edit that one. Digest 2ef16beeb429749a.
+-- Written by tools/widths from crates/sides/proofs/side/inverse_jacobian_left/Proof.antt: edit that one. Digest 38815e7c5bb1ecee.
 use borrow.Author.Needs.{needs}
 use Rattle.sides.specs.Side.{inverseJacobianLeft}
 use Rattle.sides_f32.proofs.side.inverse_jacobian_left.Statement.{statement}
@@ -6,15 +6,17 @@ use Rattle.sides_f32.proofs.side.inverse_jacobian_left.Tie as tie
 use Rattle.linalg_f32.proofs.As.{linalg-singles}
 use Rattle.circle_f32.proofs.As.{circle-singles}
 use Rattle.series_f32.proofs.As.{series-singles}
+use Rattle.closed_f32.proofs.As.{closed-singles}
 use Rattle.coeffs_f32.proofs.As.{coeffs-singles}
 use Rattle.so3_f32.proofs.As.{so3-singles}
 use Rattle.sim3_f32.proofs.As.{sim3-singles}
 use Rattle.jacobian_f32.proofs.As.{jacobian-singles}
+use Rattle.blocks_f32.proofs.As.{blocks-singles}
 use Rattle.sides_f32.proofs.As.{sides-singles}
 
 returns : tie.Need-returns
 unfolding inverseJacobianLeft
-returns c = simp (linalg-singles, circle-singles, series-singles, coeffs-singles, so3-singles, sim3-singles, jacobian-singles, sides-singles, c .neg .ensures, c .before .inverse-adjoint .ensures)
+returns c = simp (linalg-singles, circle-singles, series-singles, closed-singles, coeffs-singles, so3-singles, sim3-singles, jacobian-singles, blocks-singles, sides-singles, c .neg .ensures, c .before .inverse-adjoint .ensures)
 
 pub inverse-jacobian-left-spec : {M : Type 1} → statement M
 inverse-jacobian-left-spec = tie.close (tie.spec (λ c κs. search needs) (λ c κs. search needs) returns)

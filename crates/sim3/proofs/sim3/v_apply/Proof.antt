@@ -7,7 +7,7 @@ use lib.Ieee.{binary64, lt}
 use Rattle.tables.specs.Tables.{bRow}
 use Rattle.circle.specs.Limits.{rowLimit}
 use Rattle.sim3.specs.Exp.{vApply}
-use Rattle.coeffs.specs.Limits.{coeffsDelta}
+use Rattle.closed.specs.Limits.{coeffsDelta}
 use Rattle.sim3.proofs.sim3.v_apply.Statement.{statement}
 use Rattle.sim3.proofs.sim3.v_apply.Tie as tie
 

@@ -1,8 +1,8 @@
--- Written by tools/proofs from Proof.template: edit that one. Digest 841f079b01f8703d.
+-- Written by tools/proofs from Proof.template: edit that one. Digest 504898046c0e173d.
 -- `sim3_c::points::sim3_act_many` meets its contract: the lists are read, the engine is asked, and its answer is written or the refusal handed on. Assumes nothing.
 use borrow.Author.Needs.{needs}
 use mathlib.Core.Path.{refl, sym, ap, _∙_}
-use Rattle.sim3.specs.Points.{listTold}
+use Rattle.point_lists.specs.Points.{listTold}
 use Rattle.sim3_c.specs.Lists.{poseReadTold}
 use Rattle.sim3_c.specs.Calls.{status, written, actCall, actManyCall}
 use Rattle.sim3_c.proofs.Lists.{points-alone}

@@ -1,8 +1,8 @@
--- Written by tools/widths from crates/sim3_c/proofs/points/sim3_act_many/Proof.antt: edit that one. Digest 339d4e40d5bb4e32.
+-- Written by tools/widths from crates/sim3_c/proofs/points/sim3_act_many/Proof.antt: edit that one. Digest 099aa74b5ce93a0d.
 -- `sim3_c_f32::points::sim3_act_many_f32` meets its contract: the lists are read, the engine is asked, and its answer is written or the refusal handed on. Assumes nothing.
 use borrow.Author.Needs.{needs}
 use mathlib.Core.Path.{refl, sym, ap, _∙_}
-use Rattle.sim3_f32.specs.Told.{listTold}
+use Rattle.point_lists_f32.specs.Told.{listTold}
 use Rattle.sim3_c_f32.specs.Told.{poseReadTold}
 use Rattle.sim3_c.specs.Calls.{status, written, actCall, actManyCall}
 use Rattle.sim3_c.proofs.Lists.{points-alone}

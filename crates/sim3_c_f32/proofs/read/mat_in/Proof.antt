@@ -1,4 +1,4 @@
--- Written by tools/widths from crates/sim3_c/proofs/read/mat_in/Proof.antt: edit that one. Digest 58525ba822340d4f.
+-- Written by tools/widths from crates/sim3_c/proofs/read/mat_in/Proof.antt: edit that one. Digest 93d076c912dd40e9.
 -- `sim3_c_f32::read::mat_in` meets its contract: three columns, one behind another. Assumes nothing.
 use borrow.Author.Needs.{needs}
 use Rattle.layout.specs.Layout.{matIn}
@@ -7,6 +7,7 @@ use Rattle.sim3_c_f32.proofs.read.mat_in.Tie as tie
 use Rattle.linalg_f32.proofs.As.{linalg-singles}
 use Rattle.circle_f32.proofs.As.{circle-singles}
 use Rattle.series_f32.proofs.As.{series-singles}
+use Rattle.closed_f32.proofs.As.{closed-singles}
 use Rattle.coeffs_f32.proofs.As.{coeffs-singles}
 use Rattle.so3_f32.proofs.As.{so3-singles}
 use Rattle.sim3_f32.proofs.As.{sim3-singles}
@@ -17,7 +18,7 @@ use Rattle.sim3_c_f32.proofs.As.{sim3-c-singles}
 
 returns : tie.Need-returns
 unfolding matIn
-returns c = simp (linalg-singles, circle-singles, series-singles, coeffs-singles, so3-singles, sim3-singles, jacobian-singles, sides-singles, frames-singles, sim3-c-singles, c .vec-in3 .ensures, c .before .vec-in2 .ensures, c .before .before .vec-in .ensures)
+returns c = simp (linalg-singles, circle-singles, series-singles, closed-singles, coeffs-singles, so3-singles, sim3-singles, jacobian-singles, sides-singles, frames-singles, sim3-c-singles, c .vec-in3 .ensures, c .before .vec-in2 .ensures, c .before .before .vec-in .ensures)
 
 pub mat-in-spec : {M : Type 1} → statement M
 mat-in-spec = tie.close (tie.spec (λ c κs. search needs) (λ c. search needs) (λ c κs. search needs) (λ c. search needs) (λ c κs. search needs) returns)

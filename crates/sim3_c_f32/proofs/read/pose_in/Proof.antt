@@ -1,4 +1,4 @@
--- Written by tools/widths from crates/sim3_c/proofs/read/pose_in/Proof.antt: edit that one. Digest f24d6a9f8d7f7c0a.
+-- Written by tools/widths from crates/sim3_c/proofs/read/pose_in/Proof.antt: edit that one. Digest b3964497636f0109.
 -- `sim3_c_f32::read::pose_in` meets its contract: eight numbers from a place on. Assumes nothing.
 use borrow.Author.Needs.{needs}
 use native.Mathlib.Nat.{add-assoc}
@@ -8,6 +8,7 @@ use Rattle.sim3_c_f32.proofs.read.pose_in.Tie as tie
 use Rattle.linalg_f32.proofs.As.{linalg-singles}
 use Rattle.circle_f32.proofs.As.{circle-singles}
 use Rattle.series_f32.proofs.As.{series-singles}
+use Rattle.closed_f32.proofs.As.{closed-singles}
 use Rattle.coeffs_f32.proofs.As.{coeffs-singles}
 use Rattle.so3_f32.proofs.As.{so3-singles}
 use Rattle.sim3_f32.proofs.As.{sim3-singles}
@@ -18,7 +19,7 @@ use Rattle.sim3_c_f32.proofs.As.{sim3-c-singles}
 
 returns : tie.Need-returns
 unfolding poseIn quatIn
-returns c = simp (linalg-singles, circle-singles, series-singles, coeffs-singles, so3-singles, sim3-singles, jacobian-singles, sides-singles, frames-singles, sim3-c-singles, c .before .vec-in .ensures)
+returns c = simp (linalg-singles, circle-singles, series-singles, closed-singles, coeffs-singles, so3-singles, sim3-singles, jacobian-singles, sides-singles, frames-singles, sim3-c-singles, c .before .vec-in .ensures)
 
 pub pose-in-spec : {M : Type 1} → statement M
 pose-in-spec =

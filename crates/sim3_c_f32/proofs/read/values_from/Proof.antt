@@ -1,4 +1,4 @@
--- Written by tools/widths from crates/sim3_c/proofs/read/values_from/Proof.antt: edit that one. Digest c11fad2a59193d7c.
+-- Written by tools/widths from crates/sim3_c/proofs/read/values_from/Proof.antt: edit that one. Digest 5583519cb1f96294.
 -- `sim3_c_f32::read::values_from` meets its contract: a list of the length that is due is read, and any other is told. Assumes nothing.
 use borrow.Author.Needs.{needs}
 use mathlib.Core.Path.{sym}
@@ -8,7 +8,7 @@ use Rattle.sim3_c_f32.specs.Told.{valuesReadTold}
 use Rattle.sim3_c.proofs.Lists.{sized-right, sized-wrong}
 use Rattle.sim3_c_f32.proofs.read.values_from.Statement.{statement}
 use Rattle.sim3_c_f32.proofs.read.values_from.Tie as tie
-use Rattle.coeffs_f32.specs.As.{asValues}
+use Rattle.closed_f32.specs.As.{asValues}
 
 returns : tie.Need-returns
 unfolding valuesFrom valuesReadTold asValues

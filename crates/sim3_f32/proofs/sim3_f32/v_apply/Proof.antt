@@ -1,4 +1,4 @@
--- Written by tools/widths from crates/sim3/proofs/sim3/v_apply/Proof.antt: edit that one. Digest c36f0faaab201337.
+-- Written by tools/widths from crates/sim3/proofs/sim3/v_apply/Proof.antt: edit that one. Digest 0ef0e17b86b33b74.
 -- `sim3_f32::sim3::v_apply` meets its contract: by what its calls ensure and its tests say. Assumes nothing.
 use borrow.Author.Needs.{needs}
 use borrow.Author.Tests.{not-true, not-false}
@@ -8,12 +8,13 @@ use lib.Ieee.{binary32, lt}
 use Rattle.tables.specs.Tables.{bRow}
 use Rattle.circle.specs.Limits.{rowLimit}
 use Rattle.sim3.specs.Exp.{vApply}
-use Rattle.coeffs.specs.Limits.{coeffsDelta}
+use Rattle.closed.specs.Limits.{coeffsDelta}
 use Rattle.sim3_f32.proofs.sim3_f32.v_apply.Statement.{statement}
 use Rattle.sim3_f32.proofs.sim3_f32.v_apply.Tie as tie
 use Rattle.linalg_f32.proofs.As.{linalg-singles}
 use Rattle.circle_f32.proofs.As.{circle-singles}
 use Rattle.series_f32.proofs.As.{series-singles}
+use Rattle.closed_f32.proofs.As.{closed-singles}
 use Rattle.coeffs_f32.proofs.As.{coeffs-singles}
 use Rattle.so3_f32.proofs.As.{so3-singles}
 use Rattle.sim3_f32.proofs.As.{sim3-singles}
@@ -23,7 +24,7 @@ unfolding vApply
 returns c =
     let i = c .before in
     let near : lt (i .before .before .norm-sq .result) (rowLimit binary32 bRow) ≡ true = not-false _ (sym (i .before .b-takes-exact-arm .ensures) ∙ not-true _ (i .if1 .taken)) in
-    simp (linalg-singles, circle-singles, series-singles, coeffs-singles, so3-singles, sim3-singles, c .poly-apply .ensures, near, ← i .before .before .norm-sq .ensures)
+    simp (linalg-singles, circle-singles, series-singles, closed-singles, coeffs-singles, so3-singles, sim3-singles, c .poly-apply .ensures, near, ← i .before .before .norm-sq .ensures)
 
 returns-2 : tie.Need-returns-2
 unfolding vApply coeffsDelta
@@ -34,6 +35,7 @@ returns-2 c =
       linalg-singles,
       circle-singles,
       series-singles,
+      closed-singles,
       coeffs-singles,
       so3-singles,
       sim3-singles,

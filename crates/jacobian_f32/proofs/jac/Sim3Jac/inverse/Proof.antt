@@ -1,4 +1,4 @@
--- Written by tools/widths from crates/jacobian/proofs/jac/Sim3Jac/inverse/Proof.antt: edit that one. Digest a2a64f957cf0a1da.
+-- Written by tools/widths from crates/jacobian/proofs/jac/Sim3Jac/inverse/Proof.antt: edit that one. Digest f01d1c730c66659c.
 use borrow.Author.Needs.{needs}
 use Rattle.jacobian.specs.Jac.{jacInverseAnswer, jacInverse}
 use Rattle.jacobian_f32.specs.Told.{jacTold}
@@ -8,6 +8,7 @@ use Rattle.jacobian_f32.proofs.jac.Sim3Jac.inverse.Tie as tie
 use Rattle.linalg_f32.proofs.As.{linalg-singles}
 use Rattle.circle_f32.proofs.As.{circle-singles}
 use Rattle.series_f32.proofs.As.{series-singles}
+use Rattle.closed_f32.proofs.As.{closed-singles}
 use Rattle.coeffs_f32.proofs.As.{coeffs-singles}
 use Rattle.so3_f32.proofs.As.{so3-singles}
 use Rattle.sim3_f32.proofs.As.{sim3-singles}
@@ -16,19 +17,20 @@ use Rattle.jacobian_f32.proofs.As.{jacobian-singles}
 returns : tie.Need-returns
 unfolding jacTold jacInverseAnswer jacInverse ofBits
 returns c =
-    let t1 = simp (linalg-singles, circle-singles, series-singles, coeffs-singles, so3-singles, sim3-singles, jacobian-singles) at (c .if1 .taken) in
-    simp (linalg-singles, circle-singles, series-singles, coeffs-singles, so3-singles, sim3-singles, jacobian-singles, t1, c .before .before .inverse-adj .ensures)
+    let t1 = simp (linalg-singles, circle-singles, series-singles, closed-singles, coeffs-singles, so3-singles, sim3-singles, jacobian-singles) at (c .if1 .taken) in
+    simp (linalg-singles, circle-singles, series-singles, closed-singles, coeffs-singles, so3-singles, sim3-singles, jacobian-singles, t1, c .before .before .inverse-adj .ensures)
 
 returns-2 : tie.Need-returns-2
 unfolding jacTold jacInverseAnswer jacInverse ofBits
 returns-2 c =
     let c1 = c .before .before .before .before .before in
     let c2 = c1 .before .before .before .before .before in
-    let t1 = simp (linalg-singles, circle-singles, series-singles, coeffs-singles, so3-singles, sim3-singles, jacobian-singles) at (c1 .before .before .before .if1 .left) in
+    let t1 = simp (linalg-singles, circle-singles, series-singles, closed-singles, coeffs-singles, so3-singles, sim3-singles, jacobian-singles) at (c1 .before .before .before .if1 .left) in
     simp (
       linalg-singles,
       circle-singles,
       series-singles,
+      closed-singles,
       coeffs-singles,
       so3-singles,
       sim3-singles,

@@ -1,4 +1,4 @@
--- Written by tools/widths from crates/sim3/proofs/sim3/Sim3/identity/Proof.antt: edit that one. Digest ebec6e328fc7d1e0.
+-- Written by tools/widths from crates/sim3/proofs/sim3/Sim3/identity/Proof.antt: edit that one. Digest 1a709b023fadced4.
 use borrow.Author.Needs.{needs}
 use Rattle.sim3.specs.Pose.{poseIdentity}
 use lib.Ieee.{ofBits}
@@ -7,13 +7,14 @@ use Rattle.sim3_f32.proofs.sim3_f32.Sim3.identity.Tie as tie
 use Rattle.linalg_f32.proofs.As.{linalg-singles}
 use Rattle.circle_f32.proofs.As.{circle-singles}
 use Rattle.series_f32.proofs.As.{series-singles}
+use Rattle.closed_f32.proofs.As.{closed-singles}
 use Rattle.coeffs_f32.proofs.As.{coeffs-singles}
 use Rattle.so3_f32.proofs.As.{so3-singles}
 use Rattle.sim3_f32.proofs.As.{sim3-singles}
 
 returns : tie.Need-returns
 unfolding poseIdentity ofBits
-returns c = simp (linalg-singles, circle-singles, series-singles, coeffs-singles, so3-singles, sim3-singles, c .identity .ensures)
+returns c = simp (linalg-singles, circle-singles, series-singles, closed-singles, coeffs-singles, so3-singles, sim3-singles, c .identity .ensures)
 
 pub identity-spec : {M : Type 1} → statement M
 identity-spec = tie.close (tie.spec (λ c κs. search needs) returns)

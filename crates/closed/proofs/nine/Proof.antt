@@ -1,0 +1,12 @@
+-- `closed::nine` meets its contract: operation by operation, as the definition has it. Assumes nothing.
+use mathlib.Core.Path.{refl}
+use Rattle.closed.specs.Closed.{closedJoined}
+use Rattle.closed.proofs.nine.Statement.{statement}
+use Rattle.closed.proofs.nine.Tie as tie
+
+returns : tie.Need-returns
+unfolding closedJoined
+returns c = refl
+
+pub nine-spec : {M : Type 1} → statement M
+nine-spec = tie.close (tie.spec returns)

@@ -1,0 +1,13 @@
+-- `closed::only` meets its contract: operation by operation, as the definition has it. Assumes nothing.
+use mathlib.Core.Path.{refl}
+use Rattle.closed.specs.Closed.{closedOnly}
+use lib.Ieee.{ofBits}
+use Rattle.closed.proofs.only.Statement.{statement}
+use Rattle.closed.proofs.only.Tie as tie
+
+returns : tie.Need-returns
+unfolding closedOnly ofBits
+returns c = refl
+
+pub only-spec : {M : Type 1} → statement M
+only-spec = tie.close (tie.spec returns)

@@ -1,0 +1,22 @@
+-- Written by tools/widths from crates/closed/proofs/w0_of/Proof.antt: edit that one. Digest 5fd7d14b12a172f7.
+-- `closed_f32::w0_of` meets its contract: by what its calls ensure and its tests say. Assumes nothing.
+use borrow.Author.Needs.{needs}
+use Rattle.closed.specs.Closed.{closedW0}
+use lib.Ieee.{ofBits}
+use Rattle.closed_f32.proofs.w0_of.Statement.{statement}
+use Rattle.closed_f32.proofs.w0_of.Tie as tie
+use Rattle.linalg_f32.proofs.As.{linalg-singles}
+use Rattle.circle_f32.proofs.As.{circle-singles}
+use Rattle.series_f32.proofs.As.{series-singles}
+use Rattle.closed_f32.proofs.As.{closed-singles}
+
+returns : tie.Need-returns
+unfolding closedW0 ofBits
+returns c = simp (linalg-singles, circle-singles, series-singles, closed-singles, c .g2 .ensures, c .before .if1 .taken)
+
+returns-2 : tie.Need-returns-2
+unfolding closedW0 ofBits
+returns-2 c = simp (linalg-singles, circle-singles, series-singles, closed-singles, c .pick .ensures, c .before .at-zero .ensures, c .before .before .if1 .left)
+
+pub w0-of-spec : {M : Type 1} → statement M
+w0-of-spec = tie.close (tie.spec (λ c κs. search needs) returns (λ c κs. search needs) (λ c κs. search needs) returns-2)
