@@ -1,11 +1,12 @@
--- Written by tools/proofs from Proof.template: edit that one. Digest ba0bf7093457e1cd.
+-- Written by tools/proofs from Proof.template: edit that one. Digest 70487dcea62ca883.
 -- `sim3_c::points::sim3_act_each` meets its contract: the lists are read, the engine is asked, and its answer is written or the refusal handed on. Assumes nothing.
 use borrow.Author.Needs.{needs}
 use mathlib.Core.Path.{refl, sym, ap, _∙_}
 use Rattle.sim3.specs.Points.{listTold}
-use Rattle.sim3_c.specs.Lists.{poseReadTold}
-use Rattle.sim3_c.specs.Calls.{status, written, actCall, actEachCall}
-use Rattle.sim3_c.proofs.Lists.{points-alone}
+use Rattle.from_lists.specs.Lists.{poseReadTold}
+use Rattle.to_lists.specs.Written.{status, written}
+use Rattle.sim3_c.specs.Calls.{actCall, actEachCall}
+use Rattle.sim3_c.proofs.Points.{points-alone}
 use Rattle.sim3_c.proofs.points.sim3_act_each.Statement.{statement}
 use Rattle.sim3_c.proofs.points.sim3_act_each.Tie as tie
 

@@ -1,11 +1,12 @@
--- Written by tools/proofs from Proof.template: edit that one. Digest 841f079b01f8703d.
+-- Written by tools/proofs from Proof.template: edit that one. Digest aa8f65f40099c57c.
 -- `sim3_c::points::sim3_act_many` meets its contract: the lists are read, the engine is asked, and its answer is written or the refusal handed on. Assumes nothing.
 use borrow.Author.Needs.{needs}
 use mathlib.Core.Path.{refl, sym, ap, _∙_}
 use Rattle.sim3.specs.Points.{listTold}
-use Rattle.sim3_c.specs.Lists.{poseReadTold}
-use Rattle.sim3_c.specs.Calls.{status, written, actCall, actManyCall}
-use Rattle.sim3_c.proofs.Lists.{points-alone}
+use Rattle.from_lists.specs.Lists.{poseReadTold}
+use Rattle.to_lists.specs.Written.{status, written}
+use Rattle.sim3_c.specs.Calls.{actCall, actManyCall}
+use Rattle.sim3_c.proofs.Points.{points-alone}
 use Rattle.sim3_c.proofs.points.sim3_act_many.Statement.{statement}
 use Rattle.sim3_c.proofs.points.sim3_act_many.Tie as tie
 

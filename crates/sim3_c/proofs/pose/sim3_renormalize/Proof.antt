@@ -1,9 +1,9 @@
--- Written by tools/proofs from Proof.template: edit that one. Digest 349570920e709639.
+-- Written by tools/proofs from Proof.template: edit that one. Digest aa77c35a4bf48a0a.
 -- `sim3_c::pose::sim3_renormalize` meets its contract: the lists are read, the engine is asked, and its answer is written or the refusal handed on. Assumes nothing.
 use borrow.Author.Needs.{needs}
 use mathlib.Core.Path.{refl}
-use Rattle.sim3_c.specs.Lists.{poseReadTold}
-use Rattle.sim3_c.specs.Calls.{status, written, renormalizeCall}
+use Rattle.from_lists.specs.Lists.{poseReadTold}
+use Rattle.to_lists.specs.Written.{status, written, renormalizeCall}
 use Rattle.sim3_c.proofs.pose.sim3_renormalize.Statement.{statement}
 use Rattle.sim3_c.proofs.pose.sim3_renormalize.Tie as tie
 
