@@ -1,14 +1,15 @@
--- Written by tools/proofs from Proof.template: edit that one. Digest 27608ef67fa749a7.
+-- Written by tools/proofs from Proof.template: edit that one. Digest 85891b6fa03bc2c1.
 -- `sim3_c_doubles::join::renormalize_each` meets its contract: after i turns the first i poses are renormalised and the rest is as it was. Assumes nothing.
 use borrow.Author.Needs.{needs}
-use Prim.Native.Nat.{_*_, _-_, _≤_}
+use Prim.Native.Nat.{_+_, _*_, _-_, _≤_}
 use mathlib.Core.Path.{_≡_, refl, _∙_}
 use mathlib.Core.List.{_++_}
 use native.Mathlib.Omega.{arith}
+use borrow.Rule.Slice.PartMut.{same-len-mid}
 use lib.ListN.{length, drop}
 use lib.Ieee.{binary64}
 use Rattle.sim3_c_doubles.specs.Join.{posesRenormalized}
-use Rattle.sim3_c_doubles.proofs.PoseRuns.{left-pose, run-more, run-all}
+use Rattle.sim3_c_doubles.proofs.PoseRuns.{part-more, run-all}
 use Rattle.sim3_c_doubles.proofs.join.renormalize_each.Statement.{statement}
 use Rattle.sim3_c_doubles.proofs.join.renormalize_each.Tie as tie
 
@@ -25,13 +26,12 @@ loop-holds c = (omega arith, refl, refl)
 loop-again : tie.Need-loop-again Inv-loop μ-loop
 loop-again c =
     let c1 = c .before .before .before .before .before in
-    let c2 = c1 .before .before .before .before .before in
-    let a = c2 .args in
-    let L = c1 .before .before .before .loop in
-    let more = run-more binary64 (a .poses .now) (L .i) (omega arith) in (
+    let a = c1 .before .before .args in
+    let L = c1 .loop in
+    let k : L .i * 8 + 8 - L .i * 8 ≡ 8 = omega arith in (
       omega arith,
-      rw (c .before .before .set-pose .ensures, c .before .before .before .renormalized .ensures, c1 .pose-in .ensures, L .inv .1, left-pose binary64 (a .poses .now) (L .i)) more,
-      c .before .before .set-pose .kept .0 ∙ L .inv .2,
+      rw k (part-more binary64 (a .poses .now) (L .poses) _ (L .i) (omega arith) (L .inv .2) (L .inv .1) (rw k at (c .before .before .renormalize-pose .ensures .1))),
+      same-len-mid (L .i * 8) (L .i * 8 + 8 - L .i * 8) (L .poses) (c .before .before .renormalize-pose .last .0) (c .before .before .renormalize-pose .kept .0) ∙ L .inv .2,
     )
 
 same-length : tie.Need-same-length Inv-loop μ-loop
@@ -51,9 +51,11 @@ renormalize-each-spec =
     μ-loop
     loop-holds
     (λ c. search needs)
-    (λ c κs. search needs)
     (λ c. search needs)
-    (λ c κs. search needs)
+    (λ c. search needs)
+    (λ c. search needs)
+    (λ c. search needs)
+    (λ c. search needs)
     (λ c κs. search needs)
     (λ c. search needs)
     (λ c. search needs)

@@ -1,15 +1,13 @@
--- Written by tools/proofs from Proof.template: edit that one. Digest b251e349a8c03785.
+-- Written by tools/proofs from Proof.template: edit that one. Digest 29733e896f796fb2.
 -- `sim3_c_doubles::shelf::put_shot` meets its contract: lists of the lengths that are due have the take, the numbers and the frames written, and any other three are left as they were. Assumes nothing.
 use borrow.Author.Needs.{needs}
 use borrow.Author.Tests.{eq-eqb, ne-eqb}
-use mathlib.Core.Path.{refl, sym, _∙_}
+use mathlib.Core.Path.{refl, _∙_}
 use mathlib.Core.List.{[], _∷_}
-use lib.ListN.{length-set}
-use Rattle.layout.specs.Layout.{poseNumbers}
-use Rattle.layout.proofs.Numbers.{pose-count}
+use Rattle.from_lists.specs.Lists.{poseLists}
 use Rattle.to_lists.specs.Written.{status, written}
 use Rattle.sim3_c_doubles.specs.Shelf.{shotLists, shotFitting}
-use Rattle.to_lists.proofs.Fits.{sets-all}
+use Rattle.to_lists.proofs.Fits.{sets-all, framed-fitted}
 use Rattle.sim3_c_doubles.proofs.shelf.put_shot.Statement.{statement}
 use Rattle.sim3_c_doubles.proofs.shelf.put_shot.Tie as tie
 
@@ -30,15 +28,15 @@ unfolding status written shotFitting
 returns-4 c =
     let c1 = c .before .before .before .before .before in
     let c2 = c1 .before .before .before .before .before in
-    let a = c2 .before .args in
+    let a = c2 .before .before .before .args in
     let x = a .s .pose in
-    let take = sets-all (a .take .now) (a .s .take ∷ []) (c1 .before .before .if1 .left) in
-    let numbers = c .before .before .set-pose .ensures ∙ sets-all (a .out .now) (poseNumbers (x .sim3)) (c1 .before .if2 .left ∙ sym (pose-count (x .sim3))) in
-    let frames = sets-all (a .out-frames .now) (x .from ∷ x .to ∷ []) (c1 .if3 .left) in
-    rw (eq-eqb _ _ (c1 .before .before .if1 .left), eq-eqb _ _ (c1 .before .if2 .left), eq-eqb _ _ (c1 .if3 .left)) (refl, λ i. shotLists (take i) (numbers i) (frames i))
-
-slice-write-out-frames-2 : tie.Need-slice-write-out-frames-2
-slice-write-out-frames-2 c = simp length-set (search needs)
+    let take = sets-all (a .take .now) (a .s .take ∷ []) (c1 .before .before .before .before .if1 .left) in
+    let put = framed-fitted (poseLists (a .out .now) (a .out-frames .now)) x (c1 .before .before .before .if2 .left) (c1 .before .before .if3 .left) in
+    let both = c .before .before .before .before .put-framed .ensures .1 ∙ put .1 in
+    rw (eq-eqb _ _ (c1 .before .before .before .before .if1 .left), eq-eqb _ _ (c1 .before .before .before .if2 .left), eq-eqb _ _ (c1 .before .before .if3 .left)) (
+      c .before .before .before .before .put-framed .ensures .0 ∙ put .0,
+      λ i. shotLists (take i) (both i .numbers) (both i .frames),
+    )
 
 pub put-shot-spec : {M : Type 1} → statement M
 put-shot-spec =
@@ -49,8 +47,6 @@ put-shot-spec =
     returns-3
     (λ c. search needs)
     (λ c κs. search needs)
-    (λ c. search needs)
-    slice-write-out-frames-2
     (λ c. search needs)
     (λ c. search needs)
     (λ c. search needs)
