@@ -1,2 +1,2 @@
 -- The laws of lists of points that are refused.
-pub mod Points
+pub mod Alone
