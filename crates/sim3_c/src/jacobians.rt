@@ -3,7 +3,8 @@
 ghost use mathlib.Core.Path.{_≡_};
 ghost use lib.Ieee.{binary64};
 ghost use Rattle.to_lists.specs.Written.{status, written};
-ghost use Rattle.sim3_c.specs.Calls.{blockInverseCall, adjointCall, actJacobiansRightCall, actJacobiansLeftCall, composeJacobiansRightCall, composeJacobiansLeftCall, inverseJacobianRightCall, inverseJacobianLeftCall};
+ghost use Rattle.sim3_c.specs.Calls.{blockInverseCall, adjointCall, actJacobiansRightCall, actJacobiansLeftCall};
+ghost use Rattle.sim3_c.specs.Calls.{composeJacobiansRightCall, composeJacobiansLeftCall, inverseJacobianRightCall, inverseJacobianLeftCall};
 use from_lists::BlockRead;
 use from_lists::LIST_LENGTH;
 use from_lists::PoseRead;

@@ -1,4 +1,4 @@
--- The running join between calls, and the Newton step on a list of poses. What a call answers and what the lists then hold is told as in Calls.antt.
+-- The running join between calls, and the Newton step on a list of poses. What a call answers and what the lists then hold is told as in Written.antt of crate `to_lists`.
 -- A running join stands in two lists: the eight numbers of the running pose; and its frames, from and to, n, how many products there were since the last renormalisation, and 1 where there is a pose.
 use Prim.Native.Nat.{ℕ, zero, suc, _*_, _/_, _%_}
 use mathlib.Core.Path.{_≡_}

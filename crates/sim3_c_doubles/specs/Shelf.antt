@@ -1,4 +1,4 @@
--- The sheets between calls: bytes that the caller lends, as crate `sheets` has them. What a call answers and what the lists then hold is told as in Calls.antt.
+-- The sheets between calls: bytes that the caller lends, as crate `sheets` has them. What a call answers and what the lists then hold is told as in Written.antt of crate `to_lists`.
 use Prim.Native.Nat.{ℕ}
 use mathlib.Core.Bool.{Bool, cond, _&&_}
 use mathlib.Core.List.{List, [], _∷_}

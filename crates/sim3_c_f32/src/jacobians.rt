@@ -1,10 +1,11 @@
-// Written by tools/widths from crates/sim3_c/src/jacobians.rt: edit that one. Digest fb592dad5c46e68c.
+// Written by tools/widths from crates/sim3_c/src/jacobians.rt: edit that one. Digest 12b70ec1ebc054c6.
 // Jacobian blocks, as a, b, c, f, e: the matrix with the rows (a, 0, 0), (b, c, f), (0, 0, e). Right is
 // X Exp(tau), left Exp(tau) X.
 ghost use mathlib.Core.Path.{_≡_};
 ghost use lib.Ieee.{binary32};
 ghost use Rattle.to_lists.specs.Written.{status, written};
-ghost use Rattle.sim3_c.specs.Calls.{blockInverseCall, adjointCall, actJacobiansRightCall, actJacobiansLeftCall, composeJacobiansRightCall, composeJacobiansLeftCall, inverseJacobianRightCall, inverseJacobianLeftCall};
+ghost use Rattle.sim3_c.specs.Calls.{blockInverseCall, adjointCall, actJacobiansRightCall, actJacobiansLeftCall};
+ghost use Rattle.sim3_c.specs.Calls.{composeJacobiansRightCall, composeJacobiansLeftCall, inverseJacobianRightCall, inverseJacobianLeftCall};
 use from_lists_f32::BlockRead;
 use from_lists_f32::LIST_LENGTH;
 use from_lists_f32::PoseRead;

@@ -1,4 +1,5 @@
--- What is returned where numbers are written to lists, and what the lists then hold: 0 and the numbers, or the number of a refusal and the lists as they were. A list whose length is not the one that is due is refused.
+-- What is returned where numbers are written to lists, and what the lists then hold: 0 and the numbers, or the number of a refusal and the lists as they were.
+-- A list whose length is not the one that is due is refused.
 use Prim.Native.Nat.{ℕ}
 use mathlib.Core.Bool.{cond, _&&_}
 use mathlib.Core.List.{List, [], _∷_, _++_}

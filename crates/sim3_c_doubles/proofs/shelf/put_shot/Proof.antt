@@ -1,5 +1,5 @@
--- Written by tools/proofs from Proof.template: edit that one. Digest 29733e896f796fb2.
--- `sim3_c_doubles::shelf::put_shot` meets its contract: lists of the lengths that are due have the take, the numbers and the frames written, and any other three are left as they were. Assumes nothing.
+-- Written by tools/proofs from Proof.template: edit that one. Digest a94035fce43d72bf.
+-- `sim3_c_doubles::shelf::put_shot` meets its contract: lists of the lengths that are due have take, numbers and frames written, and any other three are left as they were. Assumes nothing.
 use borrow.Author.Needs.{needs}
 use borrow.Author.Tests.{eq-eqb, ne-eqb}
 use mathlib.Core.Path.{refl, _∙_}
