@@ -6,7 +6,7 @@ give, or be refused by 9.
 import itertools
 import struct
 
-from functions import FUNCTIONS
+from functions import FUNCTIONS, list_name
 from records import BY_ID, difference, walk
 
 APART = 9
@@ -38,7 +38,7 @@ def functions():
 
 def stored(id, list_id, taken, width):
     """The numbers of records without frames, and the stored answers' numbers where the list is the same function's."""
-    data, answers, at = *((width.lists / f"{list_id}.{end}").read_bytes() for end in ("in", "out")), 0
+    data, answers, at = *((width.lists / f"{list_name(BY_ID[list_id])}.{end}").read_bytes() for end in ("in", "out")), 0
     for _, start, end, count in walk(data, width):
         numbers = answers[at + 1:at + 1 + width.size * count]
         yield data[start + 1 + width.size * taken[0]:start + 1 + width.size * taken[1]], numbers if id == list_id else None

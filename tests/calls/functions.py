@@ -156,3 +156,12 @@ def function(id, name, takes, gives, call, answer=None):
 
 
 FUNCTIONS = [function(*row) for row in ROWS]
+
+
+def list_name(f):
+    """What the files of a function's stored list are called, before .in and .out: its name without commas, with a hyphen for each space."""
+    return f.name.replace(",", "").replace(" ", "-")
+
+
+# No two share a file, also where a file system knows no capital letters.
+assert len({list_name(f).lower() for f in FUNCTIONS}) == len(FUNCTIONS), "two functions of the table have one name"

@@ -62,10 +62,10 @@ def functions(module, text):
 
 
 class Sources:
-    """All that the tool knows of the crates at f64: all but `alone`, the modules that have no twin."""
+    """All that the tool knows of the crates at f64."""
 
-    def __init__(self, top, by_hand, alone):
-        self.top, self.by_hand, self.alone = top, by_hand, alone
+    def __init__(self, top, by_hand):
+        self.top, self.by_hand = top, by_hand
         listed = dict(re.findall(r"(?m)^(\w+):(.*)$", (top / "crates.txt").read_text(encoding="utf-8")))
         self.rests_on = {name: words.split() for name, words in listed.items()}
         self.twins = [name for name in listed if name + "_f32" in listed]
@@ -80,11 +80,8 @@ class Sources:
                 self.read_specs(crate, path.stem, path.read_text(encoding="utf-8"))
 
     def code(self, crate):
-        """The source files of a crate that have a twin: module -> text."""
-        src, alone = self.top / "crates" / crate / "src", self.alone.get(crate, [])
-        named = re.compile(rf"(?m)^(?:pub )?mod (?:{'|'.join(alone)});.*\n") if alone else None
-        found = {path.stem: path.read_text(encoding="utf-8") for path in sorted(src.glob("*.rt")) if path.stem not in alone}
-        return {module: named.sub("", text) if named else text for module, text in found.items()}
+        """The source files of a crate: module -> text."""
+        return {path.stem: path.read_text(encoding="utf-8") for path in sorted((self.top / "crates" / crate / "src").glob("*.rt"))}
 
     def declared(self, crate):
         """The types of a crate, but for those of modules that a twin has by hand."""

@@ -61,13 +61,15 @@ def told_line(sources, t, line, used):
 
 
 def importable(sources, crate):
-    """The names that the specs of a crate import or declare as types, each list with its module."""
-    for path in sorted((sources.top / "crates" / crate / "specs").glob("*.antt")):
-        text = path.read_text(encoding="utf-8")
+    """The names that the specs of a crate import, declare as types or define, each list with its module."""
+    texts = {path.stem: path.read_text(encoding="utf-8") for path in sorted((sources.top / "crates" / crate / "specs").glob("*.antt"))}
+    for module_name, text in texts.items():
         for module, names in re.findall(r"(?m)^use (\S+?)\.\{(.*)\}$", text):
             yield module, [name.strip() for name in names.split(",")]
         for name, body in re.findall(r"(?ms)^pub (?:data|record) (\w+)(.*?)\n\n", text + "\n\n"):
-            yield f"Rattle.{crate}.specs.{path.stem}", [name, *re.findall(r"(?m)^  (\w+) :", body)]
+            yield f"Rattle.{crate}.specs.{module_name}", [name, *re.findall(r"(?m)^  (\w+) :", body)]
+    for module_name, text in texts.items():
+        yield f"Rattle.{crate}.specs.{module_name}", re.findall(r"(?m)^(?:abbrev|unfoldable) pub (\w+) :", text)
 
 
 def told_file(sources, crate):
@@ -81,7 +83,7 @@ def told_file(sources, crate):
         heads += [line for line in (f"use {declared} as code{t.name}", f"use {declared}.the-variants as in{t.name}" if t.cases else "") if line and line not in heads]
         lines = [told_line(sources, t, line, used) for line in body.rstrip("\n").split("\n")]
         bodies += ["", f"{keep} pub {name} : code{t.name}.{t.name} → {result}", *lines]
-        names |= set(re.findall(r"\w+", " ".join([result, *lines])))
+        names |= set(re.findall(r"(?<![\w.])\w+", " ".join([result, *lines])))
     for module, held in importable(sources, crate):
         got = [name for name in held if name in names and name not in told]
         names -= set(got)

@@ -1,6 +1,2 @@
--- The laws of lists that are read and written whole.
-pub mod Lists
-pub mod Stores
-mod Patterns
-mod PoseRuns
-mod Held
+-- The laws of lists of points that are refused.
+pub mod Alone

@@ -7,7 +7,7 @@ use lib.ListN.{length}
 use lib.Ieee.{Float, Format}
 use Rattle.linalg.specs.Answer.{Answer, answers, refuses, andThen}
 use Rattle.nearest.specs.Nearest.{Way, down, up, Near, step, none, firstTold, nearestOf}
-use Rattle.sim3_c.specs.Lists.{wrongLength}
+use Rattle.from_lists.specs.Lists.{wrongLength}
 
 abbrev pub wayNumber : Way → ℕ
 wayNumber down = 0

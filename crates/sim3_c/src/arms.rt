@@ -1,15 +1,16 @@
 // The coefficients with the arms that formed them: at sigma, and at both signs.
 ghost use mathlib.Core.Path.{_≡_};
 ghost use lib.Ieee.{binary64};
-ghost use Rattle.sim3_c.specs.Calls.{status, written, armedCall, armedPairCall};
-use crate::LIST_LENGTH;
-use crate::read::ValuesRead;
-use crate::read::values_from;
-use crate::write::put_armed;
-use crate::write::put_armed_pair;
+ghost use Rattle.to_lists.specs.Written.{status, written};
+ghost use Rattle.sim3_c.specs.Calls.{armedCall, armedPairCall};
 use coeffs::sim3::ArmedAnswer;
 use coeffs::sim3::ArmedPairAnswer;
 use coeffs::sim3::sim3_coeffs_armed_pair;
+use from_lists::LIST_LENGTH;
+use from_lists::ValuesRead;
+use from_lists::values_from;
+use to_lists::put_armed;
+use to_lists::put_armed_pair;
 
 // At sigma; z is the squared angle.
 #[no_mangle]

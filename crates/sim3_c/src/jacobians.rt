@@ -2,17 +2,16 @@
 // X Exp(tau), left Exp(tau) X.
 ghost use mathlib.Core.Path.{_≡_};
 ghost use lib.Ieee.{binary64};
-ghost use Rattle.sim3_c.specs.Calls.{status, written, blockInverseCall, adjointCall, actJacobiansRightCall, actJacobiansLeftCall, composeJacobiansRightCall, composeJacobiansLeftCall, inverseJacobianRightCall, inverseJacobianLeftCall};
-use crate::LIST_LENGTH;
-use crate::read::BlockRead;
-use crate::read::PoseRead;
-use crate::read::VecRead;
-use crate::read::block_from;
-use crate::read::pose_from;
-use crate::read::vec_from;
-use crate::write::put_act;
-use crate::write::put_block;
-use crate::write::put_two;
+ghost use Rattle.to_lists.specs.Written.{status, written};
+ghost use Rattle.sim3_c.specs.Calls.{blockInverseCall, adjointCall, actJacobiansRightCall, actJacobiansLeftCall};
+ghost use Rattle.sim3_c.specs.Calls.{composeJacobiansRightCall, composeJacobiansLeftCall, inverseJacobianRightCall, inverseJacobianLeftCall};
+use from_lists::BlockRead;
+use from_lists::LIST_LENGTH;
+use from_lists::PoseRead;
+use from_lists::VecRead;
+use from_lists::block_from;
+use from_lists::pose_from;
+use from_lists::vec_from;
 use jacobian::jac::JacAnswer;
 use sides::side::act_jacobians_left;
 use sides::side::act_jacobians_right;
@@ -21,6 +20,9 @@ use sides::side::compose_jacobians_left;
 use sides::side::compose_jacobians_right;
 use sides::side::inverse_jacobian_left;
 use sides::side::inverse_jacobian_right;
+use to_lists::put_act;
+use to_lists::put_block;
+use to_lists::put_two;
 
 // The inverse of a block; refusal 2 where e is a zero.
 #[no_mangle]

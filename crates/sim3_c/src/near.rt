@@ -3,9 +3,9 @@
 ghost use mathlib.Core.Path.{_≡_};
 ghost use lib.Ieee.{binary64};
 ghost use Rattle.nearest.specs.Nearest.{wayTold};
-ghost use Rattle.sim3_c.specs.Calls.{status, written};
+ghost use Rattle.to_lists.specs.Written.{status, written};
 ghost use Rattle.sim3_c.specs.Near.{wayNumber, nearCall};
-use crate::LIST_LENGTH;
+use from_lists::LIST_LENGTH;
 use nearest::Direction;
 use nearest::NearestAnswer;
 

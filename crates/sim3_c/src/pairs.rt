@@ -1,19 +1,20 @@
 // The paired evaluations: the coefficients for both signs of sigma, the Jacobian blocks of both sides.
 ghost use mathlib.Core.Path.{_≡_};
 ghost use lib.Ieee.{binary64};
-ghost use Rattle.sim3_c.specs.Calls.{status, written, scaledPairCall, blockPairCall};
-use crate::LIST_LENGTH;
-use crate::read::MatRead;
-use crate::read::TangentRead;
-use crate::read::ValuesRead;
-use crate::read::mat_from;
-use crate::read::tangent_from;
-use crate::read::values_from;
-use crate::write::put_block_pair;
-use crate::write::put_scaled_pair;
+ghost use Rattle.to_lists.specs.Written.{status, written};
+ghost use Rattle.sim3_c.specs.Calls.{scaledPairCall, blockPairCall};
 use coeffs::sim3::PairAnswer;
 use coeffs::sim3::sim3_coeffs_scaled_pair;
+use from_lists::LIST_LENGTH;
+use from_lists::MatRead;
+use from_lists::TangentRead;
+use from_lists::ValuesRead;
+use from_lists::mat_from;
+use from_lists::tangent_from;
+use from_lists::values_from;
 use sides::pair::block_pair;
+use to_lists::put_block_pair;
+use to_lists::put_scaled_pair;
 
 // The scaled-form coefficients at sigma and at -sigma; z is the squared angle.
 #[no_mangle]

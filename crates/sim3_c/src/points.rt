@@ -2,10 +2,11 @@
 // and each point by itself, as the job moves one.
 ghost use mathlib.Core.Path.{_≡_};
 ghost use lib.Ieee.{binary64};
-ghost use Rattle.sim3_c.specs.Calls.{status, written, actManyCall, actEachCall};
-use crate::LIST_LENGTH;
-use crate::read::PoseRead;
-use crate::read::pose_from;
+ghost use Rattle.to_lists.specs.Written.{status, written};
+ghost use Rattle.sim3_c.specs.Calls.{actManyCall, actEachCall};
+use from_lists::LIST_LENGTH;
+use from_lists::PoseRead;
+use from_lists::pose_from;
 use point_lists::Listed;
 use point_lists::act_each;
 use point_lists::act_many;

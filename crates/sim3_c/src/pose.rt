@@ -2,23 +2,22 @@
 // the result has its numbers and its frames written to two lists; both or none.
 ghost use mathlib.Core.Path.{_≡_};
 ghost use lib.Ieee.{binary64};
-ghost use Rattle.sim3_c.specs.Lists.{poseLists};
-ghost use Rattle.sim3_c.specs.Calls.{status, written, framedWritten, expCall, mulCall, inverseCall, mulInvCall, invMulCall, renormalizeCall};
-use crate::LIST_LENGTH;
-use crate::read::FramedRead;
-use crate::read::FramesRead;
-use crate::read::PoseRead;
-use crate::read::TangentRead;
-use crate::read::ValuesRead;
-use crate::read::framed_from;
-use crate::read::frames_from;
-use crate::read::pose_from;
-use crate::read::tangent_from;
-use crate::read::values_from;
-use crate::write::put_framed;
-use crate::write::put_joined;
-use crate::write::put_pose;
+ghost use Rattle.from_lists.specs.Lists.{poseLists};
+ghost use Rattle.to_lists.specs.Written.{status, written, framedWritten, renormalizeCall};
+ghost use Rattle.sim3_c.specs.Calls.{expCall, mulCall, inverseCall, mulInvCall, invMulCall};
 use frames::Pose;
+use from_lists::FramedRead;
+use from_lists::FramesRead;
+use from_lists::LIST_LENGTH;
+use from_lists::TangentRead;
+use from_lists::ValuesRead;
+use from_lists::framed_from;
+use from_lists::frames_from;
+use from_lists::tangent_from;
+use from_lists::values_from;
+use to_lists::put_framed;
+use to_lists::put_joined;
+use to_lists::renormalize_pose;
 
 // Exp of the tangent, with its ten function values and the frames that it is given.
 #[no_mangle]
@@ -172,8 +171,5 @@ pub extern "C" fn sim3_renormalize(x: &mut [f64]) -> u32
     ensures { λ r. ⌜ r ≡ status (renormalizeCall binary64 (now (x .entry))) ⌝ }
     ensures { λ _. ⌜ now (x .exit) ≡ written (renormalizeCall binary64 (now (x .entry))) (now (x .entry)) ⌝ }
 {
-    let PoseRead::Got(a) = pose_from(x) else {
-        return LIST_LENGTH;
-    };
-    put_pose(x, a.renormalized())
+    renormalize_pose(x)
 }

@@ -1,16 +1,17 @@
-// Written by tools/widths from crates/sim3_c/src/arms.rt: edit that one. Digest 707a82be42b869cc.
+// Written by tools/widths from crates/sim3_c/src/arms.rt: edit that one. Digest effe04f19dce102c.
 // The coefficients with the arms that formed them: at sigma, and at both signs.
 ghost use mathlib.Core.Path.{_≡_};
 ghost use lib.Ieee.{binary32};
-ghost use Rattle.sim3_c.specs.Calls.{status, written, armedCall, armedPairCall};
-use crate::LIST_LENGTH;
-use crate::read::ValuesRead;
-use crate::read::values_from;
-use crate::write::put_armed;
-use crate::write::put_armed_pair;
+ghost use Rattle.to_lists.specs.Written.{status, written};
+ghost use Rattle.sim3_c.specs.Calls.{armedCall, armedPairCall};
 use coeffs_f32::sim3::ArmedAnswer;
 use coeffs_f32::sim3::ArmedPairAnswer;
 use coeffs_f32::sim3::sim3_coeffs_armed_pair;
+use from_lists_f32::LIST_LENGTH;
+use from_lists_f32::ValuesRead;
+use from_lists_f32::values_from;
+use to_lists_f32::put_armed;
+use to_lists_f32::put_armed_pair;
 
 // At sigma; z is the squared angle.
 #[no_mangle]

@@ -1,19 +1,18 @@
-// Written by tools/widths from crates/sim3_c/src/jacobians.rt: edit that one. Digest 87910355829de795.
+// Written by tools/widths from crates/sim3_c/src/jacobians.rt: edit that one. Digest 12b70ec1ebc054c6.
 // Jacobian blocks, as a, b, c, f, e: the matrix with the rows (a, 0, 0), (b, c, f), (0, 0, e). Right is
 // X Exp(tau), left Exp(tau) X.
 ghost use mathlib.Core.Path.{_≡_};
 ghost use lib.Ieee.{binary32};
-ghost use Rattle.sim3_c.specs.Calls.{status, written, blockInverseCall, adjointCall, actJacobiansRightCall, actJacobiansLeftCall, composeJacobiansRightCall, composeJacobiansLeftCall, inverseJacobianRightCall, inverseJacobianLeftCall};
-use crate::LIST_LENGTH;
-use crate::read::BlockRead;
-use crate::read::PoseRead;
-use crate::read::VecRead;
-use crate::read::block_from;
-use crate::read::pose_from;
-use crate::read::vec_from;
-use crate::write::put_act;
-use crate::write::put_block;
-use crate::write::put_two;
+ghost use Rattle.to_lists.specs.Written.{status, written};
+ghost use Rattle.sim3_c.specs.Calls.{blockInverseCall, adjointCall, actJacobiansRightCall, actJacobiansLeftCall};
+ghost use Rattle.sim3_c.specs.Calls.{composeJacobiansRightCall, composeJacobiansLeftCall, inverseJacobianRightCall, inverseJacobianLeftCall};
+use from_lists_f32::BlockRead;
+use from_lists_f32::LIST_LENGTH;
+use from_lists_f32::PoseRead;
+use from_lists_f32::VecRead;
+use from_lists_f32::block_from;
+use from_lists_f32::pose_from;
+use from_lists_f32::vec_from;
 use jacobian_f32::jac::JacAnswer;
 use sides_f32::side::act_jacobians_left;
 use sides_f32::side::act_jacobians_right;
@@ -22,6 +21,9 @@ use sides_f32::side::compose_jacobians_left;
 use sides_f32::side::compose_jacobians_right;
 use sides_f32::side::inverse_jacobian_left;
 use sides_f32::side::inverse_jacobian_right;
+use to_lists_f32::put_act;
+use to_lists_f32::put_block;
+use to_lists_f32::put_two;
 
 // The inverse of a block; refusal 2 where e is a zero.
 #[no_mangle]

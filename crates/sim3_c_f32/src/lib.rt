@@ -1,18 +1,11 @@
-// Written by tools/widths from crates/sim3_c/src/lib.rt: edit that one. Digest 5185d1b319533b1b.
+// Written by tools/widths from crates/sim3_c/src/lib.rt: edit that one. Digest 27391c0349892468.
 // The engine for callers in C, Rust and Python: exported functions over numbers and lists of numbers,
-// each returning 0, or the number of a refusal, where `out` stays as it was. LIST_LENGTH is this
-// boundary's own, the others are the engine's. include/sim3.h has the order of every number.
-mod read; // the things in a list's numbers
-mod write; // the numbers of a thing, to a list
+// each returning 0, or the number of a refusal, where `out` stays as it was. LIST_LENGTH is the lists'
+// own (crate from_lists), the others are the engine's. Here are those that exist at both widths; crate
+// sim3_c_doubles has the others. include/sim3.h has the order of every number.
 pub mod pose; // exponential, composition, inverse, with the frames
 pub mod points; // the action on lists of points
 pub mod pairs; // both signs, both sides
 pub mod arms; // the coefficients with their arms
 pub mod jacobians; // inverse, adjoint, and the Jacobians of the group's operations
 pub mod near; // how near another arm is
-
-// A list has not the length that is due. No refusal of the engine has this number or one near it.
-const LIST_LENGTH: u32 = 100;
-
-// A pose's frames: from, to.
-const FRAMES: usize = 2;

@@ -1,12 +1,12 @@
-// Written by tools/widths from crates/sim3_c/src/near.rt: edit that one. Digest f213deee7771a36b.
+// Written by tools/widths from crates/sim3_c/src/near.rt: edit that one. Digest fc9eaa059fee28a0.
 // How near another arm is, to a list of whole numbers: the count, which can be as large as a pattern
 // and so no single, the direction, and the arm there.
 ghost use mathlib.Core.Path.{_≡_};
 ghost use lib.Ieee.{binary32};
 ghost use Rattle.nearest_f32.specs.Told.{wayTold};
-ghost use Rattle.sim3_c.specs.Calls.{status, written};
+ghost use Rattle.to_lists.specs.Written.{status, written};
 ghost use Rattle.sim3_c.specs.Near.{wayNumber, nearCall};
-use crate::LIST_LENGTH;
+use from_lists_f32::LIST_LENGTH;
 use nearest_f32::Direction;
 use nearest_f32::NearestAnswer;
 

@@ -1,20 +1,21 @@
-// Written by tools/widths from crates/sim3_c/src/pairs.rt: edit that one. Digest 426565d2c428c30e.
+// Written by tools/widths from crates/sim3_c/src/pairs.rt: edit that one. Digest aca30648d52a1a47.
 // The paired evaluations: the coefficients for both signs of sigma, the Jacobian blocks of both sides.
 ghost use mathlib.Core.Path.{_≡_};
 ghost use lib.Ieee.{binary32};
-ghost use Rattle.sim3_c.specs.Calls.{status, written, scaledPairCall, blockPairCall};
-use crate::LIST_LENGTH;
-use crate::read::MatRead;
-use crate::read::TangentRead;
-use crate::read::ValuesRead;
-use crate::read::mat_from;
-use crate::read::tangent_from;
-use crate::read::values_from;
-use crate::write::put_block_pair;
-use crate::write::put_scaled_pair;
+ghost use Rattle.to_lists.specs.Written.{status, written};
+ghost use Rattle.sim3_c.specs.Calls.{scaledPairCall, blockPairCall};
 use coeffs_f32::sim3::PairAnswer;
 use coeffs_f32::sim3::sim3_coeffs_scaled_pair;
+use from_lists_f32::LIST_LENGTH;
+use from_lists_f32::MatRead;
+use from_lists_f32::TangentRead;
+use from_lists_f32::ValuesRead;
+use from_lists_f32::mat_from;
+use from_lists_f32::tangent_from;
+use from_lists_f32::values_from;
 use sides_f32::pair::block_pair;
+use to_lists_f32::put_block_pair;
+use to_lists_f32::put_scaled_pair;
 
 // The scaled-form coefficients at sigma and at -sigma; z is the squared angle.
 #[no_mangle]

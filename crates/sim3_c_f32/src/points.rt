@@ -1,15 +1,16 @@
-// Written by tools/widths from crates/sim3_c/src/points.rt: edit that one. Digest 90cfe1f4ce9a7c81.
+// Written by tools/widths from crates/sim3_c/src/points.rt: edit that one. Digest 711afd962dc1d62b.
 // The action of a pose on a list of points, three numbers each: with the bits of the Rust's act_many,
 // and each point by itself, as the job moves one.
 ghost use mathlib.Core.Path.{_≡_};
 ghost use lib.Ieee.{binary32};
-ghost use Rattle.sim3_c.specs.Calls.{status, written, actManyCall, actEachCall};
-use crate::LIST_LENGTH;
-use crate::read::PoseRead;
-use crate::read::pose_from;
-use point_lists_f32::Listed;
-use point_lists_f32::act_each;
-use point_lists_f32::act_many;
+ghost use Rattle.to_lists.specs.Written.{status, written};
+ghost use Rattle.sim3_c.specs.Calls.{actManyCall, actEachCall};
+use from_lists_f32::LIST_LENGTH;
+use from_lists_f32::PoseRead;
+use from_lists_f32::pose_from;
+use sim3_f32::points::Listed;
+use sim3_f32::points::act_each;
+use sim3_f32::points::act_many;
 
 // Every point by the matrix s R; up is e^sigma of X.
 #[no_mangle]

@@ -1,25 +1,24 @@
-// Written by tools/widths from crates/sim3_c/src/pose.rt: edit that one. Digest dd53ae65a53429ae.
+// Written by tools/widths from crates/sim3_c/src/pose.rt: edit that one. Digest 3f71b651629ddfee.
 // Poses: quaternion w x y z, t, sigma, and in a list beside these the frames: from, to. A pose that is
 // the result has its numbers and its frames written to two lists; both or none.
 ghost use mathlib.Core.Path.{_≡_};
 ghost use lib.Ieee.{binary32};
-ghost use Rattle.sim3_c.specs.Lists.{poseLists};
-ghost use Rattle.sim3_c.specs.Calls.{status, written, framedWritten, expCall, mulCall, inverseCall, mulInvCall, invMulCall, renormalizeCall};
-use crate::LIST_LENGTH;
-use crate::read::FramedRead;
-use crate::read::FramesRead;
-use crate::read::PoseRead;
-use crate::read::TangentRead;
-use crate::read::ValuesRead;
-use crate::read::framed_from;
-use crate::read::frames_from;
-use crate::read::pose_from;
-use crate::read::tangent_from;
-use crate::read::values_from;
-use crate::write::put_framed;
-use crate::write::put_joined;
-use crate::write::put_pose;
+ghost use Rattle.from_lists.specs.Lists.{poseLists};
+ghost use Rattle.to_lists.specs.Written.{status, written, framedWritten, renormalizeCall};
+ghost use Rattle.sim3_c.specs.Calls.{expCall, mulCall, inverseCall, mulInvCall, invMulCall};
 use frames_f32::Pose;
+use from_lists_f32::FramedRead;
+use from_lists_f32::FramesRead;
+use from_lists_f32::LIST_LENGTH;
+use from_lists_f32::TangentRead;
+use from_lists_f32::ValuesRead;
+use from_lists_f32::framed_from;
+use from_lists_f32::frames_from;
+use from_lists_f32::tangent_from;
+use from_lists_f32::values_from;
+use to_lists_f32::put_framed;
+use to_lists_f32::put_joined;
+use to_lists_f32::renormalize_pose;
 
 // Exp of the tangent, with its ten function values and the frames that it is given.
 #[no_mangle]
@@ -173,8 +172,5 @@ pub extern "C" fn sim3_renormalize_f32(x: &mut [f32]) -> u32
     ensures { λ r. ⌜ r ≡ status (renormalizeCall binary32 (now (x .entry))) ⌝ }
     ensures { λ _. ⌜ now (x .exit) ≡ written (renormalizeCall binary32 (now (x .entry))) (now (x .entry)) ⌝ }
 {
-    let PoseRead::Got(a) = pose_from(x) else {
-        return LIST_LENGTH;
-    };
-    put_pose(x, a.renormalized())
+    renormalize_pose(x)
 }

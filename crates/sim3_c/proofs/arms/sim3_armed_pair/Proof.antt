@@ -1,10 +1,11 @@
--- Written by tools/proofs from Proof.template: edit that one. Digest fb8c8195fe7cb5e4.
+-- Written by tools/proofs from Proof.template: edit that one. Digest 618051e4864e8d03.
 -- `sim3_c::arms::sim3_armed_pair` meets its contract: the lists are read, the engine is asked, and its answer is written or the refusal handed on. Assumes nothing.
 use borrow.Author.Needs.{needs}
 use mathlib.Core.Path.{refl}
 use Rattle.coeffs.specs.Entries.{armedPairTold}
-use Rattle.sim3_c.specs.Lists.{valuesReadTold}
-use Rattle.sim3_c.specs.Calls.{status, written, armedPairCall}
+use Rattle.from_lists.specs.Lists.{valuesReadTold}
+use Rattle.to_lists.specs.Written.{status, written}
+use Rattle.sim3_c.specs.Calls.{armedPairCall}
 use Rattle.sim3_c.proofs.arms.sim3_armed_pair.Statement.{statement}
 use Rattle.sim3_c.proofs.arms.sim3_armed_pair.Tie as tie
 

@@ -1,10 +1,11 @@
--- Written by tools/proofs from Proof.template: edit that one. Digest f6e7c61ad0d2fe7b.
+-- Written by tools/proofs from Proof.template: edit that one. Digest aecb8fbf630b2eb4.
 -- `sim3_c::arms::sim3_coeffs_armed` meets its contract: the lists are read, the engine is asked, and its answer is written or the refusal handed on. Assumes nothing.
 use borrow.Author.Needs.{needs}
 use mathlib.Core.Path.{refl}
 use Rattle.coeffs.specs.Entries.{armedTold}
-use Rattle.sim3_c.specs.Lists.{valuesReadTold}
-use Rattle.sim3_c.specs.Calls.{status, written, armedCall}
+use Rattle.from_lists.specs.Lists.{valuesReadTold}
+use Rattle.to_lists.specs.Written.{status, written}
+use Rattle.sim3_c.specs.Calls.{armedCall}
 use Rattle.sim3_c.proofs.arms.sim3_coeffs_armed.Statement.{statement}
 use Rattle.sim3_c.proofs.arms.sim3_coeffs_armed.Tie as tie
 

@@ -1,9 +1,10 @@
--- Written by tools/proofs from Proof.template: edit that one. Digest 7ae63c2564ceae18.
+-- Written by tools/proofs from Proof.template: edit that one. Digest 36814b8ef8a46ab9.
 -- `sim3_c::jacobians::sim3_act_jacobians_left` meets its contract: the lists are read, the engine is asked, and its answer is written or the refusal handed on. Assumes nothing.
 use borrow.Author.Needs.{needs}
 use mathlib.Core.Path.{refl}
-use Rattle.sim3_c.specs.Lists.{vecReadTold, poseReadTold}
-use Rattle.sim3_c.specs.Calls.{status, written, actJacobiansLeftCall}
+use Rattle.from_lists.specs.Lists.{vecReadTold, poseReadTold}
+use Rattle.to_lists.specs.Written.{status, written}
+use Rattle.sim3_c.specs.Calls.{actJacobiansLeftCall}
 use Rattle.sim3_c.proofs.jacobians.sim3_act_jacobians_left.Statement.{statement}
 use Rattle.sim3_c.proofs.jacobians.sim3_act_jacobians_left.Tie as tie
 

@@ -1,9 +1,10 @@
--- Written by tools/proofs from Proof.template: edit that one. Digest e440c77f538f3caa.
+-- Written by tools/proofs from Proof.template: edit that one. Digest 03a96a4ddad818d9.
 -- `sim3_c::jacobians::sim3_act_jacobians_right` meets its contract: the lists are read, the engine is asked, and its answer is written or the refusal handed on. Assumes nothing.
 use borrow.Author.Needs.{needs}
 use mathlib.Core.Path.{refl}
-use Rattle.sim3_c.specs.Lists.{vecReadTold, poseReadTold}
-use Rattle.sim3_c.specs.Calls.{status, written, actJacobiansRightCall}
+use Rattle.from_lists.specs.Lists.{vecReadTold, poseReadTold}
+use Rattle.to_lists.specs.Written.{status, written}
+use Rattle.sim3_c.specs.Calls.{actJacobiansRightCall}
 use Rattle.sim3_c.proofs.jacobians.sim3_act_jacobians_right.Statement.{statement}
 use Rattle.sim3_c.proofs.jacobians.sim3_act_jacobians_right.Tie as tie
 

@@ -1,9 +1,10 @@
--- Written by tools/proofs from Proof.template: edit that one. Digest 72f4c2bdec56bfad.
+-- Written by tools/proofs from Proof.template: edit that one. Digest 98c882c1917083d6.
 -- `sim3_c::jacobians::sim3_adjoint` meets its contract: the lists are read, the engine is asked, and its answer is written or the refusal handed on. Assumes nothing.
 use borrow.Author.Needs.{needs}
 use mathlib.Core.Path.{refl}
-use Rattle.sim3_c.specs.Lists.{poseReadTold}
-use Rattle.sim3_c.specs.Calls.{status, written, adjointCall}
+use Rattle.from_lists.specs.Lists.{poseReadTold}
+use Rattle.to_lists.specs.Written.{status, written}
+use Rattle.sim3_c.specs.Calls.{adjointCall}
 use Rattle.sim3_c.proofs.jacobians.sim3_adjoint.Statement.{statement}
 use Rattle.sim3_c.proofs.jacobians.sim3_adjoint.Tie as tie
 

@@ -1,10 +1,11 @@
--- Written by tools/proofs from Proof.template: edit that one. Digest 66be5e51a2864169.
+-- Written by tools/proofs from Proof.template: edit that one. Digest 08c38776052f8169.
 -- `sim3_c::jacobians::sim3_block_inverse` meets its contract: the lists are read, the engine is asked, and its answer is written or the refusal handed on. Assumes nothing.
 use borrow.Author.Needs.{needs}
 use mathlib.Core.Path.{refl}
 use Rattle.jacobian.specs.Jac.{jacTold}
-use Rattle.sim3_c.specs.Lists.{blockReadTold}
-use Rattle.sim3_c.specs.Calls.{status, written, blockInverseCall}
+use Rattle.from_lists.specs.Lists.{blockReadTold}
+use Rattle.to_lists.specs.Written.{status, written}
+use Rattle.sim3_c.specs.Calls.{blockInverseCall}
 use Rattle.sim3_c.proofs.jacobians.sim3_block_inverse.Statement.{statement}
 use Rattle.sim3_c.proofs.jacobians.sim3_block_inverse.Tie as tie
 

@@ -1,9 +1,10 @@
--- Written by tools/proofs from Proof.template: edit that one. Digest 03b9a8a26b27579b.
+-- Written by tools/proofs from Proof.template: edit that one. Digest 14bcf93ac6cb3e42.
 -- `sim3_c::jacobians::sim3_compose_jacobians_left` meets its contract: the lists are read, the engine is asked, and its answer is written or the refusal handed on. Assumes nothing.
 use borrow.Author.Needs.{needs}
 use mathlib.Core.Path.{refl}
-use Rattle.sim3_c.specs.Lists.{poseReadTold}
-use Rattle.sim3_c.specs.Calls.{status, written, composeJacobiansLeftCall}
+use Rattle.from_lists.specs.Lists.{poseReadTold}
+use Rattle.to_lists.specs.Written.{status, written}
+use Rattle.sim3_c.specs.Calls.{composeJacobiansLeftCall}
 use Rattle.sim3_c.proofs.jacobians.sim3_compose_jacobians_left.Statement.{statement}
 use Rattle.sim3_c.proofs.jacobians.sim3_compose_jacobians_left.Tie as tie
 

@@ -1,9 +1,10 @@
--- Written by tools/proofs from Proof.template: edit that one. Digest e3301b1f1636959d.
+-- Written by tools/proofs from Proof.template: edit that one. Digest acd33a47d5f62a91.
 -- `sim3_c::jacobians::sim3_compose_jacobians_right` meets its contract: the lists are read, the engine is asked, and its answer is written or the refusal handed on. Assumes nothing.
 use borrow.Author.Needs.{needs}
 use mathlib.Core.Path.{refl}
-use Rattle.sim3_c.specs.Lists.{poseReadTold}
-use Rattle.sim3_c.specs.Calls.{status, written, composeJacobiansRightCall}
+use Rattle.from_lists.specs.Lists.{poseReadTold}
+use Rattle.to_lists.specs.Written.{status, written}
+use Rattle.sim3_c.specs.Calls.{composeJacobiansRightCall}
 use Rattle.sim3_c.proofs.jacobians.sim3_compose_jacobians_right.Statement.{statement}
 use Rattle.sim3_c.proofs.jacobians.sim3_compose_jacobians_right.Tie as tie
 

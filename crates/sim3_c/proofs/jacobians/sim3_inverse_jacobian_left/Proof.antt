@@ -1,9 +1,10 @@
--- Written by tools/proofs from Proof.template: edit that one. Digest ca6edb46e7930bd0.
+-- Written by tools/proofs from Proof.template: edit that one. Digest 5dbe671d85345b1c.
 -- `sim3_c::jacobians::sim3_inverse_jacobian_left` meets its contract: the lists are read, the engine is asked, and its answer is written or the refusal handed on. Assumes nothing.
 use borrow.Author.Needs.{needs}
 use mathlib.Core.Path.{refl}
-use Rattle.sim3_c.specs.Lists.{poseReadTold}
-use Rattle.sim3_c.specs.Calls.{status, written, inverseJacobianLeftCall}
+use Rattle.from_lists.specs.Lists.{poseReadTold}
+use Rattle.to_lists.specs.Written.{status, written}
+use Rattle.sim3_c.specs.Calls.{inverseJacobianLeftCall}
 use Rattle.sim3_c.proofs.jacobians.sim3_inverse_jacobian_left.Statement.{statement}
 use Rattle.sim3_c.proofs.jacobians.sim3_inverse_jacobian_left.Tie as tie
 

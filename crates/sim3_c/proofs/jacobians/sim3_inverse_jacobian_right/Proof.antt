@@ -1,9 +1,10 @@
--- Written by tools/proofs from Proof.template: edit that one. Digest 7a780c33339ce6e1.
+-- Written by tools/proofs from Proof.template: edit that one. Digest fdc540f445cb325f.
 -- `sim3_c::jacobians::sim3_inverse_jacobian_right` meets its contract: the lists are read, the engine is asked, and its answer is written or the refusal handed on. Assumes nothing.
 use borrow.Author.Needs.{needs}
 use mathlib.Core.Path.{refl}
-use Rattle.sim3_c.specs.Lists.{poseReadTold}
-use Rattle.sim3_c.specs.Calls.{status, written, inverseJacobianRightCall}
+use Rattle.from_lists.specs.Lists.{poseReadTold}
+use Rattle.to_lists.specs.Written.{status, written}
+use Rattle.sim3_c.specs.Calls.{inverseJacobianRightCall}
 use Rattle.sim3_c.proofs.jacobians.sim3_inverse_jacobian_right.Statement.{statement}
 use Rattle.sim3_c.proofs.jacobians.sim3_inverse_jacobian_right.Tie as tie
 

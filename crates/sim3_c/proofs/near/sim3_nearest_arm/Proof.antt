@@ -1,4 +1,4 @@
--- Written by tools/proofs from Proof.template: edit that one. Digest b324e034ed10fe5c.
+-- Written by tools/proofs from Proof.template: edit that one. Digest 420f6e009629477e.
 -- `sim3_c::near::sim3_nearest_arm` meets its contract: a refusal is handed on; a list of three has the numbers written, and any other is left as it was. Assumes nothing.
 use borrow.Author.Needs.{needs}
 use borrow.Author.Tests.{eq-eqb, ne-eqb}
@@ -6,9 +6,9 @@ use mathlib.Core.Path.{refl}
 use mathlib.Core.List.{[], _∷_}
 use lib.ListN.{length-set}
 use Rattle.nearest.specs.Nearest.{stepTold, nearestTold}
-use Rattle.sim3_c.specs.Calls.{status, written}
+use Rattle.to_lists.specs.Written.{status, written}
 use Rattle.sim3_c.specs.Near.{nearNumbers, nearCall}
-use Rattle.sim3_c.proofs.Lists.{sets-all}
+use Rattle.to_lists.proofs.Fits.{sets-all}
 use Rattle.sim3_c.proofs.near.sim3_nearest_arm.Statement.{statement}
 use Rattle.sim3_c.proofs.near.sim3_nearest_arm.Tie as tie
 

@@ -1,9 +1,10 @@
--- Written by tools/proofs from Proof.template: edit that one. Digest e5bfefff562eddc9.
+-- Written by tools/proofs from Proof.template: edit that one. Digest d76af02677e67456.
 -- `sim3_c::pairs::sim3_block_pair` meets its contract: the lists are read, the engine is asked, and its answer is written or the refusal handed on. Assumes nothing.
 use borrow.Author.Needs.{needs}
 use mathlib.Core.Path.{refl}
-use Rattle.sim3_c.specs.Lists.{matReadTold, tangentReadTold, valuesReadTold}
-use Rattle.sim3_c.specs.Calls.{status, written, blockPairCall}
+use Rattle.from_lists.specs.Lists.{matReadTold, tangentReadTold, valuesReadTold}
+use Rattle.to_lists.specs.Written.{status, written}
+use Rattle.sim3_c.specs.Calls.{blockPairCall}
 use Rattle.sim3_c.proofs.pairs.sim3_block_pair.Statement.{statement}
 use Rattle.sim3_c.proofs.pairs.sim3_block_pair.Tie as tie
 

@@ -1,10 +1,11 @@
--- Written by tools/proofs from Proof.template: edit that one. Digest c7352282378e4f09.
+-- Written by tools/proofs from Proof.template: edit that one. Digest 416331e614da8ef0.
 -- `sim3_c::pairs::sim3_scaled_pair` meets its contract: the lists are read, the engine is asked, and its answer is written or the refusal handed on. Assumes nothing.
 use borrow.Author.Needs.{needs}
 use mathlib.Core.Path.{refl}
 use Rattle.coeffs.specs.Entries.{pairTold}
-use Rattle.sim3_c.specs.Lists.{valuesReadTold}
-use Rattle.sim3_c.specs.Calls.{status, written, scaledPairCall}
+use Rattle.from_lists.specs.Lists.{valuesReadTold}
+use Rattle.to_lists.specs.Written.{status, written}
+use Rattle.sim3_c.specs.Calls.{scaledPairCall}
 use Rattle.sim3_c.proofs.pairs.sim3_scaled_pair.Statement.{statement}
 use Rattle.sim3_c.proofs.pairs.sim3_scaled_pair.Tie as tie
 

@@ -1,11 +1,12 @@
--- Written by tools/proofs from Proof.template: edit that one. Digest 504898046c0e173d.
+-- Written by tools/proofs from Proof.template: edit that one. Digest 98de8d63ef13e18a.
 -- `sim3_c::points::sim3_act_many` meets its contract: the lists are read, the engine is asked, and its answer is written or the refusal handed on. Assumes nothing.
 use borrow.Author.Needs.{needs}
 use mathlib.Core.Path.{refl, sym, ap, _∙_}
 use Rattle.point_lists.specs.Points.{listTold}
-use Rattle.sim3_c.specs.Lists.{poseReadTold}
-use Rattle.sim3_c.specs.Calls.{status, written, actCall, actManyCall}
-use Rattle.sim3_c.proofs.Lists.{points-alone}
+use Rattle.from_lists.specs.Lists.{poseReadTold}
+use Rattle.to_lists.specs.Written.{status, written}
+use Rattle.sim3_c.specs.Calls.{actCall, actManyCall}
+use Rattle.sim3_c.proofs.Alone.{points-alone}
 use Rattle.sim3_c.proofs.points.sim3_act_many.Statement.{statement}
 use Rattle.sim3_c.proofs.points.sim3_act_many.Tie as tie
 

@@ -1,9 +1,10 @@
--- Written by tools/proofs from Proof.template: edit that one. Digest bfc1e98e6a0419be.
+-- Written by tools/proofs from Proof.template: edit that one. Digest c726a5d808ad6ddb.
 -- `sim3_c::pose::sim3_exp` meets its contract: the lists are read, the engine is asked, and its answer is written or the refusal handed on. Assumes nothing.
 use borrow.Author.Needs.{needs}
 use mathlib.Core.Path.{refl}
-use Rattle.sim3_c.specs.Lists.{tangentReadTold, valuesReadTold, framesReadTold}
-use Rattle.sim3_c.specs.Calls.{status, written, expCall}
+use Rattle.from_lists.specs.Lists.{tangentReadTold, valuesReadTold, framesReadTold}
+use Rattle.to_lists.specs.Written.{status, written}
+use Rattle.sim3_c.specs.Calls.{expCall}
 use Rattle.sim3_c.proofs.pose.sim3_exp.Statement.{statement}
 use Rattle.sim3_c.proofs.pose.sim3_exp.Tie as tie
 

@@ -1,9 +1,10 @@
--- Written by tools/proofs from Proof.template: edit that one. Digest 20217884d8d04f44.
+-- Written by tools/proofs from Proof.template: edit that one. Digest e04e408f4a0770d7.
 -- `sim3_c::pose::sim3_inv_mul` meets its contract: the lists are read, the engine is asked, and its answer is written or the refusal handed on. Assumes nothing.
 use borrow.Author.Needs.{needs}
 use mathlib.Core.Path.{refl}
-use Rattle.sim3_c.specs.Lists.{framedReadTold}
-use Rattle.sim3_c.specs.Calls.{status, written, invMulCall}
+use Rattle.from_lists.specs.Lists.{framedReadTold}
+use Rattle.to_lists.specs.Written.{status, written}
+use Rattle.sim3_c.specs.Calls.{invMulCall}
 use Rattle.sim3_c.proofs.pose.sim3_inv_mul.Statement.{statement}
 use Rattle.sim3_c.proofs.pose.sim3_inv_mul.Tie as tie
 

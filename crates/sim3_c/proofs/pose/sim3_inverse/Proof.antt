@@ -1,9 +1,10 @@
--- Written by tools/proofs from Proof.template: edit that one. Digest ca466a0a59b0cc73.
+-- Written by tools/proofs from Proof.template: edit that one. Digest db1d835008ac376b.
 -- `sim3_c::pose::sim3_inverse` meets its contract: the lists are read, the engine is asked, and its answer is written or the refusal handed on. Assumes nothing.
 use borrow.Author.Needs.{needs}
 use mathlib.Core.Path.{refl}
-use Rattle.sim3_c.specs.Lists.{framedReadTold}
-use Rattle.sim3_c.specs.Calls.{status, written, inverseCall}
+use Rattle.from_lists.specs.Lists.{framedReadTold}
+use Rattle.to_lists.specs.Written.{status, written}
+use Rattle.sim3_c.specs.Calls.{inverseCall}
 use Rattle.sim3_c.proofs.pose.sim3_inverse.Statement.{statement}
 use Rattle.sim3_c.proofs.pose.sim3_inverse.Tie as tie
 

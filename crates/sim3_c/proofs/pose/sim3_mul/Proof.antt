@@ -1,9 +1,10 @@
--- Written by tools/proofs from Proof.template: edit that one. Digest 8fade6815f4e9445.
+-- Written by tools/proofs from Proof.template: edit that one. Digest 18177a97c3218116.
 -- `sim3_c::pose::sim3_mul` meets its contract: the lists are read, the engine is asked, and its answer is written or the refusal handed on. Assumes nothing.
 use borrow.Author.Needs.{needs}
 use mathlib.Core.Path.{refl}
-use Rattle.sim3_c.specs.Lists.{framedReadTold}
-use Rattle.sim3_c.specs.Calls.{status, written, mulCall}
+use Rattle.from_lists.specs.Lists.{framedReadTold}
+use Rattle.to_lists.specs.Written.{status, written}
+use Rattle.sim3_c.specs.Calls.{mulCall}
 use Rattle.sim3_c.proofs.pose.sim3_mul.Statement.{statement}
 use Rattle.sim3_c.proofs.pose.sim3_mul.Tie as tie
 

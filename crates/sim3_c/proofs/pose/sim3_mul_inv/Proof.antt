@@ -1,9 +1,10 @@
--- Written by tools/proofs from Proof.template: edit that one. Digest ae045d42e9242bd3.
+-- Written by tools/proofs from Proof.template: edit that one. Digest de67c2dadd302cf6.
 -- `sim3_c::pose::sim3_mul_inv` meets its contract: the lists are read, the engine is asked, and its answer is written or the refusal handed on. Assumes nothing.
 use borrow.Author.Needs.{needs}
 use mathlib.Core.Path.{refl}
-use Rattle.sim3_c.specs.Lists.{framedReadTold}
-use Rattle.sim3_c.specs.Calls.{status, written, mulInvCall}
+use Rattle.from_lists.specs.Lists.{framedReadTold}
+use Rattle.to_lists.specs.Written.{status, written}
+use Rattle.sim3_c.specs.Calls.{mulInvCall}
 use Rattle.sim3_c.proofs.pose.sim3_mul_inv.Statement.{statement}
 use Rattle.sim3_c.proofs.pose.sim3_mul_inv.Tie as tie
 

@@ -1,10 +1,11 @@
--- Written by tools/widths from crates/sim3_c/proofs/arms/sim3_coeffs_armed/Proof.antt: edit that one. Digest 7a2e38502c9c689e.
+-- Written by tools/widths from crates/sim3_c/proofs/arms/sim3_coeffs_armed/Proof.antt: edit that one. Digest edbebcac876d7ec5.
 -- `sim3_c_f32::arms::sim3_coeffs_armed_f32` meets its contract: the lists are read, the engine is asked, and its answer is written or the refusal handed on. Assumes nothing.
 use borrow.Author.Needs.{needs}
 use mathlib.Core.Path.{refl}
 use Rattle.coeffs_f32.specs.Told.{armedTold}
-use Rattle.sim3_c_f32.specs.Told.{valuesReadTold}
-use Rattle.sim3_c.specs.Calls.{status, written, armedCall}
+use Rattle.from_lists_f32.specs.Told.{valuesReadTold}
+use Rattle.to_lists.specs.Written.{status, written}
+use Rattle.sim3_c.specs.Calls.{armedCall}
 use Rattle.sim3_c_f32.proofs.arms.sim3_coeffs_armed_f32.Statement.{statement}
 use Rattle.sim3_c_f32.proofs.arms.sim3_coeffs_armed_f32.Tie as tie
 

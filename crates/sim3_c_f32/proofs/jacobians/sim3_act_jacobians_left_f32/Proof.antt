@@ -1,9 +1,10 @@
--- Written by tools/widths from crates/sim3_c/proofs/jacobians/sim3_act_jacobians_left/Proof.antt: edit that one. Digest 73579f66deba786f.
+-- Written by tools/widths from crates/sim3_c/proofs/jacobians/sim3_act_jacobians_left/Proof.antt: edit that one. Digest 5f6a20f2e4054e6f.
 -- `sim3_c_f32::jacobians::sim3_act_jacobians_left_f32` meets its contract: the lists are read, the engine is asked, and its answer is written or the refusal handed on. Assumes nothing.
 use borrow.Author.Needs.{needs}
 use mathlib.Core.Path.{refl}
-use Rattle.sim3_c_f32.specs.Told.{vecReadTold, poseReadTold}
-use Rattle.sim3_c.specs.Calls.{status, written, actJacobiansLeftCall}
+use Rattle.from_lists_f32.specs.Told.{vecReadTold, poseReadTold}
+use Rattle.to_lists.specs.Written.{status, written}
+use Rattle.sim3_c.specs.Calls.{actJacobiansLeftCall}
 use Rattle.sim3_c_f32.proofs.jacobians.sim3_act_jacobians_left_f32.Statement.{statement}
 use Rattle.sim3_c_f32.proofs.jacobians.sim3_act_jacobians_left_f32.Tie as tie
 

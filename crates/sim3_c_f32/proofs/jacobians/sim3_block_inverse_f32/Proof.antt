@@ -1,10 +1,11 @@
--- Written by tools/widths from crates/sim3_c/proofs/jacobians/sim3_block_inverse/Proof.antt: edit that one. Digest f8ea95776d84ca19.
+-- Written by tools/widths from crates/sim3_c/proofs/jacobians/sim3_block_inverse/Proof.antt: edit that one. Digest 7a78bc1cb197d9cc.
 -- `sim3_c_f32::jacobians::sim3_block_inverse_f32` meets its contract: the lists are read, the engine is asked, and its answer is written or the refusal handed on. Assumes nothing.
 use borrow.Author.Needs.{needs}
 use mathlib.Core.Path.{refl}
 use Rattle.jacobian_f32.specs.Told.{jacTold}
-use Rattle.sim3_c_f32.specs.Told.{blockReadTold}
-use Rattle.sim3_c.specs.Calls.{status, written, blockInverseCall}
+use Rattle.from_lists_f32.specs.Told.{blockReadTold}
+use Rattle.to_lists.specs.Written.{status, written}
+use Rattle.sim3_c.specs.Calls.{blockInverseCall}
 use Rattle.sim3_c_f32.proofs.jacobians.sim3_block_inverse_f32.Statement.{statement}
 use Rattle.sim3_c_f32.proofs.jacobians.sim3_block_inverse_f32.Tie as tie
 

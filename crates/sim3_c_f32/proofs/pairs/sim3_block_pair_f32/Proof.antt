@@ -1,9 +1,10 @@
--- Written by tools/widths from crates/sim3_c/proofs/pairs/sim3_block_pair/Proof.antt: edit that one. Digest 439b8b8044d0b35e.
+-- Written by tools/widths from crates/sim3_c/proofs/pairs/sim3_block_pair/Proof.antt: edit that one. Digest 5dd9a87a1d91f694.
 -- `sim3_c_f32::pairs::sim3_block_pair_f32` meets its contract: the lists are read, the engine is asked, and its answer is written or the refusal handed on. Assumes nothing.
 use borrow.Author.Needs.{needs}
 use mathlib.Core.Path.{refl}
-use Rattle.sim3_c_f32.specs.Told.{matReadTold, tangentReadTold, valuesReadTold}
-use Rattle.sim3_c.specs.Calls.{status, written, blockPairCall}
+use Rattle.from_lists_f32.specs.Told.{matReadTold, tangentReadTold, valuesReadTold}
+use Rattle.to_lists.specs.Written.{status, written}
+use Rattle.sim3_c.specs.Calls.{blockPairCall}
 use Rattle.sim3_c_f32.proofs.pairs.sim3_block_pair_f32.Statement.{statement}
 use Rattle.sim3_c_f32.proofs.pairs.sim3_block_pair_f32.Tie as tie
 

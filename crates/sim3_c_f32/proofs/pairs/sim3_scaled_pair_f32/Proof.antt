@@ -1,10 +1,11 @@
--- Written by tools/widths from crates/sim3_c/proofs/pairs/sim3_scaled_pair/Proof.antt: edit that one. Digest 168cc4ebc5221a5d.
+-- Written by tools/widths from crates/sim3_c/proofs/pairs/sim3_scaled_pair/Proof.antt: edit that one. Digest 6085e0a5693c0b5f.
 -- `sim3_c_f32::pairs::sim3_scaled_pair_f32` meets its contract: the lists are read, the engine is asked, and its answer is written or the refusal handed on. Assumes nothing.
 use borrow.Author.Needs.{needs}
 use mathlib.Core.Path.{refl}
 use Rattle.coeffs_f32.specs.Told.{pairTold}
-use Rattle.sim3_c_f32.specs.Told.{valuesReadTold}
-use Rattle.sim3_c.specs.Calls.{status, written, scaledPairCall}
+use Rattle.from_lists_f32.specs.Told.{valuesReadTold}
+use Rattle.to_lists.specs.Written.{status, written}
+use Rattle.sim3_c.specs.Calls.{scaledPairCall}
 use Rattle.sim3_c_f32.proofs.pairs.sim3_scaled_pair_f32.Statement.{statement}
 use Rattle.sim3_c_f32.proofs.pairs.sim3_scaled_pair_f32.Tie as tie
 

@@ -1,11 +1,12 @@
--- Written by tools/widths from crates/sim3_c/proofs/points/sim3_act_many/Proof.antt: edit that one. Digest 099aa74b5ce93a0d.
+-- Written by tools/widths from crates/sim3_c/proofs/points/sim3_act_many/Proof.antt: edit that one. Digest 68ec94314fcd4e67.
 -- `sim3_c_f32::points::sim3_act_many_f32` meets its contract: the lists are read, the engine is asked, and its answer is written or the refusal handed on. Assumes nothing.
 use borrow.Author.Needs.{needs}
 use mathlib.Core.Path.{refl, sym, ap, _∙_}
-use Rattle.point_lists_f32.specs.Told.{listTold}
-use Rattle.sim3_c_f32.specs.Told.{poseReadTold}
-use Rattle.sim3_c.specs.Calls.{status, written, actCall, actManyCall}
-use Rattle.sim3_c.proofs.Lists.{points-alone}
+use Rattle.sim3_f32.specs.Told.{listTold}
+use Rattle.from_lists_f32.specs.Told.{poseReadTold}
+use Rattle.to_lists.specs.Written.{status, written}
+use Rattle.sim3_c.specs.Calls.{actCall, actManyCall}
+use Rattle.sim3_c.proofs.Alone.{points-alone}
 use Rattle.sim3_c_f32.proofs.points.sim3_act_many_f32.Statement.{statement}
 use Rattle.sim3_c_f32.proofs.points.sim3_act_many_f32.Tie as tie
 

@@ -1,12 +1,13 @@
--- Written by tools/widths from crates/sim3_c/proofs/pose/sim3_exp/Proof.antt: edit that one. Digest 14dc3ce7c9483e8e.
+-- Written by tools/widths from crates/sim3_c/proofs/pose/sim3_exp/Proof.antt: edit that one. Digest 426002b1a1798f12.
 -- `sim3_c_f32::pose::sim3_exp_f32` meets its contract: the lists are read, the engine is asked, and its answer is written or the refusal handed on. Assumes nothing.
 use borrow.Author.Needs.{needs}
 use mathlib.Core.Path.{refl}
-use Rattle.sim3_c_f32.specs.Told.{tangentReadTold, valuesReadTold, framesReadTold}
-use Rattle.sim3_c.specs.Calls.{status, written, expCall}
+use Rattle.from_lists_f32.specs.Told.{tangentReadTold, valuesReadTold, framesReadTold}
+use Rattle.to_lists.specs.Written.{status, written}
+use Rattle.sim3_c.specs.Calls.{expCall}
 use Rattle.sim3_c_f32.proofs.pose.sim3_exp_f32.Statement.{statement}
 use Rattle.sim3_c_f32.proofs.pose.sim3_exp_f32.Tie as tie
-use Rattle.sim3_c_f32.specs.As.{asFrames}
+use Rattle.from_lists_f32.specs.As.{asFrames}
 
 returns : tie.Need-returns
 unfolding status written expCall tangentReadTold asFrames

@@ -1,9 +1,10 @@
--- Written by tools/widths from crates/sim3_c/proofs/pose/sim3_inverse/Proof.antt: edit that one. Digest 93af1da78b7994c1.
+-- Written by tools/widths from crates/sim3_c/proofs/pose/sim3_inverse/Proof.antt: edit that one. Digest 553f5da560ec229c.
 -- `sim3_c_f32::pose::sim3_inverse_f32` meets its contract: the lists are read, the engine is asked, and its answer is written or the refusal handed on. Assumes nothing.
 use borrow.Author.Needs.{needs}
 use mathlib.Core.Path.{refl}
-use Rattle.sim3_c_f32.specs.Told.{framedReadTold}
-use Rattle.sim3_c.specs.Calls.{status, written, inverseCall}
+use Rattle.from_lists_f32.specs.Told.{framedReadTold}
+use Rattle.to_lists.specs.Written.{status, written}
+use Rattle.sim3_c.specs.Calls.{inverseCall}
 use Rattle.sim3_c_f32.proofs.pose.sim3_inverse_f32.Statement.{statement}
 use Rattle.sim3_c_f32.proofs.pose.sim3_inverse_f32.Tie as tie
 

@@ -1,24 +1,11 @@
--- Written by tools/widths from crates/sim3_c/proofs/pose/sim3_renormalize/Proof.antt: edit that one. Digest 4922c2f4f380c7da.
--- `sim3_c_f32::pose::sim3_renormalize_f32` meets its contract: the lists are read, the engine is asked, and its answer is written or the refusal handed on. Assumes nothing.
+-- Written by tools/widths from crates/sim3_c/proofs/pose/sim3_renormalize/Proof.antt: edit that one. Digest 8dd8cc554cf2579a.
+-- `sim3_c_f32::pose::sim3_renormalize_f32` meets its contract: it is what the list crate's function ensures. Assumes nothing.
 use borrow.Author.Needs.{needs}
-use mathlib.Core.Path.{refl}
-use Rattle.sim3_c_f32.specs.Told.{poseReadTold}
-use Rattle.sim3_c.specs.Calls.{status, written, renormalizeCall}
 use Rattle.sim3_c_f32.proofs.pose.sim3_renormalize_f32.Statement.{statement}
 use Rattle.sim3_c_f32.proofs.pose.sim3_renormalize_f32.Tie as tie
 
 returns : tie.Need-returns
-unfolding status written renormalizeCall poseReadTold
-returns c = rw (← (c .before .before .pose-from .ensures), c .enum-told .given .1) (refl, refl)
-
-returns-2 : tie.Need-returns-2
-unfolding status written renormalizeCall poseReadTold
-returns-2 c =
-    let c1 = c .before .before .before .before .before in
-    rw (
-      ← (c1 .before .before .before .pose-from .ensures),
-      c1 .before .a .given .1,
-    ) (rw (c .before .before .before .renormalized .ensures) at (c .before .before .put-pose .ensures))
+returns c = c .before .before .renormalize-pose .ensures
 
 pub sim3-renormalize-f32-spec : {M : Type 1} → statement M
 sim3-renormalize-f32-spec =
@@ -26,10 +13,4 @@ sim3-renormalize-f32-spec =
     (tie.spec
     (λ c κs. search needs)
     (λ c. search needs)
-    (λ c. search needs)
-    (λ c. search needs)
-    returns
-    (λ c κs. search needs)
-    (λ c κs. search needs)
-    (λ c. search needs)
-    returns-2)
+    returns)

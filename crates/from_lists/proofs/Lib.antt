@@ -1,0 +1,2 @@
+-- The laws of lists that are read whole.
+pub mod Lists

@@ -1,0 +1,4 @@
+pub mod Root
+pub mod Order
+pub mod Join
+pub mod Shelf
