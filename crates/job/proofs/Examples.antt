@@ -13,12 +13,12 @@ use Rattle.so3.specs.So3.{so3Act}
 use Rattle.sim3.specs.Pose.{poseAct}
 use Rattle.layout.specs.Layout.{vecIn, quatIn, poseIn, quatNumbers, poseNumbers}
 use Rattle.running.specs.Running.{productOn, joinOn}
-use Rattle.marks.specs.Chain.{chOf, chReply, rnReply}
+use Rattle.kept.specs.Chain.{chOf, chReply, rnReply}
 use Rattle.wire.specs.Wire.{wordOf, wordAt, wordBytes, numberOf, numberAt, numberBytes, itemBytes, itemsBytes, allFinite, numbers, countBytes}
 use Rattle.outcome.specs.Outcome.{markBytes, noBytes, replyOf, Found, took, ended, unknown, cut, recordFound}
 use Rattle.frames.specs.Joins.{framedMul}
 use Rattle.replies.specs.Table.{framedIn, framedItems, acOf, muOf, answerOf, entryReply}
-use Rattle.marks.specs.State.{stateNone}
+use Rattle.kept.specs.State.{stateNone}
 use Rattle.marks.specs.Marks.{markKnown, markOf, stepOf, markFound, markNext, foundAt, nextAt, foundOf, nextOf}
 use Rattle.marks.specs.Rows.{rowCount, capitalRow, smallRow, rowOf, rowKnown, rowAt}
 use Rattle.job.specs.Counts.{countsMore, rowsMore, rowsBytes}

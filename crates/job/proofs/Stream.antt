@@ -15,7 +15,7 @@ use Rattle.job.specs.declared.Reason.the-variants.{Room, Full, End, Unkn
 use Rattle.job.specs.Counts.{countsMore, countsSound}
 use Rattle.outcome.specs.Outcome.{longest, Found, took, ended, unknown, cut}
 use Rattle.marks.specs.Marks.{foundOf, nextOf}
-use Rattle.marks.specs.State.{State}
+use Rattle.kept.specs.State.{State}
 use Rattle.marks.specs.Rows.{rowAt}
 use Rattle.job.specs.Job.{Standing, standing, moved, lost, jobOn, jobFrom}
 use Rattle.job.specs.Feed.{goesOn, Part, halt, after, closing, closingOf, recordsOf, feedOf}

@@ -4,7 +4,7 @@ use borrow.Author.Needs.{needs}
 use native.Mathlib.Omega.{arith}
 use mathlib.Core.Path.{refl, sym, _∙_}
 use borrow.Author.Tests.{not-true, not-false}
-use Rattle.marks.specs.State.{stateOf, holds}
+use Rattle.kept.specs.State.{stateOf, holds}
 use Rattle.marks.proofs.Heads.{held, unheld}
 use Rattle.job.specs.Job.{standing, jobLimit}
 use Rattle.job.proofs.Pieces.{sound-is, both, first-false, second-false, feed-bad, Looped, feed-room, feed-uses, feed-within, feed-told, feed-wrote, feed-left}

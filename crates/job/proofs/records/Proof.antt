@@ -6,7 +6,7 @@ use Prim.Native.Nat.{_+_, _-_, _≤_}
 use mathlib.Core.Path.{_≡_, sym, ap, _∙_}
 use lib.ListN.{length, take, drop}
 use lib.Seq.{sets}
-use Rattle.marks.specs.State.{stateOf, memory}
+use Rattle.kept.specs.State.{stateOf, memory}
 use Rattle.marks.proofs.Heads.{met, held}
 use Rattle.marks.proofs.Rows.{row-held}
 use Rattle.job.specs.Job.{standing, jobLimit}

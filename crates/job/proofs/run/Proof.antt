@@ -3,7 +3,7 @@
 use borrow.Author.Needs.{needs}
 use mathlib.Core.Path.{_≡_, _∙_}
 use mathlib.Core.Bool.{true}
-use Rattle.marks.specs.State.{stateNone, stateOf, holds}
+use Rattle.kept.specs.State.{stateNone, stateOf, holds}
 use Rattle.marks.proofs.Heads.{held}
 use Rattle.job.specs.Job.{jobLimit}
 use Rattle.job.proofs.Whole.{whole}

@@ -11,7 +11,7 @@ use mathlib.Core.List.{List, _++_}
 use lib.Seq.{length-take-le}
 use lib.ListN.{length, take, drop}
 use Rattle.job.specs.declared.Fed.{Fed}
-use Rattle.marks.specs.State.{stateNone, stateOf, memory, holds}
+use Rattle.kept.specs.State.{stateNone, stateOf, memory, holds}
 use Rattle.marks.proofs.Heads.{held}
 use Rattle.job.specs.Counts.{countsSound}
 use Rattle.job.specs.Job.{standing, jobLimit}

@@ -11,7 +11,7 @@ use Rattle.job.specs.declared.Reason.the-variants.{More}
 use mathlib.Core.Bool.{true}
 use Rattle.job.specs.Job.{standing, jobLimit}
 use Rattle.job.specs.Feed.{fedOf, recordRoom}
-use Rattle.marks.specs.State.{stateOf, holds}
+use Rattle.kept.specs.State.{stateOf, holds}
 use Rattle.marks.proofs.Heads.{held}
 use Rattle.job.proofs.Few.{feed-few}
 use Rattle.sim3_job.proofs.Moves.{drop-take}
