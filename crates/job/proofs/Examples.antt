@@ -177,7 +177,8 @@ joined :
     jobOf jobLimit (ch-in 3 5 ++ (ch-in 3 7 ++ (0x52 ∷ 0x4e ∷ 2 ∷ 1 ∷ [])))
     ≡ 0x43 ∷ 0x48 ∷ (replicate 64 0 ++ (frames 3 5 ++ (0x4e ∷ 0x4f ∷ 9 ∷ 0x52 ∷ 0x4e ∷ 2 ∷ 1 ∷ counts 3 2 1 0 (set (set nowhere 15 2) 16 1))))
 unfolding ofBits toBits vecIn quatIn poseIn vecNumbers quatNumbers poseNumbers wordOf wordAt wordBytes numberOf numberAt numberBytes itemBytes itemsBytes allFinite isFinite numbers
-    countBytes lookUp markOf markBytes noBytes replyOf framedIn framedItems framedMul productOn joinOn chOf chReply rnReply countsMore rowsMore recordFound foundBy nextBy chStep rnStep foundAt nextAt foundOf rowAt rowKnown nextOf rowsBytes trailer jobOn jobFrom words counts nowhere only frames ch-in
+    countBytes lookUp markOf markBytes noBytes replyOf framedIn framedItems framedMul productOn joinOn chOf chReply rnReply countsMore rowsMore recordFound foundBy
+    nextBy chStep rnStep foundAt nextAt foundOf rowAt rowKnown nextOf rowsBytes trailer jobOn jobFrom words counts nowhere only frames ch-in
 joined = refl
 
 -- at the limit no mark is looked at
