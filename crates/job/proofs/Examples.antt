@@ -13,14 +13,15 @@ use Rattle.so3.specs.So3.{so3Act}
 use Rattle.sim3.specs.Pose.{poseAct}
 use Rattle.layout.specs.Layout.{vecIn, quatIn, poseIn, quatNumbers, poseNumbers}
 use Rattle.running.specs.Running.{productOn, joinOn}
-use Rattle.marks.specs.Chain.{chOf, chReply, rnReply}
+use Rattle.kept.specs.Records.{foundBy, nextBy}
+use Rattle.kept.specs.Chain.{chOf, chReply, rnReply, chStep, rnStep}
 use Rattle.wire.specs.Wire.{wordOf, wordAt, wordBytes, numberOf, numberAt, numberBytes, itemBytes, itemsBytes, allFinite, numbers, countBytes}
 use Rattle.outcome.specs.Outcome.{markBytes, noBytes, replyOf, Found, took, ended, unknown, cut, recordFound}
 use Rattle.frames.specs.Joins.{framedMul}
 use Rattle.replies.specs.Table.{framedIn, framedItems, acOf, muOf, answerOf, entryReply}
-use Rattle.marks.specs.State.{stateNone}
-use Rattle.marks.specs.Marks.{markKnown, markOf, stepOf, markFound, markNext, foundAt, nextAt, foundOf, nextOf}
-use Rattle.marks.specs.Rows.{rowCount, capitalRow, smallRow, rowOf, rowKnown, rowAt}
+use Rattle.kept.specs.State.{stateNone}
+use Rattle.marks.specs.Marks.{lookUp, markOf, foundAt, nextAt, foundOf, nextOf}
+use Rattle.marks.specs.Rows.{rowCount, rowKnown, rowAt}
 use Rattle.job.specs.Counts.{countsMore, rowsMore, rowsBytes}
 use Rattle.job.specs.Job.{trailer, jobOn, jobFrom, jobOf, jobLimit}
 
@@ -65,8 +66,8 @@ record-in =
 
 answered : jobOf jobLimit record-in ≡ 0x41 ∷ 0x43 ∷ (double 0x14 0x40 ++ (double 0x1c 0x40 ++ (double 0x22 0x40 ++ counts 1 1 0 0 (only 3))))
 unfolding ofBits toBits add sub mul vecScale vecCross vecAdd so3Act poseAct vecIn quatIn poseIn vecNumbers wordOf wordBytes numberOf numberAt numberBytes itemBytes itemsBytes
-    allFinite isFinite numbers countBytes markKnown markOf markBytes replyOf acOf answerOf entryReply countsMore rowsMore recordFound stepOf markFound foundAt foundOf rowAt
-    rowKnown rowOf capitalRow smallRow rowsBytes trailer jobOn jobFrom double zero one words counts nowhere only frames record-in
+    allFinite isFinite numbers countBytes lookUp markOf markBytes replyOf acOf answerOf entryReply countsMore rowsMore recordFound foundBy foundAt foundOf rowAt
+    rowKnown rowsBytes trailer jobOn jobFrom double zero one words counts nowhere only frames record-in
 answered = refl
 
 -- the same record on singles, each by its two greatest bytes
@@ -90,8 +91,8 @@ small-in =
 
 small : jobOf jobLimit small-in ≡ 0x61 ∷ 0x63 ∷ (single 0xa0 0x40 ++ (single 0xe0 0x40 ++ (single 0x10 0x41 ++ counts 1 1 0 0 (only 10))))
 unfolding ofBits toBits add sub mul vecScale vecCross vecAdd so3Act poseAct vecIn quatIn poseIn vecNumbers wordOf wordBytes numberOf numberAt numberBytes itemBytes itemsBytes
-    allFinite isFinite numbers countBytes markKnown markOf markBytes replyOf acOf answerOf entryReply countsMore rowsMore recordFound stepOf markFound foundAt foundOf rowAt
-    rowKnown rowOf capitalRow smallRow rowsBytes trailer jobOn jobFrom single nought unit words counts nowhere only frames small-in
+    allFinite isFinite numbers countBytes lookUp markOf markBytes replyOf acOf answerOf entryReply countsMore rowsMore recordFound foundBy foundAt foundOf rowAt
+    rowKnown rowsBytes trailer jobOn jobFrom single nought unit words counts nowhere only frames small-in
 small = refl
 
 -- the same with an infinite point: it is answered, and counted last
@@ -106,8 +107,8 @@ unfinite-in =
 
 unfinite : jobOf jobLimit unfinite-in ≡ 0x41 ∷ 0x43 ∷ (double 0xf8 0x7f ++ (double 0xf8 0x7f ++ (double 0xf8 0x7f ++ counts 1 0 0 1 (only 3))))
 unfolding ofBits toBits add sub mul vecScale vecCross vecAdd so3Act poseAct vecIn quatIn poseIn vecNumbers wordOf wordBytes numberOf numberAt numberBytes itemBytes itemsBytes
-    allFinite isFinite numbers countBytes markKnown markOf markBytes replyOf acOf answerOf entryReply countsMore rowsMore recordFound stepOf markFound foundAt foundOf rowAt
-    rowKnown rowOf capitalRow smallRow rowsBytes trailer jobOn jobFrom double zero one words counts nowhere only frames unfinite-in
+    allFinite isFinite numbers countBytes lookUp markOf markBytes replyOf acOf answerOf entryReply countsMore rowsMore recordFound foundBy foundAt foundOf rowAt
+    rowKnown rowsBytes trailer jobOn jobFrom double zero one words counts nowhere only frames unfinite-in
 unfinite = refl
 
 -- nothing at all
@@ -122,35 +123,35 @@ half = refl
 
 -- a record that is cut after its mark
 cut-short : jobOf jobLimit (0x41 ∷ 0x43 ∷ 0 ∷ []) ≡ 0x4e ∷ 0x4f ∷ 7 ∷ counts 1 0 1 0 (only 3)
-unfolding wordBytes countBytes markKnown markOf markBytes noBytes countsMore rowsMore recordFound stepOf markFound foundAt foundOf rowAt rowKnown rowOf capitalRow smallRow
+unfolding wordBytes countBytes lookUp markOf markBytes noBytes countsMore rowsMore recordFound foundBy foundAt foundOf rowAt rowKnown
     rowsBytes trailer jobOn jobFrom words counts nowhere only
 cut-short = refl
 
 -- SH and SQ that are cut behind their letters
 sh-cut : jobOf jobLimit (0x53 ∷ 0x48 ∷ []) ≡ 0x4e ∷ 0x4f ∷ 7 ∷ counts 1 0 1 0 (only 17)
-unfolding wordBytes countBytes markKnown markOf markBytes noBytes countsMore rowsMore recordFound stepOf markFound foundAt foundOf rowAt rowKnown rowOf capitalRow smallRow
+unfolding wordBytes countBytes lookUp markOf markBytes noBytes countsMore rowsMore recordFound foundBy foundAt foundOf rowAt rowKnown
     rowsBytes trailer jobOn jobFrom words counts nowhere only
 sh-cut = refl
 
 sq-cut : jobOf jobLimit (0x53 ∷ 0x51 ∷ []) ≡ 0x4e ∷ 0x4f ∷ 7 ∷ counts 1 0 1 0 (only 18)
-unfolding wordBytes countBytes markKnown markOf markBytes noBytes countsMore rowsMore recordFound stepOf markFound foundAt foundOf rowAt rowKnown rowOf capitalRow smallRow
+unfolding wordBytes countBytes lookUp markOf markBytes noBytes countsMore rowsMore recordFound foundBy foundAt foundOf rowAt rowKnown
     rowsBytes trailer jobOn jobFrom words counts nowhere only
 sq-cut = refl
 
 -- a mark that is not in the table, with nothing behind it
 unlisted : jobOf jobLimit (0x51 ∷ 0x51 ∷ []) ≡ 0x4e ∷ 0x4f ∷ 6 ∷ counts 1 0 1 0 (only 19)
-unfolding wordBytes countBytes markKnown markOf markBytes noBytes countsMore rowsMore recordFound stepOf markFound foundAt foundOf rowAt rowKnown rowOf capitalRow smallRow
+unfolding wordBytes countBytes lookUp markOf markBytes noBytes countsMore rowsMore recordFound foundBy foundAt foundOf rowAt rowKnown
     rowsBytes trailer jobOn jobFrom words counts nowhere only
 unlisted = refl
 
 -- AR in small letters, and a capital with a small letter
 small-ar : jobOf jobLimit (0x61 ∷ 0x72 ∷ []) ≡ 0x4e ∷ 0x4f ∷ 6 ∷ counts 1 0 1 0 (only 19)
-unfolding wordBytes countBytes markKnown markOf markBytes noBytes countsMore rowsMore recordFound stepOf markFound foundAt foundOf rowAt rowKnown rowOf capitalRow smallRow
+unfolding wordBytes countBytes lookUp markOf markBytes noBytes countsMore rowsMore recordFound foundBy foundAt foundOf rowAt rowKnown
     rowsBytes trailer jobOn jobFrom words counts nowhere only
 small-ar = refl
 
 mixed : jobOf jobLimit (0x41 ∷ 0x63 ∷ []) ≡ 0x4e ∷ 0x4f ∷ 6 ∷ counts 1 0 1 0 (only 19)
-unfolding wordBytes countBytes markKnown markOf markBytes noBytes countsMore rowsMore recordFound stepOf markFound foundAt foundOf rowAt rowKnown rowOf capitalRow smallRow
+unfolding wordBytes countBytes lookUp markOf markBytes noBytes countsMore rowsMore recordFound foundBy foundAt foundOf rowAt rowKnown
     rowsBytes trailer jobOn jobFrom words counts nowhere only
 mixed = refl
 
@@ -159,12 +160,12 @@ mu-in : ℕ → List ℕ
 mu-in n = 0x4d ∷ 0x55 ∷ (replicate 64 0 ++ (frames 3 5 ++ (replicate 64 0 ++ (frames 3 7 ++ replicate n 0))))
 
 apart : jobOf jobLimit (mu-in 8) ≡ 0x4e ∷ 0x4f ∷ 9 ∷ counts 1 0 1 0 (only 4)
-unfolding wordOf wordAt wordBytes countBytes markKnown markOf markBytes noBytes replyOf framedIn framedMul muOf answerOf entryReply countsMore rowsMore recordFound stepOf markFound
-    foundAt foundOf rowAt rowKnown rowOf capitalRow smallRow rowsBytes trailer jobOn jobFrom words counts nowhere only frames mu-in
+unfolding wordOf wordAt wordBytes countBytes lookUp markOf markBytes noBytes replyOf framedIn framedMul muOf answerOf entryReply countsMore rowsMore recordFound foundBy
+    foundAt foundOf rowAt rowKnown rowsBytes trailer jobOn jobFrom words counts nowhere only frames mu-in
 apart = refl
 
 apart-cut : jobOf jobLimit (mu-in 7) ≡ 0x4e ∷ 0x4f ∷ 7 ∷ counts 1 0 1 0 (only 4)
-unfolding wordBytes countBytes markKnown markOf markBytes noBytes countsMore rowsMore recordFound stepOf markFound foundAt foundOf rowAt rowKnown rowOf capitalRow smallRow
+unfolding wordBytes countBytes lookUp markOf markBytes noBytes countsMore rowsMore recordFound foundBy foundAt foundOf rowAt rowKnown
     rowsBytes trailer jobOn jobFrom words counts nowhere only frames mu-in
 apart-cut = refl
 
@@ -176,8 +177,8 @@ joined :
     jobOf jobLimit (ch-in 3 5 ++ (ch-in 3 7 ++ (0x52 ∷ 0x4e ∷ 2 ∷ 1 ∷ [])))
     ≡ 0x43 ∷ 0x48 ∷ (replicate 64 0 ++ (frames 3 5 ++ (0x4e ∷ 0x4f ∷ 9 ∷ 0x52 ∷ 0x4e ∷ 2 ∷ 1 ∷ counts 3 2 1 0 (set (set nowhere 15 2) 16 1))))
 unfolding ofBits toBits vecIn quatIn poseIn vecNumbers quatNumbers poseNumbers wordOf wordAt wordBytes numberOf numberAt numberBytes itemBytes itemsBytes allFinite isFinite numbers
-    countBytes markKnown markOf markBytes noBytes replyOf framedIn framedItems framedMul productOn joinOn chOf chReply rnReply countsMore rowsMore recordFound stepOf markFound
-    markNext foundAt nextAt foundOf rowAt rowKnown rowOf capitalRow smallRow nextOf rowsBytes trailer jobOn jobFrom words counts nowhere only frames ch-in
+    countBytes lookUp markOf markBytes noBytes replyOf framedIn framedItems framedMul productOn joinOn chOf chReply rnReply countsMore rowsMore recordFound foundBy
+    nextBy chStep rnStep foundAt nextAt foundOf rowAt rowKnown nextOf rowsBytes trailer jobOn jobFrom words counts nowhere only frames ch-in
 joined = refl
 
 -- at the limit no mark is looked at
@@ -235,5 +236,5 @@ right [] = true
 right (r ∷ rs) = eqb (taken (found r (r .bytes))) (2 + r .bytes) && (isCut (found r (r .bytes - 1)) && right rs)
 
 lengths : right table ≡ true
-unfolding right table found taken isCut foundOf foundAt markFound stepOf recordFound markOf markKnown
+unfolding right table found taken isCut foundOf foundAt foundBy recordFound markOf lookUp
 lengths = refl

@@ -16,7 +16,7 @@ use Rattle.job.specs.declared.Reason.{Reason}
 use Rattle.job.specs.Counts.{countsMore}
 use Rattle.outcome.specs.Outcome.{longest, took}
 use Rattle.marks.specs.Marks.{foundOf}
-use Rattle.marks.specs.State.{State}
+use Rattle.kept.specs.State.{State}
 use Rattle.marks.specs.Rows.{rowAt}
 use Rattle.job.specs.Job.{Standing, moved}
 use Rattle.job.specs.Feed.{halt, after, recordsOf, toldPart}

@@ -17,7 +17,7 @@ use Rattle.job.specs.declared.Fed.{Fed}
 use Rattle.job.specs.declared.Reason.{Reason}
 use Rattle.job.specs.declared.Reason.the-variants.{Bad}
 use Rattle.job.specs.Counts.{total, countsSound}
-use Rattle.marks.specs.State.{State}
+use Rattle.kept.specs.State.{State}
 use Rattle.marks.specs.Rows.{rowCount, rowAt}
 use Rattle.job.specs.Job.{Standing}
 use Rattle.job.specs.Feed.{Part, halt, closed, closing, ends, recordsOf, feedOf, toldPart}

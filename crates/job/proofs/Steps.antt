@@ -17,7 +17,7 @@ use Rattle.job.specs.declared.Reason.{Reason}
 use Rattle.job.specs.declared.Reason.the-variants.{More, Room, Full, End, Unknown, Cut}
 use Rattle.job.specs.Counts.{countsMore}
 use Rattle.outcome.specs.Outcome.{longest, Found, ended, unknown, cut, becameOf, writtenOf, stepTold}
-use Rattle.marks.specs.State.{State}
+use Rattle.kept.specs.State.{State}
 use Rattle.marks.specs.Marks.{foundOf, nextOf}
 use Rattle.marks.specs.Rows.{rowCount, rowAt}
 use Rattle.job.specs.Job.{Standing, standing, moved, lost}

@@ -15,7 +15,7 @@ use Rattle.job.specs.declared.Reason.the-variants.{Room, Full, End, Unkn
 use Rattle.job.specs.Counts.{countsMore, countsSound}
 use Rattle.outcome.specs.Outcome.{longest, Found, took, ended, unknown, cut}
 use Rattle.marks.specs.Marks.{foundOf, nextOf}
-use Rattle.marks.specs.State.{State}
+use Rattle.kept.specs.State.{State}
 use Rattle.marks.specs.Rows.{rowAt}
 use Rattle.job.specs.Job.{Standing, standing, moved, lost, jobOn, jobFrom}
 use Rattle.job.specs.Feed.{goesOn, Part, halt, after, closing, closingOf, recordsOf, feedOf}
@@ -65,7 +65,8 @@ module _ (limit : ℕ) (ys : List ℕ) (last : Bool) (alone : last ≡ true → 
   waits n j xs i = rw i
 
   at-stop :
-      (n : ℕ) (j : Standing) (xs : List ℕ) (room : ℕ) → longest ≤ room → (f : Found) (r : Reason) (e : Standing) → foundOf (j .state) xs ≡ f → Stops last j xs f r e → Onward (suc n) j xs room (halt r e)
+      (n : ℕ) (j : Standing) (xs : List ℕ) (room : ℕ) → longest ≤ room → (f : Found) (r : Reason) (e : Standing) → foundOf (j .state) xs ≡ f →
+      Stops last j xs f r e → Onward (suc n) j xs room (halt r e)
   at-stop n j xs room h f r e q (at-end l) i = rw (alone l, append-nil xs) (job-ended n j xs q ∙ sym (append-nil _))
   at-stop n j xs room h f r e q (at-pause l) i = waits (suc n) j xs i
   at-stop n j xs room h f r e q at-unknown i =

@@ -7,7 +7,7 @@ use lib.ListN.{length, drop}
 use lib.Dec.{ltb}
 use Rattle.outcome.specs.declared.Kind.{Kind}
 use Rattle.outcome.specs.Outcome.{longest, unknownMark, cutRecord, noBytes, Found, took, ended, unknown, cut}
-use Rattle.marks.specs.State.{stateOf, holds}
+use Rattle.kept.specs.State.{stateOf, holds}
 use Rattle.marks.specs.Marks.{longestRecord, foundOf}
 use Rattle.job.specs.declared.Counts.{Counts}
 use Rattle.job.specs.declared.Fed.{Fed}

@@ -12,7 +12,7 @@ use Rattle.job.specs.declared.Four.{Four}
 use Rattle.job.specs.declared.Fed.{Fed}
 use Rattle.job.specs.declared.Reason.{Reason}
 use Rattle.job.specs.declared.Reason.the-variants.{Room}
-use Rattle.marks.specs.State.{stateOf}
+use Rattle.kept.specs.State.{stateOf}
 use Rattle.marks.specs.Rows.{rowCount}
 use Rattle.job.specs.Counts.{Adds, RowsAdd}
 use Rattle.job.specs.Job.{standing, jobLimit}

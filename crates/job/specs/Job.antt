@@ -7,7 +7,7 @@ use Rattle.wire.specs.Wire.{countBytes}
 use Rattle.outcome.specs.declared.Kind.{Kind}
 use Rattle.outcome.specs.declared.Kind.the-variants.{Refused}
 use Rattle.outcome.specs.Outcome.{unknownMark, cutRecord, markBytes, noBytes, Found, took, ended, unknown, cut}
-use Rattle.marks.specs.State.{State, stateNone}
+use Rattle.kept.specs.State.{State, stateNone}
 use Rattle.marks.specs.Marks.{foundOf, nextOf}
 use Rattle.marks.specs.Rows.{rowAt}
 use Rattle.job.specs.declared.Counts.{Counts}

@@ -13,7 +13,7 @@ ghost use Rattle.outcome.specs.declared.Kind.{Kind};
 ghost use Rattle.outcome.specs.Outcome.{longest, markBytes, noBytes};
 ghost use Rattle.marks.specs.Rows.{rowCount};
 ghost use Rattle.job.specs.Counts.{countsNone, countsMore, countsSound, rowsBytes, total};
-ghost use Rattle.marks.specs.State.{stateNone, stateOf, memory, holds};
+ghost use Rattle.kept.specs.State.{stateNone, stateOf, memory, holds};
 ghost use Rattle.job.specs.Job.{standingNone, trailer, jobOf, jobLimit};
 ghost use Rattle.job.specs.Feed.{Part, closing, ends, feedOf, fedOf, toldPart};
 ghost use Rattle.job.specs.Inner.{Sound, Small, fourOf, fourMore, joined, loopedOf, stopOf, trailerLength};
@@ -377,7 +377,7 @@ pub fn feed(c: Counts, mem: &mut [u8], input: &[u8], last: bool, out: &mut [u8])
     ensures { λ _. ⌜ stateOf (now (mem .exit)) ≡ fedOf c (now (mem .entry)) (now (input .entry)) last (length (now (out .entry))) .standing .state ⌝ }
     ensures { λ r. ⌜ (r .used ≤ length (now (input .entry))) × (r .written ≤ length (now (out .entry))) ⌝ }
 {
-    if mem.len() != marks::MEMORY {
+    if mem.len() != kept::MEMORY {
         return leave(Reason::Bad, c, 0, 0);
     }
     if !sound(c) {
@@ -409,7 +409,7 @@ pub fn no_counts() -> Counts
 pub fn fresh(mem: &mut [u8])
     ensures { λ _. ⌜ stateOf (now (mem .exit)) ≡ cond (holds (now (mem .entry))) stateNone (stateOf (now (mem .entry))) ⌝ }
 {
-    marks::fresh(mem);
+    kept::fresh(mem);
 }
 
 // The whole job on one slice. Where `out` is too short the reason is `Room`, and the records that
@@ -419,7 +419,7 @@ pub fn run(input: &[u8], out: &mut [u8]) -> Fed
     ensures { λ r. ⌜ now (out .exit) ≡ (feedOf jobLimit true standingNone (now (input .entry)) true (length (now (out .entry))) .bytes) ++ drop (r .written) (now (out .entry)) ⌝ }
     ensures { λ r. ⌜ (ends (r .reason) ≡ true → now (out .exit) ≡ jobOf jobLimit (now (input .entry)) ++ drop (r .written) (now (out .entry))) ⌝ }
 {
-    let mut mem: [u8; marks::MEMORY] = [0; marks::MEMORY];
+    let mut mem: [u8; kept::MEMORY] = [0; kept::MEMORY];
     fresh(&mut mem);
     feed(no_counts(), &mut mem, input, true, out)
 }

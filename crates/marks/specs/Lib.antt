@@ -1,6 +1,3 @@
-pub mod State
-pub mod Chain
-pub mod Retakes
 pub mod Marks
 pub mod Rows
 pub mod History

@@ -1,98 +1,105 @@
--- The marks of the job table: their two bytes, and what stands at the head of the input.
+-- The table of marks, and what stands at the head of the input by it.
 use Prim.Native.Nat.{ℕ, _+_, _*_}
 use mathlib.Core.Bool.{cond}
 use mathlib.Core.List.{List, [], _∷_}
-use lib.ListN.{length, take, drop}
+use lib.ListN.{length}
 use lib.Dec.{eqb, ltb}
-use lib.Ieee.{binary32, binary64}
+use lib.Ieee.{Format, binary32, binary64}
 use Rattle.linalg.specs.Answer.{Answer, answers, refuses}
+use Rattle.outcome.specs.declared.Entry.{Entry}
 use Rattle.outcome.specs.declared.Entry.the-variants.{Ex, Co, Pa, Ac, Mu, In, Ji, Ar}
-use Rattle.outcome.specs.Outcome.{longest, unknownMark, Reply, Found, ended, unknown, cut, recordFound, Became, roomless, becameOf, writtenOf}
+use Rattle.outcome.specs.Outcome.{longest, unknownMark, Found, ended, unknown, cut, Became, roomless, becameOf, writtenOf}
 use Rattle.replies.specs.Table.{widthOf, entryReply}
-use Rattle.running.specs.Running.{everyOf}
-use Rattle.sheets.specs.Sheets.{ask}
-use Rattle.wire.specs.Wire.{wordAt}
-use Rattle.marks.specs.State.{State, stateOf, holds}
-use Rattle.marks.specs.Chain.{chSize, rnSize, chOf, chReply, rnReply}
-use Rattle.marks.specs.Retakes.{shSize, sqSize, shOf, shReply, sqReply}
+use Rattle.kept.specs.State.{State, stateOf, holds}
+use Rattle.kept.specs.Records.{Asks, foundBy, nextBy}
+use Rattle.kept.specs.Chain.{chLetters, rnLetters, chAsks, rnAsks}
+use Rattle.kept.specs.Retakes.{shLetters, sqLetters, shAsks, sqAsks}
 use Rattle.marks.specs.declared.Mark.{Mark}
 use Rattle.marks.specs.declared.Mark.the-variants.{Double, Single, Ch, Rn, Sh, Sq}
 use Rattle.marks.specs.declared.Look.{Look}
 use Rattle.marks.specs.declared.Look.the-variants.{Known, Unknown}
 
--- ---- the two bytes
--- by the two bytes as one number, the first times 256 and the second: capitals on doubles, and seven of them in small letters on singles
-unfoldable pub markKnown : ℕ → Answer Mark
-markKnown k =
-    cond (eqb k 0x4558) (answers (Double Ex))
-    (cond (eqb k 0x434f) (answers (Double Co))
-    (cond (eqb k 0x5041) (answers (Double Pa))
-    (cond (eqb k 0x4143) (answers (Double Ac))
-    (cond (eqb k 0x4d55) (answers (Double Mu))
-    (cond (eqb k 0x494e) (answers (Double In))
-    (cond (eqb k 0x4a49) (answers (Double Ji))
-    (cond (eqb k 0x4152) (answers (Double Ar))
-    (cond (eqb k 0x6578) (answers (Single Ex))
-    (cond (eqb k 0x636f) (answers (Single Co))
-    (cond (eqb k 0x7061) (answers (Single Pa))
-    (cond (eqb k 0x6163) (answers (Single Ac))
-    (cond (eqb k 0x6d75) (answers (Single Mu))
-    (cond (eqb k 0x696e) (answers (Single In))
-    (cond (eqb k 0x6a69) (answers (Single Ji))
-    (cond (eqb k 0x4348) (answers Ch)
-    (cond (eqb k 0x524e) (answers Rn)
-    (cond (eqb k 0x5348) (answers Sh)
-    (cond (eqb k 0x5351) (answers Sq) (refuses unknownMark)))))))))))))))))))
+-- ---- the table: a row has the two letters as one number, the first times 256 and the second, and what they ask for
+pub record Row : Type 0 where
+  pub letters : ℕ
+  pub asks : Asks
 
-unfoldable pub markOf : ℕ → ℕ → Answer Mark
-markOf a b = markKnown (a * 256 + b)
+abbrev pub row : ℕ → Asks → Row
+row k a = record { letters = k; asks = a }
 
--- what each case of `Look` says
-abbrev pub lookTold : Look → Answer Mark
-lookTold (Known m) = answers m
+-- an entry of the engine, which leaves the state as it is; on doubles, and on singles
+abbrev pub entryAsks : Format → Entry → Asks
+entryAsks f e = record { bytes = 2 + widthOf f e; step = λ z r. record { state = z; reply = entryReply f e r } }
+
+abbrev pub double : Entry → Asks
+double e = entryAsks binary64 e
+
+abbrev pub single : Entry → Asks
+single e = entryAsks binary32 e
+
+-- a line for each mark, in the order of the counts by mark
+abbrev pub table : List Row
+table =
+    row 0x4558 (double Ex)
+    ∷ row 0x434f (double Co)
+    ∷ row 0x5041 (double Pa)
+    ∷ row 0x4143 (double Ac)
+    ∷ row 0x4d55 (double Mu)
+    ∷ row 0x494e (double In)
+    ∷ row 0x4a49 (double Ji)
+    ∷ row 0x6578 (single Ex)
+    ∷ row 0x636f (single Co)
+    ∷ row 0x7061 (single Pa)
+    ∷ row 0x6163 (single Ac)
+    ∷ row 0x6d75 (single Mu)
+    ∷ row 0x696e (single In)
+    ∷ row 0x6a69 (single Ji)
+    ∷ row 0x4152 (double Ar)
+    ∷ row chLetters chAsks
+    ∷ row rnLetters rnAsks
+    ∷ row shLetters shAsks
+    ∷ row sqLetters sqAsks
+    ∷ []
+
+-- ---- what the letters k are in a table whose first row has the place n: the place of their row, and what they ask for
+pub record Listed : Type 0 where
+  pub place : ℕ
+  pub asks : Asks
+
+abbrev pub listed : ℕ → Asks → Listed
+listed n a = record { place = n; asks = a }
+
+unfoldable pub lookUp : ℕ → ℕ → List Row → Answer Listed
+lookUp k n [] = refuses unknownMark
+lookUp k n (r ∷ t) = cond (eqb k (r .letters)) (answers (listed n (r .asks))) (lookUp k (n + 1) t)
+
+unfoldable pub markOf : ℕ → ℕ → Answer Listed
+markOf a b = lookUp (a * 256 + b) 0 table
+
+-- what each case of `Mark` asks for, and what each case of `Look` says
+abbrev pub markAsks : Mark → Asks
+markAsks (Double e) = double e
+markAsks (Single e) = single e
+markAsks Ch = chAsks
+markAsks Rn = rnAsks
+markAsks Sh = shAsks
+markAsks Sq = sqAsks
+
+abbrev pub lookTold : Look → Answer Listed
+lookTold (Known m n) = answers (listed n (markAsks m))
 lookTold Unknown = refuses unknownMark
 
 -- the bytes of the longest record: PA's mark and its numbers
 abbrev pub longestRecord : ℕ
 longestRecord = 2 + widthOf binary64 Pa
 
--- ---- a whole record: the state behind it, and its reply
-pub record Stepped : Type 0 where
-  pub state : State
-  pub reply : Reply
-
--- how many bytes it has, its mark among them
-abbrev pub sizeOf : Mark → ℕ
-sizeOf (Double e) = 2 + widthOf binary64 e
-sizeOf (Single e) = 2 + widthOf binary32 e
-sizeOf Ch = chSize
-sizeOf Rn = rnSize
-sizeOf Sh = shSize
-sizeOf Sq = sqSize
-
--- an entry of the engine leaves the state as it is, and so does a question for a sheet
-unfoldable pub stepOf : Mark → State → List ℕ → Stepped
-stepOf (Double e) z r = record { state = z; reply = entryReply binary64 e r }
-stepOf (Single e) z r = record { state = z; reply = entryReply binary32 e r }
-stepOf Ch z r = let j = chOf (z .running) (drop 2 r) in record { state = record { running = j .running; sheets = z .sheets }; reply = chReply (j .answer) }
-stepOf Rn z r = let n = wordAt 2 (drop 2 r) 0 in record { state = record { running = everyOf (z .running) n; sheets = z .sheets }; reply = rnReply n }
-stepOf Sh z r = let j = shOf (z .sheets) (drop 2 r) in record { state = record { running = z .running; sheets = j .sheets }; reply = shReply (j .answer) }
-stepOf Sq z r = record { state = z; reply = sqReply (ask (z .sheets) (wordAt 2 (drop 2 r) 0)) }
-
 -- ---- what stands at the head of the input s, where z is the state; and the state behind it, which is z where no whole record stands there
-unfoldable pub markFound : Mark → State → List ℕ → Found
-markFound m z s = recordFound (sizeOf m) (λ r. stepOf m z r .reply) s
-
-unfoldable pub markNext : Mark → State → List ℕ → State
-markNext m z s = cond (ltb (length s) (sizeOf m)) z (stepOf m z (take (sizeOf m) s) .state)
-
--- by its mark
-unfoldable pub foundAt : Answer Mark → State → List ℕ → Found
-foundAt (answers m) z s = markFound m z s
+unfoldable pub foundAt : Answer Listed → State → List ℕ → Found
+foundAt (answers l) z s = foundBy (l .asks) z s
 foundAt (refuses k) z s = unknown
 
-unfoldable pub nextAt : Answer Mark → State → List ℕ → State
-nextAt (answers m) z s = markNext m z s
+unfoldable pub nextAt : Answer Listed → State → List ℕ → State
+nextAt (answers l) z s = nextBy (l .asks) z s
 nextAt (refuses k) z s = z
 
 unfoldable pub foundOf : State → List ℕ → Found

@@ -1,41 +1,28 @@
-// The marks of the job table: what their two bytes are, and what stands at the head of the input.
+// The table of marks, and what stands at the head of the input.
 ghost use mathlib.Core.Path.{_≡_};
 ghost use Prim.Native.Nat.{_+_, _*_};
 ghost use lib.ListN.{length};
 ghost use lib.Seq.{sets};
-ghost use mathlib.Core.Bool.{cond};
 ghost use Rattle.outcome.specs.Outcome.{stepTold};
-ghost use Rattle.marks.specs.State.{stateNone, stateOf, holds};
-ghost use Rattle.marks.specs.Marks.{markKnown, markOf, lookTold, metOf, metBytes, metState};
-ghost use Rattle.marks.specs.Rows.{capitalRow, smallRow, rowOf, metRow};
-use crate::chain::ch;
-use crate::chain::rn;
-use crate::retakes::sh;
-use crate::retakes::sq;
+ghost use Rattle.kept.specs.State.{stateOf};
+ghost use Rattle.marks.specs.Marks.{table, lookUp, markOf, lookTold, metOf, metBytes, metState};
+ghost use Rattle.marks.specs.Rows.{metRow};
+use kept::MEMORY;
+use kept::chain::ch;
+use kept::chain::rn;
+use kept::retakes::sh;
+use kept::retakes::sq;
 use outcome::Entry;
 use outcome::Step;
-use sheets::STORE;
 
-// How many bytes are lent for the running join: n and the count, whether there is a pose, and the pose
-// with its frames.
-pub(crate) const RUNNING: usize = 2 + 2 + 1 + 8 * 8 + 2 * 2;
-
-// How many are lent for the state of a job: those, and behind them the store of the retaken sheets.
-pub const MEMORY: usize = RUNNING + STORE;
-
-// How many counts by mark a job has: of the seven entries in capitals, of the same in small letters, of
-// AR, CH, RN, SH and SQ, and of what is no mark.
+// How many counts by mark a job has: one for each mark of the table, and the last for what is no mark.
 pub const ROWS: usize = 20;
 
-// The place of what is no mark: the last.
-const UNLISTED: usize = 19;
+// The place of what is no mark.
+const UNLISTED: usize = ROWS - 1;
 
-mod bytes; // numbers and poses at a place of a list of bytes
-mod chain; // the running join
-mod retakes; // the retaken sheets
-
-// A mark of the table: it asks for an entry of the engine, on doubles or on singles, for the running
-// join, or for the retaken sheets.
+// What a mark asks for: an entry of the engine, on doubles or on singles, the running join, or the
+// retaken sheets.
 pub enum Mark {
     Double(Entry),
     Single(Entry),
@@ -45,9 +32,9 @@ pub enum Mark {
     Sq,
 }
 
-// A mark of the table; or none.
+// A mark of the table, with its place among the counts by mark; or none.
 pub enum Look {
-    Known(Mark),
+    Known(Mark, usize),
     Unknown,
 }
 
@@ -64,99 +51,39 @@ fn key(a: u8, b: u8) -> u16
     (a as u16) * 256 + (b as u16)
 }
 
-// What the two bytes of that number are.
+// The table: what the two bytes of that number are, a line for each mark.
 fn known(k: u16) -> Look
-    ensures { λ r. ⌜ lookTold r ≡ markKnown k ⌝ }
+    ensures { λ r. ⌜ lookTold r ≡ lookUp k 0 table ⌝ }
 {
     match k {
-        0x4558 => Look::Known(Mark::Double(Entry::Ex)),
-        0x434f => Look::Known(Mark::Double(Entry::Co)),
-        0x5041 => Look::Known(Mark::Double(Entry::Pa)),
-        0x4143 => Look::Known(Mark::Double(Entry::Ac)),
-        0x4d55 => Look::Known(Mark::Double(Entry::Mu)),
-        0x494e => Look::Known(Mark::Double(Entry::In)),
-        0x4a49 => Look::Known(Mark::Double(Entry::Ji)),
-        0x4152 => Look::Known(Mark::Double(Entry::Ar)),
-        0x6578 => Look::Known(Mark::Single(Entry::Ex)),
-        0x636f => Look::Known(Mark::Single(Entry::Co)),
-        0x7061 => Look::Known(Mark::Single(Entry::Pa)),
-        0x6163 => Look::Known(Mark::Single(Entry::Ac)),
-        0x6d75 => Look::Known(Mark::Single(Entry::Mu)),
-        0x696e => Look::Known(Mark::Single(Entry::In)),
-        0x6a69 => Look::Known(Mark::Single(Entry::Ji)),
-        0x4348 => Look::Known(Mark::Ch),
-        0x524e => Look::Known(Mark::Rn),
-        0x5348 => Look::Known(Mark::Sh),
-        0x5351 => Look::Known(Mark::Sq),
+        0x4558 => Look::Known(Mark::Double(Entry::Ex), 0),
+        0x434f => Look::Known(Mark::Double(Entry::Co), 1),
+        0x5041 => Look::Known(Mark::Double(Entry::Pa), 2),
+        0x4143 => Look::Known(Mark::Double(Entry::Ac), 3),
+        0x4d55 => Look::Known(Mark::Double(Entry::Mu), 4),
+        0x494e => Look::Known(Mark::Double(Entry::In), 5),
+        0x4a49 => Look::Known(Mark::Double(Entry::Ji), 6),
+        0x6578 => Look::Known(Mark::Single(Entry::Ex), 7),
+        0x636f => Look::Known(Mark::Single(Entry::Co), 8),
+        0x7061 => Look::Known(Mark::Single(Entry::Pa), 9),
+        0x6163 => Look::Known(Mark::Single(Entry::Ac), 10),
+        0x6d75 => Look::Known(Mark::Single(Entry::Mu), 11),
+        0x696e => Look::Known(Mark::Single(Entry::In), 12),
+        0x6a69 => Look::Known(Mark::Single(Entry::Ji), 13),
+        0x4152 => Look::Known(Mark::Double(Entry::Ar), 14),
+        0x4348 => Look::Known(Mark::Ch, 15),
+        0x524e => Look::Known(Mark::Rn, 16),
+        0x5348 => Look::Known(Mark::Sh, 17),
+        0x5351 => Look::Known(Mark::Sq, 18),
         _ => Look::Unknown,
     }
 }
 
-// What two bytes are in the job table.
+// What two bytes are in the table.
 pub fn look_up(a: u8, b: u8) -> Look
     ensures { λ r. ⌜ lookTold r ≡ markOf a b ⌝ }
 {
     known(key(a, b))
-}
-
-// ---- the places of the marks in the counts
-fn capital(e: Entry) -> usize
-    ensures { λ r. ⌜ r ≡ capitalRow e ⌝ }
-{
-    match e {
-        Entry::Ex => 0,
-        Entry::Co => 1,
-        Entry::Pa => 2,
-        Entry::Ac => 3,
-        Entry::Mu => 4,
-        Entry::In => 5,
-        Entry::Ji => 6,
-        Entry::Ar => 14,
-    }
-}
-
-// AR has no small letters.
-fn small(e: Entry) -> usize
-    ensures { λ r. ⌜ r ≡ smallRow e ⌝ }
-{
-    match e {
-        Entry::Ex => 7,
-        Entry::Co => 8,
-        Entry::Pa => 9,
-        Entry::Ac => 10,
-        Entry::Mu => 11,
-        Entry::In => 12,
-        Entry::Ji => 13,
-        Entry::Ar => UNLISTED,
-    }
-}
-
-fn row(m: Mark) -> usize
-    ensures { λ r. ⌜ r ≡ rowOf m ⌝ }
-{
-    match m {
-        Mark::Double(e) => capital(e),
-        Mark::Single(e) => small(e),
-        Mark::Ch => 15,
-        Mark::Rn => 16,
-        Mark::Sh => 17,
-        Mark::Sq => 18,
-    }
-}
-
-// ---- a record
-// Makes the lent bytes the state of a job that has not begun, if they are as many as a state has.
-pub fn fresh(mem: &mut [u8])
-    ensures { λ _. ⌜ stateOf (now (mem .exit)) ≡ cond (holds (now (mem .entry))) stateNone (stateOf (now (mem .entry))) ⌝ }
-{
-    if mem.len() == MEMORY {
-        mem[0] = 0;
-        mem[1] = 0;
-        mem[2] = 0;
-        mem[3] = 0;
-        mem[4] = 0;
-        sheets::fresh(&mut mem[RUNNING..]);
-    }
 }
 
 fn tell(step: Step, row: usize) -> Heard
@@ -184,10 +111,9 @@ pub fn reply(s: &[u8], mem: &mut [u8], out: &mut [u8]) -> Heard
     if s.len() == 1 {
         return tell(Step::Cut, UNLISTED);
     }
-    let Look::Known(m) = look_up(s[0], s[1]) else {
+    let Look::Known(m, place) = look_up(s[0], s[1]) else {
         return tell(Step::Unknown, UNLISTED);
     };
-    let place = row(m);
     match m {
         Mark::Double(e) => tell(replies::reply(e, s, out), place),
         Mark::Single(e) => tell(replies_f32::reply(e, s, out), place),

@@ -14,7 +14,7 @@ ghost use lib.ListN.{length, take, drop, getD};
 ghost use lib.Seq.{paste};
 ghost use Rattle.job.specs.Counts.{countsSound};
 ghost use Rattle.job.specs.Job.{jobLimit, jobOf};
-ghost use Rattle.marks.specs.State.{stateOf, memory};
+ghost use Rattle.kept.specs.State.{stateOf, memory};
 ghost use Rattle.job.specs.Feed.{fedOf, toldPart, goesOn, recordRoom};
 ghost use Rattle.job.specs.declared.Reason.{Reason};
 ghost use Rattle.sim3_job.specs.Filled.{Within, FromTape, filledOf};
@@ -249,7 +249,7 @@ fn run(live: bool, tape: &[u8], cuts: &[usize], sink: &mut [u8]) -> Ran
     let buf: &mut [u8] = &mut space;
     let mut room = io::large_buffer();
     let out: &mut [u8] = &mut room;
-    let mut place: [u8; marks::MEMORY] = [0; marks::MEMORY];
+    let mut place: [u8; kept::MEMORY] = [0; kept::MEMORY];
     let mem: &mut [u8] = &mut place;
     job::fresh(mem);
     let mut c = job::no_counts();

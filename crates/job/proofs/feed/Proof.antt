@@ -1,11 +1,11 @@
--- Written by tools/proofs from Proof.template: edit that one. Digest a766aca8e2039286.
+-- Written by tools/proofs from Proof.template: edit that one. Digest 78c8016ace67a645.
 -- `job::feed` meets its contract: counts that are none of a job's, and bytes that hold no state, are handed back; else the loop and the end are put together. Assumes nothing.
 use borrow.Author.Needs.{needs}
 use native.Mathlib.Omega.{arith}
 use mathlib.Core.Path.{refl, sym, _∙_}
 use borrow.Author.Tests.{not-true, not-false}
-use Rattle.marks.specs.State.{stateOf, holds}
-use Rattle.marks.proofs.Heads.{held, unheld}
+use Rattle.kept.specs.State.{stateOf, holds}
+use Rattle.kept.proofs.Records.{held, unheld}
 use Rattle.job.specs.Job.{standing, jobLimit}
 use Rattle.job.proofs.Pieces.{sound-is, both, first-false, second-false, feed-bad, Looped, feed-room, feed-uses, feed-within, feed-told, feed-wrote, feed-left}
 use Rattle.job.proofs.feed.Statement.{statement}

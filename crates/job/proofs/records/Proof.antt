@@ -1,4 +1,4 @@
--- Written by tools/proofs from Proof.template: edit that one. Digest 6e491883626077ca.
+-- Written by tools/proofs from Proof.template: edit that one. Digest 6a46cd603257dd52.
 -- `job::records` meets its contract: each turn keeps the definition's value, and each way out is the definition's. Assumes nothing.
 use borrow.Author.Needs.{needs}
 use native.Mathlib.Omega.{arith}
@@ -6,8 +6,9 @@ use Prim.Native.Nat.{_+_, _-_, _≤_}
 use mathlib.Core.Path.{_≡_, sym, ap, _∙_}
 use lib.ListN.{length, take, drop}
 use lib.Seq.{sets}
-use Rattle.marks.specs.State.{stateOf, memory}
-use Rattle.marks.proofs.Heads.{met, held}
+use Rattle.kept.specs.State.{stateOf, memory}
+use Rattle.marks.proofs.Heads.{met}
+use Rattle.kept.proofs.Records.{held}
 use Rattle.marks.proofs.Rows.{row-held}
 use Rattle.job.specs.Job.{standing, jobLimit}
 use Rattle.job.specs.Inner.{joined}

@@ -1,10 +1,10 @@
--- Written by tools/proofs from Proof.template: edit that one. Digest a79666991d1028d6.
+-- Written by tools/proofs from Proof.template: edit that one. Digest 8b71476c384d3111.
 -- `job::run` meets its contract: one call with all the input is the whole job, unless it ran out of room. Assumes nothing.
 use borrow.Author.Needs.{needs}
 use mathlib.Core.Path.{_≡_, _∙_}
 use mathlib.Core.Bool.{true}
-use Rattle.marks.specs.State.{stateNone, stateOf, holds}
-use Rattle.marks.proofs.Heads.{held}
+use Rattle.kept.specs.State.{stateNone, stateOf, holds}
+use Rattle.kept.proofs.Records.{held}
 use Rattle.job.specs.Job.{jobLimit}
 use Rattle.job.proofs.Whole.{whole}
 use Rattle.job.proofs.run.Statement.{statement}

@@ -1,15 +1,14 @@
--- Written by tools/proofs from Proof.template: edit that one. Digest 969a214721f8acce.
--- `marks::reply` meets its contract: by the lent bytes, by the length of the input, by its mark, and by the reply of its entry. Assumes nothing.
+-- Written by tools/proofs from Proof.template: edit that one. Digest de1f40ee76abb614.
+-- `marks::reply` meets its contract: by the lent bytes, by the length of the input, by its mark, and by what that asks for. Assumes nothing.
 use borrow.Author.Needs.{needs}
 use native.Mathlib.Omega.{arith}
 use mathlib.Core.Path.{refl, sym, ap, _∙_}
+use lib.Ieee.{binary32, binary64}
 use Rattle.outcome.specs.declared.Step.the-variants as step
 use Rattle.outcome.specs.Outcome.{ended, unknown, cut, becameOf, writtenOf}
-use Rattle.marks.specs.State.{stateOf}
 use Rattle.marks.specs.Marks.{lookTold}
-use Rattle.marks.specs.declared.Mark.the-variants.{Ch, Rn, Sh, Sq}
 use Rattle.marks.specs.declared.Look.the-variants.{Known}
-use Rattle.marks.proofs.Heads.{found-none, found-half, found-unknown, found-mark, double-meets, single-meets, sq-still, met-unheld, met-held, met-still}
+use Rattle.marks.proofs.Heads.{found-none, found-half, found-unknown, met-unheld, met-still, met-by, entry-told, asked-told}
 use Rattle.marks.proofs.Rows.{row-unheld, row-short, row-unknown, row-mark, beside}
 use Rattle.marks.proofs.reply.Statement.{statement}
 use Rattle.marks.proofs.reply.Tie as tie
@@ -25,7 +24,7 @@ unfolding becameOf writtenOf
 returns-2 c =
     let c1 = c .before .before .before .before .before in
     let a = c1 .before .args in
-    let t = met-still (a .mem .now) (a .s .now) (a .out .now) (c .before .before .if1 .left) ended (found-none _ (a .s .now) (c .before .if2 .taken)) step.End (a .out .now) refl refl in
+    let t = met-still (a .mem .now) (a .s .now) (a .out .now) (c .before .before .if1 .left) ended (found-none _ (a .s .now) (c .before .if2 .taken)) step.End refl refl in
     rw (c .tell2 .ensures) (beside t (row-short (a .mem .now) (a .s .now) (c .before .before .if1 .left) (omega arith)))
 
 returns-3 : tie.Need-returns-3
@@ -33,7 +32,7 @@ unfolding becameOf writtenOf
 returns-3 c =
     let c1 = c .before .before .before .before .before in
     let a = c1 .before .before .args in
-    let t = met-still (a .mem .now) (a .s .now) (a .out .now) (c .before .before .before .if1 .left) cut (found-half _ (a .s .now) (c .before .if3 .taken)) step.Cut (a .out .now) refl refl in
+    let t = met-still (a .mem .now) (a .s .now) (a .out .now) (c .before .before .before .if1 .left) cut (found-half _ (a .s .now) (c .before .if3 .taken)) step.Cut refl refl in
     rw (c .tell3 .ensures) (beside t (row-short (a .mem .now) (a .s .now) (c .before .before .before .if1 .left) (omega arith)))
 
 returns-4 : tie.Need-returns-4
@@ -43,7 +42,7 @@ returns-4 c =
     let c2 = c1 .before .before .before .before .before in
     let a = c2 .before .before .args in
     let none = sym (c .before .before .before .look-up .ensures) ∙ ap lookTold (c .before .enum-told .given .1) in
-    let t = met-still (a .mem .now) (a .s .now) (a .out .now) (c1 .before .before .before .if1 .left) unknown (found-unknown _ (a .s .now) (omega arith) none) step.Unknown (a .out .now) refl refl in
+    let t = met-still (a .mem .now) (a .s .now) (a .out .now) (c1 .before .before .before .if1 .left) unknown (found-unknown _ (a .s .now) (omega arith) none) step.Unknown refl refl in
     rw (c .tell4 .ensures) (beside t (row-unknown (a .mem .now) (a .s .now) (c1 .before .before .before .if1 .left) (omega arith) none))
 
 returns-5 : tie.Need-returns-5
@@ -52,14 +51,12 @@ returns-5 c =
     let c2 = c1 .before .before .before .before .before in
     let c3 = c2 .before .before .before .before .before in
     let c4 = c3 .before .before .before .before .before in
-    let a = c4 .before .args in
-    let known = sym (c2 .before .before .look-up .ensures) ∙ ap lookTold (c2 .m .given .1 ∙ ap Known (c1 .before .m2 .given .1)) in
-    let z = stateOf (a .mem .now) in
-    let k = double-meets z (a .s .now) (c1 .before .m2 .given .0 .0) in
-    let f = found-mark z (a .s .now) _ (omega arith) known in
-    let t = met-still (a .mem .now) (a .s .now) (a .out .now) (c3 .before .before .if1 .left) _ (f .0 ∙ k .0, f .1 ∙ k .1) (c .before .before .before .reply .result) _ (c .before .before .before .reply .ensures .0) (c .before .before .before .reply .ensures .1) in
-    let listed = sym (c2 .before .before .look-up .ensures) ∙ ap lookTold (c2 .m .given .1) in
-    rw (c .tell5 .ensures) (beside t (c1 .before .before .before .row .ensures ∙ row-mark (a .mem .now) (a .s .now) _ (c3 .before .before .if1 .left) (omega arith) listed))
+    let a = c4 .args in
+    let p = c1 .before .before .before .before .m .given .0 .1 .0 in
+    let listed = sym (c2 .before .look-up .ensures) ∙ ap lookTold (c1 .before .before .before .before .m .given .1 ∙ ap (λ m. Known m p) (c1 .before .m2 .given .1)) in
+    let told = entry-told binary64 (c1 .before .m2 .given .0 .0) (a .mem .now) (a .s .now) (a .out .now) (c3 .before .if1 .left) (c .before .before .before .reply .result) _ (c .before .before .before .reply .ensures .0) (c .before .before .before .reply .ensures .1) in
+    let t = met-by (a .mem .now) (a .s .now) (a .out .now) _ (omega arith) listed (c .before .before .before .reply .result) _ _ told in
+    rw (c .tell5 .ensures) (beside t (row-mark (a .mem .now) (a .s .now) _ (c3 .before .if1 .left) (omega arith) listed))
 
 returns-6 : tie.Need-returns-6
 returns-6 c =
@@ -67,14 +64,12 @@ returns-6 c =
     let c2 = c1 .before .before .before .before .before in
     let c3 = c2 .before .before .before .before .before in
     let c4 = c3 .before .before .before .before .before in
-    let a = c4 .before .args in
-    let known = sym (c2 .before .before .look-up .ensures) ∙ ap lookTold (c2 .m .given .1 ∙ ap Known (c1 .before .m3 .given .1)) in
-    let z = stateOf (a .mem .now) in
-    let k = single-meets z (a .s .now) (c1 .before .m3 .given .0 .0) in
-    let f = found-mark z (a .s .now) _ (omega arith) known in
-    let t = met-still (a .mem .now) (a .s .now) (a .out .now) (c3 .before .before .if1 .left) _ (f .0 ∙ k .0, f .1 ∙ k .1) (c .before .before .before .reply2 .result) _ (c .before .before .before .reply2 .ensures .0) (c .before .before .before .reply2 .ensures .1) in
-    let listed = sym (c2 .before .before .look-up .ensures) ∙ ap lookTold (c2 .m .given .1) in
-    rw (c .tell6 .ensures) (beside t (c1 .before .before .before .row .ensures ∙ row-mark (a .mem .now) (a .s .now) _ (c3 .before .before .if1 .left) (omega arith) listed))
+    let a = c4 .args in
+    let p = c1 .before .before .before .before .m .given .0 .1 .0 in
+    let listed = sym (c2 .before .look-up .ensures) ∙ ap lookTold (c1 .before .before .before .before .m .given .1 ∙ ap (λ m. Known m p) (c1 .before .m3 .given .1)) in
+    let told = entry-told binary32 (c1 .before .m3 .given .0 .0) (a .mem .now) (a .s .now) (a .out .now) (c3 .before .if1 .left) (c .before .before .before .reply2 .result) _ (c .before .before .before .reply2 .ensures .0) (c .before .before .before .reply2 .ensures .1) in
+    let t = met-by (a .mem .now) (a .s .now) (a .out .now) _ (omega arith) listed (c .before .before .before .reply2 .result) _ _ told in
+    rw (c .tell6 .ensures) (beside t (row-mark (a .mem .now) (a .s .now) _ (c3 .before .if1 .left) (omega arith) listed))
 
 returns-7 : tie.Need-returns-7
 returns-7 c =
@@ -82,12 +77,12 @@ returns-7 c =
     let c2 = c1 .before .before .before .before .before in
     let c3 = c2 .before .before .before .before .before in
     let c4 = c3 .before .before .before .before .before in
-    let a = c4 .before .before .before .args in
-    let known = sym (c2 .before .before .before .before .look-up .ensures) ∙ ap lookTold (c2 .before .before .m .given .1 ∙ ap Known (c1 .before .before .before .enum-told2 .given .1)) in
-    let f = found-mark (stateOf (a .mem .now)) (a .s .now) Ch (omega arith) known in
-    let t = met-held (a .mem .now) (a .s .now) (a .out .now) (c3 .before .before .before .before .if1 .left) _ _ f (c1 .ch .result) _ _ (c1 .ch .ensures .0) (c1 .ch .ensures .1 .0) (c1 .ch .ensures .1 .1) in
-    let listed = sym (c2 .before .before .before .before .look-up .ensures) ∙ ap lookTold (c2 .before .before .m .given .1) in
-    rw (c .tell7 .ensures) (beside t (c2 .row .ensures ∙ row-mark (a .mem .now) (a .s .now) _ (c3 .before .before .before .before .if1 .left) (omega arith) listed))
+    let a = c4 .before .before .args in
+    let p = c2 .before .m .given .0 .1 .0 in
+    let listed = sym (c2 .before .before .before .look-up .ensures) ∙ ap lookTold (c2 .before .m .given .1 ∙ ap (λ m. Known m p) (c1 .before .before .before .enum-told2 .given .1)) in
+    let told = c1 .ch .ensures in
+    let t = met-by (a .mem .now) (a .s .now) (a .out .now) _ (omega arith) listed (c1 .ch .result) _ _ told in
+    rw (c .tell7 .ensures) (beside t (row-mark (a .mem .now) (a .s .now) _ (c3 .before .before .before .if1 .left) (omega arith) listed))
 
 returns-8 : tie.Need-returns-8
 returns-8 c =
@@ -95,12 +90,12 @@ returns-8 c =
     let c2 = c1 .before .before .before .before .before in
     let c3 = c2 .before .before .before .before .before in
     let c4 = c3 .before .before .before .before .before in
-    let a = c4 .before .before .before .args in
-    let known = sym (c2 .before .before .before .before .look-up .ensures) ∙ ap lookTold (c2 .before .before .m .given .1 ∙ ap Known (c1 .before .before .before .enum-told3 .given .1)) in
-    let f = found-mark (stateOf (a .mem .now)) (a .s .now) Rn (omega arith) known in
-    let t = met-held (a .mem .now) (a .s .now) (a .out .now) (c3 .before .before .before .before .if1 .left) _ _ f (c1 .rn .result) _ _ (c1 .rn .ensures .0) (c1 .rn .ensures .1 .0) (c1 .rn .ensures .1 .1) in
-    let listed = sym (c2 .before .before .before .before .look-up .ensures) ∙ ap lookTold (c2 .before .before .m .given .1) in
-    rw (c .tell8 .ensures) (beside t (c2 .row .ensures ∙ row-mark (a .mem .now) (a .s .now) _ (c3 .before .before .before .before .if1 .left) (omega arith) listed))
+    let a = c4 .before .before .args in
+    let p = c2 .before .m .given .0 .1 .0 in
+    let listed = sym (c2 .before .before .before .look-up .ensures) ∙ ap lookTold (c2 .before .m .given .1 ∙ ap (λ m. Known m p) (c1 .before .before .before .enum-told3 .given .1)) in
+    let told = c1 .rn .ensures in
+    let t = met-by (a .mem .now) (a .s .now) (a .out .now) _ (omega arith) listed (c1 .rn .result) _ _ told in
+    rw (c .tell8 .ensures) (beside t (row-mark (a .mem .now) (a .s .now) _ (c3 .before .before .before .if1 .left) (omega arith) listed))
 
 returns-9 : tie.Need-returns-9
 returns-9 c =
@@ -108,12 +103,12 @@ returns-9 c =
     let c2 = c1 .before .before .before .before .before in
     let c3 = c2 .before .before .before .before .before in
     let c4 = c3 .before .before .before .before .before in
-    let a = c4 .before .before .before .args in
-    let known = sym (c2 .before .before .before .before .look-up .ensures) ∙ ap lookTold (c2 .before .before .m .given .1 ∙ ap Known (c1 .before .before .before .enum-told4 .given .1)) in
-    let f = found-mark (stateOf (a .mem .now)) (a .s .now) Sh (omega arith) known in
-    let t = met-held (a .mem .now) (a .s .now) (a .out .now) (c3 .before .before .before .before .if1 .left) _ _ f (c1 .sh .result) _ _ (c1 .sh .ensures .0) (c1 .sh .ensures .1 .0) (c1 .sh .ensures .1 .1) in
-    let listed = sym (c2 .before .before .before .before .look-up .ensures) ∙ ap lookTold (c2 .before .before .m .given .1) in
-    rw (c .tell9 .ensures) (beside t (c2 .row .ensures ∙ row-mark (a .mem .now) (a .s .now) _ (c3 .before .before .before .before .if1 .left) (omega arith) listed))
+    let a = c4 .before .before .args in
+    let p = c2 .before .m .given .0 .1 .0 in
+    let listed = sym (c2 .before .before .before .look-up .ensures) ∙ ap lookTold (c2 .before .m .given .1 ∙ ap (λ m. Known m p) (c1 .before .before .before .enum-told4 .given .1)) in
+    let told = c1 .sh .ensures in
+    let t = met-by (a .mem .now) (a .s .now) (a .out .now) _ (omega arith) listed (c1 .sh .result) _ _ told in
+    rw (c .tell9 .ensures) (beside t (row-mark (a .mem .now) (a .s .now) _ (c3 .before .before .before .if1 .left) (omega arith) listed))
 
 returns-10 : tie.Need-returns-10
 returns-10 c =
@@ -121,13 +116,12 @@ returns-10 c =
     let c2 = c1 .before .before .before .before .before in
     let c3 = c2 .before .before .before .before .before in
     let c4 = c3 .before .before .before .before .before in
-    let a = c4 .before .args in
-    let z = stateOf (a .mem .now) in
-    let known = sym (c2 .before .before .look-up .ensures) ∙ ap lookTold (c2 .m .given .1 ∙ ap Known (c1 .before .enum-told5 .given .1)) in
-    let f = found-mark z (a .s .now) Sq (omega arith) known in
-    let t = met-still (a .mem .now) (a .s .now) (a .out .now) (c3 .before .before .if1 .left) _ (f .0, f .1 ∙ sq-still z (a .s .now)) (c .before .before .before .sq .result) _ (c .before .before .before .sq .ensures .0) (c .before .before .before .sq .ensures .1) in
-    let listed = sym (c2 .before .before .look-up .ensures) ∙ ap lookTold (c2 .m .given .1) in
-    rw (c .tell10 .ensures) (beside t (c1 .before .before .before .row .ensures ∙ row-mark (a .mem .now) (a .s .now) _ (c3 .before .before .if1 .left) (omega arith) listed))
+    let a = c4 .args in
+    let p = c1 .before .before .before .before .m .given .0 .1 .0 in
+    let listed = sym (c2 .before .look-up .ensures) ∙ ap lookTold (c1 .before .before .before .before .m .given .1 ∙ ap (λ m. Known m p) (c1 .before .enum-told5 .given .1)) in
+    let told = asked-told (a .mem .now) (a .s .now) (a .out .now) (c3 .before .if1 .left) (c .before .before .before .sq .result) _ (c .before .before .before .sq .ensures .0) (c .before .before .before .sq .ensures .1) in
+    let t = met-by (a .mem .now) (a .s .now) (a .out .now) _ (omega arith) listed (c .before .before .before .sq .result) _ _ told in
+    rw (c .tell10 .ensures) (beside t (row-mark (a .mem .now) (a .s .now) _ (c3 .before .if1 .left) (omega arith) listed))
 
 pub reply-spec : {M : Type 1} → statement M
 reply-spec =
@@ -146,7 +140,6 @@ reply-spec =
     (λ c. search needs)
     (λ c κs. search needs)
     returns-4
-    (λ c κs. search needs)
     (λ c. search needs)
     (λ c κs. search needs)
     (λ c κs. search needs)

@@ -29,7 +29,10 @@ above (pos n) most at e = refl
 above (negsuc n) most at e = untrue (sym e)
 
 returns : tie.Need-returns
-returns c = let a = c .before .before .args in below _ (length (a .room .now)) (a .at) (c .if1 .taken) ∙ ap (λ (z : ℤ). filledOf z (length (a .room .now)) (a .at)) (toZ-ofZ (c .before .before .fits .got))
+returns c =
+    let a = c .before .before .args in
+    let most = length (a .room .now) in
+    below _ most (a .at) (c .if1 .taken) ∙ ap (λ (z : ℤ). filledOf z most (a .at)) (toZ-ofZ (c .before .before .fits .got))
 
 returns-2 : tie.Need-returns-2
 returns-2 c =

@@ -1,4 +1,4 @@
--- Written by tools/proofs from Proof.template: edit that one. Digest 9819d8a51659ad2e.
+-- Written by tools/proofs from Proof.template: edit that one. Digest f477d11780197433.
 -- `sim3_job::run` meets its contract. From a tape, what the sink holds and what the job still writes are together what it writes for the whole tape; and each
 -- turn brings the end nearer, wherever it reads from.
 use borrow.Author.Needs.{needs}
@@ -11,8 +11,8 @@ use mathlib.Core.List.{List, _++_}
 use lib.Seq.{length-take-le}
 use lib.ListN.{length, take, drop}
 use Rattle.job.specs.declared.Fed.{Fed}
-use Rattle.marks.specs.State.{stateNone, stateOf, memory, holds}
-use Rattle.marks.proofs.Heads.{held}
+use Rattle.kept.specs.State.{stateNone, stateOf, memory, holds}
+use Rattle.kept.proofs.Records.{held}
 use Rattle.job.specs.Counts.{countsSound}
 use Rattle.job.specs.Job.{standing, jobLimit}
 use Rattle.job.specs.Feed.{feedOf, goesOn, answerRoom, recordRoom}

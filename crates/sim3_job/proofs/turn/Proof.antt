@@ -1,4 +1,4 @@
--- Written by tools/proofs from Proof.template: edit that one. Digest 99f1beea447dd969.
+-- Written by tools/proofs from Proof.template: edit that one. Digest 5d4e36ff66c785fc.
 -- `sim3_job::turn` meets its contract: it is what `feed` ensures, with the bytes that are left moved to the front.
 use borrow.Author.Needs.{needs}
 use native.Mathlib.Omega.{arith}
@@ -11,8 +11,8 @@ use Rattle.job.specs.declared.Reason.the-variants.{More}
 use mathlib.Core.Bool.{true}
 use Rattle.job.specs.Job.{standing, jobLimit}
 use Rattle.job.specs.Feed.{fedOf, recordRoom}
-use Rattle.marks.specs.State.{stateOf, holds}
-use Rattle.marks.proofs.Heads.{held}
+use Rattle.kept.specs.State.{stateOf, holds}
+use Rattle.kept.proofs.Records.{held}
 use Rattle.job.proofs.Few.{feed-few}
 use Rattle.sim3_job.proofs.Moves.{drop-take}
 use Rattle.sim3_job.proofs.Nearer.{not-bad}

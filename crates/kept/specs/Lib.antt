@@ -1,0 +1,4 @@
+pub mod State
+pub mod Records
+pub mod Chain
+pub mod Retakes
