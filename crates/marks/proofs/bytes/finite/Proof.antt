@@ -3,7 +3,7 @@
 use borrow.Author.Needs.{needs}
 use lib.Ieee.{binary64}
 use Rattle.ieee.proofs.Finite.{zero-told}
-use Rattle.replies.proofs.AllFinite.{pose-zero}
+use Rattle.finite.proofs.AllFinite.{pose-zero}
 use Rattle.marks.proofs.bytes.finite.Statement.{statement}
 use Rattle.marks.proofs.bytes.finite.Tie as tie
 
