@@ -1,12 +1,10 @@
-// Numbers of 16 bits, doubles, and poses with their frames at a place of a list of bytes; and whether a
-// pose is finite.
+// Numbers of 16 bits, doubles, and poses with their frames at a place of a list of bytes.
 ghost use mathlib.Core.Path.{_≡_};
 ghost use Prim.Native.Nat.{_+_, _≤_};
 ghost use lib.Ieee.{binary64};
 ghost use lib.ListN.{length, take, drop};
 ghost use lib.Seq.{sets};
-ghost use Rattle.layout.specs.Layout.{poseNumbers};
-ghost use Rattle.wire.specs.Wire.{word, wordAt, numberOf, numberBytes, itemBytes, itemsBytes, allFinite, numbers};
+ghost use Rattle.wire.specs.Wire.{word, wordAt, numberOf, numberBytes, itemBytes, itemsBytes};
 ghost use Rattle.replies.specs.Table.{framedWidth, framedIn, framedItems};
 use frames::Pose;
 use linalg::vector::Vec3;
@@ -103,16 +101,4 @@ pub(crate) fn put_framed(out: &mut [u8], at: usize, x: Pose)
     put_number(out, at + 56, p.sigma);
     put_short(out, at + 64, x.from);
     put_short(out, at + 66, x.to);
-}
-
-// Whether every number of a pose is finite: a product that begins with 0 is NaN where a factor is not.
-pub(crate) fn finite(x: Sim3) -> bool
-    ensures { λ r. ⌜ r ≡ allFinite (numbers (poseNumbers x)) ⌝ }
-{
-    let a = 0.0 * x.q.w * x.q.y;
-    let b = 0.0 * x.q.x * x.q.z;
-    let c = 0.0 * x.t.x * x.t.z;
-    let d = 0.0 * x.t.y * x.sigma;
-    let z = a * c * (b * d);
-    z == z
 }

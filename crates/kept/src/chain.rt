@@ -15,7 +15,6 @@ ghost use Rattle.kept.specs.Chain.{chSize, rnSize, chOf, chReply, rnRepl
 use crate::MEMORY;
 use crate::RUNNING;
 use crate::bytes::FRAMED;
-use crate::bytes::finite;
 use crate::bytes::framed_at;
 use crate::bytes::number_at;
 use crate::bytes::put_framed;
@@ -84,7 +83,7 @@ fn answer(out: &mut [u8], a: PoseAnswer) -> Step
             out[0] = b'C';
             out[1] = b'H';
             put_framed(out, 2, x);
-            if finite(x.sim3) {
+            if finite::pose(x.sim3) {
                 return Step::Took(Kind::Answered, CH, 2 + FRAMED);
             }
             Step::Took(Kind::Unusable, CH, 2 + FRAMED)

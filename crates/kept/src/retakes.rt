@@ -16,7 +16,6 @@ ghost use Rattle.kept.specs.Retakes.{shSize, sqSize, shOf, shReply, sqRe
 use crate::MEMORY;
 use crate::RUNNING;
 use crate::bytes::FRAMED;
-use crate::bytes::finite;
 use crate::bytes::framed_at;
 use crate::bytes::put_framed;
 use crate::bytes::put_short;
@@ -119,7 +118,7 @@ fn tell(out: &mut [u8], x: Shot) -> Step
     out[1] = b'Q';
     put_short(out, 2, take);
     put_framed(out, 4, pose);
-    if finite(pose.sim3) {
+    if finite::pose(pose.sim3) {
         return Step::Took(Kind::Answered, SQ, 2 + 2 + FRAMED);
     }
     Step::Took(Kind::Unusable, SQ, 2 + 2 + FRAMED)

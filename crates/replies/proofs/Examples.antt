@@ -49,7 +49,8 @@ ac-example :
       kind = Answered;
       bytes = 0x41 ∷ 0x43 ∷ 0 ∷ 0 ∷ 0 ∷ 0 ∷ 0 ∷ 0 ∷ 0x14 ∷ 0x40 ∷ 0 ∷ 0 ∷ 0 ∷ 0 ∷ 0 ∷ 0 ∷ 0x1c ∷ 0x40 ∷ 0 ∷ 0 ∷ 0 ∷ 0 ∷ 0 ∷ 0 ∷ 0x22 ∷ 0x40 ∷ [];
     }
-unfolding wordsBytes eight up-point frames entryReply replyOf answerOf acOf markBytes poseIn quatIn vecIn vecNumbers numberAt numberOf numberBytes itemBytes itemsBytes allFinite isFinite numbers wordOf wordBytes ofBits toBits add sub mul vecScale vecCross vecAdd so3Act poseAct
+unfolding wordsBytes eight up-point frames entryReply replyOf answerOf acOf markBytes poseIn quatIn vecIn vecNumbers numberAt numberOf numberBytes
+    itemBytes itemsBytes allFinite isFinite numbers wordOf wordBytes ofBits toBits add sub mul vecScale vecCross vecAdd so3Act poseAct
 ac-example = refl
 
 -- that pose from 5 to 7 times itself from 3 to 5, up 1: t is doubled, and the product goes from 3 to 7
@@ -59,7 +60,9 @@ mu-example :
       kind = Answered;
       bytes = 0x4d ∷ 0x55 ∷ (wordsBytes (one ∷ 0 ∷ 0 ∷ 0 ∷ 0x4000000000000000 ∷ 0x4010000000000000 ∷ 0x4018000000000000 ∷ 0 ∷ []) ++ (3 ∷ 0 ∷ 7 ∷ 0 ∷ []));
     }
-unfolding wordsBytes eight frames entryReply replyOf answerOf muOf framedIn framedItems framedMul markBytes poseIn quatIn vecIn poseNumbers quatNumbers vecNumbers numberAt numberOf numberBytes itemBytes itemsBytes allFinite isFinite numbers wordAt wordOf wordBytes ofBits toBits add sub mul vecScale vecCross vecAdd so3Act quatMul poseAct poseMul
+unfolding wordsBytes eight frames entryReply replyOf answerOf muOf framedIn framedItems framedMul markBytes poseIn quatIn vecIn poseNumbers
+    quatNumbers vecNumbers numberAt numberOf numberBytes itemBytes itemsBytes allFinite isFinite numbers wordAt wordOf wordBytes ofBits toBits add sub
+    mul vecScale vecCross vecAdd so3Act quatMul poseAct poseMul
 mu-example = refl
 
 -- and the other way round it is refused

@@ -2,7 +2,6 @@
 pub mod Numbers
 pub mod Arms
 pub mod Frames
-pub mod AllFinite
 pub mod Replies
 mod ArAsCo
 mod Examples

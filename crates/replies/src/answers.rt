@@ -12,7 +12,7 @@ ghost use Rattle.replies.specs.Table.{armedItems, framedWidth, framedIte
 use crate::FRAME;
 use crate::bytes::NUMBER;
 use crate::bytes::put_short;
-use crate::finite;
+use crate::known_finite;
 use crate::places;
 use coeffs::sim3::ArmedPair;
 use frames::Pose;
@@ -29,7 +29,7 @@ pub(crate) fn answer_vec(out: &mut [u8], i: usize, v: Vec3) -> bool
     ensures { λ _. ⌜ now (out .exit) ≡ sets (now (out .entry)) (i * width binary64) (numbersBytes binary64 (vecNumbers v)) ⌝ }
 {
     if finite::vec(v) {
-        finite::put_vec(out, i, v);
+        known_finite::put_vec(out, i, v);
         return true;
     }
     places::put_vec(out, i, v);
@@ -42,7 +42,7 @@ pub(crate) fn answer_pose(out: &mut [u8], i: usize, x: Sim3) -> bool
     ensures { λ _. ⌜ now (out .exit) ≡ sets (now (out .entry)) (i * width binary64) (numbersBytes binary64 (poseNumbers x)) ⌝ }
 {
     if finite::pose(x) {
-        finite::put_pose(out, i, x);
+        known_finite::put_pose(out, i, x);
         return true;
     }
     places::put_pose(out, i, x);
@@ -69,7 +69,7 @@ pub(crate) fn answer_block(out: &mut [u8], i: usize, j: Sim3Jac) -> bool
     ensures { λ _. ⌜ now (out .exit) ≡ sets (now (out .entry)) (i * width binary64) (numbersBytes binary64 (blockNumbers j)) ⌝ }
 {
     if finite::block(j) {
-        finite::put_block(out, i, j);
+        known_finite::put_block(out, i, j);
         return true;
     }
     places::put_block(out, i, j);
@@ -95,7 +95,7 @@ pub(crate) fn answer_scaled(out: &mut [u8], i: usize, c: Sim3Coeffs, scaled: boo
     ensures { λ _. ⌜ now (out .exit) ≡ sets (now (out .entry)) (i * width binary64) (numbersBytes binary64 (scaledNumbers (record { c = c; scaled = scaled }))) ⌝ }
 {
     if finite::coeffs(c) {
-        finite::put_scaled(out, i, c, scaled);
+        known_finite::put_scaled(out, i, c, scaled);
         return true;
     }
     places::put_scaled(out, i, c, scaled);

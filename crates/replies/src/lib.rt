@@ -31,7 +31,7 @@ use outcome::Step;
 mod answers; // answers, finite or not
 mod bytes; // the number at a place of a record or an answer
 mod entries; // what each entry answers
-mod finite; // answers that are finite
+mod known_finite; // answers that are known to be finite
 mod places; // things of several numbers
 
 // How many bytes a frame has, and a pose with both of its frames.

@@ -1,4 +1,4 @@
-// Written by tools/widths from crates/replies/src/answers.rt: edit that one. Digest d108f5fe29e0b60d.
+// Written by tools/widths from crates/replies/src/answers.rt: edit that one. Digest c275cc3917d4e3be.
 // The numbers of an answer, written from the i-th number of a list of bytes on. What is told is whether
 // all of them are finite.
 ghost use mathlib.Core.Path.{_≡_};
@@ -20,7 +20,7 @@ ghost use Rattle.frames_f32.specs.As.{asPose};
 use crate::FRAME;
 use crate::bytes::NUMBER;
 use crate::bytes::put_short;
-use crate::finite;
+use crate::known_finite;
 use crate::places;
 use coeffs_f32::sim3::ArmedPair;
 use frames_f32::Pose;
@@ -36,8 +36,8 @@ pub(crate) fn answer_vec(out: &mut [u8], i: usize, v: Vec3) -> bool
     ensures { λ r. ⌜ r ≡ allFinite (numbers (vecNumbers (asVec3 v))) ⌝ }
     ensures { λ _. ⌜ now (out .exit) ≡ sets (now (out .entry)) (i * width binary32) (numbersBytes binary32 (vecNumbers (asVec3 v))) ⌝ }
 {
-    if finite::vec(v) {
-        finite::put_vec(out, i, v);
+    if finite_f32::vec(v) {
+        known_finite::put_vec(out, i, v);
         return true;
     }
     places::put_vec(out, i, v);
@@ -49,8 +49,8 @@ pub(crate) fn answer_pose(out: &mut [u8], i: usize, x: Sim3) -> bool
     ensures { λ r. ⌜ r ≡ allFinite (numbers (poseNumbers (asSim3 x))) ⌝ }
     ensures { λ _. ⌜ now (out .exit) ≡ sets (now (out .entry)) (i * width binary32) (numbersBytes binary32 (poseNumbers (asSim3 x))) ⌝ }
 {
-    if finite::pose(x) {
-        finite::put_pose(out, i, x);
+    if finite_f32::pose(x) {
+        known_finite::put_pose(out, i, x);
         return true;
     }
     places::put_pose(out, i, x);
@@ -76,8 +76,8 @@ pub(crate) fn answer_block(out: &mut [u8], i: usize, j: Sim3Jac) -> bool
     ensures { λ r. ⌜ r ≡ allFinite (numbers (blockNumbers (asSim3Jac j))) ⌝ }
     ensures { λ _. ⌜ now (out .exit) ≡ sets (now (out .entry)) (i * width binary32) (numbersBytes binary32 (blockNumbers (asSim3Jac j))) ⌝ }
 {
-    if finite::block(j) {
-        finite::put_block(out, i, j);
+    if finite_f32::block(j) {
+        known_finite::put_block(out, i, j);
         return true;
     }
     places::put_block(out, i, j);
@@ -102,8 +102,8 @@ pub(crate) fn answer_scaled(out: &mut [u8], i: usize, c: Sim3Coeffs, scaled: boo
     ensures { λ r. ⌜ r ≡ allFinite (numbers (scaledNumbers (record { c = (asSim3Coeffs c); scaled = scaled }))) ⌝ }
     ensures { λ _. ⌜ now (out .exit) ≡ sets (now (out .entry)) (i * width binary32) (numbersBytes binary32 (scaledNumbers (record { c = (asSim3Coeffs c); scaled = scaled }))) ⌝ }
 {
-    if finite::coeffs(c) {
-        finite::put_scaled(out, i, c, scaled);
+    if finite_f32::coeffs(c) {
+        known_finite::put_scaled(out, i, c, scaled);
         return true;
     }
     places::put_scaled(out, i, c, scaled);

@@ -1,4 +1,4 @@
-// Written by tools/widths from crates/replies/src/lib.rt: edit that one. Digest b9d699d2bd395463.
+// Written by tools/widths from crates/replies/src/lib.rt: edit that one. Digest 57c68b493bb01a6b.
 // The entries of the engine behind the marks, on singles: how many bytes a record has behind its mark,
 // and what it is answered.
 ghost use mathlib.Core.Path.{_≡_};
@@ -32,7 +32,7 @@ use outcome::Step;
 mod answers; // answers, finite or not
 mod bytes; // the number at a place of a record or an answer
 mod entries; // what each entry answers
-mod finite; // answers that are finite
+mod known_finite; // answers that are known to be finite
 mod places; // things of several numbers
 
 // How many bytes a frame has, and a pose with both of its frames.

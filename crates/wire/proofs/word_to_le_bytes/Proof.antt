@@ -8,4 +8,5 @@ returns : tie.Need-returns
 returns c = bytes-eight (c .args .n)
 
 pub word-to-le-bytes-spec : {M : Type 1} → statement M
-word-to-le-bytes-spec = tie.close (tie.spec (λ c. search needs) (λ c. search needs) (λ c. search needs) (λ c. search needs) (λ c. search needs) (λ c. search needs) (λ c. search needs) (λ c. search needs) returns)
+word-to-le-bytes-spec = tie.close (tie.spec (λ c. search needs) (λ c. search needs) (λ c. search needs) (λ c. search needs) (λ c. search needs)
+    (λ c. search needs) (λ c. search needs) (λ c. search needs) returns)

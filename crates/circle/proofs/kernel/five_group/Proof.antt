@@ -9,17 +9,49 @@ use Rattle.circle.proofs.kernel.five_group.Tie as tie
 
 returns : tie.Need-returns
 unfolding circleSincABD rowMember rowShort
-returns c = simp (c .series5 .ensures, c .before .series4 .ensures, c .before .before .series3 .ensures, c .before .before .before .sinc-from .ensures, c .before .before .before .before .series2 .ensures, c .before .before .before .before .before .series .ensures, c .before .before .before .before .before .before .if1 .taken)
+returns c = simp (
+  c .series5 .ensures,
+  c .before .series4 .ensures,
+  c .before .before .series3 .ensures,
+  c .before .before .before .sinc-from .ensures,
+  c .before .before .before .before .series2 .ensures,
+  c .before .before .before .before .before .series .ensures,
+  c .before .before .before .before .before .before .if1 .taken,
+)
 
 returns-2 : tie.Need-returns-2
 unfolding circleSincABD rowMember rowOwn
 returns-2 c =
     let t = c .before .before .before .before .before .before .if2 .taken in
-    simp (c .whole5 .ensures, c .before .whole4 .ensures, c .before .before .whole3 .ensures, c .before .before .before .sinc-from2 .ensures, c .before .before .before .before .whole2 .ensures, c .before .before .before .before .before .whole .ensures, t, below-all binary64 kRow _ t, below-all binary64 aRow _ t, below-all binary64 bRow _ t, below-all binary64 dRow _ t, c .before .before .before .before .before .before .before .if1 .left)
+    simp (
+      c .whole5 .ensures,
+      c .before .whole4 .ensures,
+      c .before .before .whole3 .ensures,
+      c .before .before .before .sinc-from2 .ensures,
+      c .before .before .before .before .whole2 .ensures,
+      c .before .before .before .before .before .whole .ensures,
+      t,
+      below-all binary64 kRow _ t,
+      below-all binary64 aRow _ t,
+      below-all binary64 bRow _ t,
+      below-all binary64 dRow _ t,
+      c .before .before .before .before .before .before .before .if1 .left,
+    )
 
 returns-3 : tie.Need-returns-3
 unfolding circleSincABD rowMember rowOwn
-returns-3 c = simp (c .own-arm4 .ensures, c .before .d-from .ensures, c .before .before .own-arm3 .ensures, c .before .before .before .b-from .ensures, c .before .before .before .before .own-arm2 .ensures, c .before .before .before .before .before .sinc-from3 .ensures, c .before .before .before .before .before .before .own-arm .ensures, c .before .before .before .before .before .before .before .a-from .ensures, c .before .before .before .before .before .before .before .before .if2 .left, c .before .before .before .before .before .before .before .before .before .if1 .left)
+returns-3 c = simp (
+  c .own-arm4 .ensures,
+  c .before .d-from .ensures,
+  c .before .before .own-arm3 .ensures,
+  c .before .before .before .b-from .ensures,
+  c .before .before .before .before .own-arm2 .ensures,
+  c .before .before .before .before .before .sinc-from3 .ensures,
+  c .before .before .before .before .before .before .own-arm .ensures,
+  c .before .before .before .before .before .before .before .a-from .ensures,
+  c .before .before .before .before .before .before .before .before .if2 .left,
+  c .before .before .before .before .before .before .before .before .before .if1 .left,
+)
 
 pub five-group-spec : {M : Type 1} → statement M
 five-group-spec =

@@ -15,11 +15,29 @@ returns-2 : tie.Need-returns-2
 unfolding circleSincA circleSincABD rowMember rowOwn
 returns-2 c =
     let t = c .before .before .before .before .if2 .taken in
-    simp (c .whole3 .ensures, c .before .sinc-from2 .ensures, c .before .before .whole2 .ensures, c .before .before .before .whole .ensures, t, below-all binary64 kRow _ t, below-all binary64 aRow _ t, c .before .before .before .before .before .if1 .left)
+    simp (
+      c .whole3 .ensures,
+      c .before .sinc-from2 .ensures,
+      c .before .before .whole2 .ensures,
+      c .before .before .before .whole .ensures,
+      t,
+      below-all binary64 kRow _ t,
+      below-all binary64 aRow _ t,
+      c .before .before .before .before .before .if1 .left,
+    )
 
 returns-3 : tie.Need-returns-3
 unfolding circleSincA circleSincABD rowMember rowOwn
-returns-3 c = simp (c .own-arm2 .ensures, c .before .a-from .ensures, c .before .before .sinc-from3 .ensures, c .before .before .before .own-arm .ensures, c .before .before .before .before .if2 .left, c .before .before .before .before .before .if1 .left)
+returns-3 c = simp (
+  c .own-arm2 .ensures,
+  c .before .a-from .ensures,
+  c .before .before .sinc-from3 .ensures,
+  c .before .before .before .own-arm .ensures,
+  c .before .before .before .before .if2 .left,
+  c .before .before .before .before .before .if1 .left,
+)
 
 pub two-group-spec : {M : Type 1} → statement M
-two-group-spec = tie.close (tie.spec (λ c κs. search needs) (λ c κs. search needs) (λ c κs. search needs) (λ c κs. search needs) returns (λ c κs. search needs) (λ c κs. search needs) (λ c κs. search needs) (λ c κs. search needs) returns-2 (λ c κs. search needs) (λ c κs. search needs) (λ c κs. search needs) (λ c κs. search needs) returns-3)
+two-group-spec = tie.close (tie.spec (λ c κs. search needs) (λ c κs. search needs) (λ c κs. search needs) (λ c κs. search needs) returns
+    (λ c κs. search needs) (λ c κs. search needs) (λ c κs. search needs) (λ c κs. search needs) returns-2 (λ c κs. search needs)
+    (λ c κs. search needs) (λ c κs. search needs) (λ c κs. search needs) returns-3)

@@ -8,7 +8,17 @@ use Rattle.jacobian.proofs.dense.flat.Tie as tie
 
 returns : tie.Need-returns
 unfolding sevenFlat tangentToDense
-returns c = rw (c .before .put-column7 .ensures, c .before .before .before .before .put-column6 .ensures, c .before .before .before .before .before .before .before .put-column5 .ensures, c .before .before .before .before .before .before .before .before .before .before .put-column4 .ensures, c .before .before .before .before .before .before .before .before .before .before .before .before .before .put-column3 .ensures, c .before .before .before .before .before .before .before .before .before .before .before .before .before .before .before .before .put-column2 .ensures, c .before .before .before .before .before .before .before .before .before .before .before .before .before .before .before .before .before .before .before .put-column .ensures) refl
+returns c = rw (
+  c .before .put-column7 .ensures,
+  c .before .before .before .before .put-column6 .ensures,
+  c .before .before .before .before .before .before .before .put-column5 .ensures,
+  c .before .before .before .before .before .before .before .before .before .before .put-column4 .ensures,
+  c .before .before .before .before .before .before .before .before .before .before .before .before .before .put-column3 .ensures,
+  c .before .before .before .before .before .before .before .before .before .before .before .before .before .before .before .before .put-column2 .ensures,
+  c .before .before .before .before .before .before .before .before .before .before .before .before .before .before .before .before .before .before .before .put-column .ensures,
+) refl
 
 pub flat-spec : {M : Type 1} → statement M
-flat-spec = tie.close (tie.spec (λ c. search needs) (λ c κs. search needs) (λ c. search needs) (λ c κs. search needs) (λ c. search needs) (λ c κs. search needs) (λ c. search needs) (λ c κs. search needs) (λ c. search needs) (λ c κs. search needs) (λ c. search needs) (λ c κs. search needs) (λ c. search needs) (λ c κs. search needs) returns)
+flat-spec = tie.close (tie.spec (λ c. search needs) (λ c κs. search needs) (λ c. search needs) (λ c κs. search needs) (λ c. search needs)
+    (λ c κs. search needs) (λ c. search needs) (λ c κs. search needs) (λ c. search needs) (λ c κs. search needs) (λ c. search needs)
+    (λ c κs. search needs) (λ c. search needs) (λ c κs. search needs) returns)

@@ -1,10 +1,10 @@
--- Written by tools/proofs from Proof.template: edit that one. Digest ab3fc6ec95d3ddcc.
+-- Written by tools/proofs from Proof.template: edit that one. Digest 1cfe9edb70c96dc6.
 -- `replies::answers::answer_block_pair` meets its contract: it is finite where its four blocks are, and their runs are the run of the whole. Assumes nothing.
 use borrow.Author.Needs.{needs}
 use lib.Ieee.{binary64}
 use mathlib.Core.Path.{sym, _∙_}
 use Rattle.replies.proofs.Numbers.{block-pair-run}
-use Rattle.replies.proofs.AllFinite.{block-pair-fine}
+use Rattle.finite.proofs.AllFinite.{block-pair-fine}
 use Rattle.replies.proofs.answers.answer_block_pair.Statement.{statement}
 use Rattle.replies.proofs.answers.answer_block_pair.Tie as tie
 

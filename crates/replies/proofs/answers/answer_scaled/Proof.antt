@@ -1,8 +1,8 @@
--- Written by tools/proofs from Proof.template: edit that one. Digest 29ca5d05094aa530.
+-- Written by tools/proofs from Proof.template: edit that one. Digest facaf138ac65ddc5.
 -- `replies::answers::answer_scaled` meets its contract: by its test, and by what writes the numbers. Assumes nothing.
 use borrow.Author.Needs.{needs}
 use mathlib.Core.Path.{sym, _∙_}
-use Rattle.replies.proofs.AllFinite.{scaled-fine}
+use Rattle.finite.proofs.AllFinite.{scaled-fine}
 use Rattle.replies.proofs.answers.answer_scaled.Statement.{statement}
 use Rattle.replies.proofs.answers.answer_scaled.Tie as tie
 

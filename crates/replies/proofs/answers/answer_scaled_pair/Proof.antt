@@ -1,11 +1,11 @@
--- Written by tools/proofs from Proof.template: edit that one. Digest c290aa6bccdd9ca8.
+-- Written by tools/proofs from Proof.template: edit that one. Digest ce48f638f4c16f42.
 -- `replies::answers::answer_scaled_pair` meets its contract: it is finite where both signs are, and their runs are the run of the whole. Assumes nothing.
 use borrow.Author.Needs.{needs}
 use lib.Ieee.{binary64}
 use mathlib.Core.Path.{_∙_}
 use Rattle.layout.specs.Layout.{armedScaled}
 use Rattle.replies.proofs.Numbers.{scaled-pair-run}
-use Rattle.replies.proofs.AllFinite.{scaled-pair-fine}
+use Rattle.finite.proofs.AllFinite.{scaled-pair-fine}
 use Rattle.replies.proofs.answers.answer_scaled_pair.Statement.{statement}
 use Rattle.replies.proofs.answers.answer_scaled_pair.Tie as tie
 

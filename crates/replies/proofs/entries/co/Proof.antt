@@ -1,4 +1,4 @@
--- Written by tools/proofs from Proof.template: edit that one. Digest 894ed63f5f69002f.
+-- Written by tools/proofs from Proof.template: edit that one. Digest 2cecb4e5b13a2f4f.
 -- `replies::entries::co` meets its contract: the engine is asked at the numbers read, and its answer without the arms is written or its refusal told.
 use borrow.Author.Needs.{needs}
 use lib.Ieee.{binary64}
@@ -10,7 +10,7 @@ use Rattle.layout.proofs.Numbers.{scaled-pair-count}
 use Rattle.outcome.specs.Outcome.{gaveOf, gaveBytes}
 use Rattle.replies.specs.Table.{coOf}
 use Rattle.replies.proofs.Numbers.{scaled-pair-run}
-use Rattle.replies.proofs.AllFinite.{scaled-pair-fine}
+use Rattle.finite.proofs.AllFinite.{scaled-pair-fine}
 use Rattle.replies.proofs.Replies.{wrote}
 use Rattle.replies.proofs.entries.co.Statement.{statement}
 use Rattle.replies.proofs.entries.co.Tie as tie

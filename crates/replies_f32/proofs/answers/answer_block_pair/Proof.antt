@@ -1,10 +1,10 @@
--- Written by tools/widths from crates/replies/proofs/answers/answer_block_pair/Proof.antt: edit that one. Digest fa1a5ba9801dd6b1.
+-- Written by tools/widths from crates/replies/proofs/answers/answer_block_pair/Proof.antt: edit that one. Digest e519faa327a17fa0.
 -- `replies_f32::answers::answer_block_pair` meets its contract: it is finite where its four blocks are, and their runs are the run of the whole. Assumes nothing.
 use borrow.Author.Needs.{needs}
 use lib.Ieee.{binary32}
 use mathlib.Core.Path.{sym, _∙_}
 use Rattle.replies.proofs.Numbers.{block-pair-run}
-use Rattle.replies.proofs.AllFinite.{block-pair-fine}
+use Rattle.finite.proofs.AllFinite.{block-pair-fine}
 use Rattle.replies_f32.proofs.answers.answer_block_pair.Statement.{statement}
 use Rattle.replies_f32.proofs.answers.answer_block_pair.Tie as tie
 use Rattle.linalg_f32.specs.As.{asMat3, asVec3}

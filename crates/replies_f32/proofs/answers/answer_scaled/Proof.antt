@@ -1,8 +1,8 @@
--- Written by tools/widths from crates/replies/proofs/answers/answer_scaled/Proof.antt: edit that one. Digest be672b0573b0a05a.
+-- Written by tools/widths from crates/replies/proofs/answers/answer_scaled/Proof.antt: edit that one. Digest 70791fd4dfc27c74.
 -- `replies_f32::answers::answer_scaled` meets its contract: by its test, and by what writes the numbers. Assumes nothing.
 use borrow.Author.Needs.{needs}
 use mathlib.Core.Path.{sym, _∙_}
-use Rattle.replies.proofs.AllFinite.{scaled-fine}
+use Rattle.finite.proofs.AllFinite.{scaled-fine}
 use Rattle.replies_f32.proofs.answers.answer_scaled.Statement.{statement}
 use Rattle.replies_f32.proofs.answers.answer_scaled.Tie as tie
 use Rattle.series_f32.specs.As.{asSim3Coeffs}

@@ -1,11 +1,11 @@
--- Written by tools/widths from crates/replies/proofs/answers/answer_scaled_pair/Proof.antt: edit that one. Digest d36dbe7126a1056f.
+-- Written by tools/widths from crates/replies/proofs/answers/answer_scaled_pair/Proof.antt: edit that one. Digest 813cec7e951988e9.
 -- `replies_f32::answers::answer_scaled_pair` meets its contract: it is finite where both signs are, and their runs are the run of the whole. Assumes nothing.
 use borrow.Author.Needs.{needs}
 use lib.Ieee.{binary32}
 use mathlib.Core.Path.{_∙_}
 use Rattle.layout.specs.Layout.{armedScaled}
 use Rattle.replies.proofs.Numbers.{scaled-pair-run}
-use Rattle.replies.proofs.AllFinite.{scaled-pair-fine}
+use Rattle.finite.proofs.AllFinite.{scaled-pair-fine}
 use Rattle.replies_f32.proofs.answers.answer_scaled_pair.Statement.{statement}
 use Rattle.replies_f32.proofs.answers.answer_scaled_pair.Tie as tie
 use Rattle.series_f32.specs.As.{asSim3Coeffs}

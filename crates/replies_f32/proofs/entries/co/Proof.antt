@@ -11,7 +11,7 @@ use Rattle.layout.proofs.Numbers.{scaled-pair-count}
 use Rattle.outcome.specs.Outcome.{gaveOf, gaveBytes}
 use Rattle.replies.specs.Table.{coOf}
 use Rattle.replies.proofs.Numbers.{scaled-pair-run}
-use Rattle.replies.proofs.AllFinite.{scaled-pair-fine}
+use Rattle.finite.proofs.AllFinite.{scaled-pair-fine}
 use Rattle.replies.proofs.Replies.{wrote}
 use Rattle.replies_f32.proofs.entries.co.Statement.{statement}
 use Rattle.replies_f32.proofs.entries.co.Tie as tie

@@ -16,7 +16,13 @@ returns c =
 
 returns-2 : tie.Need-returns-2
 unfolding matTold matSet entryTold
-returns-2 c = simp (c .put3 .ensures, c .before .put2 .ensures, c .before .before .put .ensures, c .before .before .before .enum-told .given .1, ← c .before .before .before .before .before .get .ensures)
+returns-2 c = simp (
+  c .put3 .ensures,
+  c .before .put2 .ensures,
+  c .before .before .put .ensures,
+  c .before .before .before .enum-told .given .1,
+  ← c .before .before .before .before .before .get .ensures,
+)
 
 pub set-spec : {M : Type 1} → statement M
 set-spec = tie.close (tie.spec (λ c κs. search needs) (λ c. search needs) (λ c. search needs) returns (λ c κs. search needs) (λ c κs. search needs) (λ c κs. search needs) returns-2)
