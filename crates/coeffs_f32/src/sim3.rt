@@ -1,4 +1,4 @@
-// Written by tools/widths from crates/coeffs/src/sim3.rt: edit that one. Digest 86cf876c085c4bd6.
+// Written by tools/widths from crates/coeffs/src/sim3.rt: edit that one. Digest 39aebe3fde96135a.
 // The entries of the coefficient group: scaled, with the arm told, unscaled, v alone, and the pair for
 // both signs. Each finds the arm once.
 ghost use mathlib.Core.Path.{_≡_};
@@ -6,7 +6,7 @@ ghost use lib.Ieee.{binary32};
 ghost use Rattle.linalg.specs.Answer.{answers, andThen};
 ghost use Rattle.linalg.specs.Vector.{vecNormSq};
 ghost use Rattle.coeffs.specs.Group.{coeffsScaled, coeffsUnscale, coeffsUnscaleV, coeffsPlain, coeffsV, coeffsPair};
-ghost use Rattle.coeffs.specs.Shared.{closedOne, closedPair, seriesArm, seriesArms};
+ghost use Rattle.coeffs.specs.Shared.{closedOne, minusEtMt, pairEnds, closedPair, seriesArm, seriesArms};
 ghost use Rattle.coeffs.specs.Entries.{scaledAnswer, coeffsAnswer, vAnswer, vScaledAnswer, pairAnswer};
 ghost use Rattle.coeffs_f32.specs.Told.{scaledTold, coeffsTold, vTold, vScaledTold, pairTold};
 ghost use Rattle.coeffs.specs.Entries.{armedAnswer, armedPairAnswer};
@@ -14,11 +14,13 @@ ghost use Rattle.coeffs_f32.specs.Told.{armedTold, armedPairTold};
 ghost use Rattle.linalg_f32.specs.As.{asVec3};
 ghost use Rattle.circle_f32.specs.As.{asSincABD};
 ghost use Rattle.series_f32.specs.As.{asCoeffs4, asSim3Coeffs};
-ghost use Rattle.coeffs_f32.specs.As.{asScaled, asScaledPair, asValues};
+ghost use Rattle.coeffs_f32.specs.As.{asEnds, asEtMt, asScaled, asScaledPair, asValues};
+use crate::closed::Ends;
 use crate::closed::EtMt;
 use crate::closed::closed_both;
 use crate::closed::closed_from;
 use crate::closed::closed_v;
+use crate::closed::ends_both;
 use crate::limits::CLOSED;
 use crate::limits::arm;
 use crate::limits::on_form_b;
@@ -260,17 +262,44 @@ pub fn sim3_v(sigma: f32, z: f32, v: Values) -> VAnswer
     }
 }
 
-// The closed arm at sigma and at -sigma, from the same circle functions t: delta, form b and the
-// limit on sigma^2 are even in sigma.
-fn closed_pair(sigma: f32, z: f32, delta: f32, small: bool, t: SincABD, v: Values) -> ScaledPair
-    ensures { λ r. ⌜ asScaledPair r ≡ closedPair binary32 sigma z delta small (asSincABD t) (asValues v) ⌝ }
+// e^t and e^t - 1 of the values at sigma, and at -sigma.
+fn at_plus(v: Values) -> EtMt
+    ensures { λ r. ⌜ asEtMt r ≡ record { et = (asValues v) .e; mt = (asValues v) .m } ⌝ }
+{
+    EtMt { et: v.e, mt: v.m }
+}
+
+fn at_minus(sigma: f32, v: Values) -> EtMt
+    ensures { λ r. ⌜ asEtMt r ≡ minusEtMt sigma (asValues v) ⌝ }
 {
     let zero = at_zero(sigma);
-    let e = ieee_f32::pick(zero, v.e0, v.e);
-    let m = ieee_f32::pick(zero, v.m0, v.m);
-    let x = EtMt { et: v.e, mt: v.m };
-    let y = EtMt { et: e, mt: m };
-    let c = closed_both(sigma, z, t, x, y, on_form_b(delta), small);
+    EtMt {
+        et: ieee_f32::pick(zero, v.e0, v.e),
+        mt: ieee_f32::pick(zero, v.m0, v.m),
+    }
+}
+
+// v0 and w0 of the closed arm at sigma and at -sigma, by their series where `small`.
+fn pair_ends(sigma: f32, small: bool, v: Values) -> Ends
+    ensures { λ r. ⌜ asEnds r ≡ pairEnds binary32 sigma small (asValues v) ⌝ }
+{
+    ends_both(sigma, at_plus(v), at_minus(sigma, v), small)
+}
+
+// The closed arm at sigma and at -sigma, from the same circle functions t and from v0 and w0 of
+// both: delta and form b are even in sigma.
+fn closed_pair(sigma: f32, z: f32, delta: f32, h: Ends, t: SincABD, v: Values) -> ScaledPair
+    ensures { λ r. ⌜ asScaledPair r ≡ closedPair binary32 sigma z delta (asEnds h) (asSincABD t) (asValues v) ⌝ }
+{
+    let c = closed_both(
+        sigma,
+        z,
+        t,
+        at_plus(v),
+        at_minus(sigma, v),
+        h,
+        on_form_b(delta),
+    );
     let a = c.pos;
     let b = c.neg;
     ScaledPair {
@@ -333,10 +362,11 @@ pub fn sim3_coeffs_armed_pair(sigma: f32, z: f32, v: Values) -> ArmedPairAnswer
     if at < CLOSED {
         return tell_pair(pair_by_series(sigma, z, at), at, false);
     }
+    let ends = w0_small(sigma);
+    let h = pair_ends(sigma, ends, v);
     match circle_f32::kernel::sinc_a_b_d(z, v.root, v.sin_half, v.cos_half, v.sin) {
         SincABDAnswer::Coeffs(t) => {
-            let ends = w0_small(sigma);
-            let p = closed_pair(sigma, z, delta, ends, t, v);
+            let p = closed_pair(sigma, z, delta, h, t, v);
             tell_pair(PairAnswer::Coeffs(p), at, ends)
         }
         SincABDAnswer::Refused(n) => ArmedPairAnswer::Refused(n),

@@ -1,8 +1,8 @@
--- Written by tools/widths from crates/coeffs/proofs/closed/closed_both/Proof.antt: edit that one. Digest 05c7452624d1e025.
+-- Written by tools/widths from crates/coeffs/proofs/closed/closed_both/Proof.antt: edit that one. Digest 9b7da125d98dc5f5.
 -- `coeffs_f32::closed::closed_both` meets its contract: by what its calls ensure. Assumes nothing.
 use borrow.Author.Needs.{needs}
-use Rattle.coeffs.specs.Closed.{closedFrom, closedVFrom, closedNine}
-use Rattle.coeffs.specs.Shared.{closedExps, closedEnds}
+use Rattle.coeffs.specs.Closed.{closedNine}
+use Rattle.coeffs.specs.Shared.{closedExps, closedWith}
 use Rattle.coeffs_f32.proofs.closed.closed_both.Statement.{statement}
 use Rattle.coeffs_f32.proofs.closed.closed_both.Tie as tie
 use Rattle.linalg_f32.proofs.As.{linalg-singles}
@@ -11,8 +11,8 @@ use Rattle.series_f32.proofs.As.{series-singles}
 use Rattle.coeffs_f32.proofs.As.{coeffs-singles}
 
 returns : tie.Need-returns
-unfolding closedFrom closedVFrom closedNine closedExps closedEnds
-returns c = simp (linalg-singles, circle-singles, series-singles, coeffs-singles, c .nine2 .ensures, c .before .nine .ensures, c .before .before .dv-from2 .ensures, c .before .before .before .dv-from .ensures, c .before .before .before .before .w-from2 .ensures, c .before .before .before .before .before .w-from .ensures, c .before .before .before .before .before .before .v-from2 .ensures, c .before .before .before .before .before .before .before .v-from .ensures, c .before .before .before .before .before .before .before .before .ends-of .ensures, c .before .before .before .before .before .before .before .before .before .exps-of2 .ensures, c .before .before .before .before .before .before .before .before .before .before .exps-of .ensures)
+unfolding closedNine closedExps closedWith
+returns c = simp (linalg-singles, circle-singles, series-singles, coeffs-singles, c .nine2 .ensures, c .before .nine .ensures, c .before .before .dv-from2 .ensures, c .before .before .before .dv-from .ensures, c .before .before .before .before .w-from2 .ensures, c .before .before .before .before .before .w-from .ensures, c .before .before .before .before .before .before .v-from2 .ensures, c .before .before .before .before .before .before .before .v-from .ensures, c .before .before .before .before .before .before .before .before .exps-of2 .ensures, c .before .before .before .before .before .before .before .before .before .exps-of .ensures)
 
 pub closed-both-spec : {M : Type 1} → statement M
-closed-both-spec = tie.close (tie.spec (λ c κs. search needs) (λ c κs. search needs) (λ c κs. search needs) (λ c κs. search needs) (λ c κs. search needs) (λ c κs. search needs) (λ c κs. search needs) (λ c κs. search needs) (λ c κs. search needs) (λ c κs. search needs) (λ c κs. search needs) returns)
+closed-both-spec = tie.close (tie.spec (λ c κs. search needs) (λ c κs. search needs) (λ c κs. search needs) (λ c κs. search needs) (λ c κs. search needs) (λ c κs. search needs) (λ c κs. search needs) (λ c κs. search needs) (λ c κs. search needs) (λ c κs. search needs) returns)

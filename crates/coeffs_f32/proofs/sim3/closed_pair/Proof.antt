@@ -1,4 +1,4 @@
--- Written by tools/widths from crates/coeffs/proofs/sim3/closed_pair/Proof.antt: edit that one. Digest cc466e8bc335cc1a.
+-- Written by tools/widths from crates/coeffs/proofs/sim3/closed_pair/Proof.antt: edit that one. Digest f94fb8b15c34d400.
 use borrow.Author.Needs.{needs}
 use Rattle.coeffs.specs.Shared.{closedPair}
 use lib.Ieee.{ofBits}
@@ -20,10 +20,9 @@ returns c =
       coeffs-singles,
       c .before .before .closed-both .ensures,
       c .before .before .before .on-form-b .ensures,
-      c .before .before .before .before .pick2 .ensures,
-      c1 .pick .ensures,
-      c1 .before .at-zero .ensures,
+      c .before .before .before .before .at-minus .ensures,
+      c1 .at-plus .ensures,
     )
 
 pub closed-pair-spec : {M : Type 1} → statement M
-closed-pair-spec = tie.close (tie.spec (λ c κs. search needs) (λ c κs. search needs) (λ c κs. search needs) (λ c κs. search needs) (λ c κs. search needs) returns)
+closed-pair-spec = tie.close (tie.spec (λ c κs. search needs) (λ c κs. search needs) (λ c κs. search needs) (λ c κs. search needs) returns)
