@@ -48,7 +48,8 @@ pair-series f sigma z v k t e =
 
 pub pair-closed :
     (f : Format) (sigma z : Float) (v : Values) → ltb (coeffsArm f (coeffsDelta f sigma z)) 5 ≡ false →
-    coeffsPair f sigma z v ≡ closedPair f sigma z (coeffsDelta f sigma z) (pairEnds f sigma (lt (mul f sigma sigma) (w0Below f)) v) (circleSincABD f z (v .root) (v .«sin_half») (v .«cos_half») (v .sin)) v
+    coeffsPair f sigma z v
+    ≡ closedPair f sigma z (coeffsDelta f sigma z) (pairEnds f sigma (lt (mul f sigma sigma) (w0Below f)) v) (circleSincABD f z (v .root) (v .«sin_half») (v .«cos_half») (v .sin)) v
 unfolding coeffsPair closedPair mirrored pairEnds minusEtMt closedWith closedExps closedEnds closedFrom closedVFrom
 pair-closed f sigma z v t =
     let p = scaled-closed f sigma z v t in

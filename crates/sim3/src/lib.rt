@@ -3,3 +3,4 @@
 pub mod tangent; // Sim3Tangent
 pub mod sim3; // Sim3: composition, inverse, action, exponential
 pub mod points; // the action on lists of points
+mod many; // its loop by a matrix

@@ -1,3 +1,4 @@
--- Written by tools/widths from crates/sim3: edit that one. Digest 00bf2209c3cb6efd.
+-- Written by tools/widths from crates/sim3: edit that one. Digest c968d6bafb158c7c.
 pub mod As
 pub mod Told
+pub mod Fours

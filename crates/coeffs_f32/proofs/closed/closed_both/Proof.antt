@@ -1,4 +1,4 @@
--- Written by tools/widths from crates/coeffs/proofs/closed/closed_both/Proof.antt: edit that one. Digest 9b7da125d98dc5f5.
+-- Written by tools/widths from crates/coeffs/proofs/closed/closed_both/Proof.antt: edit that one. Digest bacf38818dd8a70d.
 -- `coeffs_f32::closed::closed_both` meets its contract: by what its calls ensure. Assumes nothing.
 use borrow.Author.Needs.{needs}
 use Rattle.coeffs.specs.Closed.{closedNine}
@@ -12,7 +12,37 @@ use Rattle.coeffs_f32.proofs.As.{coeffs-singles}
 
 returns : tie.Need-returns
 unfolding closedNine closedExps closedWith
-returns c = simp (linalg-singles, circle-singles, series-singles, coeffs-singles, c .nine2 .ensures, c .before .nine .ensures, c .before .before .dv-from2 .ensures, c .before .before .before .dv-from .ensures, c .before .before .before .before .w-from2 .ensures, c .before .before .before .before .before .w-from .ensures, c .before .before .before .before .before .before .v-from2 .ensures, c .before .before .before .before .before .before .before .v-from .ensures, c .before .before .before .before .before .before .before .before .exps-of2 .ensures, c .before .before .before .before .before .before .before .before .before .exps-of .ensures)
+returns c =
+    let c1 = c .before .before .before .before .before in
+    simp (
+      linalg-singles,
+      circle-singles,
+      series-singles,
+      coeffs-singles,
+      c .nine2 .ensures,
+      c .before .nine .ensures,
+      c .before .before .dv-from2 .ensures,
+      c .before .before .before .dv-from .ensures,
+      c .before .before .before .before .w-from2 .ensures,
+      c1 .w-from .ensures,
+      c1 .before .v-from2 .ensures,
+      c1 .before .before .v-from .ensures,
+      c1 .before .before .before .exps-of2 .ensures,
+      c1 .before .before .before .before .exps-of .ensures,
+    )
 
 pub closed-both-spec : {M : Type 1} → statement M
-closed-both-spec = tie.close (tie.spec (λ c κs. search needs) (λ c κs. search needs) (λ c κs. search needs) (λ c κs. search needs) (λ c κs. search needs) (λ c κs. search needs) (λ c κs. search needs) (λ c κs. search needs) (λ c κs. search needs) (λ c κs. search needs) returns)
+closed-both-spec =
+    tie.close
+    (tie.spec
+    (λ c κs. search needs)
+    (λ c κs. search needs)
+    (λ c κs. search needs)
+    (λ c κs. search needs)
+    (λ c κs. search needs)
+    (λ c κs. search needs)
+    (λ c κs. search needs)
+    (λ c κs. search needs)
+    (λ c κs. search needs)
+    (λ c κs. search needs)
+    returns)

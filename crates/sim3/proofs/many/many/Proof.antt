@@ -1,9 +1,9 @@
--- `sim3::points::many` meets its contract: the last triple of an odd count is in its place before the others are moved. Assumes nothing.
+-- `sim3::many::many` meets its contract: the last triple of an odd count is in its place before the others are moved. Assumes nothing.
 use borrow.Author.Needs.{needs}
 use mathlib.Core.Path.{_∙_}
 use native.Mathlib.Omega.{arith}
-use Rattle.sim3.proofs.points.many.Statement.{statement}
-use Rattle.sim3.proofs.points.many.Tie as tie
+use Rattle.sim3.proofs.many.many.Statement.{statement}
+use Rattle.sim3.proofs.many.many.Tie as tie
 
 same-length : tie.Need-same-length
 same-length c = c .before .before .leading .kept .1 .1 .1 .0 ∙ c .before .before .before .before .before .before .last .kept .1 .1 .1 .0
