@@ -15,8 +15,7 @@ use crate::points::put_point;
 use linalg_f32::matrix::Mat3;
 use linalg_f32::vector::Vec3;
 
-// The last point of an odd count first, then the others. Their count is even, so the compiler, which
-// moves two points a turn, has none to do after its loop: the loop alone has the registers.
+// Short lists, as at f64: the last point of an odd count first, then the others.
 fn short(m: Mat3, t: Vec3, pts: &[f32], out: &mut [f32], n: usize)
     requires { ⌜ (n * 3 ≡ length (now pts)) × (n * 3 ≡ length (now out)) ⌝ }
     ensures { λ _. ⌜ now (out .exit) ≡ pointsMoved (matAct binary32 (asMat3 m) (asVec3 t)) (now (pts .entry)) n ⌝ }
