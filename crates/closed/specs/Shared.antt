@@ -1,7 +1,9 @@
--- What the private functions of the closed arm compute; no public contract cites it.
+-- What the closed arm at both signs is made of; no public contract of the crates above cites it.
 use mathlib.Core.Bool.{Bool}
 use lib.Ieee.{Float, Format, neg}
-use Rattle.closed.specs.Closed.{closedE, closedM, closedG, closedV0, closedW0}
+use Rattle.series.specs.declared.sim3.Sim3Coeffs.{Sim3Coeffs}
+use Rattle.circle.specs.declared.kernel.SincABD.{SincABD}
+use Rattle.closed.specs.Closed.{closedE, closedM, closedG, closedV0, closedW0, closedV, closedNine}
 use Rattle.closed.specs.declared.Exps.{Exps}
 use Rattle.closed.specs.declared.Ends.{Ends}
 
@@ -18,3 +20,9 @@ closedEnds f sigma x y small =
       «v0_neg» = closedV0 f (neg sigma) (y .g) (y .m1) small;
       «w0_neg» = closedW0 f (neg sigma) (y .g) (y .m1) small;
     }
+
+-- all nine of one sign with v₀ and w₀ given
+unfoldable pub closedWith : Format → Float → Float → SincABD → Float → Float → Float → Float → Bool → Sim3Coeffs
+closedWith f sigma z t et mt v0 w0 formB =
+    let e = closedE sigma et in
+    closedNine f sigma z t e (closedV f sigma z t e (closedM sigma mt) v0 formB) w0

@@ -4,7 +4,7 @@
 ghost use mathlib.Core.Path.{_≡_};
 ghost use lib.Ieee.{binary64, neg};
 ghost use Rattle.closed.specs.Closed.{closedV0, closedW0, closedV, closedWs, closedDvs, closedJoined, closedVFrom, closedOnly, closedFrom};
-ghost use Rattle.closed.specs.Shared.{closedExps, closedEnds};
+ghost use Rattle.closed.specs.Shared.{closedExps, closedEnds, closedWith};
 use crate::values::at_zero;
 use circle::kernel::SincA;
 use circle::kernel::SincABD;
@@ -220,23 +220,31 @@ fn ends_of(sigma: f64, x: Exps, y: Exps, small: bool) -> Ends
     }
 }
 
-// All nine at sigma, from x, and at -sigma, from y: the circle functions, the squares and the Horner
-// passes are shared.
+// The same from e^t and e^t - 1 of each sign.
+pub fn ends_both(sigma: f64, x: EtMt, y: EtMt, small: bool) -> Ends
+    ensures { λ r. ⌜ r ≡ closedEnds binary64 sigma (closedExps sigma (x .et) (x .mt)) (closedExps (neg sigma) (y .et) (y .mt)) small ⌝ }
+{
+    let p = exps_of(sigma, x.et, x.mt);
+    let n = exps_of(-sigma, y.et, y.mt);
+    ends_of(sigma, p, n, small)
+}
+
+// All nine at sigma, from x, and at -sigma, from y, with v0 and w0 of both: the circle functions and
+// the squares are shared.
 pub fn closed_both(
     sigma: f64,
     z: f64,
     t: SincABD,
     x: EtMt,
     y: EtMt,
+    h: Ends,
     form_b: bool,
-    small: bool,
 ) -> CoeffsPair
-    ensures { λ r. ⌜ r ≡ record { pos = closedFrom binary64 sigma z t (x .et) (x .mt) «form_b» small; neg = closedFrom binary64 (neg sigma) z t (y .et) (y .mt) «form_b» small } ⌝ }
+    ensures { λ r. ⌜ r ≡ record { pos = closedWith binary64 sigma z t (x .et) (x .mt) (h .v0) (h .w0) «form_b»; neg = closedWith binary64 (neg sigma) z t (y .et) (y .mt) (h .«v0_neg») (h .«w0_neg») «form_b» } ⌝ }
 {
     let minus = -sigma;
     let p = exps_of(sigma, x.et, x.mt);
     let n = exps_of(minus, y.et, y.mt);
-    let h = ends_of(sigma, p, n, small);
     let a = v_from(sigma, z, t, p.e, p.m1, h.v0, form_b);
     let b = v_from(minus, z, t, n.e, n.m1, h.v0_neg, form_b);
     let wa = w_from(sigma, z, a, h.w0);

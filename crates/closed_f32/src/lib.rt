@@ -224,23 +224,31 @@ fn ends_of(sigma: f32, x: Exps, y: Exps, small: bool) -> Ends
     }
 }
 
-// All nine at sigma, from x, and at -sigma, from y: the circle functions, the squares and the Horner
-// passes are shared.
+// The same from e^t and e^t - 1 of each sign.
+pub fn ends_both(sigma: f32, x: EtMt, y: EtMt, small: bool) -> Ends
+    ensures { λ r. ⌜ asEnds r ≡ closedEnds binary32 sigma (closedExps sigma ((asEtMt x) .et) ((asEtMt x) .mt)) (closedExps (neg sigma) ((asEtMt y) .et) ((asEtMt y) .mt)) small ⌝ }
+{
+    let p = exps_of(sigma, x.et, x.mt);
+    let n = exps_of(-sigma, y.et, y.mt);
+    ends_of(sigma, p, n, small)
+}
+
+// All nine at sigma, from x, and at -sigma, from y, with v0 and w0 of both: the circle functions and
+// the squares are shared.
 pub fn closed_both(
     sigma: f32,
     z: f32,
     t: SincABD,
     x: EtMt,
     y: EtMt,
+    h: Ends,
     form_b: bool,
-    small: bool,
 ) -> CoeffsPair
-    ensures { λ r. ⌜ asCoeffsPair r ≡ record { pos = closedFrom binary32 sigma z (asSincABD t) ((asEtMt x) .et) ((asEtMt x) .mt) «form_b» small; neg = closedFrom binary32 (neg sigma) z (asSincABD t) ((asEtMt y) .et) ((asEtMt y) .mt) «form_b» small } ⌝ }
+    ensures { λ r. ⌜ asCoeffsPair r ≡ record { pos = closedWith binary32 sigma z (asSincABD t) ((asEtMt x) .et) ((asEtMt x) .mt) ((asEnds h) .v0) ((asEnds h) .w0) «form_b»; neg = closedWith binary32 (neg sigma) z (asSincABD t) ((asEtMt y) .et) ((asEtMt y) .mt) ((asEnds h) .«v0_neg») ((asEnds h) .«w0_neg») «form_b» } ⌝ }
 {
     let minus = -sigma;
     let p = exps_of(sigma, x.et, x.mt);
     let n = exps_of(minus, y.et, y.mt);
-    let h = ends_of(sigma, p, n, small);
     let a = v_from(sigma, z, t, p.e, p.m1, h.v0, form_b);
     let b = v_from(minus, z, t, n.e, n.m1, h.v0_neg, form_b);
     let wa = w_from(sigma, z, a, h.w0);

@@ -18,7 +18,9 @@ use Rattle.closed.specs.Limits.{coeffsDelta, w0Below}
 use Rattle.closed.specs.Arm.{coeffsArm, armTerms, armEnds}
 use Rattle.coeffs.specs.Group.{coeffsScaled, coeffsPair, coeffsArmed, coeffsArmedPair}
 use Rattle.coeffs.specs.Entries.{scaledAnswer, beside, pairAnswer, armedAnswer, besideArmed, armedPairAnswer}
-use Rattle.coeffs.specs.Shared.{closedPair, seriesArms}
+use Rattle.closed.specs.Closed.{closedFrom, closedVFrom}
+use Rattle.closed.specs.Shared.{closedExps, closedEnds, closedWith}
+use Rattle.coeffs.specs.Shared.{minusEtMt, pairEnds, closedPair, seriesArms}
 use Rattle.closed.specs.declared.values.Values.{Values}
 use Rattle.coeffs.specs.declared.sim3.ScaledPair.{ScaledPair}
 use Rattle.coeffs.specs.declared.sim3.ArmedPair.{ArmedPair}
@@ -37,8 +39,9 @@ pair-series f sigma z v k t e =
 
 pub pair-closed :
     (f : Format) (sigma z : Float) (v : Values) → ltb (coeffsArm f (coeffsDelta f sigma z)) 5 ≡ false →
-    coeffsPair f sigma z v ≡ closedPair f sigma z (coeffsDelta f sigma z) (lt (mul f sigma sigma) (w0Below f)) (circleSincABD f z (v .root) (v .«sin_half») (v .«cos_half») (v .sin)) v
-unfolding coeffsPair closedPair mirrored
+    coeffsPair f sigma z v
+    ≡ closedPair f sigma z (coeffsDelta f sigma z) (pairEnds f sigma (lt (mul f sigma sigma) (w0Below f)) v) (circleSincABD f z (v .root) (v .«sin_half») (v .«cos_half») (v .sin)) v
+unfolding coeffsPair closedPair mirrored pairEnds minusEtMt closedWith closedExps closedEnds closedFrom closedVFrom
 pair-closed f sigma z v t =
     let p = scaled-closed f sigma z v t in
     let n = scaled-closed f (neg sigma) z (mirrored sigma v) (ap (λ a. ltb a 5) (arm-even f sigma z) ∙ t) in
@@ -60,9 +63,9 @@ pair-by-series f sigma z v t = pair-answer-is f sigma z v ∙ ap (notBelowZero z
 pub pair-by-closed :
     (f : Format) (sigma z : Float) (v : Values) (t : SincABD) → ltb (coeffsArm f (coeffsDelta f sigma z)) 5 ≡ false →
     notBelowZero z (circleSincABD f z (v .root) (v .«sin_half») (v .«cos_half») (v .sin)) ≡ answers t →
-    pairAnswer f sigma z v ≡ answers (closedPair f sigma z (coeffsDelta f sigma z) (lt (mul f sigma sigma) (w0Below f)) t v)
+    pairAnswer f sigma z v ≡ answers (closedPair f sigma z (coeffsDelta f sigma z) (pairEnds f sigma (lt (mul f sigma sigma) (w0Below f)) v) t v)
 pair-by-closed f sigma z v t h r =
-    pair-answer-is f sigma z v ∙ arm-answers z _ t _ (λ x. closedPair f sigma z (coeffsDelta f sigma z) (lt (mul f sigma sigma) (w0Below f)) x v) (pair-closed f sigma z v h) r
+    pair-answer-is f sigma z v ∙ arm-answers z _ t _ (λ x. closedPair f sigma z (coeffsDelta f sigma z) (pairEnds f sigma (lt (mul f sigma sigma) (w0Below f)) v) x v) (pair-closed f sigma z v h) r
 
 pub pair-closed-refuses : (f : Format) (sigma z : Float) (v : Values) (n : ℕ) (x : SincABD) → notBelowZero z x ≡ refuses n → pairAnswer f sigma z v ≡ refuses n
 pair-closed-refuses f sigma z v n x r = pair-answer-is f sigma z v ∙ arm-refuses z n x _ r

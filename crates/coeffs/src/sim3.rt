@@ -5,16 +5,18 @@ ghost use lib.Ieee.{binary64};
 ghost use Rattle.linalg.specs.Answer.{answers, andThen};
 ghost use Rattle.linalg.specs.Vector.{vecNormSq};
 ghost use Rattle.coeffs.specs.Group.{coeffsScaled, coeffsUnscale, coeffsUnscaleV, coeffsPlain, coeffsV, coeffsPair};
-ghost use Rattle.coeffs.specs.Shared.{closedOne, closedPair, seriesArm, seriesArms};
+ghost use Rattle.coeffs.specs.Shared.{closedOne, minusEtMt, pairEnds, closedPair, seriesArm, seriesArms};
 ghost use Rattle.coeffs.specs.Entries.{scaledTold, coeffsTold, vTold, vScaledTold, pairTold, scaledAnswer, coeffsAnswer, vAnswer, vScaledAnswer, pairAnswer};
 ghost use Rattle.coeffs.specs.Entries.{armedTold, armedPairTold, armedAnswer, armedPairAnswer};
 use circle::kernel::SincAAnswer;
 use circle::kernel::SincABD;
 use circle::kernel::SincABDAnswer;
+use closed::Ends;
 use closed::EtMt;
 use closed::closed_both;
 use closed::closed_from;
 use closed::closed_v;
+use closed::ends_both;
 use closed::limits::CLOSED;
 use closed::limits::arm;
 use closed::limits::on_form_b;
@@ -253,17 +255,44 @@ pub fn sim3_v(sigma: f64, z: f64, v: Values) -> VAnswer
     }
 }
 
-// The closed arm at sigma and at -sigma, from the same circle functions t: delta, form b and the
-// limit on sigma^2 are even in sigma.
-fn closed_pair(sigma: f64, z: f64, delta: f64, small: bool, t: SincABD, v: Values) -> ScaledPair
-    ensures { λ r. ⌜ r ≡ closedPair binary64 sigma z delta small t v ⌝ }
+// e^t and e^t - 1 of the values at sigma, and at -sigma.
+fn at_plus(v: Values) -> EtMt
+    ensures { λ r. ⌜ r ≡ record { et = v .e; mt = v .m } ⌝ }
+{
+    EtMt { et: v.e, mt: v.m }
+}
+
+fn at_minus(sigma: f64, v: Values) -> EtMt
+    ensures { λ r. ⌜ r ≡ minusEtMt sigma v ⌝ }
 {
     let zero = at_zero(sigma);
-    let e = ieee::pick(zero, v.e0, v.e);
-    let m = ieee::pick(zero, v.m0, v.m);
-    let x = EtMt { et: v.e, mt: v.m };
-    let y = EtMt { et: e, mt: m };
-    let c = closed_both(sigma, z, t, x, y, on_form_b(delta), small);
+    EtMt {
+        et: ieee::pick(zero, v.e0, v.e),
+        mt: ieee::pick(zero, v.m0, v.m),
+    }
+}
+
+// v0 and w0 of the closed arm at sigma and at -sigma, by their series where `small`.
+fn pair_ends(sigma: f64, small: bool, v: Values) -> Ends
+    ensures { λ r. ⌜ r ≡ pairEnds binary64 sigma small v ⌝ }
+{
+    ends_both(sigma, at_plus(v), at_minus(sigma, v), small)
+}
+
+// The closed arm at sigma and at -sigma, from the same circle functions t and from v0 and w0 of
+// both: delta and form b are even in sigma.
+fn closed_pair(sigma: f64, z: f64, delta: f64, h: Ends, t: SincABD, v: Values) -> ScaledPair
+    ensures { λ r. ⌜ r ≡ closedPair binary64 sigma z delta h t v ⌝ }
+{
+    let c = closed_both(
+        sigma,
+        z,
+        t,
+        at_plus(v),
+        at_minus(sigma, v),
+        h,
+        on_form_b(delta),
+    );
     let a = c.pos;
     let b = c.neg;
     ScaledPair {
@@ -300,25 +329,6 @@ fn pair_by_series(sigma: f64, z: f64, arm: u8) -> PairAnswer
     }
 }
 
-// sim3_coeffs_scaled at sigma and at -sigma, the latter on the mirrored values, each to the bit:
-// the arm, the circle functions, the exponential's values and the recurrence are shared.
-pub fn sim3_coeffs_scaled_pair(sigma: f64, z: f64, v: Values) -> PairAnswer
-    ensures { λ r. ⌜ pairTold r ≡ pairAnswer binary64 sigma z v ⌝ }
-{
-    let delta = sigma * sigma + z;
-    let at = arm(delta);
-    if at < CLOSED {
-        return pair_by_series(sigma, z, at);
-    }
-    match circle::kernel::sinc_a_b_d(z, v.root, v.sin_half, v.cos_half, v.sin) {
-        SincABDAnswer::Coeffs(t) => {
-            let small = w0_small(sigma);
-            PairAnswer::Coeffs(closed_pair(sigma, z, delta, small, t, v))
-        }
-        SincABDAnswer::Refused(n) => PairAnswer::Refused(n),
-    }
-}
-
 // What an arm answered at both signs, with the arm told: it is even in sigma.
 fn tell_pair(r: PairAnswer, arm: u8, ends: bool) -> ArmedPairAnswer
     ensures { λ q. ⌜ armedPairTold q ≡ andThen (pairTold r) (λ p. answers (record { pos = record { s = p .pos; arm = arm; ends = ends }; neg = record { s = p .neg; arm = arm; ends = ends } })) ⌝ }
@@ -335,7 +345,8 @@ fn tell_pair(r: PairAnswer, arm: u8, ends: bool) -> ArmedPairAnswer
     }
 }
 
-// sim3_coeffs_armed at sigma and at -sigma, likewise.
+// sim3_coeffs_armed at sigma and at -sigma, the latter on the mirrored values, each to the bit: the
+// arm, the circle functions, the exponential's values and the recurrence are shared.
 pub fn sim3_coeffs_armed_pair(sigma: f64, z: f64, v: Values) -> ArmedPairAnswer
     ensures { λ r. ⌜ armedPairTold r ≡ armedPairAnswer binary64 sigma z v ⌝ }
 {
@@ -344,13 +355,30 @@ pub fn sim3_coeffs_armed_pair(sigma: f64, z: f64, v: Values) -> ArmedPairAnswer
     if at < CLOSED {
         return tell_pair(pair_by_series(sigma, z, at), at, false);
     }
+    let ends = w0_small(sigma);
+    let h = pair_ends(sigma, ends, v);
     match circle::kernel::sinc_a_b_d(z, v.root, v.sin_half, v.cos_half, v.sin) {
         SincABDAnswer::Coeffs(t) => {
-            let ends = w0_small(sigma);
-            let p = closed_pair(sigma, z, delta, ends, t, v);
+            let p = closed_pair(sigma, z, delta, h, t, v);
             tell_pair(PairAnswer::Coeffs(p), at, ends)
         }
         SincABDAnswer::Refused(n) => ArmedPairAnswer::Refused(n),
+    }
+}
+
+// sim3_coeffs_scaled at sigma and at -sigma, likewise: the armed pair without what it tells besides.
+// So a library has the pair's code once, and the closed arm's numbers are stored once: with callers
+// of its own, closed_pair would be a call, whose answer is copied.
+pub fn sim3_coeffs_scaled_pair(sigma: f64, z: f64, v: Values) -> PairAnswer
+    ensures { λ r. ⌜ pairTold r ≡ pairAnswer binary64 sigma z v ⌝ }
+{
+    match sim3_coeffs_armed_pair(sigma, z, v) {
+        ArmedPairAnswer::Coeffs(p) => {
+            let pos = p.pos.s;
+            let neg = p.neg.s;
+            PairAnswer::Coeffs(ScaledPair { pos, neg })
+        }
+        ArmedPairAnswer::Refused(n) => PairAnswer::Refused(n),
     }
 }
 

@@ -6,7 +6,7 @@ ghost use lib.Ieee.{binary32};
 ghost use Rattle.linalg.specs.Answer.{answers, andThen};
 ghost use Rattle.linalg.specs.Vector.{vecNormSq};
 ghost use Rattle.coeffs.specs.Group.{coeffsScaled, coeffsUnscale, coeffsUnscaleV, coeffsPlain, coeffsV, coeffsPair};
-ghost use Rattle.coeffs.specs.Shared.{closedOne, closedPair, seriesArm, seriesArms};
+ghost use Rattle.coeffs.specs.Shared.{closedOne, minusEtMt, pairEnds, closedPair, seriesArm, seriesArms};
 ghost use Rattle.coeffs.specs.Entries.{scaledAnswer, coeffsAnswer, vAnswer, vScaledAnswer, pairAnswer};
 ghost use Rattle.coeffs_f32.specs.Told.{scaledTold, coeffsTold, vTold, vScaledTold, pairTold};
 ghost use Rattle.coeffs.specs.Entries.{armedAnswer, armedPairAnswer};
@@ -261,17 +261,44 @@ pub fn sim3_v(sigma: f32, z: f32, v: Values) -> VAnswer
     }
 }
 
-// The closed arm at sigma and at -sigma, from the same circle functions t: delta, form b and the
-// limit on sigma^2 are even in sigma.
-fn closed_pair(sigma: f32, z: f32, delta: f32, small: bool, t: SincABD, v: Values) -> ScaledPair
-    ensures { λ r. ⌜ asScaledPair r ≡ closedPair binary32 sigma z delta small (asSincABD t) (asValues v) ⌝ }
+// e^t and e^t - 1 of the values at sigma, and at -sigma.
+fn at_plus(v: Values) -> EtMt
+    ensures { λ r. ⌜ asEtMt r ≡ record { et = (asValues v) .e; mt = (asValues v) .m } ⌝ }
+{
+    EtMt { et: v.e, mt: v.m }
+}
+
+fn at_minus(sigma: f32, v: Values) -> EtMt
+    ensures { λ r. ⌜ asEtMt r ≡ minusEtMt sigma (asValues v) ⌝ }
 {
     let zero = at_zero(sigma);
-    let e = ieee_f32::pick(zero, v.e0, v.e);
-    let m = ieee_f32::pick(zero, v.m0, v.m);
-    let x = EtMt { et: v.e, mt: v.m };
-    let y = EtMt { et: e, mt: m };
-    let c = closed_both(sigma, z, t, x, y, on_form_b(delta), small);
+    EtMt {
+        et: ieee_f32::pick(zero, v.e0, v.e),
+        mt: ieee_f32::pick(zero, v.m0, v.m),
+    }
+}
+
+// v0 and w0 of the closed arm at sigma and at -sigma, by their series where `small`.
+fn pair_ends(sigma: f32, small: bool, v: Values) -> Ends
+    ensures { λ r. ⌜ asEnds r ≡ pairEnds binary32 sigma small (asValues v) ⌝ }
+{
+    ends_both(sigma, at_plus(v), at_minus(sigma, v), small)
+}
+
+// The closed arm at sigma and at -sigma, from the same circle functions t and from v0 and w0 of
+// both: delta and form b are even in sigma.
+fn closed_pair(sigma: f32, z: f32, delta: f32, h: Ends, t: SincABD, v: Values) -> ScaledPair
+    ensures { λ r. ⌜ asScaledPair r ≡ closedPair binary32 sigma z delta (asEnds h) (asSincABD t) (asValues v) ⌝ }
+{
+    let c = closed_both(
+        sigma,
+        z,
+        t,
+        at_plus(v),
+        at_minus(sigma, v),
+        h,
+        on_form_b(delta),
+    );
     let a = c.pos;
     let b = c.neg;
     ScaledPair {
@@ -308,25 +335,6 @@ fn pair_by_series(sigma: f32, z: f32, arm: u8) -> PairAnswer
     }
 }
 
-// sim3_coeffs_scaled at sigma and at -sigma, the latter on the mirrored values, each to the bit:
-// the arm, the circle functions, the exponential's values and the recurrence are shared.
-pub fn sim3_coeffs_scaled_pair(sigma: f32, z: f32, v: Values) -> PairAnswer
-    ensures { λ r. ⌜ pairTold r ≡ pairAnswer binary32 sigma z (asValues v) ⌝ }
-{
-    let delta = sigma * sigma + z;
-    let at = arm(delta);
-    if at < CLOSED {
-        return pair_by_series(sigma, z, at);
-    }
-    match circle_f32::kernel::sinc_a_b_d(z, v.root, v.sin_half, v.cos_half, v.sin) {
-        SincABDAnswer::Coeffs(t) => {
-            let small = w0_small(sigma);
-            PairAnswer::Coeffs(closed_pair(sigma, z, delta, small, t, v))
-        }
-        SincABDAnswer::Refused(n) => PairAnswer::Refused(n),
-    }
-}
-
 // What an arm answered at both signs, with the arm told: it is even in sigma.
 fn tell_pair(r: PairAnswer, arm: u8, ends: bool) -> ArmedPairAnswer
     ensures { λ q. ⌜ armedPairTold q ≡ andThen (pairTold r) (λ p. answers (record { pos = record { s = p .pos; arm = arm; ends = ends }; neg = record { s = p .neg; arm = arm; ends = ends } })) ⌝ }
@@ -343,7 +351,8 @@ fn tell_pair(r: PairAnswer, arm: u8, ends: bool) -> ArmedPairAnswer
     }
 }
 
-// sim3_coeffs_armed at sigma and at -sigma, likewise.
+// sim3_coeffs_armed at sigma and at -sigma, the latter on the mirrored values, each to the bit: the
+// arm, the circle functions, the exponential's values and the recurrence are shared.
 pub fn sim3_coeffs_armed_pair(sigma: f32, z: f32, v: Values) -> ArmedPairAnswer
     ensures { λ r. ⌜ armedPairTold r ≡ armedPairAnswer binary32 sigma z (asValues v) ⌝ }
 {
@@ -352,13 +361,30 @@ pub fn sim3_coeffs_armed_pair(sigma: f32, z: f32, v: Values) -> ArmedPairAnswer
     if at < CLOSED {
         return tell_pair(pair_by_series(sigma, z, at), at, false);
     }
+    let ends = w0_small(sigma);
+    let h = pair_ends(sigma, ends, v);
     match circle_f32::kernel::sinc_a_b_d(z, v.root, v.sin_half, v.cos_half, v.sin) {
         SincABDAnswer::Coeffs(t) => {
-            let ends = w0_small(sigma);
-            let p = closed_pair(sigma, z, delta, ends, t, v);
+            let p = closed_pair(sigma, z, delta, h, t, v);
             tell_pair(PairAnswer::Coeffs(p), at, ends)
         }
         SincABDAnswer::Refused(n) => ArmedPairAnswer::Refused(n),
+    }
+}
+
+// sim3_coeffs_scaled at sigma and at -sigma, likewise: the armed pair without what it tells besides.
+// So a library has the pair's code once, and the closed arm's numbers are stored once: with callers
+// of its own, closed_pair would be a call, whose answer is copied.
+pub fn sim3_coeffs_scaled_pair(sigma: f32, z: f32, v: Values) -> PairAnswer
+    ensures { λ r. ⌜ pairTold r ≡ pairAnswer binary32 sigma z (asValues v) ⌝ }
+{
+    match sim3_coeffs_armed_pair(sigma, z, v) {
+        ArmedPairAnswer::Coeffs(p) => {
+            let pos = p.pos.s;
+            let neg = p.neg.s;
+            PairAnswer::Coeffs(ScaledPair { pos, neg })
+        }
+        ArmedPairAnswer::Refused(n) => PairAnswer::Refused(n),
     }
 }
 

@@ -9,9 +9,12 @@ ghost use lib.ListN.{length, drop};
 ghost use Rattle.point_lists.specs.Points.{pointAt, pointsMoved, pointsAccepted, listTold, pointsAnswer, pointsOut, matAct, poseActMany, poseActEach};
 ghost use Rattle.sim3.specs.Pose.{poseAct};
 ghost use Rattle.point_lists.specs.Stores.{putPoint};
+use crate::many::many;
 use linalg::matrix::Mat3;
 use linalg::vector::Vec3;
 use sim3::sim3::Sim3;
+
+mod many; // every point by a matrix
 
 // Every point moved, or refusal 5 and nothing written.
 pub enum Listed {
@@ -19,7 +22,7 @@ pub enum Listed {
     Refused(u8),
 }
 
-fn point_at(pts: &[f64], i: usize) -> Vec3
+pub(crate) fn point_at(pts: &[f64], i: usize) -> Vec3
     requires { ⌜ i * 3 + 3 ≤ length (now pts) ⌝ }
     ensures { λ r. ⌜ r ≡ pointAt (now (pts .entry)) i ⌝ }
 {
@@ -29,7 +32,7 @@ fn point_at(pts: &[f64], i: usize) -> Vec3
     Vec3 { x, y, z }
 }
 
-fn put_point(out: &mut [f64], at: usize, p: Vec3)
+pub(crate) fn put_point(out: &mut [f64], at: usize, p: Vec3)
     requires { ⌜ at + 3 ≤ length (now out) ⌝ }
     ensures { λ _. ⌜ now (out .exit) ≡ putPoint (now (out .entry)) at p ⌝ }
 {
@@ -48,7 +51,7 @@ fn mat_act(m: Mat3, t: Vec3, p: Vec3) -> Vec3
 // The first e points, moved into their places. Reads from what is left of pts: the compiler then
 // loads two points as three vectors, where an index into the whole list makes it load number by
 // number.
-fn leading(m: Mat3, t: Vec3, pts: &[f64], out: &mut [f64], e: usize)
+pub(crate) fn leading(m: Mat3, t: Vec3, pts: &[f64], out: &mut [f64], e: usize)
     requires { ⌜ (e * 3 ≤ length (now pts)) × (length (now out) ≡ length (now pts)) ⌝ }
     ensures { λ _. ⌜ now (out .exit) ≡ pointsMoved (matAct binary64 m t) (now (pts .entry)) e ++ drop (e * 3) (now (out .entry)) ⌝ }
 {
@@ -63,7 +66,7 @@ fn leading(m: Mat3, t: Vec3, pts: &[f64], out: &mut [f64], e: usize)
 }
 
 // The last point, where e is one less than n: after it e points are left to move.
-fn last(m: Mat3, t: Vec3, pts: &[f64], out: &mut [f64], e: usize, n: usize)
+pub(crate) fn last(m: Mat3, t: Vec3, pts: &[f64], out: &mut [f64], e: usize, n: usize)
     requires { ⌜ (e ≤ n) × (n ≤ e + 1) × (n * 3 ≡ length (now pts)) × (n * 3 ≡ length (now out)) ⌝ }
     ensures { λ _. ⌜ pointsMoved (matAct binary64 m t) (now (pts .entry)) e ++ drop (e * 3) (now (out .exit)) ≡ pointsMoved (matAct binary64 m t) (now (pts .entry)) n ⌝ }
 {
@@ -71,17 +74,6 @@ fn last(m: Mat3, t: Vec3, pts: &[f64], out: &mut [f64], e: usize, n: usize)
         return;
     }
     put_point(out, e * 3, mat_act(m, t, point_at(pts, e)));
-}
-
-// The last point of an odd count first, then the others. Their count is even, so the compiler, which
-// moves two points a turn, has none to do after its loop: the loop alone has the registers.
-fn many(m: Mat3, t: Vec3, pts: &[f64], out: &mut [f64], n: usize)
-    requires { ⌜ (n * 3 ≡ length (now pts)) × (n * 3 ≡ length (now out)) ⌝ }
-    ensures { λ _. ⌜ now (out .exit) ≡ pointsMoved (matAct binary64 m t) (now (pts .entry)) n ⌝ }
-{
-    let e = n - n % 2;
-    last(m, t, pts, out, e, n);
-    leading(m, t, pts, out, e);
 }
 
 // Reads from what is left of pts, as leading does.

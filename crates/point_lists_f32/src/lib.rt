@@ -23,7 +23,7 @@ pub enum Listed {
     Refused(u8),
 }
 
-fn point_at(pts: &[f32], i: usize) -> Vec3
+pub(crate) fn point_at(pts: &[f32], i: usize) -> Vec3
     requires { ⌜ i * 3 + 3 ≤ length (now pts) ⌝ }
     ensures { λ r. ⌜ asVec3 r ≡ pointAt (now (pts .entry)) i ⌝ }
 {
@@ -33,7 +33,7 @@ fn point_at(pts: &[f32], i: usize) -> Vec3
     Vec3 { x, y, z }
 }
 
-fn put_point(out: &mut [f32], at: usize, p: Vec3)
+pub(crate) fn put_point(out: &mut [f32], at: usize, p: Vec3)
     requires { ⌜ at + 3 ≤ length (now out) ⌝ }
     ensures { λ _. ⌜ now (out .exit) ≡ putPoint (now (out .entry)) at (asVec3 p) ⌝ }
 {
@@ -43,7 +43,7 @@ fn put_point(out: &mut [f32], at: usize, p: Vec3)
 }
 
 // m p + t.
-fn mat_act(m: Mat3, t: Vec3, p: Vec3) -> Vec3
+pub(crate) fn mat_act(m: Mat3, t: Vec3, p: Vec3) -> Vec3
     ensures { λ r. ⌜ asVec3 r ≡ matAct binary32 (asMat3 m) (asVec3 t) (asVec3 p) ⌝ }
 {
     m.mul_vec(p).add(t)
@@ -52,7 +52,7 @@ fn mat_act(m: Mat3, t: Vec3, p: Vec3) -> Vec3
 // The first e points, moved into their places. Reads from what is left of pts: the compiler then
 // loads two points as three vectors, where an index into the whole list makes it load number by
 // number.
-fn leading(m: Mat3, t: Vec3, pts: &[f32], out: &mut [f32], e: usize)
+pub(crate) fn leading(m: Mat3, t: Vec3, pts: &[f32], out: &mut [f32], e: usize)
     requires { ⌜ (e * 3 ≤ length (now pts)) × (length (now out) ≡ length (now pts)) ⌝ }
     ensures { λ _. ⌜ now (out .exit) ≡ pointsMoved (matAct binary32 (asMat3 m) (asVec3 t)) (now (pts .entry)) e ++ drop (e * 3) (now (out .entry)) ⌝ }
 {
@@ -67,7 +67,7 @@ fn leading(m: Mat3, t: Vec3, pts: &[f32], out: &mut [f32], e: usize)
 }
 
 // The last point, where e is one less than n: after it e points are left to move.
-fn last(m: Mat3, t: Vec3, pts: &[f32], out: &mut [f32], e: usize, n: usize)
+pub(crate) fn last(m: Mat3, t: Vec3, pts: &[f32], out: &mut [f32], e: usize, n: usize)
     requires { ⌜ (e ≤ n) × (n ≤ e + 1) × (n * 3 ≡ length (now pts)) × (n * 3 ≡ length (now out)) ⌝ }
     ensures { λ _. ⌜ pointsMoved (matAct binary32 (asMat3 m) (asVec3 t)) (now (pts .entry)) e ++ drop (e * 3) (now (out .exit)) ≡ pointsMoved (matAct binary32 (asMat3 m) (asVec3 t)) (now (pts .entry)) n ⌝ }
 {
@@ -75,17 +75,6 @@ fn last(m: Mat3, t: Vec3, pts: &[f32], out: &mut [f32], e: usize, n: usize)
         return;
     }
     put_point(out, e * 3, mat_act(m, t, point_at(pts, e)));
-}
-
-// The last point of an odd count first, then the others. Their count is even, so the compiler, which
-// moves two points a turn, has none to do after its loop: the loop alone has the registers.
-fn many(m: Mat3, t: Vec3, pts: &[f32], out: &mut [f32], n: usize)
-    requires { ⌜ (n * 3 ≡ length (now pts)) × (n * 3 ≡ length (now out)) ⌝ }
-    ensures { λ _. ⌜ now (out .exit) ≡ pointsMoved (matAct binary32 (asMat3 m) (asVec3 t)) (now (pts .entry)) n ⌝ }
-{
-    let e = n - n % 2;
-    last(m, t, pts, out, e, n);
-    leading(m, t, pts, out, e);
 }
 
 // Reads from what is left of pts, as leading does.

@@ -1,2 +1,3 @@
--- Written by tools/widths from crates/sim3: edit that one. Digest a61e728cdc0f9fb4.
+-- Written by tools/widths from crates/sim3: edit that one. Digest 5924ee26e3d58eb1.
 pub mod As
+pub mod Fours

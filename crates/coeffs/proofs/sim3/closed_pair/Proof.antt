@@ -1,4 +1,4 @@
--- Written by tools/proofs, plain, opening closedPair ofBits. Digest 3367bf5238f7450f.
+-- Written by tools/proofs, plain, opening closedPair ofBits. Digest 5e55cd8c56569db5.
 use borrow.Author.Needs.{needs}
 use Rattle.coeffs.specs.Shared.{closedPair}
 use lib.Ieee.{ofBits}
@@ -12,10 +12,9 @@ returns c =
     simp (
       c .before .before .closed-both .ensures,
       c .before .before .before .on-form-b .ensures,
-      c .before .before .before .before .pick2 .ensures,
-      c1 .pick .ensures,
-      c1 .before .at-zero .ensures,
+      c .before .before .before .before .at-minus .ensures,
+      c1 .at-plus .ensures,
     )
 
 pub closed-pair-spec : {M : Type 1} → statement M
-closed-pair-spec = tie.close (tie.spec (λ c κs. search needs) (λ c κs. search needs) (λ c κs. search needs) (λ c κs. search needs) (λ c κs. search needs) returns)
+closed-pair-spec = tie.close (tie.spec (λ c κs. search needs) (λ c κs. search needs) (λ c κs. search needs) (λ c κs. search needs) returns)

@@ -1,4 +1,4 @@
--- Written by tools/proofs from Proof.template: edit that one. Digest fa34c78f97934557.
+-- Written by tools/proofs from Proof.template: edit that one. Digest 672712bb95b1dac0.
 -- `coeffs::sim3::sim3_coeffs_armed_pair` meets its contract: the answer is that of the arm at Δ, with that arm told. Assumes nothing.
 use borrow.Author.Needs.{needs}
 use mathlib.Core.Path.{_≡_, sym, ap, _∙_}
@@ -11,7 +11,7 @@ use Rattle.closed.specs.Limits.{coeffsDelta}
 use Rattle.closed.specs.Arm.{coeffsArm}
 use Rattle.coeffs.specs.Shared.{seriesArms}
 use Rattle.coeffs.specs.Entries.{pairTold, armedPairTold}
-use Rattle.closed.proofs.Arm.{ends-series, ends-closed}
+use Rattle.coeffs.proofs.Arms.{ends-series, ends-closed}
 use Rattle.coeffs.proofs.Even.{pair-by-series, pair-by-closed, pair-closed-refuses, armed-pair-told, armed-pair-refuses, told-both}
 use Rattle.coeffs.proofs.sim3.sim3_coeffs_armed_pair.Statement.{statement}
 use Rattle.coeffs.proofs.sim3.sim3_coeffs_armed_pair.Tie as tie
@@ -31,11 +31,13 @@ returns-2 : tie.Need-returns-2
 unfolding pairTold coeffsDelta sincABDTold circleSincABDAnswer
 returns-2 c =
     let c1 = c .before .before .before .before .before in
-    let a = c1 .before .before .before .before .args in
-    let e = c1 .before .before .before .arm .ensures in
-    let t = ap (λ n. ltb n 5) (sym e) ∙ le-ltb _ _ (c1 .before .before .if1 .left) in
-    let w = c .before .before .w0-small .ensures in
-    let r = ap answers (rw w at (c .before .closed-pair .ensures)) ∙ sym (pair-by-closed binary64 (a .sigma) (a .z) (a .v) _ t (sym (c1 .before .sinc-a-b-d .ensures) ∙ ap sincABDTold (c .before .before .before .before .t .given .1))) in
+    let c2 = c1 .before .before .before .before .before in
+    let a = c2 .args in
+    let e = c1 .before .before .before .before .arm .ensures in
+    let t = ap (λ n. ltb n 5) (sym e) ∙ le-ltb _ _ (c1 .before .before .before .if1 .left) in
+    let w = c1 .before .before .w0-small .ensures in
+    let p = rw w at (rw (c1 .before .pair-ends .ensures) at (c .before .closed-pair .ensures)) in
+    let r = ap answers p ∙ sym (pair-by-closed binary64 (a .sigma) (a .z) (a .v) _ t (sym (c1 .sinc-a-b-d .ensures) ∙ ap sincABDTold (c .before .before .before .t .given .1))) in
     c .tell-pair2 .ensures
     ∙ (λ i. andThen (r i) (λ s. answers (told-both (e i) ((w ∙ sym (ends-closed binary64 (a .sigma) (coeffsArm binary64 (coeffsDelta binary64 (a .sigma) (a .z))) t)) i) s)))
     ∙ sym (armed-pair-told binary64 (a .sigma) (a .z) (a .v))
@@ -44,7 +46,7 @@ returns-3 : tie.Need-returns-3
 unfolding armedPairTold sincABDTold circleSincABDAnswer
 returns-3 c =
     let c1 = c .before .before .before .before .before in
-    let a = c1 .before .args in
+    let a = c1 .before .before .before .args in
     let r = sym (c .before .before .before .sinc-a-b-d .ensures) ∙ ap sincABDTold (c .before .n .given .1) in
     sym (armed-pair-refuses binary64 (a .sigma) (a .z) (a .v) _ (pair-closed-refuses binary64 (a .sigma) (a .z) (a .v) _ _ r))
 
@@ -57,8 +59,9 @@ sim3-coeffs-armed-pair-spec =
     (λ c κs. search needs)
     returns
     (λ c κs. search needs)
-    (λ c. search needs)
     (λ c κs. search needs)
+    (λ c κs. search needs)
+    (λ c. search needs)
     (λ c κs. search needs)
     (λ c κs. search needs)
     (λ c. search needs)

@@ -1,52 +1,32 @@
--- Written by tools/proofs from Proof.template: edit that one. Digest f40217eec1a482e0.
--- `coeffs::sim3::sim3_coeffs_scaled_pair` meets its contract: the answer is that of the arm at Δ. Assumes nothing.
+-- Written by tools/proofs from Proof.template: edit that one. Digest ea1cba30046688ed.
+-- `coeffs::sim3::sim3_coeffs_scaled_pair` meets its contract: what the armed pair answers is the pair's answer with more told. Assumes nothing.
 use borrow.Author.Needs.{needs}
 use mathlib.Core.Path.{sym, ap, _∙_}
-use borrow.Author.Tests.{lt-ltb, le-ltb}
-use lib.Dec.{ltb}
 use lib.Ieee.{binary64}
-use Rattle.circle.specs.Kernel.{sincABDTold, circleSincABDAnswer}
-use Rattle.closed.specs.Limits.{coeffsDelta}
-use Rattle.coeffs.specs.Shared.{seriesArms}
-use Rattle.coeffs.specs.Entries.{pairTold}
-use Rattle.coeffs.proofs.Even.{pair-by-series, pair-by-closed, pair-closed-refuses}
+use Rattle.coeffs.specs.Entries.{pairTold, armedPairTold}
+use Rattle.coeffs.proofs.Even.{armed-answers, armed-refused}
 use Rattle.coeffs.proofs.sim3.sim3_coeffs_scaled_pair.Statement.{statement}
 use Rattle.coeffs.proofs.sim3.sim3_coeffs_scaled_pair.Tie as tie
 
 returns : tie.Need-returns
-unfolding coeffsDelta
+unfolding pairTold armedPairTold
 returns c =
-    let a = c .before .before .before .args in
-    let e = c .before .before .arm .ensures in
-    let t = ap (λ n. ltb n 5) (sym e) ∙ lt-ltb _ _ (c .before .if1 .taken) in
-    c .pair-by-series .ensures ∙ ap (seriesArms binary64 (a .sigma) (a .z)) e ∙ sym (pair-by-series binary64 (a .sigma) (a .z) (a .v) t)
-
-returns-2 : tie.Need-returns-2
-unfolding pairTold coeffsDelta sincABDTold circleSincABDAnswer
-returns-2 c =
-    let c1 = c .before .before .before .before .before in
-    let a = c1 .before .before .before .args in
-    let t = ap (λ n. ltb n 5) (sym (c1 .before .before .arm .ensures)) ∙ le-ltb _ _ (c1 .before .if1 .left) in
-    simp (c .closed-pair .ensures, c .before .w0-small .ensures) (sym (pair-by-closed binary64 (a .sigma) (a .z) (a .v) _ t (sym (c1 .sinc-a-b-d .ensures) ∙ ap sincABDTold (c .before .before .before .t .given .1))))
-
-returns-3 : tie.Need-returns-3
-unfolding pairTold sincABDTold circleSincABDAnswer
-returns-3 c =
     let c1 = c .before .before .before .before .before in
     let a = c1 .before .args in
-    sym (pair-closed-refuses binary64 (a .sigma) (a .z) (a .v) _ _ (sym (c .before .before .before .sinc-a-b-d .ensures) ∙ ap sincABDTold (c .before .n .given .1)))
+    sym (armed-answers binary64 (a .sigma) (a .z) (a .v) _ (sym (c1 .sim3-coeffs-armed-pair .ensures) ∙ ap armedPairTold (c .before .before .before .p .given .1)))
+
+returns-2 : tie.Need-returns-2
+unfolding pairTold armedPairTold
+returns-2 c =
+    let a = c .before .before .before .before .args in
+    sym (armed-refused binary64 (a .sigma) (a .z) (a .v) _ (sym (c .before .before .before .sim3-coeffs-armed-pair .ensures) ∙ ap armedPairTold (c .before .n .given .1)))
 
 pub sim3-coeffs-scaled-pair-spec : {M : Type 1} → statement M
 sim3-coeffs-scaled-pair-spec =
     tie.close
     (tie.spec
     (λ c κs. search needs)
-    (λ c κs. search needs)
+    (λ c. search needs)
+    (λ c. search needs)
     returns
-    (λ c κs. search needs)
-    (λ c. search needs)
-    (λ c κs. search needs)
-    (λ c κs. search needs)
-    (λ c. search needs)
-    returns-2
-    returns-3)
+    returns-2)

@@ -22,10 +22,9 @@ returns c =
       coeffs-singles,
       c .before .before .closed-both .ensures,
       c .before .before .before .on-form-b .ensures,
-      c .before .before .before .before .pick2 .ensures,
-      c1 .pick .ensures,
-      c1 .before .at-zero .ensures,
+      c .before .before .before .before .at-minus .ensures,
+      c1 .at-plus .ensures,
     )
 
 pub closed-pair-spec : {M : Type 1} → statement M
-closed-pair-spec = tie.close (tie.spec (λ c κs. search needs) (λ c κs. search needs) (λ c κs. search needs) (λ c κs. search needs) (λ c κs. search needs) returns)
+closed-pair-spec = tie.close (tie.spec (λ c κs. search needs) (λ c κs. search needs) (λ c κs. search needs) (λ c κs. search needs) returns)

@@ -36,11 +36,13 @@ returns-2 : tie.Need-returns-2
 unfolding pairTold coeffsDelta sincABDTold circleSincABDAnswer asArmed asArmedPair asScaled asScaledPair asSim3Coeffs asSincABD asValues
 returns-2 c =
     let c1 = c .before .before .before .before .before in
-    let a = c1 .before .before .before .before .args in
-    let e = c1 .before .before .before .arm .ensures in
-    let t = ap (λ n. ltb n 5) (sym e) ∙ le-ltb _ _ (c1 .before .before .if1 .left) in
-    let w = c .before .before .w0-small .ensures in
-    let r = ap answers (rw w at (c .before .closed-pair .ensures)) ∙ sym (pair-by-closed binary32 (a .sigma) (a .z) (asValues (a .v)) _ t (sym (c1 .before .sinc-a-b-d .ensures) ∙ ap sincABDTold (c .before .before .before .before .t .given .1))) in
+    let c2 = c1 .before .before .before .before .before in
+    let a = c2 .args in
+    let e = c1 .before .before .before .before .arm .ensures in
+    let t = ap (λ n. ltb n 5) (sym e) ∙ le-ltb _ _ (c1 .before .before .before .if1 .left) in
+    let w = c1 .before .before .w0-small .ensures in
+    let p = rw w at (rw (c1 .before .pair-ends .ensures) at (c .before .closed-pair .ensures)) in
+    let r = ap answers p ∙ sym (pair-by-closed binary32 (a .sigma) (a .z) (asValues (a .v)) _ t (sym (c1 .sinc-a-b-d .ensures) ∙ ap sincABDTold (c .before .before .before .t .given .1))) in
     c .tell-pair2 .ensures
     ∙ (λ i. andThen (r i) (λ s. answers (told-both (e i) ((w ∙ sym (ends-closed binary32 (a .sigma) (coeffsArm binary32 (coeffsDelta binary32 (a .sigma) (a .z))) t)) i) s)))
     ∙ sym (armed-pair-told binary32 (a .sigma) (a .z) (asValues (a .v)))
@@ -49,7 +51,7 @@ returns-3 : tie.Need-returns-3
 unfolding armedPairTold sincABDTold circleSincABDAnswer asArmed asArmedPair asScaled asScaledPair asSim3Coeffs asSincABD asValues
 returns-3 c =
     let c1 = c .before .before .before .before .before in
-    let a = c1 .before .args in
+    let a = c1 .before .before .before .args in
     let r = sym (c .before .before .before .sinc-a-b-d .ensures) ∙ ap sincABDTold (c .before .n .given .1) in
     sym (armed-pair-refuses binary32 (a .sigma) (a .z) (asValues (a .v)) _ (pair-closed-refuses binary32 (a .sigma) (a .z) (asValues (a .v)) _ _ r))
 
@@ -62,8 +64,9 @@ sim3-coeffs-armed-pair-spec =
     (λ c κs. search needs)
     returns
     (λ c κs. search needs)
-    (λ c. search needs)
     (λ c κs. search needs)
+    (λ c κs. search needs)
+    (λ c. search needs)
     (λ c κs. search needs)
     (λ c κs. search needs)
     (λ c. search needs)

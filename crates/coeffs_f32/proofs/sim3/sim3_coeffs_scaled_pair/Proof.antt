@@ -2,8 +2,6 @@
 -- `coeffs_f32::sim3::sim3_coeffs_scaled_pair` meets its contract: the answer is that of the arm at Δ. Assumes nothing.
 use borrow.Author.Needs.{needs}
 use mathlib.Core.Path.{sym, ap, _∙_}
-use borrow.Author.Tests.{lt-ltb, le-ltb}
-use lib.Dec.{ltb}
 use lib.Ieee.{binary32}
 use Rattle.circle.specs.Kernel.{circleSincABDAnswer}
 use Rattle.circle_f32.specs.Told.{sincABDTold}
@@ -13,7 +11,6 @@ use Rattle.coeffs_f32.specs.Told.{pairTold}
 use Rattle.coeffs.proofs.Even.{pair-by-series, pair-by-closed, pair-closed-refuses}
 use Rattle.coeffs_f32.proofs.sim3.sim3_coeffs_scaled_pair.Statement.{statement}
 use Rattle.coeffs_f32.proofs.sim3.sim3_coeffs_scaled_pair.Tie as tie
-use Rattle.circle_f32.specs.As.{asSincABD}
 use Rattle.series_f32.specs.As.{asSim3Coeffs}
 use Rattle.closed_f32.specs.As.{asValues}
 use Rattle.coeffs_f32.specs.As.{asScaled, asScaledPair}
@@ -24,7 +21,7 @@ use Rattle.closed_f32.proofs.As.{closed-singles}
 use Rattle.coeffs_f32.proofs.As.{coeffs-singles}
 
 returns : tie.Need-returns
-unfolding coeffsDelta asScaled asScaledPair asSim3Coeffs asSincABD asValues
+unfolding pairTold armedPairTold asArmed asArmedPair asScaled asScaledPair asSim3Coeffs asValues
 returns c =
     let a = c .before .before .before .args in
     let e = c .before .before .arm .ensures in
@@ -44,19 +41,20 @@ unfolding pairTold sincABDTold circleSincABDAnswer asScaled asScaledPair asSim3C
 returns-3 c =
     let c1 = c .before .before .before .before .before in
     let a = c1 .before .args in
-    sym (pair-closed-refuses binary32 (a .sigma) (a .z) (asValues (a .v)) _ _ (sym (c .before .before .before .sinc-a-b-d .ensures) ∙ ap sincABDTold (c .before .n .given .1)))
+    sym (armed-answers binary32 (a .sigma) (a .z) (asValues (a .v)) _ (sym (c1 .sim3-coeffs-armed-pair .ensures) ∙ ap armedPairTold (c .before .before .before .p .given .1)))
+
+returns-2 : tie.Need-returns-2
+unfolding pairTold armedPairTold asArmed asArmedPair asScaled asScaledPair asSim3Coeffs asValues
+returns-2 c =
+    let a = c .before .before .before .before .args in
+    sym (armed-refused binary32 (a .sigma) (a .z) (asValues (a .v)) _ (sym (c .before .before .before .sim3-coeffs-armed-pair .ensures) ∙ ap armedPairTold (c .before .n .given .1)))
 
 pub sim3-coeffs-scaled-pair-spec : {M : Type 1} → statement M
 sim3-coeffs-scaled-pair-spec =
     tie.close
     (tie.spec
     (λ c κs. search needs)
-    (λ c κs. search needs)
+    (λ c. search needs)
+    (λ c. search needs)
     returns
-    (λ c κs. search needs)
-    (λ c. search needs)
-    (λ c κs. search needs)
-    (λ c κs. search needs)
-    (λ c. search needs)
-    returns-2
-    returns-3)
+    returns-2)

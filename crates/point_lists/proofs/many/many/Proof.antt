@@ -1,9 +1,9 @@
--- `point_lists::many` meets its contract: the last triple of an odd count is in its place before the others are moved. Assumes nothing.
+-- `point_lists::many::many` meets its contract: the last triple of an odd count is in its place before the others are moved. Assumes nothing.
 use borrow.Author.Needs.{needs}
 use mathlib.Core.Path.{_∙_}
 use native.Mathlib.Omega.{arith}
-use Rattle.point_lists.proofs.many.Statement.{statement}
-use Rattle.point_lists.proofs.many.Tie as tie
+use Rattle.point_lists.proofs.many.many.Statement.{statement}
+use Rattle.point_lists.proofs.many.many.Tie as tie
 
 same-length : tie.Need-same-length
 same-length c = c .before .before .leading .kept .1 .1 .1 .0 ∙ c .before .before .before .before .before .before .last .kept .1 .1 .1 .0
