@@ -16,7 +16,7 @@ def reads_well(line, at):
 def broken(line):
     """A line as lines of at most USUAL characters: each ends at the space of the fewest open brackets in its second half, where that reads well if it can."""
     indent = " " * (len(line) - len(line.lstrip(" ")))
-    indent = indent + "-- " if line.startswith(indent + "-- ") else indent or " " * 4
+    indent += "-- " if line.startswith(indent + "-- ") else " " * 4
     out = []
     while len(line) > USUAL:
         places = [i for i in range(USUAL // 2, USUAL + 1) if line[i] == " " and line[i + 1] not in ".)]},"]

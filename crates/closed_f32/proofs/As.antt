@@ -1,4 +1,4 @@
--- Written by tools/widths from crates/closed: edit that one. Digest 14edadb4f1e557cf.
+-- Written by tools/widths from crates/closed: edit that one. Digest 57d5c4687a52d784.
 -- The structs of closed_f32 field by field, as rules for `simp`: a number that the code reads of a struct is the number of the definitions' record. Assumes nothing.
 use mathlib.Core.Path.{_≡_, refl}
 use lib.Ieee.{Float}
@@ -78,7 +78,8 @@ pub w0-neg-of-Ends : (a : Ends) → a .«w0_neg» ≡ asEnds a .«w0_neg»
 unfolding asEnds
 w0-neg-of-Ends a = refl
 
-pub made-Ends : (v0 : Float) (w0 : Float) («v0_neg» : Float) («w0_neg» : Float) → asEnds (record { v0 = v0; w0 = w0; «v0_neg» = «v0_neg»; «w0_neg» = «w0_neg» }) ≡ record { v0 = v0; w0 = w0; «v0_neg» = «v0_neg»; «w0_neg» = «w0_neg» }
+pub made-Ends : (v0 : Float) (w0 : Float) («v0_neg» : Float) («w0_neg» : Float) → asEnds
+    (record { v0 = v0; w0 = w0; «v0_neg» = «v0_neg»; «w0_neg» = «w0_neg» }) ≡ record { v0 = v0; w0 = w0; «v0_neg» = «v0_neg»; «w0_neg» = «w0_neg» }
 unfolding asEnds
 made-Ends v0 w0 «v0_neg» «w0_neg» = refl
 
@@ -122,8 +123,62 @@ pub down-of-Values : (a : Values) → a .down ≡ asValues a .down
 unfolding asValues
 down-of-Values a = refl
 
-pub made-Values : (root : Float) («sin_half» : Float) («cos_half» : Float) (sin : Float) (e : Float) (m : Float) (e0 : Float) (m0 : Float) (up : Float) (down : Float) → asValues (record { root = root; «sin_half» = «sin_half»; «cos_half» = «cos_half»; sin = sin; e = e; m = m; e0 = e0; m0 = m0; up = up; down = down }) ≡ record { root = root; «sin_half» = «sin_half»; «cos_half» = «cos_half»; sin = sin; e = e; m = m; e0 = e0; m0 = m0; up = up; down = down }
+pub made-Values : (root : Float) («sin_half» : Float) («cos_half» : Float) (sin : Float) (e : Float) (m : Float) (e0 : Float) (m0 : Float)
+    (up : Float) (down : Float) → asValues (record {
+      root = root;
+      «sin_half» = «sin_half»;
+      «cos_half» = «cos_half»;
+      sin = sin;
+      e = e;
+      m = m;
+      e0 = e0;
+      m0 = m0;
+      up = up;
+      down = down;
+    }) ≡ record {
+      root = root;
+      «sin_half» = «sin_half»;
+      «cos_half» = «cos_half»;
+      sin = sin;
+      e = e;
+      m = m;
+      e0 = e0;
+      m0 =
+          m0;
+      up = up;
+      down = down;
+    }
 unfolding asValues
 made-Values root «sin_half» «cos_half» sin e m e0 m0 up down = refl
 
-pub ruleset closed-singles = (w1-of-Ws, w2-of-Ws, made-Ws, dv1-of-Dvs, dv2-of-Dvs, made-Dvs, et-of-EtMt, mt-of-EtMt, made-EtMt, e-of-Exps, m1-of-Exps, g-of-Exps, made-Exps, v0-of-Ends, w0-of-Ends, v0-neg-of-Ends, w0-neg-of-Ends, made-Ends, root-of-Values, sin-half-of-Values, cos-half-of-Values, sin-of-Values, e-of-Values, m-of-Values, e0-of-Values, m0-of-Values, up-of-Values, down-of-Values, made-Values)
+pub ruleset closed-singles = (
+  w1-of-Ws,
+  w2-of-Ws,
+  made-Ws,
+  dv1-of-Dvs,
+  dv2-of-Dvs,
+  made-Dvs,
+  et-of-EtMt,
+  mt-of-EtMt,
+  made-EtMt,
+  e-of-Exps,
+  m1-of-Exps,
+  g-of-Exps,
+  made-Exps,
+  v0-of-Ends,
+  w0-of-Ends,
+  v0-neg-of-Ends,
+  w0-neg-of-Ends,
+  made-Ends,
+  root-of-Values,
+  sin-half-of-Values,
+  cos-half-of-Values,
+  sin-of-Values,
+  e-of-Values,
+  m-of-Values,
+  e0-of-Values,
+  m0-of-Values,
+  up-of-Values,
+  down-of-Values,
+  made-Values,
+)

@@ -1,11 +1,11 @@
-// Written by tools/widths from crates/closed/src/lib.rt: edit that one. Digest fa82d7a7f11534db.
+// Written by tools/widths from crates/closed/src/lib.rt: edit that one. Digest 27ae306dc8bac2b3.
 // What the entries of the coefficients rest on: the handed-in values, the arm at delta with its limits,
 // and the closed arm: the coefficients from the circle functions and the exponential, scaled by
 // e^-sigma where 0 < sigma.
 ghost use mathlib.Core.Path.{_≡_};
 ghost use lib.Ieee.{binary32, neg};
 ghost use Rattle.closed.specs.Closed.{closedV0, closedW0, closedV, closedWs, closedDvs, closedJoined, closedVFrom, closedOnly, closedFrom};
-ghost use Rattle.closed.specs.Shared.{closedExps, closedEnds};
+ghost use Rattle.closed.specs.Shared.{closedExps, closedEnds, closedWith};
 ghost use Rattle.circle_f32.specs.As.{asSincA, asSincABD};
 ghost use Rattle.series_f32.specs.As.{asCoeffs4, asCoeffsPair, asSim3Coeffs};
 ghost use Rattle.closed_f32.specs.As.{asDvs, asEnds, asEtMt, asExps, asWs};

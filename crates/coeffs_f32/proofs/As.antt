@@ -1,4 +1,4 @@
--- Written by tools/widths from crates/coeffs: edit that one. Digest 6c7a401dbf3d193f.
+-- Written by tools/widths from crates/coeffs: edit that one. Digest ded0d3bed946cbfc.
 -- The structs of coeffs_f32 field by field, as rules for `simp`: a number that the code reads of a struct is the number of the definitions' record. Assumes nothing.
 use mathlib.Core.Path.{_≡_, refl}
 use Prim.Native.Nat.{ℕ}
@@ -77,4 +77,21 @@ pub made-ArmedPair : (pos : Armed) (neg : Armed) → asArmedPair (record { pos =
 unfolding asArmedPair
 made-ArmedPair pos neg = refl
 
-pub ruleset coeffs-singles = (c-of-Scaled, scaled-of-Scaled, made-Scaled, c-of-VScaled, scaled-of-VScaled, made-VScaled, pos-of-ScaledPair, neg-of-ScaledPair, made-ScaledPair, s-of-Armed, arm-of-Armed, ends-of-Armed, made-Armed, pos-of-ArmedPair, neg-of-ArmedPair, made-ArmedPair)
+pub ruleset coeffs-singles = (
+  c-of-Scaled,
+  scaled-of-Scaled,
+  made-Scaled,
+  c-of-VScaled,
+  scaled-of-VScaled,
+  made-VScaled,
+  pos-of-ScaledPair,
+  neg-of-ScaledPair,
+  made-ScaledPair,
+  s-of-Armed,
+  arm-of-Armed,
+  ends-of-Armed,
+  made-Armed,
+  pos-of-ArmedPair,
+  neg-of-ArmedPair,
+  made-ArmedPair,
+)

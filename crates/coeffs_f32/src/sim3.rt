@@ -1,4 +1,4 @@
-// Written by tools/widths from crates/coeffs/src/sim3.rt: edit that one. Digest 33bf2df6a0a068ea.
+// Written by tools/widths from crates/coeffs/src/sim3.rt: edit that one. Digest d8f883f7f5448eb9.
 // The entries of the coefficient group: scaled, with the arm told, unscaled, v alone, and the pair for
 // both signs. Each finds the arm once.
 ghost use mathlib.Core.Path.{_≡_};
@@ -14,15 +14,17 @@ ghost use Rattle.coeffs_f32.specs.Told.{armedTold, armedPairTold};
 ghost use Rattle.linalg_f32.specs.As.{asVec3};
 ghost use Rattle.circle_f32.specs.As.{asSincABD};
 ghost use Rattle.series_f32.specs.As.{asCoeffs4, asSim3Coeffs};
-ghost use Rattle.closed_f32.specs.As.{asValues};
+ghost use Rattle.closed_f32.specs.As.{asEnds, asEtMt, asValues};
 ghost use Rattle.coeffs_f32.specs.As.{asScaled, asScaledPair};
 use circle_f32::kernel::SincAAnswer;
 use circle_f32::kernel::SincABD;
 use circle_f32::kernel::SincABDAnswer;
+use closed_f32::Ends;
 use closed_f32::EtMt;
 use closed_f32::closed_both;
 use closed_f32::closed_from;
 use closed_f32::closed_v;
+use closed_f32::ends_both;
 use closed_f32::limits::CLOSED;
 use closed_f32::limits::arm;
 use closed_f32::limits::on_form_b;

@@ -1,4 +1,4 @@
--- Written by tools/widths from crates/demands: edit that one. Digest ac912d8995380074.
+-- Written by tools/widths from crates/demands: edit that one. Digest 89049ef68531d2a8.
 -- The structs of demands_f32 field by field, as rules for `simp`: a number that the code reads of a struct is the number of the definitions' record. Assumes nothing.
 use mathlib.Core.Path.{_≡_, refl}
 use Rattle.demands_f32.specs.declared.ways.BothWays.{BothWays}
@@ -53,8 +53,48 @@ pub pair-turned-of-BothWays : (a : BothWays) → asBlockPair (a .«pair_turned»
 unfolding asBothWays
 pair-turned-of-BothWays a = refl
 
-pub made-BothWays : (exp : Pose) («exp_turned» : Pose) (left : Sim3Jac) («left_turned» : Sim3Jac) (together : ExpAndJl) («together_turned» : ExpAndJl) (inverted : JacAndInverse) («inverted_turned» : JacAndInverse) (pair : BlockPair) («pair_turned» : BlockPair) → asBothWays (record { exp = exp; «exp_turned» = «exp_turned»; left = left; «left_turned» = «left_turned»; together = together; «together_turned» = «together_turned»; inverted = inverted; «inverted_turned» = «inverted_turned»; pair = pair; «pair_turned» = «pair_turned» }) ≡ record { exp = asPose exp; «exp_turned» = asPose «exp_turned»; left = asSim3Jac left; «left_turned» = asSim3Jac «left_turned»; together = asExpAndJl together; «together_turned» = asExpAndJl «together_turned»; inverted = asJacAndInverse inverted; «inverted_turned» = asJacAndInverse «inverted_turned»; pair = asBlockPair pair; «pair_turned» = asBlockPair «pair_turned» }
+pub made-BothWays : (exp : Pose) («exp_turned» : Pose) (left : Sim3Jac) («left_turned» : Sim3Jac) (together : ExpAndJl) («together_turned» : ExpAndJl)
+    (inverted : JacAndInverse) («inverted_turned» : JacAndInverse) (pair : BlockPair) («pair_turned» : BlockPair) → asBothWays
+    (record {
+      exp = exp;
+      «exp_turned» = «exp_turned»;
+      left = left;
+      «left_turned» = «left_turned»;
+      together = together;
+      «together_turned» =
+          «together_turned»;
+      inverted = inverted;
+      «inverted_turned» = «inverted_turned»;
+      pair = pair;
+      «pair_turned» = «pair_turned»;
+    })
+    ≡ record {
+      exp = asPose exp;
+      «exp_turned» = asPose «exp_turned»;
+      left = asSim3Jac left;
+      «left_turned» = asSim3Jac «left_turned»;
+      together =
+          asExpAndJl together;
+      «together_turned» = asExpAndJl «together_turned»;
+      inverted = asJacAndInverse inverted;
+      «inverted_turned» = asJacAndInverse
+          «inverted_turned»;
+      pair = asBlockPair pair;
+      «pair_turned» = asBlockPair «pair_turned»;
+    }
 unfolding asBothWays
 made-BothWays exp «exp_turned» left «left_turned» together «together_turned» inverted «inverted_turned» pair «pair_turned» = refl
 
-pub ruleset demands-singles = (exp-of-BothWays, exp-turned-of-BothWays, left-of-BothWays, left-turned-of-BothWays, together-of-BothWays, together-turned-of-BothWays, inverted-of-BothWays, inverted-turned-of-BothWays, pair-of-BothWays, pair-turned-of-BothWays, made-BothWays)
+pub ruleset demands-singles = (
+  exp-of-BothWays,
+  exp-turned-of-BothWays,
+  left-of-BothWays,
+  left-turned-of-BothWays,
+  together-of-BothWays,
+  together-turned-of-BothWays,
+  inverted-of-BothWays,
+  inverted-turned-of-BothWays,
+  pair-of-BothWays,
+  pair-turned-of-BothWays,
+  made-BothWays,
+)

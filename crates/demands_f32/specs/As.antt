@@ -1,4 +1,4 @@
--- Written by tools/widths from crates/demands: edit that one. Digest b3e8a39bba28bf0b.
+-- Written by tools/widths from crates/demands: edit that one. Digest 22f73a9868b56ca5.
 -- The structs of demands_f32 as the records that the definitions speak of, number by number: a float of either width is one type of the logic.
 use Rattle.demands.specs.declared.ways.BothWays as wideBothWays
 use Rattle.demands_f32.specs.declared.ways.BothWays.{BothWays}
@@ -8,4 +8,18 @@ use Rattle.sides_f32.specs.As.{asBlockPair, asExpAndJl}
 use Rattle.frames_f32.specs.As.{asPose}
 
 unfoldable pub asBothWays : BothWays → wideBothWays.BothWays
-asBothWays a = record { exp = asPose (a .exp); «exp_turned» = asPose (a .«exp_turned»); left = asSim3Jac (a .left); «left_turned» = asSim3Jac (a .«left_turned»); together = asExpAndJl (a .together); «together_turned» = asExpAndJl (a .«together_turned»); inverted = asJacAndInverse (a .inverted); «inverted_turned» = asJacAndInverse (a .«inverted_turned»); pair = asBlockPair (a .pair); «pair_turned» = asBlockPair (a .«pair_turned») }
+asBothWays a = record {
+  exp = asPose (a .exp);
+  «exp_turned» = asPose (a .«exp_turned»);
+  left = asSim3Jac (a .left);
+  «left_turned» = asSim3Jac
+      (a .«left_turned»);
+  together = asExpAndJl (a .together);
+  «together_turned» = asExpAndJl (a .«together_turned»);
+  inverted = asJacAndInverse
+      (a .inverted);
+  «inverted_turned» = asJacAndInverse (a .«inverted_turned»);
+  pair = asBlockPair (a .pair);
+  «pair_turned» = asBlockPair
+      (a .«pair_turned»);
+}

@@ -1,4 +1,4 @@
--- Written by tools/widths from crates/from_lists: edit that one. Digest 0fd1935d1e75d175.
+-- Written by tools/widths from crates/from_lists: edit that one. Digest 05ac6eb1618c5d11.
 -- What each answer of from_lists_f32 says.
 use Rattle.from_lists_f32.specs.declared.VecRead as codeVecRead
 use Rattle.from_lists_f32.specs.declared.VecRead.the-variants as inVecRead
@@ -19,7 +19,7 @@ use Rattle.from_lists_f32.specs.declared.BlockRead.the-variants as inBlo
 use Rattle.linalg.specs.Answer.{Answer, answers, refuses}
 use Rattle.linalg.specs.declared.vector.Vec3.{Vec3}
 use Rattle.linalg.specs.declared.matrix.Mat3.{Mat3}
-use Rattle.coeffs.specs.declared.values.Values.{Values}
+use Rattle.closed.specs.declared.values.Values.{Values}
 use Rattle.sim3.specs.declared.sim3.Sim3.{Sim3}
 use Rattle.sim3.specs.declared.tangent.Sim3Tangent.{Sim3Tangent}
 use Rattle.frames.specs.declared.Pose.{Pose}
@@ -27,7 +27,7 @@ use Rattle.jacobian.specs.declared.jac.Sim3Jac.{Sim3Jac}
 use Rattle.from_lists.specs.declared.Frames.{Frames}
 use Rattle.from_lists.specs.Lists.{wrongLength}
 use Rattle.linalg_f32.specs.As.{asMat3, asVec3}
-use Rattle.coeffs_f32.specs.As.{asValues}
+use Rattle.closed_f32.specs.As.{asValues}
 use Rattle.sim3_f32.specs.As.{asSim3, asSim3Tangent}
 use Rattle.jacobian_f32.specs.As.{asSim3Jac}
 use Rattle.frames_f32.specs.As.{asPose}

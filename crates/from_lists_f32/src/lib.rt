@@ -1,4 +1,4 @@
-// Written by tools/widths from crates/from_lists/src/lib.rt: edit that one. Digest d61dda9f9323b246.
+// Written by tools/widths from crates/from_lists/src/lib.rt: edit that one. Digest a8b2212eb8ae5adb.
 // The things that stand in the numbers of a list that a C function is lent; Wrong where the list has
 // another length. Matrices go column by column.
 ghost use mathlib.Core.Path.{_≡_};
@@ -9,7 +9,7 @@ ghost use Rattle.from_lists.specs.Lists.{numberIn, vecFrom, matFrom, poseFrom, 
 ghost use Rattle.from_lists_f32.specs.Told.{vecReadTold, matReadTold, poseReadTold, framesReadTold, framedReadTold, tangentReadTold, valuesReadTold, blockReadTold};
 ghost use Rattle.linalg_f32.specs.As.{asMat3, asVec3};
 ghost use Rattle.sim3_f32.specs.As.{asSim3};
-use coeffs_f32::values::Values;
+use closed_f32::values::Values;
 use frames_f32::Pose;
 use jacobian_f32::jac::Sim3Jac;
 use layout::BLOCK;

@@ -1,4 +1,4 @@
--- Written by tools/widths from crates/jacobian: edit that one. Digest ba1ac0046a85d5da.
+-- Written by tools/widths from crates/jacobian: edit that one. Digest 047f765f8a5ba9ac.
 -- The structs of jacobian_f32 field by field, as rules for `simp`: a number that the code reads of a struct is the number of the definitions' record. Assumes nothing.
 use mathlib.Core.Path.{_≡_, refl}
 use lib.Ieee.{Float}
@@ -40,7 +40,18 @@ pub c6-of-Seven : (a : Seven) → asSim3Tangent (a .c6) ≡ asSeven a .c6
 unfolding asSeven
 c6-of-Seven a = refl
 
-pub made-Seven : (c0 : Sim3Tangent) (c1 : Sim3Tangent) (c2 : Sim3Tangent) (c3 : Sim3Tangent) (c4 : Sim3Tangent) (c5 : Sim3Tangent) (c6 : Sim3Tangent) → asSeven (record { c0 = c0; c1 = c1; c2 = c2; c3 = c3; c4 = c4; c5 = c5; c6 = c6 }) ≡ record { c0 = asSim3Tangent c0; c1 = asSim3Tangent c1; c2 = asSim3Tangent c2; c3 = asSim3Tangent c3; c4 = asSim3Tangent c4; c5 = asSim3Tangent c5; c6 = asSim3Tangent c6 }
+pub made-Seven : (c0 : Sim3Tangent) (c1 : Sim3Tangent) (c2 : Sim3Tangent) (c3 : Sim3Tangent) (c4 : Sim3Tangent) (c5 : Sim3Tangent) (c6 : Sim3Tangent)
+    → asSeven (record { c0 = c0; c1 = c1; c2 = c2; c3 = c3; c4 = c4; c5 = c5; c6 = c6 })
+    ≡ record {
+      c0 = asSim3Tangent c0;
+      c1 = asSim3Tangent c1;
+      c2 = asSim3Tangent c2;
+      c3 = asSim3Tangent c3;
+      c4 = asSim3Tangent c4;
+      c5 = asSim3Tangent
+          c5;
+      c6 = asSim3Tangent c6;
+    }
 unfolding asSeven
 made-Seven c0 c1 c2 c3 c4 c5 c6 = refl
 
@@ -80,8 +91,28 @@ pub e-of-Sim3Jac : (a : Sim3Jac) → a .e ≡ asSim3Jac a .e
 unfolding asSim3Jac
 e-of-Sim3Jac a = refl
 
-pub made-Sim3Jac : (a : Mat3) (b : Mat3) (c : Mat3) (f : Vec3) (e : Float) → asSim3Jac (record { a = a; b = b; c = c; f = f; e = e }) ≡ record { a = asMat3 a; b = asMat3 b; c = asMat3 c; f = asVec3 f; e = e }
+pub made-Sim3Jac : (a : Mat3) (b : Mat3) (c : Mat3) (f : Vec3) (e : Float) → asSim3Jac (record { a = a; b = b; c = c; f = f; e = e })
+    ≡ record { a = asMat3 a; b = asMat3 b; c = asMat3 c; f = asVec3 f; e = e }
 unfolding asSim3Jac
 made-Sim3Jac a b c f e = refl
 
-pub ruleset jacobian-singles = (c0-of-Seven, c1-of-Seven, c2-of-Seven, c3-of-Seven, c4-of-Seven, c5-of-Seven, c6-of-Seven, made-Seven, x-of-Rows, y-of-Rows, z-of-Rows, made-Rows, a-of-Sim3Jac, b-of-Sim3Jac, c-of-Sim3Jac, f-of-Sim3Jac, e-of-Sim3Jac, made-Sim3Jac)
+pub ruleset jacobian-singles = (
+  c0-of-Seven,
+  c1-of-Seven,
+  c2-of-Seven,
+  c3-of-Seven,
+  c4-of-Seven,
+  c5-of-Seven,
+  c6-of-Seven,
+  made-Seven,
+  x-of-Rows,
+  y-of-Rows,
+  z-of-Rows,
+  made-Rows,
+  a-of-Sim3Jac,
+  b-of-Sim3Jac,
+  c-of-Sim3Jac,
+  f-of-Sim3Jac,
+  e-of-Sim3Jac,
+  made-Sim3Jac,
+)

@@ -1,2 +1,3 @@
--- Written by tools/widths from crates/point_lists: edit that one. Digest b6433e4fa07f7aeb.
+-- Written by tools/widths from crates/point_lists: edit that one. Digest ea085fff7a979447.
 pub mod Told
+pub mod Fours

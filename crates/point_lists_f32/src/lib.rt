@@ -1,4 +1,4 @@
-// Written by tools/widths from crates/point_lists/src/lib.rt: edit that one. Digest 0242680f3ef00669.
+// Written by tools/widths from crates/point_lists/src/lib.rt: edit that one. Digest 46f0c9c9a13e717b.
 // The action of a pose on a list of points, three numbers each, into another list. Two entries:
 // act_many has the bits of the Rust's act_many, which forms the matrix s R once; act_each moves each
 // point as Sim3::act and the mark AC do. The two differ in the last bits.
@@ -13,9 +13,12 @@ ghost use Rattle.sim3.specs.Pose.{poseAct};
 ghost use Rattle.point_lists.specs.Stores.{putPoint};
 ghost use Rattle.linalg_f32.specs.As.{asMat3, asVec3};
 ghost use Rattle.sim3_f32.specs.As.{asSim3};
+use crate::many::many;
 use linalg_f32::matrix::Mat3;
 use linalg_f32::vector::Vec3;
 use sim3_f32::sim3_f32::Sim3;
+
+mod many; // every point by a matrix
 
 // Every point moved, or refusal 5 and nothing written.
 pub enum Listed {
@@ -43,7 +46,7 @@ pub(crate) fn put_point(out: &mut [f32], at: usize, p: Vec3)
 }
 
 // m p + t.
-pub(crate) fn mat_act(m: Mat3, t: Vec3, p: Vec3) -> Vec3
+fn mat_act(m: Mat3, t: Vec3, p: Vec3) -> Vec3
     ensures { λ r. ⌜ asVec3 r ≡ matAct binary32 (asMat3 m) (asVec3 t) (asVec3 p) ⌝ }
 {
     m.mul_vec(p).add(t)

@@ -1,4 +1,4 @@
--- Written by tools/widths from crates/series: edit that one. Digest 34c3d16af61c2bb1.
+-- Written by tools/widths from crates/series: edit that one. Digest 54a9efa41c21b524.
 -- The structs of series_f32 field by field, as rules for `simp`: a number that the code reads of a struct is the number of the definitions' record. Assumes nothing.
 use mathlib.Core.Path.{_≡_, refl}
 use lib.Ieee.{Float}
@@ -36,7 +36,8 @@ pub p-of-Level : (a : Level) → a .p ≡ asLevel a .p
 unfolding asLevel
 p-of-Level a = refl
 
-pub made-Level : (xi : Float) (dxi : Float) (zeta : Float) (dzeta : Float) (p : Float) → asLevel (record { xi = xi; dxi = dxi; zeta = zeta; dzeta = dzeta; p = p }) ≡ record { xi = xi; dxi = dxi; zeta = zeta; dzeta = dzeta; p = p }
+pub made-Level : (xi : Float) (dxi : Float) (zeta : Float) (dzeta : Float) (p : Float) → asLevel
+    (record { xi = xi; dxi = dxi; zeta = zeta; dzeta = dzeta; p = p }) ≡ record { xi = xi; dxi = dxi; zeta = zeta; dzeta = dzeta; p = p }
 unfolding asLevel
 made-Level xi dxi zeta dzeta p = refl
 
@@ -64,7 +65,8 @@ pub w2-of-Sums : (a : Sums) → a .w2 ≡ asSums a .w2
 unfolding asSums
 w2-of-Sums a = refl
 
-pub made-Sums : (v1 : Float) (dv1 : Float) (v2 : Float) (dv2 : Float) (w1 : Float) (w2 : Float) → asSums (record { v1 = v1; dv1 = dv1; v2 = v2; dv2 = dv2; w1 = w1; w2 = w2 }) ≡ record { v1 = v1; dv1 = dv1; v2 = v2; dv2 = dv2; w1 = w1; w2 = w2 }
+pub made-Sums : (v1 : Float) (dv1 : Float) (v2 : Float) (dv2 : Float) (w1 : Float) (w2 : Float) → asSums
+    (record { v1 = v1; dv1 = dv1; v2 = v2; dv2 = dv2; w1 = w1; w2 = w2 }) ≡ record { v1 = v1; dv1 = dv1; v2 = v2; dv2 = dv2; w1 = w1; w2 = w2 }
 unfolding asSums
 made-Sums v1 dv1 v2 dv2 w1 w2 = refl
 
@@ -96,7 +98,9 @@ pub dv2-last-of-Tail : (a : Tail) → a .«dv2_last» ≡ asTail a .«dv2_last»
 unfolding asTail
 dv2-last-of-Tail a = refl
 
-pub made-Tail : (v2 : Float) (w2 : Float) (dv1 : Float) («dv1_next» : Float) (dv2 : Float) («dv2_next» : Float) («dv2_last» : Float) → asTail (record { v2 = v2; w2 = w2; dv1 = dv1; «dv1_next» = «dv1_next»; dv2 = dv2; «dv2_next» = «dv2_next»; «dv2_last» = «dv2_last» }) ≡ record { v2 = v2; w2 = w2; dv1 = dv1; «dv1_next» = «dv1_next»; dv2 = dv2; «dv2_next» = «dv2_next»; «dv2_last» = «dv2_last» }
+pub made-Tail : (v2 : Float) (w2 : Float) (dv1 : Float) («dv1_next» : Float) (dv2 : Float) («dv2_next» : Float) («dv2_last» : Float) → asTail
+    (record { v2 = v2; w2 = w2; dv1 = dv1; «dv1_next» = «dv1_next»; dv2 = dv2; «dv2_next» = «dv2_next»; «dv2_last» = «dv2_last» })
+    ≡ record { v2 = v2; w2 = w2; dv1 = dv1; «dv1_next» = «dv1_next»; dv2 = dv2; «dv2_next» = «dv2_next»; «dv2_last» = «dv2_last» }
 unfolding asTail
 made-Tail v2 w2 dv1 «dv1_next» dv2 «dv2_next» «dv2_last» = refl
 
@@ -132,7 +136,8 @@ pub v2-of-TurnsV : (a : TurnsV) → a .v2 ≡ asTurnsV a .v2
 unfolding asTurnsV
 v2-of-TurnsV a = refl
 
-pub made-TurnsV : (p : Float) (xi : Float) (zeta : Float) (v1 : Float) (v2 : Float) → asTurnsV (record { p = p; xi = xi; zeta = zeta; v1 = v1; v2 = v2 }) ≡ record { p = p; xi = xi; zeta = zeta; v1 = v1; v2 = v2 }
+pub made-TurnsV : (p : Float) (xi : Float) (zeta : Float) (v1 : Float) (v2 : Float) → asTurnsV
+    (record { p = p; xi = xi; zeta = zeta; v1 = v1; v2 = v2 }) ≡ record { p = p; xi = xi; zeta = zeta; v1 = v1; v2 = v2 }
 unfolding asTurnsV
 made-TurnsV p xi zeta v1 v2 = refl
 
@@ -200,7 +205,9 @@ pub chi-delta-of-Sim3Coeffs : (a : Sim3Coeffs) → a .«chi_delta» ≡ asSim3Co
 unfolding asSim3Coeffs
 chi-delta-of-Sim3Coeffs a = refl
 
-pub made-Sim3Coeffs : (v0 : Float) (v1 : Float) (v2 : Float) (w0 : Float) (w1 : Float) (w2 : Float) (dv1 : Float) (dv2 : Float) («chi_delta» : Float) → asSim3Coeffs (record { v0 = v0; v1 = v1; v2 = v2; w0 = w0; w1 = w1; w2 = w2; dv1 = dv1; dv2 = dv2; «chi_delta» = «chi_delta» }) ≡ record { v0 = v0; v1 = v1; v2 = v2; w0 = w0; w1 = w1; w2 = w2; dv1 = dv1; dv2 = dv2; «chi_delta» = «chi_delta» }
+pub made-Sim3Coeffs : (v0 : Float) (v1 : Float) (v2 : Float) (w0 : Float) (w1 : Float) (w2 : Float) (dv1 : Float) (dv2 : Float) («chi_delta» : Float)
+    → asSim3Coeffs (record { v0 = v0; v1 = v1; v2 = v2; w0 = w0; w1 = w1; w2 = w2; dv1 = dv1; dv2 = dv2; «chi_delta» = «chi_delta» })
+    ≡ record { v0 = v0; v1 = v1; v2 = v2; w0 = w0; w1 = w1; w2 = w2; dv1 = dv1; dv2 = dv2; «chi_delta» = «chi_delta» }
 unfolding asSim3Coeffs
 made-Sim3Coeffs v0 v1 v2 w0 w1 w2 dv1 dv2 «chi_delta» = refl
 
@@ -220,7 +227,8 @@ pub chi-delta-of-Coeffs4 : (a : Coeffs4) → a .«chi_delta» ≡ asCoeffs4 a .�
 unfolding asCoeffs4
 chi-delta-of-Coeffs4 a = refl
 
-pub made-Coeffs4 : (v0 : Float) (v1 : Float) (v2 : Float) («chi_delta» : Float) → asCoeffs4 (record { v0 = v0; v1 = v1; v2 = v2; «chi_delta» = «chi_delta» }) ≡ record { v0 = v0; v1 = v1; v2 = v2; «chi_delta» = «chi_delta» }
+pub made-Coeffs4 : (v0 : Float) (v1 : Float) (v2 : Float) («chi_delta» : Float) → asCoeffs4
+    (record { v0 = v0; v1 = v1; v2 = v2; «chi_delta» = «chi_delta» }) ≡ record { v0 = v0; v1 = v1; v2 = v2; «chi_delta» = «chi_delta» }
 unfolding asCoeffs4
 made-Coeffs4 v0 v1 v2 «chi_delta» = refl
 
@@ -260,4 +268,66 @@ pub made-Horner : (v0 : GPair) (w0 : GPair) → asHorner (record { v0 = v0; w0 =
 unfolding asHorner
 made-Horner v0 w0 = refl
 
-pub ruleset series-singles = (xi-of-Level, dxi-of-Level, zeta-of-Level, dzeta-of-Level, p-of-Level, made-Level, v1-of-Sums, dv1-of-Sums, v2-of-Sums, dv2-of-Sums, w1-of-Sums, w2-of-Sums, made-Sums, v2-of-Tail, w2-of-Tail, dv1-of-Tail, dv1-next-of-Tail, dv2-of-Tail, dv2-next-of-Tail, dv2-last-of-Tail, made-Tail, level-of-Turns, sums-of-Turns, made-Turns, p-of-TurnsV, xi-of-TurnsV, zeta-of-TurnsV, v1-of-TurnsV, v2-of-TurnsV, made-TurnsV, level-of-TurnsPair, pos-of-TurnsPair, neg-of-TurnsPair, made-TurnsPair, pos-of-SumsPair, neg-of-SumsPair, made-SumsPair, v0-of-Sim3Coeffs, v1-of-Sim3Coeffs, v2-of-Sim3Coeffs, w0-of-Sim3Coeffs, w1-of-Sim3Coeffs, w2-of-Sim3Coeffs, dv1-of-Sim3Coeffs, dv2-of-Sim3Coeffs, chi-delta-of-Sim3Coeffs, made-Sim3Coeffs, v0-of-Coeffs4, v1-of-Coeffs4, v2-of-Coeffs4, chi-delta-of-Coeffs4, made-Coeffs4, pos-of-CoeffsPair, neg-of-CoeffsPair, made-CoeffsPair, pos-of-GPair, neg-of-GPair, made-GPair, v0-of-Horner, w0-of-Horner, made-Horner)
+pub ruleset series-singles = (
+  xi-of-Level,
+  dxi-of-Level,
+  zeta-of-Level,
+  dzeta-of-Level,
+  p-of-Level,
+  made-Level,
+  v1-of-Sums,
+  dv1-of-Sums,
+  v2-of-Sums,
+  dv2-of-Sums,
+  w1-of-Sums,
+  w2-of-Sums,
+  made-Sums,
+  v2-of-Tail,
+  w2-of-Tail,
+  dv1-of-Tail,
+  dv1-next-of-Tail,
+  dv2-of-Tail,
+  dv2-next-of-Tail,
+  dv2-last-of-Tail,
+  made-Tail,
+  level-of-Turns,
+  sums-of-Turns,
+  made-Turns,
+  p-of-TurnsV,
+  xi-of-TurnsV,
+  zeta-of-TurnsV,
+  v1-of-TurnsV,
+  v2-of-TurnsV,
+  made-TurnsV,
+  level-of-TurnsPair,
+  pos-of-TurnsPair,
+  neg-of-TurnsPair,
+  made-TurnsPair,
+  pos-of-SumsPair,
+  neg-of-SumsPair,
+  made-SumsPair,
+  v0-of-Sim3Coeffs,
+  v1-of-Sim3Coeffs,
+  v2-of-Sim3Coeffs,
+  w0-of-Sim3Coeffs,
+  w1-of-Sim3Coeffs,
+  w2-of-Sim3Coeffs,
+  dv1-of-Sim3Coeffs,
+  dv2-of-Sim3Coeffs,
+  chi-delta-of-Sim3Coeffs,
+  made-Sim3Coeffs,
+  v0-of-Coeffs4,
+  v1-of-Coeffs4,
+  v2-of-Coeffs4,
+  chi-delta-of-Coeffs4,
+  made-Coeffs4,
+  pos-of-CoeffsPair,
+  neg-of-CoeffsPair,
+  made-CoeffsPair,
+  pos-of-GPair,
+  neg-of-GPair,
+  made-GPair,
+  v0-of-Horner,
+  w0-of-Horner,
+  made-Horner,
+)

@@ -1,4 +1,4 @@
--- Written by tools/widths from crates/sides: edit that one. Digest 70475ea9e09648f6.
+-- Written by tools/widths from crates/sides: edit that one. Digest 788f30af2b06ea64.
 -- The structs of sides_f32 field by field, as rules for `simp`: a number that the code reads of a struct is the number of the definitions' record. Assumes nothing.
 use mathlib.Core.Path.{_≡_, refl}
 use Rattle.sides_f32.specs.declared.pair.BlockPair.{BlockPair}
@@ -30,7 +30,9 @@ pub right-inv-of-BlockPair : (a : BlockPair) → asSim3Jac (a .«right_inv») �
 unfolding asBlockPair
 right-inv-of-BlockPair a = refl
 
-pub made-BlockPair : (left : Sim3Jac) («left_inv» : Sim3Jac) (right : Sim3Jac) («right_inv» : Sim3Jac) → asBlockPair (record { left = left; «left_inv» = «left_inv»; right = right; «right_inv» = «right_inv» }) ≡ record { left = asSim3Jac left; «left_inv» = asSim3Jac «left_inv»; right = asSim3Jac right; «right_inv» = asSim3Jac «right_inv» }
+pub made-BlockPair : (left : Sim3Jac) («left_inv» : Sim3Jac) (right : Sim3Jac) («right_inv» : Sim3Jac) → asBlockPair
+    (record { left = left; «left_inv» = «left_inv»; right = right; «right_inv» = «right_inv» })
+    ≡ record { left = asSim3Jac left; «left_inv» = asSim3Jac «left_inv»; right = asSim3Jac right; «right_inv» = asSim3Jac «right_inv» }
 unfolding asBlockPair
 made-BlockPair left «left_inv» right «right_inv» = refl
 
@@ -50,7 +52,9 @@ pub point-of-ActJacobians : (a : ActJacobians) → asMat3 (a .point) ≡ asActJa
 unfolding asActJacobians
 point-of-ActJacobians a = refl
 
-pub made-ActJacobians : (rot : Mat3) (trans : Mat3) (scale : Vec3) (point : Mat3) → asActJacobians (record { rot = rot; trans = trans; scale = scale; point = point }) ≡ record { rot = asMat3 rot; trans = asMat3 trans; scale = asVec3 scale; point = asMat3 point }
+pub made-ActJacobians : (rot : Mat3) (trans : Mat3) (scale : Vec3) (point : Mat3) → asActJacobians
+    (record { rot = rot; trans = trans; scale = scale; point = point }) ≡ record
+    { rot = asMat3 rot; trans = asMat3 trans; scale = asVec3 scale; point = asMat3 point }
 unfolding asActJacobians
 made-ActJacobians rot trans scale point = refl
 
@@ -78,4 +82,21 @@ pub made-ExpAndJl : (x : Sim3) (jl : Sim3Jac) → asExpAndJl (record { x = x; jl
 unfolding asExpAndJl
 made-ExpAndJl x jl = refl
 
-pub ruleset sides-singles = (left-of-BlockPair, left-inv-of-BlockPair, right-of-BlockPair, right-inv-of-BlockPair, made-BlockPair, rot-of-ActJacobians, trans-of-ActJacobians, scale-of-ActJacobians, point-of-ActJacobians, made-ActJacobians, first-of-TwoJacobians, second-of-TwoJacobians, made-TwoJacobians, x-of-ExpAndJl, jl-of-ExpAndJl, made-ExpAndJl)
+pub ruleset sides-singles = (
+  left-of-BlockPair,
+  left-inv-of-BlockPair,
+  right-of-BlockPair,
+  right-inv-of-BlockPair,
+  made-BlockPair,
+  rot-of-ActJacobians,
+  trans-of-ActJacobians,
+  scale-of-ActJacobians,
+  point-of-ActJacobians,
+  made-ActJacobians,
+  first-of-TwoJacobians,
+  second-of-TwoJacobians,
+  made-TwoJacobians,
+  x-of-ExpAndJl,
+  jl-of-ExpAndJl,
+  made-ExpAndJl,
+)

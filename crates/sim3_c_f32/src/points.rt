@@ -1,4 +1,4 @@
-// Written by tools/widths from crates/sim3_c/src/points.rt: edit that one. Digest 711afd962dc1d62b.
+// Written by tools/widths from crates/sim3_c/src/points.rt: edit that one. Digest d62d07add5870e11.
 // The action of a pose on a list of points, three numbers each: with the bits of the Rust's act_many,
 // and each point by itself, as the job moves one.
 ghost use mathlib.Core.Path.{_≡_};
@@ -8,9 +8,9 @@ ghost use Rattle.sim3_c.specs.Calls.{actManyCall, actEachCall};
 use from_lists_f32::LIST_LENGTH;
 use from_lists_f32::PoseRead;
 use from_lists_f32::pose_from;
-use sim3_f32::points::Listed;
-use sim3_f32::points::act_each;
-use sim3_f32::points::act_many;
+use point_lists_f32::Listed;
+use point_lists_f32::act_each;
+use point_lists_f32::act_many;
 
 // Every point by the matrix s R; up is e^sigma of X.
 #[no_mangle]

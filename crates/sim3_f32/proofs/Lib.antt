@@ -1,3 +1,2 @@
--- Written by tools/widths from crates/sim3: edit that one. Digest 5924ee26e3d58eb1.
+-- Written by tools/widths from crates/sim3: edit that one. Digest a61e728cdc0f9fb4.
 pub mod As
-pub mod Fours

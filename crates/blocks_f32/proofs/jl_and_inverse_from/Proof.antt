@@ -1,4 +1,4 @@
--- Written by tools/widths from crates/blocks/proofs/jl_and_inverse_from/Proof.antt: edit that one. Digest ec59b310b23a9dc9.
+-- Written by tools/widths from crates/blocks/proofs/jl_and_inverse_from/Proof.antt: edit that one. Digest 00241ddf75e3fe58.
 -- `blocks_f32::jl_and_inverse_from` meets its contract: by what its calls ensure. Assumes nothing.
 use borrow.Author.Needs.{needs}
 use Rattle.blocks_f32.proofs.jl_and_inverse_from.Statement.{statement}
@@ -14,7 +14,19 @@ use Rattle.jacobian_f32.proofs.As.{jacobian-singles}
 use Rattle.blocks_f32.proofs.As.{blocks-singles}
 
 returns : tie.Need-returns
-returns c = simp (linalg-singles, circle-singles, series-singles, closed-singles, coeffs-singles, so3-singles, sim3-singles, jacobian-singles, blocks-singles, c .jl-and-inverse-at .ensures, c .before .norm-sq .ensures)
+returns c = simp (
+  linalg-singles,
+  circle-singles,
+  series-singles,
+  closed-singles,
+  coeffs-singles,
+  so3-singles,
+  sim3-singles,
+  jacobian-singles,
+  blocks-singles,
+  c .jl-and-inverse-at .ensures,
+  c .before .norm-sq .ensures,
+)
 
 pub jl-and-inverse-from-spec : {M : Type 1} → statement M
 jl-and-inverse-from-spec = tie.close (tie.spec (λ c κs. search needs) (λ c κs. search needs) returns)

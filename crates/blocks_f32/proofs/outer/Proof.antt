@@ -1,4 +1,4 @@
--- Written by tools/widths from crates/blocks/proofs/outer/Proof.antt: edit that one. Digest 21889bd5dae28861.
+-- Written by tools/widths from crates/blocks/proofs/outer/Proof.antt: edit that one. Digest 6e5d0bc0b8fdf181.
 use borrow.Author.Needs.{needs}
 use Rattle.blocks.specs.Blocks.{matOuter}
 use Rattle.blocks_f32.proofs.outer.Statement.{statement}
@@ -15,7 +15,20 @@ use Rattle.blocks_f32.proofs.As.{blocks-singles}
 
 returns : tie.Need-returns
 unfolding matOuter
-returns c = simp (linalg-singles, circle-singles, series-singles, closed-singles, coeffs-singles, so3-singles, sim3-singles, jacobian-singles, blocks-singles, c .scale3 .ensures, c .before .scale2 .ensures, c .before .before .scale .ensures)
+returns c = simp (
+  linalg-singles,
+  circle-singles,
+  series-singles,
+  closed-singles,
+  coeffs-singles,
+  so3-singles,
+  sim3-singles,
+  jacobian-singles,
+  blocks-singles,
+  c .scale3 .ensures,
+  c .before .scale2 .ensures,
+  c .before .before .scale .ensures,
+)
 
 pub outer-spec : {M : Type 1} → statement M
 outer-spec = tie.close (tie.spec (λ c κs. search needs) (λ c κs. search needs) (λ c κs. search needs) returns)

@@ -1,4 +1,4 @@
--- Written by tools/widths from crates/closed/proofs/closed_v/Proof.antt: edit that one. Digest 4adc69867730d54b.
+-- Written by tools/widths from crates/closed/proofs/closed_v/Proof.antt: edit that one. Digest 2ad6d40a6bc5e224.
 -- `closed_f32::closed_v` meets its contract: by what its calls ensure. Assumes nothing.
 use borrow.Author.Needs.{needs}
 use Rattle.closed.specs.Closed.{closedVFrom}
@@ -12,7 +12,16 @@ use Rattle.closed_f32.proofs.As.{closed-singles}
 
 returns : tie.Need-returns
 unfolding closedVFrom closedExps
-returns c = simp (linalg-singles, circle-singles, series-singles, closed-singles, c .v-from .ensures, c .before .only .ensures, c .before .before .v0-of .ensures, c .before .before .before .exps-of .ensures)
+returns c = simp (
+  linalg-singles,
+  circle-singles,
+  series-singles,
+  closed-singles,
+  c .v-from .ensures,
+  c .before .only .ensures,
+  c .before .before .v0-of .ensures,
+  c .before .before .before .exps-of .ensures,
+)
 
 pub closed-v-spec : {M : Type 1} → statement M
 closed-v-spec = tie.close (tie.spec (λ c κs. search needs) (λ c κs. search needs) (λ c κs. search needs) (λ c κs. search needs) returns)

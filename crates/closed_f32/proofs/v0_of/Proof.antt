@@ -1,4 +1,4 @@
--- Written by tools/widths from crates/closed/proofs/v0_of/Proof.antt: edit that one. Digest 0226bc27140e9a0a.
+-- Written by tools/widths from crates/closed/proofs/v0_of/Proof.antt: edit that one. Digest 86724b5f1d9abcbe.
 -- `closed_f32::v0_of` meets its contract: by what its calls ensure and its tests say. Assumes nothing.
 use borrow.Author.Needs.{needs}
 use Rattle.closed.specs.Closed.{closedV0}
@@ -16,7 +16,16 @@ returns c = simp (linalg-singles, circle-singles, series-singles, closed-singles
 
 returns-2 : tie.Need-returns-2
 unfolding closedV0 ofBits
-returns-2 c = simp (linalg-singles, circle-singles, series-singles, closed-singles, c .pick2 .ensures, c .before .pick .ensures, c .before .before .at-zero .ensures, c .before .before .before .if1 .left)
+returns-2 c = simp (
+  linalg-singles,
+  circle-singles,
+  series-singles,
+  closed-singles,
+  c .pick2 .ensures,
+  c .before .pick .ensures,
+  c .before .before .at-zero .ensures,
+  c .before .before .before .if1 .left,
+)
 
 pub v0-of-spec : {M : Type 1} → statement M
 v0-of-spec = tie.close (tie.spec (λ c κs. search needs) returns (λ c κs. search needs) (λ c κs. search needs) (λ c κs. search needs) returns-2)

@@ -1,4 +1,4 @@
--- Written by tools/widths from crates/from_lists/proofs/values_from/Proof.antt: edit that one. Digest 6d54ae24afafb6aa.
+-- Written by tools/widths from crates/from_lists/proofs/values_from/Proof.antt: edit that one. Digest f7a57719325a04dd.
 -- `from_lists_f32::values_from` meets its contract: a list of the length that is due is read, and any other is told. Assumes nothing.
 use borrow.Author.Needs.{needs}
 use mathlib.Core.Path.{sym}
@@ -8,7 +8,7 @@ use Rattle.from_lists_f32.specs.Told.{valuesReadTold}
 use Rattle.from_lists.proofs.Lists.{sized-right, sized-wrong}
 use Rattle.from_lists_f32.proofs.values_from.Statement.{statement}
 use Rattle.from_lists_f32.proofs.values_from.Tie as tie
-use Rattle.coeffs_f32.specs.As.{asValues}
+use Rattle.closed_f32.specs.As.{asValues}
 
 returns : tie.Need-returns
 unfolding valuesFrom valuesReadTold asValues

@@ -1,4 +1,4 @@
--- Written by tools/proofs from Proof.template: edit that one. Digest 78c8016ace67a645.
+-- Written by tools/proofs from Proof.template: edit that one. Digest 9819dc3c76cd480c.
 -- `job::feed` meets its contract: counts that are none of a job's, and bytes that hold no state, are handed back; else the loop and the end are put together. Assumes nothing.
 use borrow.Author.Needs.{needs}
 use native.Mathlib.Omega.{arith}
@@ -22,7 +22,9 @@ looped :
 looped c =
     let c1 = c .before .before .before .before .before in
     record {
-      good = both (holds (c1 .before .before .before .before .args .mem .now)) _ (held (c1 .before .before .before .before .args .mem .now) (c1 .if1 .left)) (sym (c .before .before .before .before .sound .ensures) ∙ not-false _ (c .before .before .before .if2 .left));
+      good = both (holds (c1 .before .before .before .before .args .mem .now)) _
+          (held (c1 .before .before .before .before .args .mem .now) (c1 .if1 .left))
+          (sym (c .before .before .before .before .sound .ensures) ∙ not-false _ (c .before .before .before .if2 .left));
       told = c .records .ensures .0;
       wrote = c .records .ensures .1 .0;
       left = c .records .ensures .1 .1;
@@ -44,8 +46,11 @@ returns-2 c =
 
 records-requires : tie.Need-records-requires
 records-requires c κs =
-    let c1 = c .before .before .before .before .before in
-    (sound-is jobLimit (c1 .before .before .before .args .c) (sym (c .before .before .before .sound .ensures) ∙ not-false _ (c .before .before .if2 .left)), c .before .before .before .before .if1 .left)
+    let c1 = c .before .before .before .before .before in (
+      sound-is jobLimit (c1 .before .before .before .args .c) (sym (c .before .before .before .sound .ensures) ∙ not-false _
+          (c .before .before .if2 .left)),
+      c .before .before .before .before .if1 .left,
+    )
 
 close-requires : tie.Need-close-requires
 close-requires c κs =

@@ -1,4 +1,4 @@
--- Written by tools/proofs from Proof.template: edit that one. Digest 6a46cd603257dd52.
+-- Written by tools/proofs from Proof.template: edit that one. Digest 8d4c0246b265aaa1.
 -- `job::records` meets its contract: each turn keeps the definition's value, and each way out is the definition's. Assumes nothing.
 use borrow.Author.Needs.{needs}
 use native.Mathlib.Omega.{arith}
@@ -77,7 +77,8 @@ sub-reply-2 : tie.Need-sub-reply-2 Inv-loop μ-loop
 sub-reply-2 c = let h : c .before .before .before .before .loop .to ≤ length (c .before .before .before .before .loop .out) = c .before .before .before .before .loop .inv .1 .room in search needs
 
 part-reply-start-2 : tie.Need-part-reply-start-2 Inv-loop μ-loop
-part-reply-start-2 c = let h : c .before .before .before .before .loop .to ≤ length (c .before .before .before .before .loop .out) = c .before .before .before .before .loop .inv .1 .room in search needs
+part-reply-start-2 c = let h : c .before .before .before .before .loop .to ≤ length
+    (c .before .before .before .before .loop .out) = c .before .before .before .before .loop .inv .1 .room in search needs
 
 part-reply-end-2 : tie.Need-part-reply-end-2 Inv-loop μ-loop
 part-reply-end-2 c = let h : c .before .before .before .before .loop .to ≤ length (c .before .before .before .before .loop .out) = c .before .before .before .before .loop .inv .1 .room in search needs
@@ -102,7 +103,11 @@ add-rows : tie.Need-add-rows Inv-loop μ-loop
 add-rows c =
     let c1 = c .before .before .before .before .before in
     let c2 = c1 .before .before .before .before .before in
-    omega (arith, row-small (c2 .before .before .before .before .loop .c) (c2 .before .before .before .before .loop .rows) (c1 .before .before .before .reply .result .row) (c2 .before .before .before .before .loop .inv .1 .sound))
+    omega (
+      arith,
+      row-small (c2 .before .before .before .before .loop .c) (c2 .before .before .before .before .loop .rows)
+          (c1 .before .before .before .reply .result .row) (c2 .before .before .before .before .loop .inv .1 .sound),
+    )
 
 mul-rows : tie.Need-mul-rows Inv-loop μ-loop
 mul-rows c =
@@ -148,7 +153,8 @@ loop-again c =
     let c1 = c .before .before .before .before .before in
     let c2 = c1 .before .before .before .before .before in
     let k = c .before .before .step .given in
-    let d = joined-more (k .0 .0) (c1 .before .before .before .reply .result .row) (c2 .before .before .before .before .loop .c) (c .counted .result) (c2 .before .before .before .before .loop .rows) (c .counted .ensures) in
+    let d = joined-more (k .0 .0) (c1 .before .before .before .reply .result .row) (c2 .before .before .before .before .loop .c) (c .counted .result)
+    (c2 .before .before .before .before .loop .rows) (c .counted .ensures) in
     (c1 .before .before .before .reply .kept .1 .0 ∙ c2 .before .before .before .before .loop .inv .0, round-to (turn (c1 .before .before .before)) (k .0 .0) (k .0 .1 .0) (k .0 .1 .1 .0) (k .1) _ d)
 
 lose-requires : tie.Need-lose-requires Inv-loop μ-loop
@@ -169,7 +175,9 @@ sub-pause c = c .before .before .loop .inv .1 .room
 returns : tie.Need-returns Inv-loop μ-loop
 returns c =
     let c1 = c .before .before .before .before .before in
-    left-from jobLimit (c1 .before .before .before .before .args .input .now) (c1 .before .before .before .before .args .last) (stateOf (c1 .before .before .before .before .args .mem .now)) (c1 .before .before .before .before .args .out .now) (c1 .without-rows .result) (c1 .before .before .before .before .args .c0) (c1 .without-rows .ensures)
+    left-from jobLimit (c1 .before .before .before .before .args .input .now) (c1 .before .before .before .before .args .last)
+    (stateOf (c1 .before .before .before .before .args .mem .now)) (c1 .before .before .before .before .args .out .now) (c1 .without-rows .result)
+    (c1 .before .before .before .before .args .c0) (c1 .without-rows .ensures)
     (left-full (c .before .before .before .loop .inv .1) (c .pause .result) (c .pause .ensures) (c .before .if1 .taken))
 
 returns-2 : tie.Need-returns-2 Inv-loop μ-loop
@@ -204,7 +212,9 @@ returns-5 c =
     let c1 = c .before .before .before .before .before in
     let c2 = c1 .before .before .before .before .before in
     let c3 = c2 .before .before .before .before .before in
-    left-from jobLimit (c3 .before .before .before .before .args .input .now) (c3 .before .before .before .before .args .last) (stateOf (c3 .before .before .before .before .args .mem .now)) (c3 .before .before .before .before .args .out .now) (c3 .without-rows .result) (c3 .before .before .before .before .args .c0) (c3 .without-rows .ensures)
+    left-from jobLimit (c3 .before .before .before .before .args .input .now) (c3 .before .before .before .before .args .last)
+    (stateOf (c3 .before .before .before .before .args .mem .now)) (c3 .before .before .before .before .args .out .now) (c3 .without-rows .result)
+    (c3 .before .before .before .before .args .c0) (c3 .without-rows .ensures)
     (left-unknown (turn (c1 .before .before)) (c .before .enum-told3 .given .1) (c .lose .result) (c .lose .ensures))
 
 returns-6 : tie.Need-returns-6 Inv-loop μ-loop
@@ -229,13 +239,15 @@ sub-pause-2 : tie.Need-sub-pause-2 Inv-loop μ-loop
 sub-pause-2 c =
     let c1 = c .before .before .before .before .before in
     let c2 = c1 .before .before .before .before .before in
-    let h : c2 .before .before .before .loop .to ≤ length (c2 .before .before .before .loop .out) = c2 .before .before .before .loop .inv .1 .room in omega (arith, after-length (turn (c1 .before .before)))
+    let h : c2 .before .before .before .loop .to ≤ length (c2 .before .before .before .loop .out) = c2 .before .before .before .loop .inv .1 .room in
+    omega (arith, after-length (turn (c1 .before .before)))
 
 sub-pause-3 : tie.Need-sub-pause-3 Inv-loop μ-loop
 sub-pause-3 c =
     let c1 = c .before .before .before .before .before in
     let c2 = c1 .before .before .before .before .before in
-    let h : c2 .before .before .before .loop .to ≤ length (c2 .before .before .before .loop .out) = c2 .before .before .before .loop .inv .1 .room in omega (arith, after-length (turn (c1 .before .before)))
+    let h : c2 .before .before .before .loop .to ≤ length (c2 .before .before .before .loop .out) = c2 .before .before .before .loop .inv .1 .room in
+    omega (arith, after-length (turn (c1 .before .before)))
 
 sub-lose : tie.Need-sub-lose Inv-loop μ-loop
 sub-lose c =
@@ -247,13 +259,15 @@ sub-lose-2 : tie.Need-sub-lose-2 Inv-loop μ-loop
 sub-lose-2 c =
     let c1 = c .before .before .before .before .before in
     let c2 = c1 .before .before .before .before .before in
-    let h : c2 .before .before .before .loop .to ≤ length (c2 .before .before .before .loop .out) = c2 .before .before .before .loop .inv .1 .room in omega (arith, after-length (turn (c1 .before .before)))
+    let h : c2 .before .before .before .loop .to ≤ length (c2 .before .before .before .loop .out) = c2 .before .before .before .loop .inv .1 .room in
+    omega (arith, after-length (turn (c1 .before .before)))
 
 sub-pause-4 : tie.Need-sub-pause-4 Inv-loop μ-loop
 sub-pause-4 c =
     let c1 = c .before .before .before .before .before in
     let c2 = c1 .before .before .before .before .before in
-    let h : c2 .before .before .before .loop .to ≤ length (c2 .before .before .before .loop .out) = c2 .before .before .before .loop .inv .1 .room in omega (arith, after-length (turn (c1 .before .before)))
+    let h : c2 .before .before .before .loop .to ≤ length (c2 .before .before .before .loop .out) = c2 .before .before .before .loop .inv .1 .room in
+    omega (arith, after-length (turn (c1 .before .before)))
 
 same-length-3 : tie.Need-same-length-3 Inv-loop μ-loop
 same-length-3 c =

@@ -1,4 +1,4 @@
--- Written by tools/proofs from Proof.template: edit that one. Digest 8f448a2092c6da70.
+-- Written by tools/proofs from Proof.template: edit that one. Digest e8c4c087256ab8a6.
 -- `job::refused` meets its contract: the four are counted, and one more in the mark's place. Assumes nothing.
 use borrow.Author.Needs.{needs}
 use native.Mathlib.Omega.{arith}
@@ -15,7 +15,8 @@ counted-requires : tie.Need-counted-requires
 counted-requires c κs = small (c .args .c) (c .args .rows) (c .pre .0)
 
 returns : tie.Need-returns
-returns c = c .with-rows .ensures ∙ joined-more Refused (c .before .before .args .row) (c .before .before .args .c) (c .before .counted .result) (c .before .before .args .rows) (c .before .counted .ensures)
+returns c = c .with-rows .ensures ∙ joined-more Refused (c .before .before .args .row) (c .before .before .args .c) (c .before .counted .result)
+    (c .before .before .args .rows) (c .before .counted .ensures)
 
 pub refused-spec : {M : Type 1} → statement M
 refused-spec =

@@ -1,4 +1,4 @@
--- Written by tools/widths from crates/nearest/proofs/arm_at/Proof.antt: edit that one. Digest e8de5863208ce51e.
+-- Written by tools/widths from crates/nearest/proofs/arm_at/Proof.antt: edit that one. Digest b0fd9107ebda9624.
 -- `nearest_f32::arm_at` meets its contract: it is the arm at the sum that the definition names, and the arms start at 1. Assumes nothing.
 use borrow.Author.Needs.{needs}
 use mathlib.Core.Path.{_≡_, sym, subst}
@@ -17,7 +17,8 @@ use Rattle.closed_f32.proofs.As.{closed-singles}
 returns : tie.Need-returns
 returns c =
     let a = c .before .before .args in
-    let e : c .arm .result ≡ armAt binary32 (a .sigma) (a .p) = unfold armAt coeffsDelta in simp (linalg-singles, circle-singles, series-singles, closed-singles, c .arm .ensures, c .before .value .ensures) in
+    let e : c .arm .result ≡ armAt binary32 (a .sigma) (a .p) = unfold armAt coeffsDelta in simp
+    (linalg-singles, circle-singles, series-singles, closed-singles, c .arm .ensures, c .before .value .ensures) in
     (e, subst (λ (n : ℕ). 1 ≤ n) (sym e) (arm-from binary32 (a .sigma) (a .p)))
 
 pub arm-at-spec : {M : Type 1} → statement M

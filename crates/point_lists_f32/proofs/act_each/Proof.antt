@@ -1,4 +1,4 @@
--- Written by tools/widths from crates/point_lists/proofs/act_each/Proof.antt: edit that one. Digest ef36d58cfa87f2f1.
+-- Written by tools/widths from crates/point_lists/proofs/act_each/Proof.antt: edit that one. Digest 330a3eaf7306db94.
 -- `point_lists_f32::act_each` meets its contract: lists that are accepted have every triple moved, and others are left as they were. Assumes nothing.
 use borrow.Author.Needs.{needs}
 use mathlib.Core.Path.{_≡_, sym, _∙_}
@@ -30,15 +30,30 @@ returns : tie.Need-returns
 unfolding listTold pointsAnswer pointsOut
 returns c =
     let a = c .before .before .before .before .before .before .before .before .args in
-    let h : pointsAccepted (length (a .pts .now)) (length (a .out .now)) ≡ true = sym (c .before .before .before .before .before .accepted .ensures) ∙ c .before .before .before .before .if1 .taken in
-    (simp (linalg-singles, circle-singles, series-singles, closed-singles, coeffs-singles, so3-singles, sim3-singles, h), simp (linalg-singles, circle-singles, series-singles, closed-singles, coeffs-singles, so3-singles, sim3-singles, h, c .before .before .each .ensures))
+    let h : pointsAccepted (length (a .pts .now)) (length (a .out .now)) ≡ true = sym (c .before .before .before .before .before .accepted .ensures) ∙ c .before .before .before .before .if1 .taken in (
+      simp (linalg-singles, circle-singles, series-singles, closed-singles, coeffs-singles, so3-singles, sim3-singles, h),
+      simp (
+        linalg-singles,
+        circle-singles,
+        series-singles,
+        closed-singles,
+        coeffs-singles,
+        so3-singles,
+        sim3-singles,
+        h,
+        c .before .before .each .ensures,
+      ),
+    )
 
 returns-2 : tie.Need-returns-2
 unfolding listTold pointsAnswer pointsOut
 returns-2 c =
     let a = c .before .before .before .before .args in
-    let h : pointsAccepted (length (a .pts .now)) (length (a .out .now)) ≡ false = sym (c .before .accepted .ensures) ∙ c .if1 .left in
-    (simp (linalg-singles, circle-singles, series-singles, closed-singles, coeffs-singles, so3-singles, sim3-singles, h), simp (linalg-singles, circle-singles, series-singles, closed-singles, coeffs-singles, so3-singles, sim3-singles, h))
+    let h : pointsAccepted (length (a .pts .now)) (length (a .out .now)) ≡ false = sym (c .before .accepted .ensures) ∙ c .if1 .left in (
+      simp (linalg-singles, circle-singles, series-singles, closed-singles, coeffs-singles, so3-singles, sim3-singles, h),
+      simp
+          (linalg-singles, circle-singles, series-singles, closed-singles, coeffs-singles, so3-singles, sim3-singles, h),
+    )
 
 pub act-each-spec : {M : Type 1} → statement M
 act-each-spec = tie.close (tie.spec (λ c κs. search needs) each-requires (λ c. search needs) returns returns-2)

@@ -1,4 +1,4 @@
--- Written by tools/widths from crates/point_lists/proofs/act_many/Proof.antt: edit that one. Digest a20e657d805470e7.
+-- Written by tools/widths from crates/point_lists/proofs/act_many/Proof.antt: edit that one. Digest 03baab35ccc237d7.
 -- `point_lists_f32::act_many` meets its contract: lists that are accepted have every triple moved, and others are left as they were. Assumes nothing.
 use borrow.Author.Needs.{needs}
 use mathlib.Core.Path.{_≡_, sym, _∙_}
@@ -31,15 +31,32 @@ unfolding listTold pointsAnswer pointsOut
 returns c =
     let a = c .before .before .before .before .before .before .before .before .before .before .before .args in
     let test = c .before .before .before .before .before .before .before in
-    let h : pointsAccepted (length (a .pts .now)) (length (a .out .now)) ≡ true = sym (test .before .accepted .ensures) ∙ test .if1 .taken in
-    (simp (linalg-singles, circle-singles, series-singles, closed-singles, coeffs-singles, so3-singles, sim3-singles, h), simp (linalg-singles, circle-singles, series-singles, closed-singles, coeffs-singles, so3-singles, sim3-singles, h, c .before .before .many .ensures, c .before .before .before .before .scale .ensures, c .before .before .before .before .before .to-matrix .ensures))
+    let h : pointsAccepted (length (a .pts .now)) (length (a .out .now)) ≡ true = sym (test .before .accepted .ensures) ∙ test .if1 .taken in (
+      simp (linalg-singles, circle-singles, series-singles, closed-singles, coeffs-singles, so3-singles, sim3-singles, h),
+      simp (
+        linalg-singles,
+        circle-singles,
+        series-singles,
+        closed-singles,
+        coeffs-singles,
+        so3-singles,
+        sim3-singles,
+        h,
+        c .before .before .many .ensures,
+        c .before .before .before .before .scale .ensures,
+        c .before .before .before .before .before .to-matrix .ensures,
+      ),
+    )
 
 returns-2 : tie.Need-returns-2
 unfolding listTold pointsAnswer pointsOut
 returns-2 c =
     let a = c .before .before .before .before .args in
-    let h : pointsAccepted (length (a .pts .now)) (length (a .out .now)) ≡ false = sym (c .before .accepted .ensures) ∙ c .if1 .left in
-    (simp (linalg-singles, circle-singles, series-singles, closed-singles, coeffs-singles, so3-singles, sim3-singles, h), simp (linalg-singles, circle-singles, series-singles, closed-singles, coeffs-singles, so3-singles, sim3-singles, h))
+    let h : pointsAccepted (length (a .pts .now)) (length (a .out .now)) ≡ false = sym (c .before .accepted .ensures) ∙ c .if1 .left in (
+      simp (linalg-singles, circle-singles, series-singles, closed-singles, coeffs-singles, so3-singles, sim3-singles, h),
+      simp
+          (linalg-singles, circle-singles, series-singles, closed-singles, coeffs-singles, so3-singles, sim3-singles, h),
+    )
 
 pub act-many-spec : {M : Type 1} → statement M
 act-many-spec = tie.close (tie.spec (λ c κs. search needs) (λ c κs. search needs) (λ c κs. search needs) many-requires (λ c. search needs) returns returns-2)

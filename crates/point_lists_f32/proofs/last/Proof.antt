@@ -1,4 +1,4 @@
--- Written by tools/widths from crates/point_lists/proofs/last/Proof.antt: edit that one. Digest a44e9996d5a8b8cc.
+-- Written by tools/widths from crates/point_lists/proofs/last/Proof.antt: edit that one. Digest e12c4432c9a93cdf.
 -- `point_lists_f32::last` meets its contract: where e is n nothing is left, and else the one triple that is left is put in its place. Assumes nothing.
 use borrow.Author.Needs.{needs}
 use Prim.Native.Nat.{_+_}
@@ -36,7 +36,18 @@ returns-2 c =
     let q : a .e + 1 ≡ a .n = omega arith in
     let moved = moved-last g (a .pts .now) (a .out .now) (a .e) (omega arith) ∙ ap (pointsMoved g (a .pts .now)) q in
     let P = c .before .before in
-    simp (linalg-singles, circle-singles, series-singles, closed-singles, coeffs-singles, so3-singles, sim3-singles, P .put-point .ensures, P .before .mat-act .ensures, P .before .before .point-at .ensures) moved
+    simp (
+      linalg-singles,
+      circle-singles,
+      series-singles,
+      closed-singles,
+      coeffs-singles,
+      so3-singles,
+      sim3-singles,
+      P .put-point .ensures,
+      P .before .mat-act .ensures,
+      P .before .before .point-at .ensures,
+    ) moved
 
 pub last-spec : {M : Type 1} → statement M
 last-spec = tie.close (tie.spec returns (λ c. omega arith) (λ c κs. omega arith) (λ c κs. search needs) (λ c κs. omega arith) same-length returns-2)

@@ -1,4 +1,4 @@
--- Written by tools/widths from crates/replies/proofs/reply/Proof.antt: edit that one. Digest 7a22713838afb28d.
+-- Written by tools/widths from crates/replies/proofs/reply/Proof.antt: edit that one. Digest 3d1f150410c15bd4.
 -- `replies_f32::reply` meets its contract: a cut record and an output without room are told; else the mark or NO is stored before what the entry wrote. Assumes nothing.
 use borrow.Author.Needs.{needs}
 use native.Mathlib.Omega.{arith}
@@ -73,7 +73,19 @@ slice-write-out-2 : tie.Need-slice-write-out-2
 slice-write-out-2 c =
     let c1 = c .before .before .before .before .before in
     let c2 = c1 .before .before .before .before .before in
-    let room = c2 .if2 .left in simp (linalg-singles, circle-singles, series-singles, closed-singles, coeffs-singles, so3-singles, sim3-singles, jacobian-singles, sides-singles, frames-singles, length-set) (omega (arith, given-length (given (c1 .before .before))))
+    let room = c2 .if2 .left in simp (
+      linalg-singles,
+      circle-singles,
+      series-singles,
+      closed-singles,
+      coeffs-singles,
+      so3-singles,
+      sim3-singles,
+      jacobian-singles,
+      sides-singles,
+      frames-singles,
+      length-set,
+    ) (omega (arith, given-length (given (c1 .before .before))))
 
 slice-write-out-3 : tie.Need-slice-write-out-3
 slice-write-out-3 c =
@@ -84,7 +96,19 @@ slice-write-out-4 : tie.Need-slice-write-out-4
 slice-write-out-4 c =
     let c1 = c .before .before .before .before .before in
     let c2 = c1 .before .before .before .before .before in
-    let room = c2 .if2 .left in simp (linalg-singles, circle-singles, series-singles, closed-singles, coeffs-singles, so3-singles, sim3-singles, jacobian-singles, sides-singles, frames-singles, length-set) (omega (arith, given-length (given (c1 .before .before))))
+    let room = c2 .if2 .left in simp (
+      linalg-singles,
+      circle-singles,
+      series-singles,
+      closed-singles,
+      coeffs-singles,
+      so3-singles,
+      sim3-singles,
+      jacobian-singles,
+      sides-singles,
+      frames-singles,
+      length-set,
+    ) (omega (arith, given-length (given (c1 .before .before))))
 
 slice-write-out-5 : tie.Need-slice-write-out-5
 slice-write-out-5 c =
@@ -94,27 +118,87 @@ slice-write-out-5 c =
 slice-write-out-6 : tie.Need-slice-write-out-6
 slice-write-out-6 c =
     let c1 = c .before .before .before .before .before in
-    let room = c1 .before .before .before .if2 .left in simp (linalg-singles, circle-singles, series-singles, closed-singles, coeffs-singles, so3-singles, sim3-singles, jacobian-singles, sides-singles, frames-singles, length-set) (omega (arith, given-length (given (c1))))
+    let room = c1 .before .before .before .if2 .left in simp (
+      linalg-singles,
+      circle-singles,
+      series-singles,
+      closed-singles,
+      coeffs-singles,
+      so3-singles,
+      sim3-singles,
+      jacobian-singles,
+      sides-singles,
+      frames-singles,
+      length-set,
+    ) (omega (arith, given-length (given (c1))))
 
 slice-write-out-7 : tie.Need-slice-write-out-7
 slice-write-out-7 c =
     let c1 = c .before .before .before .before .before in
-    let room = c1 .before .before .before .if2 .left in simp (linalg-singles, circle-singles, series-singles, closed-singles, coeffs-singles, so3-singles, sim3-singles, jacobian-singles, sides-singles, frames-singles, length-set) (omega (arith, given-length (given (c1))))
+    let room = c1 .before .before .before .if2 .left in simp (
+      linalg-singles,
+      circle-singles,
+      series-singles,
+      closed-singles,
+      coeffs-singles,
+      so3-singles,
+      sim3-singles,
+      jacobian-singles,
+      sides-singles,
+      frames-singles,
+      length-set,
+    ) (omega (arith, given-length (given (c1))))
 
 same-length : tie.Need-same-length
 same-length c =
     let c1 = c .before .before .before .before .before in
-    simp (linalg-singles, circle-singles, series-singles, closed-singles, coeffs-singles, so3-singles, sim3-singles, jacobian-singles, sides-singles, frames-singles, length-set) (given-length (given (c1 .before .before)))
+    simp (
+      linalg-singles,
+      circle-singles,
+      series-singles,
+      closed-singles,
+      coeffs-singles,
+      so3-singles,
+      sim3-singles,
+      jacobian-singles,
+      sides-singles,
+      frames-singles,
+      length-set,
+    ) (given-length (given (c1 .before .before)))
 
 same-length-2 : tie.Need-same-length-2
 same-length-2 c =
     let c1 = c .before .before .before .before .before in
-    simp (linalg-singles, circle-singles, series-singles, closed-singles, coeffs-singles, so3-singles, sim3-singles, jacobian-singles, sides-singles, frames-singles, length-set) (given-length (given (c1 .before .before)))
+    simp (
+      linalg-singles,
+      circle-singles,
+      series-singles,
+      closed-singles,
+      coeffs-singles,
+      so3-singles,
+      sim3-singles,
+      jacobian-singles,
+      sides-singles,
+      frames-singles,
+      length-set,
+    ) (given-length (given (c1 .before .before)))
 
 same-length-3 : tie.Need-same-length-3
 same-length-3 c =
     let c1 = c .before .before .before .before .before in
-    simp (linalg-singles, circle-singles, series-singles, closed-singles, coeffs-singles, so3-singles, sim3-singles, jacobian-singles, sides-singles, frames-singles, length-set) (given-length (given (c1)))
+    simp (
+      linalg-singles,
+      circle-singles,
+      series-singles,
+      closed-singles,
+      coeffs-singles,
+      so3-singles,
+      sim3-singles,
+      jacobian-singles,
+      sides-singles,
+      frames-singles,
+      length-set,
+    ) (given-length (given (c1)))
 
 add-t25 : tie.Need-add-t25
 add-t25 c =

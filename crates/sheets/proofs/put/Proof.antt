@@ -1,4 +1,4 @@
--- Written by tools/proofs from Proof.template: edit that one. Digest 65498f81c2e89c1c.
+-- Written by tools/proofs from Proof.template: edit that one. Digest b0e80be5b3043c11.
 -- `sheets::put` meets its contract: by the length of the bytes, by whether the slot is the sheet's, and by whether another can be added. Assumes nothing.
 use borrow.Author.Needs.{needs}
 use native.Mathlib.Omega.{arith}
@@ -32,7 +32,8 @@ returns-2 c =
     let c1 = c .before .before .before .before .before in
     let c2 = c1 .before .before .before .before .before in
     let a = c2 .before .args in
-    put-again (a .store .now) (a .sheet) (a .shot) (c1 .before .before .slot-of .result) (search needs) (c1 .before .before .slot-of .ensures .0) (c1 .before .before .before .before .if1 .left) (search needs) (fit (c1 .before .before))
+    put-again (a .store .now) (a .sheet) (a .shot) (c1 .before .before .slot-of .result) (search needs) (c1 .before .before .slot-of .ensures .0)
+    (c1 .before .before .before .before .if1 .left) (search needs) (fit (c1 .before .before))
     (sym (c1 .held .ensures) ∙ c .before .before .before .before .if2 .taken) (c .before .before .retake .result) _ (c .before .before .retake .ensures .0) (c .before .before .retake .ensures .1)
 
 returns-3 : tie.Need-returns-3
@@ -42,7 +43,8 @@ returns-3 c =
     let c2 = c1 .before .before .before .before .before in
     let a = c2 .before .before .before .before .args in
     put-new (a .store .now) (a .sheet) (a .shot) (c2 .slot-of .result) (search needs) (c2 .slot-of .ensures .0) (c2 .before .before .if1 .left) (search needs) (fit (c2))
-    (sym (c1 .before .before .before .held .ensures) ∙ c1 .before .before .if2 .left) (c1 .short-at .result) (c1 .short-at .ensures) (c .before .before .before .before .if3 .taken) _ (c .before .before .add .ensures)
+    (sym (c1 .before .before .before .held .ensures) ∙ c1 .before .before .if2 .left) (c1 .short-at .result) (c1 .short-at .ensures)
+    (c .before .before .before .before .if3 .taken) _ (c .before .before .add .ensures)
 
 returns-4 : tie.Need-returns-4
 unfolding usedOf

@@ -1,4 +1,4 @@
--- Written by tools/proofs from Proof.template: edit that one. Digest 89108c7b0b172282.
+-- Written by tools/proofs from Proof.template: edit that one. Digest 890fd3b932abeb6f.
 -- `sim3_job::fill` meets its contract: nothing is read where nothing is asked for. Assumes nothing.
 use borrow.Author.Needs.{needs}
 use native.Mathlib.Omega.{arith}
@@ -22,7 +22,8 @@ returns : tie.Need-returns
 returns c =
     let c1 = c .before .before .before .before .before in
     let a = c1 .before .before .before .before .args in (
-      subst (λ (b : Bool). Within (c .before .before .read-input .result) (a .have) (length (a .buf .now)) b (length (a .tape .now))) (sym (c1 .if1 .taken)) (c .before .before .read-input .ensures .0),
+      subst (λ (b : Bool). Within (c .before .before .read-input .result) (a .have) (length (a .buf .now)) b (length (a .tape .now)))
+          (sym (c1 .if1 .taken)) (c .before .before .read-input .ensures .0),
       (c .before .before .read-input .ensures .1, λ e. untrue (sym e ∙ c .before .before .before .before .if2 .taken)),
     )
 
@@ -39,7 +40,11 @@ returns-2 c =
     let r = c .before .before .read-tape .result in
     let b = c .before .before .read-tape .last .1 .1 .1 .0 in (
       subst (λ (h : Bool). Within r (a .have) (length (a .buf .now)) h (length (a .tape .now))) (sym (c1 .if1 .taken)) (c .before .before .read-tape .ensures .0),
-      (tape-kept r (a .tape .now) (a .at) (a .have) (a .buf .now) b false (c1 .before .before .before .before .pre .1 .0) p, λ e. tape-any r (a .tape .now) (a .at) (a .have) (a .buf .now) b (a .last) p),
+      (
+        tape-kept r (a .tape .now) (a .at) (a .have) (a .buf .now) b false (c1 .before .before .before .before .pre .1 .0) p,
+        λ e. tape-any r
+            (a .tape .now) (a .at) (a .have) (a .buf .now) b (a .last) p,
+      ),
     )
 
 returns-3 : tie.Need-returns-3

@@ -1,4 +1,4 @@
--- Written by tools/proofs from Proof.template: edit that one. Digest 30c6cffb64a4d879.
+-- Written by tools/proofs from Proof.template: edit that one. Digest 59371418d1d8d106.
 -- `sim3_job::read_tape` meets its contract: a piece of the tape is copied behind the bytes at hand, and there is none only at the tape's end. Assumes nothing.
 use borrow.Author.Needs.{needs}
 use native.Mathlib.Omega.{arith}
@@ -26,7 +26,8 @@ returns c =
       (omega (arith, p .0, m), omega (arith, p .0, m), λ u. refl),
       (
         refl,
-        ap (take (a .have + n)) (c .before .before .copy .ensures) ∙ take-paste (a .buf .now) (a .have) (drop (a .at) (a .tape .now)) n (omega arith) (rw (length-drop (a .at) (a .tape .now)) (omega (arith, p .0, m))),
+        ap (take (a .have + n)) (c .before .before .copy .ensures) ∙ take-paste (a .buf .now) (a .have) (drop (a .at) (a .tape .now)) n (omega arith)
+            (rw (length-drop (a .at) (a .tape .now)) (omega (arith, p .0, m))),
         λ u v. let z : n ≡ 0 = eqb-true _ _ u in omega (arith, p .1 .0 z, z, m),
       ),
     )

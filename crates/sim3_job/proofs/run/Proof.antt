@@ -1,4 +1,4 @@
--- Written by tools/proofs from Proof.template: edit that one. Digest f477d11780197433.
+-- Written by tools/proofs from Proof.template: edit that one. Digest b0740ebe2ebe131d.
 -- `sim3_job::run` meets its contract. From a tape, what the sink holds and what the job still writes are together what it writes for the whole tape; and each
 -- turn brings the end nearer, wherever it reads from.
 use borrow.Author.Needs.{needs}
@@ -58,7 +58,9 @@ add-have c =
     let c2 = c1 .before .before .before .before .before in
     let c3 = c2 .before .before .before .before .before in
     let c4 = c3 .before .before .before .before .before in
-    let h = within (c .before .n .given .1) (c1 .before .before .loop .have) (length (c1 .before .before .loop .buf)) (c1 .before .before .loop .asked) (length (c4 .before .args .tape .now)) (c1 .fill .ensures .0) in omega (arith, h .0, c1 .before .before .loop .inv .1)
+    let h = within (c .before .n .given .1) (c1 .before .before .loop .have) (length (c1 .before .before .loop .buf))
+    (c1 .before .before .loop .asked) (length (c4 .before .args .tape .now)) (c1 .fill .ensures .0) in omega
+    (arith, h .0, c1 .before .before .loop .inv .1)
 
 turn-requires : tie.Need-turn-requires Inv-loop μ-loop
 turn-requires c κs =
@@ -66,7 +68,8 @@ turn-requires c κs =
     let c2 = c1 .before .before .before .before .before in
     let c3 = c2 .before .before .before .before .before in
     let c4 = c3 .before .before .before .before .before in
-    let h = within (c .before .before .before .before .n .given .1) (c2 .loop .have) (length (c2 .loop .buf)) (c2 .loop .asked) (length (c4 .before .before .before .before .args .tape .now)) (c1 .before .before .before .fill .ensures .0) in
+    let h = within (c .before .before .before .before .n .given .1) (c2 .loop .have) (length (c2 .loop .buf)) (c2 .loop .asked)
+    (length (c4 .before .before .before .before .args .tape .now)) (c1 .before .before .before .fill .ensures .0) in
     (omega (arith, h .0, c1 .before .before .before .fill .kept .1 .1 .1 .1 .0), (c2 .loop .inv .4, c2 .loop .inv .9))
 
 slice-reshare-prefix-put : tie.Need-slice-reshare-prefix-put Inv-loop μ-loop
@@ -106,7 +109,8 @@ loop-less c =
     let l = c6 .loop in
     let t = c3 .before .before .before .before .turn in
     let n = c4 .before .before .before .before .n .given .0 .0 in
-    let h = within (c4 .before .before .before .before .n .given .1) (c6 .loop .have) (length (c6 .loop .buf)) (c6 .loop .asked) (length (c8 .before .before .before .before .args .tape .now)) (c5 .before .before .before .fill .ensures .0) in
+    let h = within (c4 .before .before .before .before .n .given .1) (c6 .loop .have) (length (c6 .loop .buf)) (c6 .loop .asked)
+    (length (c8 .before .before .before .before .args .tape .now)) (c5 .before .before .before .fill .ensures .0) in
     let room : answerRoom ≤ length (l .out) = omega (arith, l .inv .2) in
     let fits : l .have + n ≤ 65536 = omega (arith, h .0, l .inv .1) in
     let told = rw (held (l .mem) (l .inv .9)) at (t .ensures .0) in
@@ -152,9 +156,11 @@ loop-again c =
       omega (arith, sink-within (c1 .before .end .given .1) (length (l .sink)) (p .ensures .0), p .kept .1 .1 .0),
       p .kept .1 .1 .0 ∙ i .7,
       λ e.
-          let r = tape-read (c4 .before .before .before .before .n .given .1) jobLimit (a .tape .now) (l .sink) (standing (l .c) (stateOf (l .mem))) (l .buf) buf₁ (l .last) (l .at) (l .have) (l .sent) (f .ensures .1 .1 e) (i .8 e) in
+          let r = tape-read (c4 .before .before .before .before .n .given .1) jobLimit (a .tape .now) (l .sink) (standing (l .c) (stateOf (l .mem)))
+          (l .buf) buf₁ (l .last) (l .at) (l .have) (l .sent) (f .ensures .1 .1 e) (i .8 e) in
           let b = handed (F .bytes) (l .out) _ (t .result .written) (ap (λ (x : Fed). x .written) told) wrote in
-          let w : take end sink₁ ≡ take (l .sent) (l .sink) ++ F .bytes = sink-holds (c1 .before .end .given .1) _ (l .sink) sink₁ (l .sent) (p .ensures .1 e) ∙ ap (λ (x : List ℕ). take (l .sent) (l .sink) ++ x) b in
+          let w : take end sink₁ ≡ take (l .sent) (l .sink) ++ F .bytes = sink-holds (c1 .before .end .given .1) _ (l .sink) sink₁ (l .sent)
+          (p .ensures .1 e) ∙ ap (λ (x : List ℕ). take (l .sent) (l .sink) ++ x) b in
           let state : stateOf (t .last .1 .1 .1 .0) ≡ F .standing .state = rw held₁ at (t .ensures .1 .1 .0) in
           let stands : standing (t .result .counts) (stateOf (t .last .1 .1 .1 .0)) ≡ F .standing = λ i. standing (ap (λ (x : Fed). x .counts) told i) (state i) in
           rw stands
@@ -175,8 +181,11 @@ returns c =
     let c3 = c2 .before .before .before .before .before in
     let c4 = c3 .before .before .before .before .before in
     let a = c4 .before .before .before .args in
-    let l = c1 .before .before .before .before .loop in
-    (omega (arith, l .inv .6, l .inv .7), λ e. tape-failed (c .before .before .before .enum-told .given .1) (a .tape .now) (l .at) (l .have) (l .buf) _ (l .last) (c1 .before .before .fill .ensures .1 .1 e))
+    let l = c1 .before .before .before .before .loop in (
+      omega (arith, l .inv .6, l .inv .7),
+      λ e. tape-failed (c .before .before .before .enum-told .given .1) (a .tape .now) (l .at) (l .have)
+          (l .buf) _ (l .last) (c1 .before .before .fill .ensures .1 .1 e),
+    )
 
 same-length-2 : tie.Need-same-length-2 Inv-loop μ-loop
 same-length-2 c =
@@ -213,7 +222,8 @@ returns-2 c =
     let wrote = rw held₁ at (t .ensures .1 .0) in (
       omega (arith, i .6, i .7),
       λ e.
-          let r = tape-read (c4 .before .n .given .1) jobLimit (a .tape .now) (l .sink) (standing (l .c) (stateOf (l .mem))) (l .buf) buf₁ (l .last) (l .at) (l .have) (l .sent) (f .ensures .1 .1 e) (i .8 e) in
+          let r = tape-read (c4 .before .n .given .1) jobLimit (a .tape .now) (l .sink) (standing (l .c) (stateOf (l .mem))) (l .buf) buf₁ (l .last)
+          (l .at) (l .have) (l .sent) (f .ensures .1 .1 e) (i .8 e) in
           let b = handed (F .bytes) (l .out) _ (t .result .written) (ap (λ (x : Fed). x .written) told) wrote in
           let w = sink-short (c .before .before .before .enum-told2 .given .1) _ (l .sink) _ (l .sent) (p .ensures .1 e) in
           let s = underway-short jobLimit (a .tape .now) (l .sink) (standing (l .c) (stateOf (l .mem))) (take (l .have + n) buf₁) ended next (l .sent) r (i .4) (length (l .out))
@@ -261,10 +271,13 @@ returns-3 c =
     let off : goesOn (t .result .reason) ≡ false = sym (c .before .before .before .before .goes-on .ensures) ∙ not-true _ (c .before .before .before .if1 .taken) in (
       omega (arith, sink-within (c1 .before .before .before .end .given .1) (length (l .sink)) (p .ensures .0), i .7),
       λ e.
-          let r = tape-read (c5 .before .n .given .1) jobLimit (a .tape .now) (l .sink) (standing (l .c) (stateOf (l .mem))) (l .buf) buf₁ (l .last) (l .at) (l .have) (l .sent) (f .ensures .1 .1 e) (i .8 e) in
+          let r = tape-read (c5 .before .n .given .1) jobLimit (a .tape .now) (l .sink) (standing (l .c) (stateOf (l .mem))) (l .buf) buf₁ (l .last)
+          (l .at) (l .have) (l .sent) (f .ensures .1 .1 e) (i .8 e) in
           let b = handed (F .bytes) (l .out) _ (t .result .written) (ap (λ (x : Fed). x .written) told) wrote in
-          let w : take end sink₁ ≡ take (l .sent) (l .sink) ++ F .bytes = sink-holds (c1 .before .before .before .end .given .1) _ (l .sink) sink₁ (l .sent) (p .ensures .1 e) ∙ ap (λ (x : List ℕ). take (l .sent) (l .sink) ++ x) b in
-          underway-done jobLimit (a .tape .now) (l .sink) (standing (l .c) (stateOf (l .mem))) (take (l .have + n) buf₁) ended next (l .sent) r (i .4) (length (l .out)) sink₁ end (t .result) told off w,
+          let w : take end sink₁ ≡ take (l .sent) (l .sink) ++ F .bytes = sink-holds (c1 .before .before .before .end .given .1) _ (l .sink) sink₁
+          (l .sent) (p .ensures .1 e) ∙ ap (λ (x : List ℕ). take (l .sent) (l .sink) ++ x) b in
+          underway-done jobLimit (a .tape .now) (l .sink) (standing (l .c) (stateOf (l .mem))) (take (l .have + n) buf₁) ended next (l .sent) r (i .4)
+          (length (l .out)) sink₁ end (t .result) told off w,
     )
 
 pub run-spec : {M : Type 1} → statement M

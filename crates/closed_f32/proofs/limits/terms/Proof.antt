@@ -1,4 +1,4 @@
--- Written by tools/widths from crates/closed/proofs/limits/terms/Proof.antt: edit that one. Digest 5529ba2831bd3424.
+-- Written by tools/widths from crates/closed/proofs/limits/terms/Proof.antt: edit that one. Digest 87f730e2e6efebce.
 -- `closed_f32::limits::terms` meets its contract: each case of the match is a case of the definition. Assumes nothing.
 use borrow.Author.Needs.{needs}
 use borrow.Author.Tests.{ne-eqb}
@@ -19,7 +19,15 @@ returns-3 : tie.Need-returns-3
 returns-3 c = simp (linalg-singles, circle-singles, series-singles, closed-singles, c .match .keys3) (search needs)
 
 returns-4 : tie.Need-returns-4
-returns-4 c = simp (linalg-singles, circle-singles, series-singles, closed-singles, ne-eqb _ _ (c .match .rest .1), ne-eqb _ _ (c .match .rest .0 .1), ne-eqb _ _ (c .match .rest .0 .0 .1)) (search needs)
+returns-4 c = simp (
+  linalg-singles,
+  circle-singles,
+  series-singles,
+  closed-singles,
+  ne-eqb _ _ (c .match .rest .1),
+  ne-eqb _ _ (c .match .rest .0 .1),
+  ne-eqb _ _ (c .match .rest .0 .0 .1),
+) (search needs)
 
 pub terms-spec : {M : Type 1} → statement M
 terms-spec = tie.close (tie.spec returns returns-2 returns-3 returns-4)

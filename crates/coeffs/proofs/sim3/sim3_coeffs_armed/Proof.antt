@@ -1,4 +1,4 @@
--- Written by tools/proofs from Proof.template: edit that one. Digest 765de2a3aed7adef.
+-- Written by tools/proofs from Proof.template: edit that one. Digest 2babb537af67549b.
 -- `coeffs::sim3::sim3_coeffs_armed` meets its contract: the answer is that of the arm at Δ, with that arm told. Assumes nothing.
 use borrow.Author.Needs.{needs}
 use mathlib.Core.Path.{_≡_, sym, ap, _∙_}
@@ -35,7 +35,8 @@ returns-2 c =
     let e = c1 .before .before .before .arm .ensures in
     let t = ap (λ n. ltb n 5) (sym e) ∙ le-ltb _ _ (c1 .before .before .if1 .left) in
     let w = c .before .before .w0-small .ensures in
-    let r = ap answers (rw w at (c .before .closed-one .ensures)) ∙ sym (by-closed binary64 (a .sigma) (a .z) (a .v) _ t (sym (c1 .before .sinc-a-b-d .ensures) ∙ ap sincABDTold (c .before .before .before .before .t .given .1))) in
+    let r = ap answers (rw w at (c .before .closed-one .ensures)) ∙ sym (by-closed binary64 (a .sigma) (a .z) (a .v) _ t
+    (sym (c1 .before .sinc-a-b-d .ensures) ∙ ap sincABDTold (c .before .before .before .before .t .given .1))) in
     c .tell2 .ensures
     ∙ (λ i. andThen (r i) (λ s. answers (told-at (e i) ((w ∙ sym (ends-closed binary64 (a .sigma) (coeffsArm binary64 (coeffsDelta binary64 (a .sigma) (a .z))) t)) i) s)))
     ∙ sym (armed-told binary64 (a .sigma) (a .z) (a .v))

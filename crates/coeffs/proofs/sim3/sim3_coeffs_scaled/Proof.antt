@@ -1,4 +1,4 @@
--- Written by tools/proofs from Proof.template: edit that one. Digest 615a0891243a1d32.
+-- Written by tools/proofs from Proof.template: edit that one. Digest 2cacd612725faabf.
 -- `coeffs::sim3::sim3_coeffs_scaled` meets its contract: the answer is that of the arm at Δ. Assumes nothing.
 use borrow.Author.Needs.{needs}
 use mathlib.Core.Path.{sym, ap, _∙_}
@@ -27,7 +27,8 @@ returns-2 c =
     let c1 = c .before .before .before .before .before in
     let a = c1 .before .before .before .args in
     let t = ap (λ n. ltb n 5) (sym (c1 .before .before .arm .ensures)) ∙ le-ltb _ _ (c1 .before .if1 .left) in
-    simp (c .closed-one .ensures, c .before .w0-small .ensures) (sym (by-closed binary64 (a .sigma) (a .z) (a .v) _ t (sym (c1 .sinc-a-b-d .ensures) ∙ ap sincABDTold (c .before .before .before .t .given .1))))
+    simp (c .closed-one .ensures, c .before .w0-small .ensures) (sym (by-closed binary64 (a .sigma) (a .z) (a .v) _ t
+    (sym (c1 .sinc-a-b-d .ensures) ∙ ap sincABDTold (c .before .before .before .t .given .1))))
 
 returns-3 : tie.Need-returns-3
 unfolding scaledTold sincABDTold circleSincABDAnswer

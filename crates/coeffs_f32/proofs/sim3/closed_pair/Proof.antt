@@ -1,4 +1,4 @@
--- Written by tools/widths from crates/coeffs/proofs/sim3/closed_pair/Proof.antt: edit that one. Digest 853c7912ad91c8cf.
+-- Written by tools/widths from crates/coeffs/proofs/sim3/closed_pair/Proof.antt: edit that one. Digest 5a5534716fc9da40.
 use borrow.Author.Needs.{needs}
 use Rattle.coeffs.specs.Shared.{closedPair}
 use lib.Ieee.{ofBits}

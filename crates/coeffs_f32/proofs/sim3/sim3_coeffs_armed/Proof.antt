@@ -1,4 +1,4 @@
--- Written by tools/widths from crates/coeffs/proofs/sim3/sim3_coeffs_armed/Proof.antt: edit that one. Digest 263ac1932532ea05.
+-- Written by tools/widths from crates/coeffs/proofs/sim3/sim3_coeffs_armed/Proof.antt: edit that one. Digest 3c8d749ca1c28109.
 -- `coeffs_f32::sim3::sim3_coeffs_armed` meets its contract: the answer is that of the arm at Δ, with that arm told. Assumes nothing.
 use borrow.Author.Needs.{needs}
 use mathlib.Core.Path.{_≡_, sym, ap, _∙_}
@@ -40,7 +40,8 @@ returns-2 c =
     let e = c1 .before .before .before .arm .ensures in
     let t = ap (λ n. ltb n 5) (sym e) ∙ le-ltb _ _ (c1 .before .before .if1 .left) in
     let w = c .before .before .w0-small .ensures in
-    let r = ap answers (rw w at (c .before .closed-one .ensures)) ∙ sym (by-closed binary32 (a .sigma) (a .z) (asValues (a .v)) _ t (sym (c1 .before .sinc-a-b-d .ensures) ∙ ap sincABDTold (c .before .before .before .before .t .given .1))) in
+    let r = ap answers (rw w at (c .before .closed-one .ensures)) ∙ sym (by-closed binary32 (a .sigma) (a .z) (asValues (a .v)) _ t
+    (sym (c1 .before .sinc-a-b-d .ensures) ∙ ap sincABDTold (c .before .before .before .before .t .given .1))) in
     c .tell2 .ensures
     ∙ (λ i. andThen (r i) (λ s. answers (told-at (e i) ((w ∙ sym (ends-closed binary32 (a .sigma) (coeffsArm binary32 (coeffsDelta binary32 (a .sigma) (a .z))) t)) i) s)))
     ∙ sym (armed-told binary32 (a .sigma) (a .z) (asValues (a .v)))

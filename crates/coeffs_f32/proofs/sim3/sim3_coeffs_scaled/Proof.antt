@@ -1,4 +1,4 @@
--- Written by tools/widths from crates/coeffs/proofs/sim3/sim3_coeffs_scaled/Proof.antt: edit that one. Digest dbcd94b7129ceeae.
+-- Written by tools/widths from crates/coeffs/proofs/sim3/sim3_coeffs_scaled/Proof.antt: edit that one. Digest e7e7dc2d20a87f81.
 -- `coeffs_f32::sim3::sim3_coeffs_scaled` meets its contract: the answer is that of the arm at Δ. Assumes nothing.
 use borrow.Author.Needs.{needs}
 use mathlib.Core.Path.{sym, ap, _∙_}
@@ -37,7 +37,9 @@ returns-2 c =
     let c1 = c .before .before .before .before .before in
     let a = c1 .before .before .before .args in
     let t = ap (λ n. ltb n 5) (sym (c1 .before .before .arm .ensures)) ∙ le-ltb _ _ (c1 .before .if1 .left) in
-    simp (linalg-singles, circle-singles, series-singles, closed-singles, coeffs-singles, c .closed-one .ensures, c .before .w0-small .ensures) (sym (by-closed binary32 (a .sigma) (a .z) (asValues (a .v)) _ t (sym (c1 .sinc-a-b-d .ensures) ∙ ap sincABDTold (c .before .before .before .t .given .1))))
+    simp (linalg-singles, circle-singles, series-singles, closed-singles, coeffs-singles, c .closed-one .ensures, c .before .w0-small .ensures)
+    (sym (by-closed binary32 (a .sigma) (a .z) (asValues (a .v)) _ t
+    (sym (c1 .sinc-a-b-d .ensures) ∙ ap sincABDTold (c .before .before .before .t .given .1))))
 
 returns-3 : tie.Need-returns-3
 unfolding scaledTold sincABDTold circleSincABDAnswer asScaled asSim3Coeffs asSincABD asValues

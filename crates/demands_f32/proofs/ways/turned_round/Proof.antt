@@ -1,4 +1,4 @@
--- Written by tools/widths from crates/demands/proofs/ways/turned_round/Proof.antt: edit that one. Digest c6ed921f6efa1b59.
+-- Written by tools/widths from crates/demands/proofs/ways/turned_round/Proof.antt: edit that one. Digest 0d56641c000d9d58.
 use borrow.Author.Needs.{needs}
 use Rattle.demands.specs.Turned.{turnedRound}
 use Rattle.demands_f32.proofs.ways.turned_round.Statement.{statement}
@@ -18,7 +18,21 @@ use Rattle.demands_f32.proofs.As.{demands-singles}
 
 returns : tie.Need-returns
 unfolding turnedRound
-returns c = simp (linalg-singles, circle-singles, series-singles, closed-singles, coeffs-singles, so3-singles, sim3-singles, jacobian-singles, blocks-singles, sides-singles, frames-singles, demands-singles, c .neg .ensures)
+returns c = simp (
+  linalg-singles,
+  circle-singles,
+  series-singles,
+  closed-singles,
+  coeffs-singles,
+  so3-singles,
+  sim3-singles,
+  jacobian-singles,
+  blocks-singles,
+  sides-singles,
+  frames-singles,
+  demands-singles,
+  c .neg .ensures,
+)
 
 pub turned-round-spec : {M : Type 1} → statement M
 turned-round-spec = tie.close (tie.spec (λ c κs. search needs) returns)

@@ -1,4 +1,4 @@
--- Written by tools/widths from crates/frames/proofs/Pose/inv_mul/Proof.antt: edit that one. Digest 3bb5c581f55c89e5.
+-- Written by tools/widths from crates/frames/proofs/Pose/inv_mul/Proof.antt: edit that one. Digest 5ea0f6b6ad5d284e.
 use borrow.Author.Needs.{needs}
 use Rattle.frames.specs.Joins.{framedInvMul}
 use Rattle.frames_f32.proofs.Pose.inv_mul.Statement.{statement}
@@ -14,7 +14,19 @@ use Rattle.frames_f32.proofs.As.{frames-singles}
 
 returns : tie.Need-returns
 unfolding framedInvMul
-returns c = simp (linalg-singles, circle-singles, series-singles, closed-singles, coeffs-singles, so3-singles, sim3-singles, frames-singles, c .meet .ensures, c .before .between .ensures, c .before .before .inv-mul .ensures)
+returns c = simp (
+  linalg-singles,
+  circle-singles,
+  series-singles,
+  closed-singles,
+  coeffs-singles,
+  so3-singles,
+  sim3-singles,
+  frames-singles,
+  c .meet .ensures,
+  c .before .between .ensures,
+  c .before .before .inv-mul .ensures,
+)
 
 pub inv-mul-spec : {M : Type 1} → statement M
 inv-mul-spec = tie.close (tie.spec (λ c κs. search needs) (λ c κs. search needs) (λ c κs. search needs) returns)

@@ -1,4 +1,4 @@
--- Written by tools/widths from crates/frames/proofs/Pose/mul/Proof.antt: edit that one. Digest 4aa1f4b707f4f698.
+-- Written by tools/widths from crates/frames/proofs/Pose/mul/Proof.antt: edit that one. Digest f3a9e1ae6e43cbdf.
 use borrow.Author.Needs.{needs}
 use Rattle.frames.specs.Joins.{framedMul}
 use Rattle.frames_f32.proofs.Pose.mul.Statement.{statement}
@@ -14,7 +14,19 @@ use Rattle.frames_f32.proofs.As.{frames-singles}
 
 returns : tie.Need-returns
 unfolding framedMul
-returns c = simp (linalg-singles, circle-singles, series-singles, closed-singles, coeffs-singles, so3-singles, sim3-singles, frames-singles, c .meet .ensures, c .before .between .ensures, c .before .before .mul .ensures)
+returns c = simp (
+  linalg-singles,
+  circle-singles,
+  series-singles,
+  closed-singles,
+  coeffs-singles,
+  so3-singles,
+  sim3-singles,
+  frames-singles,
+  c .meet .ensures,
+  c .before .between .ensures,
+  c .before .before .mul .ensures,
+)
 
 pub mul-spec : {M : Type 1} → statement M
 mul-spec = tie.close (tie.spec (λ c κs. search needs) (λ c κs. search needs) (λ c κs. search needs) returns)

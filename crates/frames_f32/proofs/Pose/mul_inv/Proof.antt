@@ -1,4 +1,4 @@
--- Written by tools/widths from crates/frames/proofs/Pose/mul_inv/Proof.antt: edit that one. Digest 5a0e6c2f751a9e37.
+-- Written by tools/widths from crates/frames/proofs/Pose/mul_inv/Proof.antt: edit that one. Digest 8a3cc16d3bbb22e8.
 use borrow.Author.Needs.{needs}
 use Rattle.frames.specs.Joins.{framedMulInv}
 use Rattle.frames_f32.proofs.Pose.mul_inv.Statement.{statement}
@@ -14,7 +14,19 @@ use Rattle.frames_f32.proofs.As.{frames-singles}
 
 returns : tie.Need-returns
 unfolding framedMulInv
-returns c = simp (linalg-singles, circle-singles, series-singles, closed-singles, coeffs-singles, so3-singles, sim3-singles, frames-singles, c .meet .ensures, c .before .between .ensures, c .before .before .mul-inv .ensures)
+returns c = simp (
+  linalg-singles,
+  circle-singles,
+  series-singles,
+  closed-singles,
+  coeffs-singles,
+  so3-singles,
+  sim3-singles,
+  frames-singles,
+  c .meet .ensures,
+  c .before .between .ensures,
+  c .before .before .mul-inv .ensures,
+)
 
 pub mul-inv-spec : {M : Type 1} → statement M
 mul-inv-spec = tie.close (tie.spec (λ c κs. search needs) (λ c κs. search needs) (λ c κs. search needs) returns)

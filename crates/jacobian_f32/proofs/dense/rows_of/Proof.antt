@@ -1,4 +1,4 @@
--- Written by tools/widths from crates/jacobian/proofs/dense/rows_of/Proof.antt: edit that one. Digest 30f79dbb5b3a7723.
+-- Written by tools/widths from crates/jacobian/proofs/dense/rows_of/Proof.antt: edit that one. Digest 6d6b5f3bd1f38083.
 use borrow.Author.Needs.{needs}
 use Rattle.jacobian.specs.DenseRows.{sevenRows}
 use Rattle.jacobian_f32.proofs.dense.rows_of.Statement.{statement}
@@ -14,7 +14,19 @@ use Rattle.jacobian_f32.proofs.As.{jacobian-singles}
 
 returns : tie.Need-returns
 unfolding sevenRows
-returns c = simp (linalg-singles, circle-singles, series-singles, closed-singles, coeffs-singles, so3-singles, sim3-singles, jacobian-singles, c .seven-numbers3 .ensures, c .before .seven-numbers2 .ensures, c .before .before .seven-numbers .ensures)
+returns c = simp (
+  linalg-singles,
+  circle-singles,
+  series-singles,
+  closed-singles,
+  coeffs-singles,
+  so3-singles,
+  sim3-singles,
+  jacobian-singles,
+  c .seven-numbers3 .ensures,
+  c .before .seven-numbers2 .ensures,
+  c .before .before .seven-numbers .ensures,
+)
 
 pub rows-of-spec : {M : Type 1} → statement M
 rows-of-spec = tie.close (tie.spec (λ c κs. search needs) (λ c κs. search needs) (λ c κs. search needs) returns)

@@ -1,4 +1,4 @@
--- Written by tools/widths from crates/jacobian/proofs/dense/transpose/Proof.antt: edit that one. Digest 40c05e15b0d42c41.
+-- Written by tools/widths from crates/jacobian/proofs/dense/transpose/Proof.antt: edit that one. Digest c0927626d77e6226.
 use borrow.Author.Needs.{needs}
 use Rattle.jacobian.specs.Dense.{sevenTranspose}
 use Rattle.jacobian.specs.DenseRows.{sevenRows}
@@ -17,7 +17,19 @@ returns : tie.Need-returns
 unfolding sevenTranspose sevenRows
 returns c =
     let c1 = c .before .before .before .before .before in
-    simp (linalg-singles, circle-singles, series-singles, closed-singles, coeffs-singles, so3-singles, sim3-singles, jacobian-singles, c .seven-numbers .ensures, c1 .before .before .rows-of2 .ensures, c1 .before .before .before .rows-of .ensures)
+    simp (
+      linalg-singles,
+      circle-singles,
+      series-singles,
+      closed-singles,
+      coeffs-singles,
+      so3-singles,
+      sim3-singles,
+      jacobian-singles,
+      c .seven-numbers .ensures,
+      c1 .before .before .rows-of2 .ensures,
+      c1 .before .before .before .rows-of .ensures,
+    )
 
 pub transpose-spec : {M : Type 1} → statement M
 transpose-spec = tie.close (tie.spec (λ c κs. search needs) (λ c κs. search needs) (λ c κs. search needs) returns)

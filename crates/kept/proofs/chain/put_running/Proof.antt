@@ -1,4 +1,4 @@
--- Written by tools/proofs from Proof.template: edit that one. Digest c61d6bc21a1fccf8.
+-- Written by tools/proofs from Proof.template: edit that one. Digest bd0e69d830f714a8.
 -- `kept::chain::put_running` meets its contract: the stores are the whole state, with a pose or without, and a pose of doubles reads back. Assumes nothing.
 use borrow.Author.Needs.{needs}
 use native.Mathlib.Omega.{arith}
@@ -40,14 +40,16 @@ same-length-2 : tie.Need-same-length-2
 same-length-2 c =
     let c1 = c .before .before .before .before .before in
     let c2 = c1 .before .before .before .before .before in
-    c .before .before .put-framed .kept .0 ∙ length-set (c1 .before .before .before .before .put-short2 .last .0) 4 1 ∙ c1 .before .before .before .before .put-short2 .kept .0 ∙ c2 .before .before .before .put-short .kept .0
+    c .before .before .put-framed .kept .0 ∙ length-set (c1 .before .before .before .before .put-short2 .last .0) 4 1
+    ∙ c1 .before .before .before .before .put-short2 .kept .0 ∙ c2 .before .before .before .put-short .kept .0
 
 returns : tie.Need-returns
 returns c =
     let c1 = c .before .before .before .before .before in
     let c2 = c1 .before .before .before .before .before in
     let r = c2 .before .args .r in
-    rw (c .before .before .before .before .put-short2 .ensures, c1 .before .before .before .put-short .ensures) (unset-stored (r .every) (r .since) (c2 .before .args .mem .now) (c2 .before .pre) (search needs) (search needs))
+    rw (c .before .before .before .before .put-short2 .ensures, c1 .before .before .before .put-short .ensures)
+    (unset-stored (r .every) (r .since) (c2 .before .args .mem .now) (c2 .before .pre) (search needs) (search needs))
     ∙ (λ i. record { pose = sym (c .enum-told .given .1) i; every = r .every; since = r .since })
 
 returns-2 : tie.Need-returns-2

@@ -1,4 +1,4 @@
--- Written by tools/proofs from Proof.template: edit that one. Digest b0ea8cc7d2b77611.
+-- Written by tools/proofs from Proof.template: edit that one. Digest 58087f58e1cb4312.
 -- `kept::retakes::find` meets its contract: the sheet is read and asked for, and what is kept told. Assumes nothing.
 use borrow.Author.Needs.{needs}
 use native.Mathlib.Omega.{arith}
@@ -13,7 +13,8 @@ unfolding lentBecame lentBytes
 returns c =
     let c1 = c .before .before .before .before .before in
     let a = c1 .before .before .before .before .args in
-    rw (c .before .before .before .get .ensures ∙ shelf-asked (a .store .now) (a .b .now) _ (c1 .before .before .before .before .pre .1 .0) (c1 .short-at .ensures)) at (c .before .before .answer-get .ensures)
+    rw (c .before .before .before .get .ensures ∙ shelf-asked (a .store .now) (a .b .now) _ (c1 .before .before .before .before .pre .1 .0)
+    (c1 .short-at .ensures)) at (c .before .before .answer-get .ensures)
 
 pub find-spec : {M : Type 1} → statement M
 find-spec =

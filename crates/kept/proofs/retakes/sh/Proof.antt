@@ -1,4 +1,4 @@
--- Written by tools/proofs from Proof.template: edit that one. Digest 4504f0c4c88cbc7d.
+-- Written by tools/proofs from Proof.template: edit that one. Digest 058819a1eb11af3b.
 -- `kept::retakes::sh` meets its contract: lent bytes that are no state, a cut record and an output without room are told; else the record's own bytes are put. Assumes nothing.
 use borrow.Author.Needs.{needs}
 use native.Mathlib.Omega.{arith}
@@ -16,14 +16,18 @@ use Rattle.kept.proofs.retakes.sh.Tie as tie
 
 shelve-requires : tie.Need-shelve-requires
 shelve-requires c κs =
-    let c1 = c .before .before .before .before .before in
-    (ap (λ n. 2 + n) (length-take-le 72 (drop 2 (c1 .before .before .before .before .args .s .now)) (simp length-drop (omega (arith, c .before .before .before .before .if2 .left)))), (rest-length (c1 .before .before .before .before .args .mem .now) (c1 .if1 .left), c .before .before .before .if3 .left))
+    let c1 = c .before .before .before .before .before in (
+      ap (λ n. 2 + n) (length-take-le 72 (drop 2 (c1 .before .before .before .before .args .s .now))
+          (simp length-drop (omega (arith, c .before .before .before .before .if2 .left)))),
+      (rest-length (c1 .before .before .before .before .args .mem .now) (c1 .if1 .left), c .before .before .before .if3 .left),
+    )
 
 same-length : tie.Need-same-length
 same-length c =
     let c1 = c .before .before .before .before .before in
     let c2 = c1 .before .before .before .before .before in
-    same-len-mid 73 (length (c2 .before .before .before .before .args .mem .now) - 73) (c2 .before .before .before .before .args .mem .now) (c .before .before .before .before .shelve .last .1 .0) (c .before .before .before .before .shelve .kept .1 .0)
+    same-len-mid 73 (length (c2 .before .before .before .before .args .mem .now) - 73) (c2 .before .before .before .before .args .mem .now)
+    (c .before .before .before .before .shelve .last .1 .0) (c .before .before .before .before .shelve .kept .1 .0)
 
 returns : tie.Need-returns
 returns c = let a = c .before .before .before .before .args in told-unheld shAsks (a .mem .now) (a .s .now) (a .out .now) (c .if1 .taken)
@@ -44,7 +48,8 @@ returns-4 c =
     let c2 = c1 .before .before .before .before .before in
     let a = c2 .before .before .before .before .args in
     let w = c .before .before .before .before .shelve .ensures in
-    sh-whole (a .mem .now) (a .s .now) (a .out .now) (c2 .if1 .left) (c1 .before .before .before .before .if2 .left) (c1 .before .before .before .if3 .left) (c .before .before .before .before .shelve .result) _ _ (w .0) (w .1 .0) (w .1 .1)
+    sh-whole (a .mem .now) (a .s .now) (a .out .now) (c2 .if1 .left) (c1 .before .before .before .before .if2 .left)
+    (c1 .before .before .before .if3 .left) (c .before .before .before .before .shelve .result) _ _ (w .0) (w .1 .0) (w .1 .1)
 
 pub sh-spec : {M : Type 1} → statement M
 sh-spec =

@@ -1,4 +1,4 @@
--- Written by tools/proofs from Proof.template: edit that one. Digest b4574301c0a8c64b.
+-- Written by tools/proofs from Proof.template: edit that one. Digest 92c9ab9b593ae27d.
 -- `kept::retakes::sq` meets its contract: lent bytes that are no state, a cut record and an output without room are told; else the store is asked. Assumes nothing.
 use borrow.Author.Needs.{needs}
 use native.Mathlib.Omega.{arith}
@@ -15,8 +15,11 @@ use Rattle.kept.proofs.retakes.sq.Tie as tie
 
 find-requires : tie.Need-find-requires
 find-requires c κs =
-    let c1 = c .before .before .before .before .before in
-    (ap (λ n. 2 + n) (length-take-le 2 (drop 2 (c1 .before .before .before .before .args .s .now)) (simp length-drop (omega (arith, c .before .before .before .before .if2 .left)))), (rest-length (c1 .before .before .before .before .args .mem .now) (c1 .if1 .left), c .before .before .before .if3 .left))
+    let c1 = c .before .before .before .before .before in (
+      ap (λ n. 2 + n) (length-take-le 2 (drop 2 (c1 .before .before .before .before .args .s .now))
+          (simp length-drop (omega (arith, c .before .before .before .before .if2 .left)))),
+      (rest-length (c1 .before .before .before .before .args .mem .now) (c1 .if1 .left), c .before .before .before .if3 .left),
+    )
 
 returns : tie.Need-returns
 returns c = let a = c .before .before .before .before .args in let t = told-unheld sqAsks (a .mem .now) (a .s .now) (a .out .now) (c .if1 .taken) in (t .0, t .1 .0)

@@ -1,4 +1,4 @@
--- Written by tools/proofs from Proof.template: edit that one. Digest ca8eadde5f9dc38b.
+-- Written by tools/proofs from Proof.template: edit that one. Digest d7ab3ed992ec7b63.
 -- `replies::bytes::short_at` meets its contract: the two bytes from the place on are those of the list. Assumes nothing.
 use borrow.Author.Needs.{needs}
 use native.Mathlib.Omega.{arith}
@@ -8,7 +8,8 @@ use Rattle.replies.proofs.bytes.short_at.Statement.{statement}
 use Rattle.replies.proofs.bytes.short_at.Tie as tie
 
 returns : tie.Need-returns
-returns c = c .short-from-le-bytes .ensures ∙ short-read (c .before .before .before .before .args .b .now) (c .before .before .before .before .args .at) (omega (arith, c .before .before .before .before .pre))
+returns c = c .short-from-le-bytes .ensures ∙ short-read (c .before .before .before .before .args .b .now)
+    (c .before .before .before .before .args .at) (omega (arith, c .before .before .before .before .pre))
 
 pub short-at-spec : {M : Type 1} → statement M
 short-at-spec =

@@ -1,4 +1,4 @@
--- Written by tools/proofs from Proof.template: edit that one. Digest 2cecb4e5b13a2f4f.
+-- Written by tools/proofs from Proof.template: edit that one. Digest 4d57b1c36d2ac100.
 -- `replies::entries::co` meets its contract: the engine is asked at the numbers read, and its answer without the arms is written or its refusal told.
 use borrow.Author.Needs.{needs}
 use lib.Ieee.{binary64}
@@ -24,7 +24,8 @@ returns c =
     let told = armed-answers binary64 _ _ _ _ (sym (c2 .before .before .sim3-coeffs-armed-pair .ensures) ∙ ap armedPairTold (c2 .p .given .1)) in
     let p = armedScaled (c2 .p .given .0 .0) in
     let fine = scaled-pair-fine p _ _ (c1 .before .before .answer-scaled .ensures .0) (c .before .before .before .answer-scaled2 .ensures .0) in
-    let run = (rw (c1 .before .before .answer-scaled .ensures .1) at (c .before .before .before .answer-scaled2 .ensures .1)) ∙ scaled-pair-run binary64 p (c3 .before .before .before .args .out .now) 0 in
+    let run = (rw (c1 .before .before .answer-scaled .ensures .1) at (c .before .before .before .answer-scaled2 .ensures .1))
+    ∙ scaled-pair-run binary64 p (c3 .before .before .before .args .out .now) 0 in
     rw (← (c3 .number-at .ensures), ← (c2 .before .before .before .before .number-at2 .ensures), ← (c2 .before .before .before .values-at .ensures), told)
     (wrote binary64 (scaledPairNumbers p) _ _ _ _ (c3 .before .before .before .args .out .now) _ (scaled-pair-count p) refl (c .gave .ensures) (fine, run))
 

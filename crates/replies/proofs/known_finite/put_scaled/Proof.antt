@@ -1,4 +1,4 @@
--- Written by tools/proofs from Proof.template: edit that one. Digest de4673fd121946e3.
+-- Written by tools/proofs from Proof.template: edit that one. Digest 88a716d75424b580.
 -- `replies::known_finite::put_scaled` meets its contract: its parts are finite, and their runs are the run of the whole. Assumes nothing.
 use borrow.Author.Needs.{needs}
 use lib.Ieee.{binary64, ofBits}
@@ -42,7 +42,8 @@ returns c =
       c2 .before .put-vec2 .ensures,
       c3 .put-vec .ensures,
     ) at (c .before .before .put-finite .ensures))
-    ∙ scaled-run binary64 (record { c = c3 .before .before .before .args .c; scaled = c3 .before .before .before .args .scaled }) (c3 .before .before .before .args .out .now) (c3 .before .before .before .args .i)
+    ∙ scaled-run binary64 (record { c = c3 .before .before .before .args .c; scaled = c3 .before .before .before .args .scaled })
+    (c3 .before .before .before .args .out .now) (c3 .before .before .before .args .i)
 
 pub put-scaled-spec : {M : Type 1} → statement M
 put-scaled-spec =

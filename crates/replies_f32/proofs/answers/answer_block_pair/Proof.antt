@@ -1,4 +1,4 @@
--- Written by tools/widths from crates/replies/proofs/answers/answer_block_pair/Proof.antt: edit that one. Digest e519faa327a17fa0.
+-- Written by tools/widths from crates/replies/proofs/answers/answer_block_pair/Proof.antt: edit that one. Digest 513bdd6dfa90db97.
 -- `replies_f32::answers::answer_block_pair` meets its contract: it is finite where its four blocks are, and their runs are the run of the whole. Assumes nothing.
 use borrow.Author.Needs.{needs}
 use lib.Ieee.{binary32}
@@ -17,7 +17,12 @@ returns c =
     let c1 = c .before .before .before .before .before in
     let c2 = c1 .before .before .before .before .before in
     let c3 = c2 .before .before .before .before .before in (
-      rw (c2 .before .before .before .before .answer-block .ensures .0, c2 .answer-block2 .ensures .0, c1 .before .answer-block3 .ensures .0, c .before .before .answer-block4 .ensures .0) (sym (block-pair-fine (asBlockPair (c3 .before .before .args .p)))),
+      rw (
+        c2 .before .before .before .before .answer-block .ensures .0,
+        c2 .answer-block2 .ensures .0,
+        c1 .before .answer-block3 .ensures .0,
+        c .before .before .answer-block4 .ensures .0,
+      ) (sym (block-pair-fine (asBlockPair (c3 .before .before .args .p)))),
       (rw (
         c1 .before .answer-block3 .ensures .1,
         c2 .answer-block2 .ensures .1,

@@ -1,4 +1,4 @@
--- Written by tools/widths from crates/replies/proofs/answers/answer_framed/Proof.antt: edit that one. Digest 7a045fa2180bed10.
+-- Written by tools/widths from crates/replies/proofs/answers/answer_framed/Proof.antt: edit that one. Digest 0c658a05efef0cfe.
 -- `replies_f32::answers::answer_framed` meets its contract: the numbers, and behind them the frames, which are finite. Assumes nothing.
 use borrow.Author.Needs.{needs}
 use mathlib.Core.Path.{sym, _∙_}
@@ -16,8 +16,11 @@ unfolding asPose asQuat asSim3 asVec3
 returns c =
     let c1 = c .before .before .before .before .before in
     let c2 = c1 .before .before .before .before .before in
-    let x = (asPose (c2 .before .before .before .args .x)) in
-    (c2 .answer-pose .ensures .0 ∙ sym (framed-finite x), (rw (c1 .before .put-short .ensures, c2 .answer-pose .ensures .1) at (c .before .before .put-short2 .ensures)) ∙ framed-run binary32 x (c2 .before .before .before .args .out .now))
+    let x = (asPose (c2 .before .before .before .args .x)) in (
+      c2 .answer-pose .ensures .0 ∙ sym (framed-finite x),
+      (rw (c1 .before .put-short .ensures, c2 .answer-pose .ensures .1) at
+          (c .before .before .put-short2 .ensures)) ∙ framed-run binary32 x (c2 .before .before .before .args .out .now),
+    )
 
 pub answer-framed-spec : {M : Type 1} → statement M
 answer-framed-spec =

@@ -1,4 +1,4 @@
--- Written by tools/widths from crates/replies/proofs/bytes/put_short/Proof.antt: edit that one. Digest 08e41342783a715e.
+-- Written by tools/widths from crates/replies/proofs/bytes/put_short/Proof.antt: edit that one. Digest b515df9cc1b1040c.
 -- `replies_f32::bytes::put_short` meets its contract: two stores are a run of the two bytes. Assumes nothing.
 use borrow.Author.Needs.{needs}
 use native.Mathlib.Omega.{arith}
@@ -23,7 +23,19 @@ unfolding itemBytes
 returns c = short-stored (c .before .before .args .n) _ (c .before .before .args .out .now) (c .before .before .args .at) (c .short-to-le-bytes .ensures)
 
 slice-write-out-2 : tie.Need-slice-write-out-2
-slice-write-out-2 c = simp (linalg-singles, circle-singles, series-singles, closed-singles, coeffs-singles, so3-singles, sim3-singles, jacobian-singles, sides-singles, frames-singles, length-set) (omega (arith, c .before .before .pre))
+slice-write-out-2 c = simp (
+  linalg-singles,
+  circle-singles,
+  series-singles,
+  closed-singles,
+  coeffs-singles,
+  so3-singles,
+  sim3-singles,
+  jacobian-singles,
+  sides-singles,
+  frames-singles,
+  length-set,
+) (omega (arith, c .before .before .pre))
 
 same-length : tie.Need-same-length
 same-length c = simp (linalg-singles, circle-singles, series-singles, closed-singles, coeffs-singles, so3-singles, sim3-singles, jacobian-singles, sides-singles, frames-singles, length-set)

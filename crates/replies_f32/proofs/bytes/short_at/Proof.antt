@@ -1,4 +1,4 @@
--- Written by tools/widths from crates/replies/proofs/bytes/short_at/Proof.antt: edit that one. Digest 9197a24ecdea98c4.
+-- Written by tools/widths from crates/replies/proofs/bytes/short_at/Proof.antt: edit that one. Digest bbc40d2b5e11d467.
 -- `replies_f32::bytes::short_at` meets its contract: the two bytes from the place on are those of the list. Assumes nothing.
 use borrow.Author.Needs.{needs}
 use native.Mathlib.Omega.{arith}
@@ -8,7 +8,8 @@ use Rattle.replies_f32.proofs.bytes.short_at.Statement.{statement}
 use Rattle.replies_f32.proofs.bytes.short_at.Tie as tie
 
 returns : tie.Need-returns
-returns c = c .short-from-le-bytes .ensures ∙ short-read (c .before .before .before .before .args .b .now) (c .before .before .before .before .args .at) (omega (arith, c .before .before .before .before .pre))
+returns c = c .short-from-le-bytes .ensures ∙ short-read (c .before .before .before .before .args .b .now)
+    (c .before .before .before .before .args .at) (omega (arith, c .before .before .before .before .pre))
 
 pub short-at-spec : {M : Type 1} → statement M
 short-at-spec =

@@ -1,4 +1,4 @@
--- Written by tools/widths from crates/replies/proofs/known_finite/put_scaled/Proof.antt: edit that one. Digest d2b317c76441a4ee.
+-- Written by tools/widths from crates/replies/proofs/known_finite/put_scaled/Proof.antt: edit that one. Digest 651b5db1af926bbe.
 -- `replies_f32::known_finite::put_scaled` meets its contract: its parts are finite, and their runs are the run of the whole. Assumes nothing.
 use borrow.Author.Needs.{needs}
 use lib.Ieee.{binary32, ofBits}
@@ -47,7 +47,8 @@ returns c =
       c2 .before .put-vec2 .ensures,
       c3 .put-vec .ensures,
     ) at (c .before .before .put-finite .ensures))
-    ∙ scaled-run binary32 (record { c = (asSim3Coeffs (c3 .before .before .before .args .c)); scaled = c3 .before .before .before .args .scaled }) (c3 .before .before .before .args .out .now) (c3 .before .before .before .args .i)
+    ∙ scaled-run binary32 (record { c = (asSim3Coeffs (c3 .before .before .before .args .c)); scaled = c3 .before .before .before .args .scaled })
+    (c3 .before .before .before .args .out .now) (c3 .before .before .before .args .i)
 
 pub put-scaled-spec : {M : Type 1} → statement M
 put-scaled-spec =

@@ -1,4 +1,4 @@
--- Written by tools/widths from crates/replies/proofs/places/framed_at/Proof.antt: edit that one. Digest ec49469296a80493.
+-- Written by tools/widths from crates/replies/proofs/places/framed_at/Proof.antt: edit that one. Digest 6816e0c8cc1319ee.
 -- `replies_f32::places::framed_at` meets its contract: the frames stand behind the numbers. Assumes nothing.
 use borrow.Author.Needs.{needs}
 use Rattle.replies.specs.Table.{framedIn}
@@ -17,7 +17,21 @@ use Rattle.frames_f32.proofs.As.{frames-singles}
 
 returns : tie.Need-returns
 unfolding framedIn
-returns c = simp (linalg-singles, circle-singles, series-singles, closed-singles, coeffs-singles, so3-singles, sim3-singles, jacobian-singles, sides-singles, frames-singles, c .before .before .pose-at .ensures, c .before .short-at .ensures, c .short-at2 .ensures)
+returns c = simp (
+  linalg-singles,
+  circle-singles,
+  series-singles,
+  closed-singles,
+  coeffs-singles,
+  so3-singles,
+  sim3-singles,
+  jacobian-singles,
+  sides-singles,
+  frames-singles,
+  c .before .before .pose-at .ensures,
+  c .before .short-at .ensures,
+  c .short-at2 .ensures,
+)
 
 pub framed-at-spec : {M : Type 1} → statement M
 framed-at-spec =

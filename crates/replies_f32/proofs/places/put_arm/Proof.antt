@@ -1,4 +1,4 @@
--- Written by tools/widths from crates/replies/proofs/places/put_arm/Proof.antt: edit that one. Digest 3650528ca7a28054.
+-- Written by tools/widths from crates/replies/proofs/places/put_arm/Proof.antt: edit that one. Digest d116727b91cefe36.
 -- `replies_f32::places::put_arm` meets its contract: two bytes, one behind the other. Assumes nothing.
 use borrow.Author.Needs.{needs}
 use mathlib.Core.Path.{_∙_}
@@ -14,7 +14,8 @@ unfolding asArmed asScaled asSim3Coeffs
 returns c =
     let c1 = c .before .before .before .before .before in
     let c2 = c1 .before .before .before .before .before in
-    (rw (c1 .before .before .put-word .ensures, byte-is ((asArmed (c2 .args .a)) .ends)) at (c .before .before .put-word2 .ensures)) ∙ arm-run binary32 (asArmed (c2 .args .a)) (c2 .args .out .now) (c2 .args .at)
+    (rw (c1 .before .before .put-word .ensures, byte-is ((asArmed (c2 .args .a)) .ends)) at (c .before .before .put-word2 .ensures))
+    ∙ arm-run binary32 (asArmed (c2 .args .a)) (c2 .args .out .now) (c2 .args .at)
 
 pub put-arm-spec : {M : Type 1} → statement M
 put-arm-spec =

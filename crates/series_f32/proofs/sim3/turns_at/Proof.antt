@@ -1,4 +1,4 @@
--- Written by tools/widths from crates/series/proofs/sim3/turns_at/Proof.antt: edit that one. Digest 9f68d87ddbf60a04.
+-- Written by tools/widths from crates/series/proofs/sim3/turns_at/Proof.antt: edit that one. Digest fc2914a34d5be23d.
 -- `series_f32::sim3::turns_at` meets its contract: after j turns the loop holds `soloTurns` at j, and it stops at k + 1. Assumes nothing.
 use mathlib.Core.Path.{_≡_}
 use Prim.Native.Nat.{_+_, _-_, _≤_}
@@ -23,7 +23,18 @@ unfolding soloTurns
 loop-holds c = (omega arith, simp (linalg-singles, series-singles, c .none .ensures, c .before .first .ensures))
 
 loop-again : tie.Need-loop-again Inv-loop μ-loop
-loop-again c = (omega arith, simp (linalg-singles, series-singles, c .turn .ensures, c .before .recip2 .ensures, c .before .before .recip .ensures, c .before .before .before .before .loop .inv .1, solo-more))
+loop-again c = (
+  omega arith,
+  simp (
+    linalg-singles,
+    series-singles,
+    c .turn .ensures,
+    c .before .recip2 .ensures,
+    c .before .before .recip .ensures,
+    c .before .before .before .before .loop .inv .1,
+    solo-more,
+  ),
+)
 
 returns : tie.Need-returns Inv-loop μ-loop
 returns c =

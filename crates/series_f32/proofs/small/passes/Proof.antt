@@ -1,4 +1,4 @@
--- Written by tools/proofs from Proof.template: edit that one. Digest bfb7afcd25bd734f.
+-- Written by tools/proofs from Proof.template: edit that one. Digest b8960bb648f90c2f.
 -- `series_f32::small::passes` meets its contract: each entry carries the partial sums of both signs on. Assumes nothing.
 use mathlib.Core.Path.{_≡_, refl, _∙_}
 use native.Mathlib.Omega.{arith}
@@ -23,7 +23,8 @@ returns c =
     let p2 : asGPair (c1 .before .before .next2 .result) ≡ bothStopped binary32 a 1 9 2 = c1 .before .before .next2 .ensures ∙ both-further binary32 a 1 9 1 8 _ s (omega arith) p1 in
     let p3 : asGPair (c1 .before .next3 .result) ≡ bothStopped binary32 a 1 9 3 = c1 .before .next3 .ensures ∙ both-further binary32 a 1 9 2 7 _ s (omega arith) p2 in
     let p4 : asGPair (c1 .next4 .result) ≡ bothStopped binary32 a 1 9 4 = c1 .next4 .ensures ∙ both-further binary32 a 1 9 3 6 _ s (omega arith) p3 in
-    let p5 : asGPair (c .before .before .before .before .next5 .result) ≡ bothStopped binary32 a 1 9 5 = c .before .before .before .before .next5 .ensures ∙ both-further binary32 a 1 9 4 5 _ s (omega arith) p4 in
+    let p5 : asGPair (c .before .before .before .before .next5 .result) ≡ bothStopped binary32 a 1 9 5 =
+    c .before .before .before .before .next5 .ensures ∙ both-further binary32 a 1 9 4 5 _ s (omega arith) p4 in
     let p6 : asGPair (c .before .before .before .next6 .result) ≡ bothStopped binary32 a 1 9 6 = c .before .before .before .next6 .ensures ∙ both-further binary32 a 1 9 5 4 _ s (omega arith) p5 in
     let p7 : asGPair (c .before .before .next7 .result) ≡ bothStopped binary32 a 1 9 7 = c .before .before .next7 .ensures ∙ both-further binary32 a 1 9 6 3 _ s (omega arith) p6 in
     let p8 : asGPair (c .before .next8 .result) ≡ bothStopped binary32 a 1 9 8 = c .before .next8 .ensures ∙ both-further binary32 a 1 9 7 2 _ s (omega arith) p7 in

@@ -1,4 +1,4 @@
--- Written by tools/proofs from Proof.template: edit that one. Digest 2b8f40050609a282.
+-- Written by tools/proofs from Proof.template: edit that one. Digest a47636ee6d7d7205.
 -- `series_pair::pair::turns_below` meets its contract: the loop holds `pairTurns` at an even j with -p for p, and ends at n, which is even. Assumes nothing.
 use mathlib.Core.Path.{_≡_}
 use Prim.Native.Nat.{_+_, _-_, _%_, _≤_}
@@ -26,8 +26,19 @@ loop-again c =
     let c1 = c .before .before .before .before .before in
     let c2 = c1 .before .before .before .before .before in
     let a = c2 .args in
-    let m = two-more binary64 (a .sigma) (a .z) (c1 .loop .j) (omega arith) in
-    (omega arith, omega arith, simp (c .two-turns .ensures, c .before .recip3 .ensures, c .before .before .recip2 .ensures, c .before .before .before .recip .ensures, c1 .loop .inv .2, turns-twice, m))
+    let m = two-more binary64 (a .sigma) (a .z) (c1 .loop .j) (omega arith) in (
+      omega arith,
+      omega arith,
+      simp (
+        c .two-turns .ensures,
+        c .before .recip3 .ensures,
+        c .before .before .recip2 .ensures,
+        c .before .before .before .recip .ensures,
+        c1 .loop .inv .2,
+        turns-twice,
+        m,
+      ),
+    )
 
 returns : tie.Need-returns Inv-loop μ-loop
 returns c =

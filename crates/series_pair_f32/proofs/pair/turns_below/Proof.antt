@@ -1,4 +1,4 @@
--- Written by tools/widths from crates/series_pair/proofs/pair/turns_below/Proof.antt: edit that one. Digest a2951d9aa7df0d5c.
+-- Written by tools/widths from crates/series_pair/proofs/pair/turns_below/Proof.antt: edit that one. Digest 1c1c736970cdeca2.
 -- `series_pair_f32::pair::turns_below` meets its contract: the loop holds `pairTurns` at an even j with -p for p, and ends at n, which is even. Assumes nothing.
 use mathlib.Core.Path.{_≡_}
 use Prim.Native.Nat.{_+_, _-_, _%_, _≤_}
@@ -22,15 +22,39 @@ abbrev μ-loop : tie.MeasureT-loop
 
 loop-holds : tie.Need-loop-holds Inv-loop μ-loop
 unfolding pairTurns
-loop-holds c = (omega arith, omega arith, simp (linalg-singles, series-singles, c .turns-minus .ensures, c .before .none2 .ensures, c .before .before .none .ensures, c .before .before .before .first .ensures))
+loop-holds c = (
+  omega arith,
+  omega arith,
+  simp (
+    linalg-singles,
+    series-singles,
+    c .turns-minus .ensures,
+    c .before .none2 .ensures,
+    c .before .before .none .ensures,
+    c .before .before .before .first .ensures,
+  ),
+)
 
 loop-again : tie.Need-loop-again Inv-loop μ-loop
 loop-again c =
     let c1 = c .before .before .before .before .before in
     let c2 = c1 .before .before .before .before .before in
     let a = c2 .args in
-    let m = two-more binary32 (a .sigma) (a .z) (c1 .loop .j) (omega arith) in
-    (omega arith, omega arith, simp (linalg-singles, series-singles, c .two-turns .ensures, c .before .recip3 .ensures, c .before .before .recip2 .ensures, c .before .before .before .recip .ensures, c1 .loop .inv .2, turns-twice, m))
+    let m = two-more binary32 (a .sigma) (a .z) (c1 .loop .j) (omega arith) in (
+      omega arith,
+      omega arith,
+      simp (
+        linalg-singles,
+        series-singles,
+        c .two-turns .ensures,
+        c .before .recip3 .ensures,
+        c .before .before .recip2 .ensures,
+        c .before .before .before .recip .ensures,
+        c1 .loop .inv .2,
+        turns-twice,
+        m,
+      ),
+    )
 
 returns : tie.Need-returns Inv-loop μ-loop
 returns c =

@@ -1,4 +1,4 @@
--- Written by tools/proofs from Proof.template: edit that one. Digest 595bfb887842e842.
+-- Written by tools/proofs from Proof.template: edit that one. Digest 3c02085888674a4d.
 -- `sheets::bytes::put_framed` meets its contract: the ten stores are one run. Assumes nothing.
 use borrow.Author.Needs.{needs}
 use native.Mathlib.Omega.{arith}
@@ -40,7 +40,15 @@ put-number-requires-6 c κs =
     let c2 = c1 .before .before .before .before .before in
     let c3 = c2 .before .before .before .before .before in
     let c4 = c3 .before .before .before .before .before in
-    omega (arith, c4 .before .before .before .pre, c .before .before .before .put-number5 .kept .0, c1 .before .before .put-number4 .kept .0, c2 .before .put-number3 .kept .0, c3 .put-number2 .kept .0, c3 .before .before .before .before .put-number .kept .0)
+    omega (
+      arith,
+      c4 .before .before .before .pre,
+      c .before .before .before .put-number5 .kept .0,
+      c1 .before .before .put-number4 .kept .0,
+      c2 .before .put-number3 .kept .0,
+      c3 .put-number2 .kept .0,
+      c3 .before .before .before .before .put-number .kept .0,
+    )
 
 put-number-requires-7 : tie.Need-put-number-requires-7
 put-number-requires-7 c κs =
@@ -49,7 +57,16 @@ put-number-requires-7 c κs =
     let c3 = c2 .before .before .before .before .before in
     let c4 = c3 .before .before .before .before .before in
     let c5 = c4 .before .before .before .before .before in
-    omega (arith, c5 .before .before .pre, c .before .before .before .put-number6 .kept .0, c1 .before .before .put-number5 .kept .0, c2 .before .put-number4 .kept .0, c3 .put-number3 .kept .0, c3 .before .before .before .before .put-number2 .kept .0, c4 .before .before .before .put-number .kept .0)
+    omega (
+      arith,
+      c5 .before .before .pre,
+      c .before .before .before .put-number6 .kept .0,
+      c1 .before .before .put-number5 .kept .0,
+      c2 .before .put-number4 .kept .0,
+      c3 .put-number3 .kept .0,
+      c3 .before .before .before .before .put-number2 .kept .0,
+      c4 .before .before .before .put-number .kept .0,
+    )
 
 put-number-requires-8 : tie.Need-put-number-requires-8
 put-number-requires-8 c κs =
@@ -147,7 +164,9 @@ same-length c =
     let c5 = c4 .before .before .before .before .before in
     let c6 = c5 .before .before .before .before .before in
     let c7 = c6 .before .before .before .before .before in
-    c .before .before .put-short2 .kept .0 ∙ c1 .before .put-short .kept .0 ∙ c2 .put-number8 .kept .0 ∙ c2 .before .before .before .before .put-number7 .kept .0 ∙ c3 .before .before .before .put-number6 .kept .0 ∙ c4 .before .before .put-number5 .kept .0
+    c .before .before .put-short2 .kept .0 ∙ c1 .before .put-short .kept .0 ∙ c2 .put-number8 .kept .0
+    ∙ c2 .before .before .before .before .put-number7 .kept .0 ∙ c3 .before .before .before .put-number6 .kept .0
+    ∙ c4 .before .before .put-number5 .kept .0
     ∙ c5 .before .put-number4 .kept .0 ∙ c6 .put-number3 .kept .0 ∙ c6 .before .before .before .before .put-number2 .kept .0 ∙ c7 .before .before .before .put-number .kept .0
 
 returns : tie.Need-returns

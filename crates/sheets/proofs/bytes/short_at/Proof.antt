@@ -1,4 +1,4 @@
--- Written by tools/proofs from Proof.template: edit that one. Digest 9c5f0f2857e8d402.
+-- Written by tools/proofs from Proof.template: edit that one. Digest a4cc0d7faed9e87f.
 -- `sheets::bytes::short_at` meets its contract: the two bytes from the place on are those of the list. Assumes nothing.
 use borrow.Author.Needs.{needs}
 use native.Mathlib.Omega.{arith}
@@ -8,7 +8,8 @@ use Rattle.sheets.proofs.bytes.short_at.Statement.{statement}
 use Rattle.sheets.proofs.bytes.short_at.Tie as tie
 
 returns : tie.Need-returns
-returns c = c .short-from-le-bytes .ensures ∙ short-read (c .before .before .before .before .args .b .now) (c .before .before .before .before .args .at) (omega (arith, c .before .before .before .before .pre))
+returns c = c .short-from-le-bytes .ensures ∙ short-read (c .before .before .before .before .args .b .now)
+    (c .before .before .before .before .args .at) (omega (arith, c .before .before .before .before .pre))
 
 pub short-at-spec : {M : Type 1} → statement M
 short-at-spec =

@@ -1,4 +1,4 @@
--- Written by tools/widths from crates/sides/proofs/pair/block_pair/Proof.antt: edit that one. Digest 6e5ff3ba9bbc641f.
+-- Written by tools/widths from crates/sides/proofs/pair/block_pair/Proof.antt: edit that one. Digest aa98ec80549926a6.
 -- `sides_f32::pair::block_pair` meets its contract: |phi|² is not below zero, so the entry answers, and the sides are what their calls ensure. Assumes nothing.
 use borrow.Author.Needs.{needs}
 use mathlib.Core.Path.{sym, ap, _∙_}
@@ -56,7 +56,27 @@ returns-2 c =
     let n = right .before in
     let t = n .before .before in
     let other = right .jl-and-inverse-at2 .ensures in
-    simp (linalg-singles, circle-singles, series-singles, closed-singles, coeffs-singles, so3-singles, sim3-singles, jacobian-singles, blocks-singles, sides-singles, norm-sq-even, other, n .neg3 .ensures, n .before .neg2 .ensures, t .transpose2 .ensures, t .before .transpose .ensures, left .jl-and-inverse-at .ensures, z .norm-sq .ensures, both)
+    simp (
+      linalg-singles,
+      circle-singles,
+      series-singles,
+      closed-singles,
+      coeffs-singles,
+      so3-singles,
+      sim3-singles,
+      jacobian-singles,
+      blocks-singles,
+      sides-singles,
+      norm-sq-even,
+      other,
+      n .neg3 .ensures,
+      n .before .neg2 .ensures,
+      t .transpose2 .ensures,
+      t .before .transpose .ensures,
+      left .jl-and-inverse-at .ensures,
+      z .norm-sq .ensures,
+      both,
+    )
 
 pub block-pair-spec : {M : Type 1} → statement M
 block-pair-spec =

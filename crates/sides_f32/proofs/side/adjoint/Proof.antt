@@ -1,4 +1,4 @@
--- Written by tools/widths from crates/sides/proofs/side/adjoint/Proof.antt: edit that one. Digest 83a99a01bdc42cf6.
+-- Written by tools/widths from crates/sides/proofs/side/adjoint/Proof.antt: edit that one. Digest c9de7f54aef30349.
 use borrow.Author.Needs.{needs}
 use Rattle.sides.specs.Side.{poseAdjoint}
 use lib.Ieee.{ofBits}
@@ -17,7 +17,22 @@ use Rattle.sides_f32.proofs.As.{sides-singles}
 
 returns : tie.Need-returns
 unfolding poseAdjoint ofBits
-returns c = simp (linalg-singles, circle-singles, series-singles, closed-singles, coeffs-singles, so3-singles, sim3-singles, jacobian-singles, blocks-singles, sides-singles, c .neg .ensures, c .before .scale .ensures, c .before .before .hat-mul .ensures, c .before .before .before .to-matrix .ensures)
+returns c = simp (
+  linalg-singles,
+  circle-singles,
+  series-singles,
+  closed-singles,
+  coeffs-singles,
+  so3-singles,
+  sim3-singles,
+  jacobian-singles,
+  blocks-singles,
+  sides-singles,
+  c .neg .ensures,
+  c .before .scale .ensures,
+  c .before .before .hat-mul .ensures,
+  c .before .before .before .to-matrix .ensures,
+)
 
 pub adjoint-spec : {M : Type 1} → statement M
 adjoint-spec = tie.close (tie.spec (λ c κs. search needs) (λ c κs. search needs) (λ c κs. search needs) (λ c κs. search needs) returns)

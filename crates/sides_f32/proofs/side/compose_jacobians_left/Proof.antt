@@ -1,4 +1,4 @@
--- Written by tools/widths from crates/sides/proofs/side/compose_jacobians_left/Proof.antt: edit that one. Digest 7c1a5b71362ab4b3.
+-- Written by tools/widths from crates/sides/proofs/side/compose_jacobians_left/Proof.antt: edit that one. Digest d6c25783fa026ca7.
 use borrow.Author.Needs.{needs}
 use Rattle.sides.specs.Side.{composeJacobiansLeft}
 use Rattle.sides_f32.proofs.side.compose_jacobians_left.Statement.{statement}
@@ -16,7 +16,20 @@ use Rattle.sides_f32.proofs.As.{sides-singles}
 
 returns : tie.Need-returns
 unfolding composeJacobiansLeft
-returns c = simp (linalg-singles, circle-singles, series-singles, closed-singles, coeffs-singles, so3-singles, sim3-singles, jacobian-singles, blocks-singles, sides-singles, c .adjoint .ensures, c .before .identity .ensures)
+returns c = simp (
+  linalg-singles,
+  circle-singles,
+  series-singles,
+  closed-singles,
+  coeffs-singles,
+  so3-singles,
+  sim3-singles,
+  jacobian-singles,
+  blocks-singles,
+  sides-singles,
+  c .adjoint .ensures,
+  c .before .identity .ensures,
+)
 
 pub compose-jacobians-left-spec : {M : Type 1} → statement M
 compose-jacobians-left-spec = tie.close (tie.spec (λ c κs. search needs) (λ c κs. search needs) returns)

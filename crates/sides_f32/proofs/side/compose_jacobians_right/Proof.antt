@@ -1,4 +1,4 @@
--- Written by tools/widths from crates/sides/proofs/side/compose_jacobians_right/Proof.antt: edit that one. Digest 9cb792dc8a45c042.
+-- Written by tools/widths from crates/sides/proofs/side/compose_jacobians_right/Proof.antt: edit that one. Digest 554e539992033913.
 use borrow.Author.Needs.{needs}
 use Rattle.sides.specs.Side.{composeJacobiansRight}
 use Rattle.sides_f32.proofs.side.compose_jacobians_right.Statement.{statement}
@@ -16,7 +16,20 @@ use Rattle.sides_f32.proofs.As.{sides-singles}
 
 returns : tie.Need-returns
 unfolding composeJacobiansRight
-returns c = simp (linalg-singles, circle-singles, series-singles, closed-singles, coeffs-singles, so3-singles, sim3-singles, jacobian-singles, blocks-singles, sides-singles, c .identity .ensures, c .before .inverse-adjoint .ensures)
+returns c = simp (
+  linalg-singles,
+  circle-singles,
+  series-singles,
+  closed-singles,
+  coeffs-singles,
+  so3-singles,
+  sim3-singles,
+  jacobian-singles,
+  blocks-singles,
+  sides-singles,
+  c .identity .ensures,
+  c .before .inverse-adjoint .ensures,
+)
 
 pub compose-jacobians-right-spec : {M : Type 1} → statement M
 compose-jacobians-right-spec = tie.close (tie.spec (λ c κs. search needs) (λ c κs. search needs) returns)

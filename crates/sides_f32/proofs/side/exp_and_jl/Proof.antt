@@ -1,4 +1,4 @@
--- Written by tools/widths from crates/sides/proofs/side/exp_and_jl/Proof.antt: edit that one. Digest 021d9d4318ca6546.
+-- Written by tools/widths from crates/sides/proofs/side/exp_and_jl/Proof.antt: edit that one. Digest 992e6e0801db67b7.
 use borrow.Author.Needs.{needs}
 use Rattle.sides.specs.Side.{expAndJl}
 use Rattle.blocks.specs.Blocks.{jacJl}
@@ -20,7 +20,22 @@ use Rattle.sides_f32.proofs.As.{sides-singles}
 
 returns : tie.Need-returns
 unfolding expAndJl jacJl poseExp coeffsV coeffs4
-returns c = simp (linalg-singles, circle-singles, series-singles, closed-singles, coeffs-singles, so3-singles, sim3-singles, jacobian-singles, blocks-singles, sides-singles, c .jl-blocks-with .ensures, c .before .v-apply .ensures, c .before .before .exp .ensures, c .before .before .before .sim3-coeffs-of .ensures)
+returns c = simp (
+  linalg-singles,
+  circle-singles,
+  series-singles,
+  closed-singles,
+  coeffs-singles,
+  so3-singles,
+  sim3-singles,
+  jacobian-singles,
+  blocks-singles,
+  sides-singles,
+  c .jl-blocks-with .ensures,
+  c .before .v-apply .ensures,
+  c .before .before .exp .ensures,
+  c .before .before .before .sim3-coeffs-of .ensures,
+)
 
 pub exp-and-jl-spec : {M : Type 1} → statement M
 exp-and-jl-spec = tie.close (tie.spec (λ c κs. search needs) (λ c κs. search needs) (λ c κs. search needs) (λ c κs. search needs) returns)

@@ -1,4 +1,4 @@
--- Written by tools/widths from crates/sides/proofs/side/inverse_adjoint/Proof.antt: edit that one. Digest fae310c1c8c1e51a.
+-- Written by tools/widths from crates/sides/proofs/side/inverse_adjoint/Proof.antt: edit that one. Digest bd1d220c7b96a061.
 use borrow.Author.Needs.{needs}
 use Rattle.sides.specs.Side.{poseInverseAdjoint}
 use Rattle.sides_f32.proofs.side.inverse_adjoint.Statement.{statement}
@@ -16,7 +16,20 @@ use Rattle.sides_f32.proofs.As.{sides-singles}
 
 returns : tie.Need-returns
 unfolding poseInverseAdjoint
-returns c = simp (linalg-singles, circle-singles, series-singles, closed-singles, coeffs-singles, so3-singles, sim3-singles, jacobian-singles, blocks-singles, sides-singles, c .adjoint .ensures, c .before .inverse .ensures)
+returns c = simp (
+  linalg-singles,
+  circle-singles,
+  series-singles,
+  closed-singles,
+  coeffs-singles,
+  so3-singles,
+  sim3-singles,
+  jacobian-singles,
+  blocks-singles,
+  sides-singles,
+  c .adjoint .ensures,
+  c .before .inverse .ensures,
+)
 
 pub inverse-adjoint-spec : {M : Type 1} → statement M
 inverse-adjoint-spec = tie.close (tie.spec (λ c κs. search needs) (λ c κs. search needs) returns)

@@ -1,4 +1,4 @@
--- Written by tools/widths from crates/sides/proofs/side/inverse_jacobian_left/Proof.antt: edit that one. Digest 38815e7c5bb1ecee.
+-- Written by tools/widths from crates/sides/proofs/side/inverse_jacobian_left/Proof.antt: edit that one. Digest d9ab4a18fcdb6e53.
 use borrow.Author.Needs.{needs}
 use Rattle.sides.specs.Side.{inverseJacobianLeft}
 use Rattle.sides_f32.proofs.side.inverse_jacobian_left.Statement.{statement}
@@ -16,7 +16,20 @@ use Rattle.sides_f32.proofs.As.{sides-singles}
 
 returns : tie.Need-returns
 unfolding inverseJacobianLeft
-returns c = simp (linalg-singles, circle-singles, series-singles, closed-singles, coeffs-singles, so3-singles, sim3-singles, jacobian-singles, blocks-singles, sides-singles, c .neg .ensures, c .before .inverse-adjoint .ensures)
+returns c = simp (
+  linalg-singles,
+  circle-singles,
+  series-singles,
+  closed-singles,
+  coeffs-singles,
+  so3-singles,
+  sim3-singles,
+  jacobian-singles,
+  blocks-singles,
+  sides-singles,
+  c .neg .ensures,
+  c .before .inverse-adjoint .ensures,
+)
 
 pub inverse-jacobian-left-spec : {M : Type 1} → statement M
 inverse-jacobian-left-spec = tie.close (tie.spec (λ c κs. search needs) (λ c κs. search needs) returns)

@@ -1,4 +1,4 @@
--- Written by tools/widths from crates/sides/proofs/side/inverse_jacobian_right/Proof.antt: edit that one. Digest 2e1f39871939ca8e.
+-- Written by tools/widths from crates/sides/proofs/side/inverse_jacobian_right/Proof.antt: edit that one. Digest 3b2ca5ae69449302.
 use borrow.Author.Needs.{needs}
 use Rattle.sides.specs.Side.{inverseJacobianRight}
 use Rattle.sides_f32.proofs.side.inverse_jacobian_right.Statement.{statement}
@@ -16,7 +16,20 @@ use Rattle.sides_f32.proofs.As.{sides-singles}
 
 returns : tie.Need-returns
 unfolding inverseJacobianRight
-returns c = simp (linalg-singles, circle-singles, series-singles, closed-singles, coeffs-singles, so3-singles, sim3-singles, jacobian-singles, blocks-singles, sides-singles, c .neg .ensures, c .before .adjoint .ensures)
+returns c = simp (
+  linalg-singles,
+  circle-singles,
+  series-singles,
+  closed-singles,
+  coeffs-singles,
+  so3-singles,
+  sim3-singles,
+  jacobian-singles,
+  blocks-singles,
+  sides-singles,
+  c .neg .ensures,
+  c .before .adjoint .ensures,
+)
 
 pub inverse-jacobian-right-spec : {M : Type 1} → statement M
 inverse-jacobian-right-spec = tie.close (tie.spec (λ c κs. search needs) (λ c κs. search needs) returns)

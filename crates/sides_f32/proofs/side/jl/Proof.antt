@@ -1,4 +1,4 @@
--- Written by tools/widths from crates/sides/proofs/side/jl/Proof.antt: edit that one. Digest 50ec5c6c25a388aa.
+-- Written by tools/widths from crates/sides/proofs/side/jl/Proof.antt: edit that one. Digest 3a878fbb1dba36ab.
 use borrow.Author.Needs.{needs}
 use Rattle.blocks.specs.Blocks.{jacJl}
 use Rattle.sides_f32.proofs.side.jl.Statement.{statement}
@@ -16,7 +16,20 @@ use Rattle.sides_f32.proofs.As.{sides-singles}
 
 returns : tie.Need-returns
 unfolding jacJl
-returns c = simp (linalg-singles, circle-singles, series-singles, closed-singles, coeffs-singles, so3-singles, sim3-singles, jacobian-singles, blocks-singles, sides-singles, c .jl-blocks-with .ensures, c .before .sim3-coeffs-of .ensures)
+returns c = simp (
+  linalg-singles,
+  circle-singles,
+  series-singles,
+  closed-singles,
+  coeffs-singles,
+  so3-singles,
+  sim3-singles,
+  jacobian-singles,
+  blocks-singles,
+  sides-singles,
+  c .jl-blocks-with .ensures,
+  c .before .sim3-coeffs-of .ensures,
+)
 
 pub jl-spec : {M : Type 1} → statement M
 jl-spec = tie.close (tie.spec (λ c κs. search needs) (λ c κs. search needs) returns)

@@ -1,4 +1,4 @@
--- Written by tools/widths from crates/sides/proofs/side/jl_and_inverse/Proof.antt: edit that one. Digest bcac3f3cf39a1b17.
+-- Written by tools/widths from crates/sides/proofs/side/jl_and_inverse/Proof.antt: edit that one. Digest 22de8a71f415a5a7.
 use borrow.Author.Needs.{needs}
 use Rattle.blocks.specs.Blocks.{jlAndInverse}
 use Rattle.sides_f32.proofs.side.jl_and_inverse.Statement.{statement}
@@ -16,7 +16,20 @@ use Rattle.sides_f32.proofs.As.{sides-singles}
 
 returns : tie.Need-returns
 unfolding jlAndInverse
-returns c = simp (linalg-singles, circle-singles, series-singles, closed-singles, coeffs-singles, so3-singles, sim3-singles, jacobian-singles, blocks-singles, sides-singles, c .jl-and-inverse-from .ensures, c .before .sim3-coeffs-scaled-of .ensures)
+returns c = simp (
+  linalg-singles,
+  circle-singles,
+  series-singles,
+  closed-singles,
+  coeffs-singles,
+  so3-singles,
+  sim3-singles,
+  jacobian-singles,
+  blocks-singles,
+  sides-singles,
+  c .jl-and-inverse-from .ensures,
+  c .before .sim3-coeffs-scaled-of .ensures,
+)
 
 pub jl-and-inverse-spec : {M : Type 1} → statement M
 jl-and-inverse-spec = tie.close (tie.spec (λ c κs. search needs) (λ c κs. search needs) returns)

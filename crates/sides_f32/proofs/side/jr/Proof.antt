@@ -1,4 +1,4 @@
--- Written by tools/widths from crates/sides/proofs/side/jr/Proof.antt: edit that one. Digest 544ceeb1a4f2b663.
+-- Written by tools/widths from crates/sides/proofs/side/jr/Proof.antt: edit that one. Digest ee77bc47c3fd87e0.
 use borrow.Author.Needs.{needs}
 use Rattle.sides.specs.Side.{jacJr}
 use Rattle.sides_f32.proofs.side.jr.Statement.{statement}
@@ -16,7 +16,20 @@ use Rattle.sides_f32.proofs.As.{sides-singles}
 
 returns : tie.Need-returns
 unfolding jacJr
-returns c = simp (linalg-singles, circle-singles, series-singles, closed-singles, coeffs-singles, so3-singles, sim3-singles, jacobian-singles, blocks-singles, sides-singles, c .jl .ensures, c .before .neg .ensures)
+returns c = simp (
+  linalg-singles,
+  circle-singles,
+  series-singles,
+  closed-singles,
+  coeffs-singles,
+  so3-singles,
+  sim3-singles,
+  jacobian-singles,
+  blocks-singles,
+  sides-singles,
+  c .jl .ensures,
+  c .before .neg .ensures,
+)
 
 pub jr-spec : {M : Type 1} → statement M
 jr-spec = tie.close (tie.spec (λ c κs. search needs) (λ c κs. search needs) returns)

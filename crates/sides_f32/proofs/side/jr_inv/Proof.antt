@@ -1,4 +1,4 @@
--- Written by tools/widths from crates/sides/proofs/side/jr_inv/Proof.antt: edit that one. Digest 3d71210e3847c111.
+-- Written by tools/widths from crates/sides/proofs/side/jr_inv/Proof.antt: edit that one. Digest 2e78f396b78b40db.
 use borrow.Author.Needs.{needs}
 use Rattle.sides.specs.Side.{jacJrInv}
 use Rattle.sides_f32.proofs.side.jr_inv.Statement.{statement}
@@ -16,7 +16,20 @@ use Rattle.sides_f32.proofs.As.{sides-singles}
 
 returns : tie.Need-returns
 unfolding jacJrInv
-returns c = simp (linalg-singles, circle-singles, series-singles, closed-singles, coeffs-singles, so3-singles, sim3-singles, jacobian-singles, blocks-singles, sides-singles, c .jl-inv .ensures, c .before .neg .ensures)
+returns c = simp (
+  linalg-singles,
+  circle-singles,
+  series-singles,
+  closed-singles,
+  coeffs-singles,
+  so3-singles,
+  sim3-singles,
+  jacobian-singles,
+  blocks-singles,
+  sides-singles,
+  c .jl-inv .ensures,
+  c .before .neg .ensures,
+)
 
 pub jr-inv-spec : {M : Type 1} → statement M
 jr-inv-spec = tie.close (tie.spec (λ c κs. search needs) (λ c κs. search needs) returns)

@@ -1,4 +1,4 @@
--- Written by tools/widths from crates/sides/proofs/side/lplus_jacobians/Proof.antt: edit that one. Digest 5698a2ed26b891eb.
+-- Written by tools/widths from crates/sides/proofs/side/lplus_jacobians/Proof.antt: edit that one. Digest 17e2343a702bd707.
 use borrow.Author.Needs.{needs}
 use Rattle.sides.specs.Side.{lplusJacobians, expAndJl}
 use Rattle.sides_f32.proofs.side.lplus_jacobians.Statement.{statement}
@@ -16,7 +16,20 @@ use Rattle.sides_f32.proofs.As.{sides-singles}
 
 returns : tie.Need-returns
 unfolding lplusJacobians expAndJl
-returns c = simp (linalg-singles, circle-singles, series-singles, closed-singles, coeffs-singles, so3-singles, sim3-singles, jacobian-singles, blocks-singles, sides-singles, c .adjoint .ensures, c .before .before .before .exp-and-jl .ensures)
+returns c = simp (
+  linalg-singles,
+  circle-singles,
+  series-singles,
+  closed-singles,
+  coeffs-singles,
+  so3-singles,
+  sim3-singles,
+  jacobian-singles,
+  blocks-singles,
+  sides-singles,
+  c .adjoint .ensures,
+  c .before .before .before .exp-and-jl .ensures,
+)
 
 pub lplus-jacobians-spec : {M : Type 1} → statement M
 lplus-jacobians-spec = tie.close (tie.spec (λ c κs. search needs) (λ c κs. search needs) returns)

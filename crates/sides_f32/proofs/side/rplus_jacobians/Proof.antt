@@ -1,4 +1,4 @@
--- Written by tools/widths from crates/sides/proofs/side/rplus_jacobians/Proof.antt: edit that one. Digest 51600154860fba29.
+-- Written by tools/widths from crates/sides/proofs/side/rplus_jacobians/Proof.antt: edit that one. Digest 02d6824bb20b059e.
 use borrow.Author.Needs.{needs}
 use Rattle.sides.specs.Side.{rplusJacobians}
 use Rattle.sides_f32.proofs.side.rplus_jacobians.Statement.{statement}
@@ -16,7 +16,20 @@ use Rattle.sides_f32.proofs.As.{sides-singles}
 
 returns : tie.Need-returns
 unfolding rplusJacobians
-returns c = simp (linalg-singles, circle-singles, series-singles, closed-singles, coeffs-singles, so3-singles, sim3-singles, jacobian-singles, blocks-singles, sides-singles, c .lplus-jacobians .ensures, c .before .neg .ensures)
+returns c = simp (
+  linalg-singles,
+  circle-singles,
+  series-singles,
+  closed-singles,
+  coeffs-singles,
+  so3-singles,
+  sim3-singles,
+  jacobian-singles,
+  blocks-singles,
+  sides-singles,
+  c .lplus-jacobians .ensures,
+  c .before .neg .ensures,
+)
 
 pub rplus-jacobians-spec : {M : Type 1} → statement M
 rplus-jacobians-spec = tie.close (tie.spec (λ c κs. search needs) (λ c κs. search needs) returns)

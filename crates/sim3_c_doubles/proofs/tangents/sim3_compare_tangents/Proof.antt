@@ -1,4 +1,4 @@
--- Written by tools/proofs from Proof.template: edit that one. Digest 6805e546ce06772c.
+-- Written by tools/proofs from Proof.template: edit that one. Digest 3b91f763990a9b62.
 -- `sim3_c_doubles::tangents::sim3_compare_tangents` meets its contract: lists of the lengths that are due have the order's number written, and any other leaves `out` as it was. Assumes nothing.
 use borrow.Author.Needs.{needs}
 use borrow.Author.Tests.{eq-eqb, ne-eqb}
@@ -24,13 +24,23 @@ returns c = rw (sized-wrong (c .before .before .before .args .a .now) 7 (c .befo
 
 returns-2 : tie.Need-returns-2
 unfolding status written compareCall patternsFrom
-returns-2 c = rw (sized-right (c .before .before .before .before .args .a .now) 7 (c .before .before .before .before .args .a .now) (c .before .if1 .left), sized-wrong (c .before .before .before .before .args .b .now) 7 (c .before .before .before .before .args .b .now) (c .if2 .taken)) (refl, refl)
+returns-2 c = rw (
+  sized-right (c .before .before .before .before .args .a .now) 7 (c .before .before .before .before .args .a .now)
+      (c .before .if1 .left),
+  sized-wrong (c .before .before .before .before .args .b .now) 7 (c .before .before .before .before .args .b .now)
+      (c .if2 .taken),
+) (refl, refl)
 
 returns-3 : tie.Need-returns-3
 unfolding status written compareCall patternsFrom
 returns-3 c =
     let c1 = c .before .before .before .before .before in
-    rw (sized-right (c1 .args .a .now) 7 (c1 .args .a .now) (c .before .before .if1 .left), sized-right (c1 .args .b .now) 7 (c1 .args .b .now) (c .before .if2 .left), ne-eqb _ _ (c .if3 .taken)) (refl, refl)
+    rw (
+      sized-right (c1 .args .a .now) 7 (c1 .args .a .now) (c .before .before .if1 .left),
+      sized-right (c1 .args .b .now) 7 (c1 .args .b .now)
+          (c .before .if2 .left),
+      ne-eqb _ _ (c .if3 .taken),
+    ) (refl, refl)
 
 returns-4 : tie.Need-returns-4
 unfolding status written compareCall patternsFrom

@@ -1,8 +1,8 @@
--- Written by tools/widths from crates/sim3_c/proofs/points/sim3_act_each/Proof.antt: edit that one. Digest 09952391163c8024.
+-- Written by tools/widths from crates/sim3_c/proofs/points/sim3_act_each/Proof.antt: edit that one. Digest 7238ac26ff5f8ff7.
 -- `sim3_c_f32::points::sim3_act_each_f32` meets its contract: the lists are read, the engine is asked, and its answer is written or the refusal handed on. Assumes nothing.
 use borrow.Author.Needs.{needs}
 use mathlib.Core.Path.{refl, sym, ap, _∙_}
-use Rattle.sim3_f32.specs.Told.{listTold}
+use Rattle.point_lists_f32.specs.Told.{listTold}
 use Rattle.from_lists_f32.specs.Told.{poseReadTold}
 use Rattle.to_lists.specs.Written.{status, written}
 use Rattle.sim3_c.specs.Calls.{actCall, actEachCall}

@@ -1,8 +1,8 @@
--- Written by tools/widths from crates/sim3_c/proofs/points/sim3_act_many/Proof.antt: edit that one. Digest 68ec94314fcd4e67.
+-- Written by tools/widths from crates/sim3_c/proofs/points/sim3_act_many/Proof.antt: edit that one. Digest e734983df87265cc.
 -- `sim3_c_f32::points::sim3_act_many_f32` meets its contract: the lists are read, the engine is asked, and its answer is written or the refusal handed on. Assumes nothing.
 use borrow.Author.Needs.{needs}
 use mathlib.Core.Path.{refl, sym, ap, _∙_}
-use Rattle.sim3_f32.specs.Told.{listTold}
+use Rattle.point_lists_f32.specs.Told.{listTold}
 use Rattle.from_lists_f32.specs.Told.{poseReadTold}
 use Rattle.to_lists.specs.Written.{status, written}
 use Rattle.sim3_c.specs.Calls.{actCall, actManyCall}

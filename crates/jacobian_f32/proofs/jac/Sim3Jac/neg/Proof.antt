@@ -1,4 +1,4 @@
--- Written by tools/widths from crates/jacobian/proofs/jac/Sim3Jac/neg/Proof.antt: edit that one. Digest 85b3b173c260802d.
+-- Written by tools/widths from crates/jacobian/proofs/jac/Sim3Jac/neg/Proof.antt: edit that one. Digest 5c8c175cc11c5f5f.
 use borrow.Author.Needs.{needs}
 use Rattle.jacobian.specs.Jac.{jacNeg}
 use Rattle.jacobian_f32.proofs.jac.Sim3Jac.neg.Statement.{statement}
@@ -14,7 +14,20 @@ use Rattle.jacobian_f32.proofs.As.{jacobian-singles}
 
 returns : tie.Need-returns
 unfolding jacNeg
-returns c = simp (linalg-singles, circle-singles, series-singles, closed-singles, coeffs-singles, so3-singles, sim3-singles, jacobian-singles, c .before .neg4 .ensures, c .before .before .neg3 .ensures, c .before .before .before .neg2 .ensures, c .before .before .before .before .neg .ensures)
+returns c = simp (
+  linalg-singles,
+  circle-singles,
+  series-singles,
+  closed-singles,
+  coeffs-singles,
+  so3-singles,
+  sim3-singles,
+  jacobian-singles,
+  c .before .neg4 .ensures,
+  c .before .before .neg3 .ensures,
+  c .before .before .before .neg2 .ensures,
+  c .before .before .before .before .neg .ensures,
+)
 
 pub neg-spec : {M : Type 1} → statement M
 neg-spec = tie.close (tie.spec (λ c κs. search needs) (λ c κs. search needs) (λ c κs. search needs) (λ c κs. search needs) returns)

@@ -1,4 +1,4 @@
--- Written by tools/widths from crates/linalg/proofs/matrix/Mat3/set/Proof.antt: edit that one. Digest 3c5b060f748b3a9c.
+-- Written by tools/widths from crates/linalg/proofs/matrix/Mat3/set/Proof.antt: edit that one. Digest e8dadaa9afffe077.
 -- `linalg_f32::matrix::Mat3::set` meets its contract: by what its calls ensure and its tests say. Assumes nothing.
 use mathlib.Core.Path.{_≡_, sym, ap, _∙_}
 use borrow.Author.Needs.{needs}
@@ -20,7 +20,14 @@ returns c =
 
 returns-2 : tie.Need-returns-2
 unfolding matTold matSet entryTold
-returns-2 c = simp (linalg-singles, c .put3 .ensures, c .before .put2 .ensures, c .before .before .put .ensures, c .before .before .before .enum-told .given .1, ← c .before .before .before .before .before .get .ensures)
+returns-2 c = simp (
+  linalg-singles,
+  c .put3 .ensures,
+  c .before .put2 .ensures,
+  c .before .before .put .ensures,
+  c .before .before .before .enum-told .given .1,
+  ← c .before .before .before .before .before .get .ensures,
+)
 
 pub set-spec : {M : Type 1} → statement M
 set-spec = tie.close (tie.spec (λ c κs. search needs) (λ c. search needs) (λ c. search needs) returns (λ c κs. search needs) (λ c κs. search needs) (λ c κs. search needs) returns-2)

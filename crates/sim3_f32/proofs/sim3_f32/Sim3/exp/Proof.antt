@@ -1,4 +1,4 @@
--- Written by tools/widths from crates/sim3/proofs/sim3/Sim3/exp/Proof.antt: edit that one. Digest 13405112fdc759c8.
+-- Written by tools/widths from crates/sim3/proofs/sim3/Sim3/exp/Proof.antt: edit that one. Digest 21c7169992022ba3.
 use borrow.Author.Needs.{needs}
 use Rattle.sim3.specs.Exp.{poseExp}
 use Rattle.sim3_f32.proofs.sim3_f32.Sim3.exp.Statement.{statement}
@@ -13,7 +13,18 @@ use Rattle.sim3_f32.proofs.As.{sim3-singles}
 
 returns : tie.Need-returns
 unfolding poseExp
-returns c = simp (linalg-singles, circle-singles, series-singles, closed-singles, coeffs-singles, so3-singles, sim3-singles, c .v-apply .ensures, c .before .exp .ensures, c .before .before .sim3-v-of .ensures)
+returns c = simp (
+  linalg-singles,
+  circle-singles,
+  series-singles,
+  closed-singles,
+  coeffs-singles,
+  so3-singles,
+  sim3-singles,
+  c .v-apply .ensures,
+  c .before .exp .ensures,
+  c .before .before .sim3-v-of .ensures,
+)
 
 pub exp-spec : {M : Type 1} → statement M
 exp-spec = tie.close (tie.spec (λ c κs. search needs) (λ c κs. search needs) (λ c κs. search needs) returns)

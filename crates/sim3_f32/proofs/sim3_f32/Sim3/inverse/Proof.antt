@@ -1,4 +1,4 @@
--- Written by tools/widths from crates/sim3/proofs/sim3/Sim3/inverse/Proof.antt: edit that one. Digest adb5d033983d77a6.
+-- Written by tools/widths from crates/sim3/proofs/sim3/Sim3/inverse/Proof.antt: edit that one. Digest caed0dd5ff04cb54.
 -- `sim3_f32::sim3::Sim3::inverse` meets its contract: by what its calls ensure, the sign taken out of each product. Assumes nothing.
 use borrow.Author.Needs.{needs}
 use mathlib.Core.Path.{_≡_}
@@ -23,7 +23,19 @@ scale-neg f v k = λ i. vec (mul-neg-r f (v .x) k i) (mul-neg-r f (v .y) k i) (m
 
 returns : tie.Need-returns
 unfolding poseInverse
-returns c = simp (linalg-singles, circle-singles, series-singles, closed-singles, coeffs-singles, so3-singles, sim3-singles, c .before .scale .ensures, scale-neg, c .before .before .act .ensures, c .before .before .before .conjugate .ensures)
+returns c = simp (
+  linalg-singles,
+  circle-singles,
+  series-singles,
+  closed-singles,
+  coeffs-singles,
+  so3-singles,
+  sim3-singles,
+  c .before .scale .ensures,
+  scale-neg,
+  c .before .before .act .ensures,
+  c .before .before .before .conjugate .ensures,
+)
 
 pub inverse-spec : {M : Type 1} → statement M
 inverse-spec = tie.close (tie.spec (λ c κs. search needs) (λ c κs. search needs) (λ c κs. search needs) returns)
