@@ -1,4 +1,4 @@
--- Written by tools/proofs, plain, opening. Digest 3e7eeb33a9c48b3d.
+-- Written by tools/proofs, plain, opening. Digest 550daa547a72e0eb.
 use borrow.Author.Needs.{needs}
 use Rattle.closed.proofs.ends_both.Statement.{statement}
 use Rattle.closed.proofs.ends_both.Tie as tie
