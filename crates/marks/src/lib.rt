@@ -105,10 +105,10 @@ pub fn reply(s: &[u8], mem: &mut [u8], out: &mut [u8]) -> Heard
     if mem.len() != MEMORY {
         return tell(Step::Room, UNLISTED);
     }
-    if s.len() == 0 {
-        return tell(Step::End, UNLISTED);
-    }
-    if s.len() == 1 {
+    if s.len() < 2 {
+        if s.len() == 0 {
+            return tell(Step::End, UNLISTED);
+        }
         return tell(Step::Cut, UNLISTED);
     }
     let Look::Known(m, place) = look_up(s[0], s[1]) else {
