@@ -1,4 +1,4 @@
--- Written by tools/proofs from Proof.template: edit that one. Digest 748304860cf27f16.
+-- Written by tools/proofs from Proof.template: edit that one. Digest 03b0cc5fd4500007.
 -- `marks::reply` meets its contract: by the lent bytes, by the length of the input, by its mark, and by what that asks for. Assumes nothing.
 use borrow.Author.Needs.{needs}
 use native.Mathlib.Omega.{arith}
@@ -32,7 +32,8 @@ unfolding becameOf writtenOf
 returns-3 c =
     let c1 = c .before .before .before .before .before in
     let a = c1 .before .before .args in
-    let t = met-still (a .mem .now) (a .s .now) (a .out .now) (c .before .before .before .if1 .left) cut (found-half _ (a .s .now) (omega (arith, c .before .before .if2 .taken, c .before .if3 .left))) step.Cut refl refl in
+    let t = met-still (a .mem .now) (a .s .now) (a .out .now) (c .before .before .before .if1 .left) cut
+    (found-half _ (a .s .now) (omega (arith, c .before .before .if2 .taken, c .before .if3 .left))) step.Cut refl refl in
     rw (c .tell3 .ensures) (beside t (row-short (a .mem .now) (a .s .now) (c .before .before .before .if1 .left) (c .before .before .if2 .taken)))
 
 returns-4 : tie.Need-returns-4
@@ -53,7 +54,8 @@ returns-5 c =
     let a = c3 .before .before .before .before .args in
     let p = c1 .before .before .before .before .m .given .0 .1 .0 in
     let listed = sym (c2 .before .look-up .ensures) ∙ ap lookTold (c1 .before .before .before .before .m .given .1 ∙ ap (λ m. Known m p) (c1 .before .m2 .given .1)) in
-    let told = entry-told binary64 (c1 .before .m2 .given .0 .0) (a .mem .now) (a .s .now) (a .out .now) (c3 .if1 .left) (c .before .before .before .reply .result) _ (c .before .before .before .reply .ensures .0) (c .before .before .before .reply .ensures .1) in
+    let told = entry-told binary64 (c1 .before .m2 .given .0 .0) (a .mem .now) (a .s .now) (a .out .now) (c3 .if1 .left)
+    (c .before .before .before .reply .result) _ (c .before .before .before .reply .ensures .0) (c .before .before .before .reply .ensures .1) in
     let t = met-by (a .mem .now) (a .s .now) (a .out .now) _ (omega arith) listed (c .before .before .before .reply .result) _ _ told in
     rw (c .tell5 .ensures) (beside t (row-mark (a .mem .now) (a .s .now) _ (c3 .if1 .left) (omega arith) listed))
 
@@ -65,7 +67,9 @@ returns-6 c =
     let a = c3 .before .before .before .before .args in
     let p = c1 .before .before .before .before .m .given .0 .1 .0 in
     let listed = sym (c2 .before .look-up .ensures) ∙ ap lookTold (c1 .before .before .before .before .m .given .1 ∙ ap (λ m. Known m p) (c1 .before .m3 .given .1)) in
-    let told = entry-told binary32 (c1 .before .m3 .given .0 .0) (a .mem .now) (a .s .now) (a .out .now) (c3 .if1 .left) (c .before .before .before .reply2 .result) _ (c .before .before .before .reply2 .ensures .0) (c .before .before .before .reply2 .ensures .1) in
+    let told = entry-told binary32 (c1 .before .m3 .given .0 .0) (a .mem .now) (a .s .now) (a .out .now) (c3 .if1 .left)
+    (c .before .before .before .reply2 .result) _ (c .before .before .before .reply2 .ensures .0)
+    (c .before .before .before .reply2 .ensures .1) in
     let t = met-by (a .mem .now) (a .s .now) (a .out .now) _ (omega arith) listed (c .before .before .before .reply2 .result) _ _ told in
     rw (c .tell6 .ensures) (beside t (row-mark (a .mem .now) (a .s .now) _ (c3 .if1 .left) (omega arith) listed))
 
@@ -116,7 +120,8 @@ returns-10 c =
     let a = c3 .before .before .before .before .args in
     let p = c1 .before .before .before .before .m .given .0 .1 .0 in
     let listed = sym (c2 .before .look-up .ensures) ∙ ap lookTold (c1 .before .before .before .before .m .given .1 ∙ ap (λ m. Known m p) (c1 .before .enum-told5 .given .1)) in
-    let told = asked-told (a .mem .now) (a .s .now) (a .out .now) (c3 .if1 .left) (c .before .before .before .sq .result) _ (c .before .before .before .sq .ensures .0) (c .before .before .before .sq .ensures .1) in
+    let told = asked-told (a .mem .now) (a .s .now) (a .out .now) (c3 .if1 .left) (c .before .before .before .sq .result) _
+    (c .before .before .before .sq .ensures .0) (c .before .before .before .sq .ensures .1) in
     let t = met-by (a .mem .now) (a .s .now) (a .out .now) _ (omega arith) listed (c .before .before .before .sq .result) _ _ told in
     rw (c .tell10 .ensures) (beside t (row-mark (a .mem .now) (a .s .now) _ (c3 .if1 .left) (omega arith) listed))
 

@@ -1,4 +1,4 @@
--- Written by tools/proofs from Proof.template: edit that one. Digest 51238ecb5c414154.
+-- Written by tools/proofs from Proof.template: edit that one. Digest 63db1bd988ecd109.
 -- `point_lists_f32::many::four` meets its contract: four triples are read and moved, and then stored. Assumes nothing.
 use borrow.Author.Needs.{needs}
 use mathlib.Core.Path.{_∙_}

@@ -1,4 +1,4 @@
--- Written by tools/proofs from Proof.template: edit that one. Digest da1a78baa6d31464.
+-- Written by tools/proofs from Proof.template: edit that one. Digest fe0ca3a3f30cb129.
 -- `point_lists_f32::many::fours` meets its contract: after i points the first i triples are moved and the rest is as it was. Assumes nothing.
 use borrow.Author.Needs.{needs}
 use Prim.Native.Nat.{ℕ, _+_, _*_, _-_, _%_, _≤_}

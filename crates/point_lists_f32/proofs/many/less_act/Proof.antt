@@ -1,4 +1,4 @@
--- Written by tools/proofs from Proof.template: edit that one. Digest b864d719523102d1.
+-- Written by tools/proofs from Proof.template: edit that one. Digest 5b3c7ca9c8fa95b4.
 -- `point_lists_f32::many::less_act` meets its contract: each product that is taken away is one by the negative, added. Assumes nothing.
 use borrow.Author.Needs.{needs}
 use mathlib.Core.Path.{_≡_}

@@ -1,4 +1,4 @@
--- Written by tools/proofs from Proof.template: edit that one. Digest c7fe3efb76d075f6.
+-- Written by tools/proofs from Proof.template: edit that one. Digest dca7aa759af7aa62.
 -- `point_lists_f32::many::long` meets its contract: the last four are in their places before the fours are moved from the first on. Assumes nothing.
 use borrow.Author.Needs.{needs}
 use Prim.Native.Nat.{_-_, _*_, _%_}
@@ -30,7 +30,8 @@ returns-2 c =
     let g = matAct binary32 (asMat3 (a .m)) (asVec3 (a .t)) in
     let behind = simp (c2 .turned .ensures, turned-twice (asMat3 (a .m))) at (c1 .before .fours2 .ensures) in
     let before = simp (c2 .turned .ensures, turned-twice (asMat3 (a .m))) at (c .before .before .fours3 .ensures) in
-    before ∙ rw behind (last-four g (a .pts .now) (a .out .now) (a .n) (a .n - a .n % 4) (a .n * 3 - 12) (c2 .before .before .before .pre .0) (omega arith) (omega arith) (c2 .before .before .before .pre .1) (c2 .before .before .before .pre .2) refl)
+    before ∙ rw behind (last-four g (a .pts .now) (a .out .now) (a .n) (a .n - a .n % 4) (a .n * 3 - 12) (c2 .before .before .before .pre .0)
+    (omega arith) (omega arith) (c2 .before .before .before .pre .1) (c2 .before .before .before .pre .2) refl)
 
 pub long-spec : {M : Type 1} → statement M
 long-spec =

@@ -1,4 +1,4 @@
--- Written by tools/proofs from Proof.template: edit that one. Digest cb12ba7ee8f7a1b3.
+-- Written by tools/proofs from Proof.template: edit that one. Digest 4f1886a1a718d0e9.
 -- `point_lists_f32::many::many` meets its contract: by the length of the list. Assumes nothing.
 use borrow.Author.Needs.{needs}
 use mathlib.Core.Path.{_∙_}

@@ -1,4 +1,4 @@
--- Written by tools/proofs from Proof.template: edit that one. Digest c2dcd2d4e6177d06.
+-- Written by tools/proofs from Proof.template: edit that one. Digest 4d3eeb8a158f3f7b.
 -- `point_lists_f32::many::put_four` meets its contract: one store after another. Assumes nothing.
 use borrow.Author.Needs.{needs}
 use mathlib.Core.Path.{_∙_}

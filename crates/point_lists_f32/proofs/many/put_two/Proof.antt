@@ -1,4 +1,4 @@
--- Written by tools/proofs from Proof.template: edit that one. Digest 71cb81f6fd8599fc.
+-- Written by tools/proofs from Proof.template: edit that one. Digest 45414a164b5a6171.
 -- `point_lists_f32::many::put_two` meets its contract: one store after another. Assumes nothing.
 use borrow.Author.Needs.{needs}
 use mathlib.Core.Path.{_∙_}

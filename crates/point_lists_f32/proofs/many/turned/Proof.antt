@@ -1,4 +1,4 @@
--- Written by tools/proofs from Proof.template: edit that one. Digest 723613948f0c2bac.
+-- Written by tools/proofs from Proof.template: edit that one. Digest d545b4407c18d614.
 -- `point_lists_f32::many::turned` meets its contract: by what its calls ensure. Assumes nothing.
 use borrow.Author.Needs.{needs}
 use Rattle.point_lists_f32.specs.Fours.{matTurned}

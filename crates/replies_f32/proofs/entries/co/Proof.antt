@@ -1,4 +1,4 @@
--- Written by tools/proofs from Proof.template: edit that one. Digest 363d996f43abc37b.
+-- Written by tools/proofs from Proof.template: edit that one. Digest 5ff5a0ca08e23096.
 -- `replies_f32::entries::co` meets its contract: the engine is asked at the numbers read, and its answer without the arms is written or its refusal told.
 use borrow.Author.Needs.{needs}
 use lib.Ieee.{binary32}
@@ -25,7 +25,8 @@ returns c =
     let told = armed-answers binary32 _ _ _ _ (sym (c2 .before .before .sim3-coeffs-armed-pair .ensures) ∙ ap armedPairTold (c2 .p .given .1)) in
     let p = armedScaled (asArmedPair (c2 .p .given .0 .0)) in
     let fine = scaled-pair-fine p _ _ (c1 .before .before .answer-scaled .ensures .0) (c .before .before .before .answer-scaled2 .ensures .0) in
-    let run = (rw (c1 .before .before .answer-scaled .ensures .1) at (c .before .before .before .answer-scaled2 .ensures .1)) ∙ scaled-pair-run binary32 p (c3 .before .before .before .args .out .now) 0 in
+    let run = (rw (c1 .before .before .answer-scaled .ensures .1) at (c .before .before .before .answer-scaled2 .ensures .1))
+    ∙ scaled-pair-run binary32 p (c3 .before .before .before .args .out .now) 0 in
     rw (← (c3 .number-at .ensures), ← (c2 .before .before .before .before .number-at2 .ensures), ← (c2 .before .before .before .values-at .ensures), told)
     (wrote binary32 (scaledPairNumbers p) _ _ _ _ (c3 .before .before .before .args .out .now) _ (scaled-pair-count p) refl (c .gave .ensures) (fine, run))
 

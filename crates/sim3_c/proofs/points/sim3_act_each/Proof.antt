@@ -1,4 +1,4 @@
--- Written by tools/proofs from Proof.template: edit that one. Digest 471a060b6567c855.
+-- Written by tools/proofs from Proof.template: edit that one. Digest 9754aeaed96e0408.
 -- `sim3_c::points::sim3_act_each` meets its contract: the lists are read, the engine is asked, and its answer is written or the refusal handed on. Assumes nothing.
 use borrow.Author.Needs.{needs}
 use mathlib.Core.Path.{refl, sym, ap, _∙_}

@@ -1,4 +1,4 @@
--- Written by tools/proofs from Proof.template: edit that one. Digest 98de8d63ef13e18a.
+-- Written by tools/proofs from Proof.template: edit that one. Digest 413631857320795c.
 -- `sim3_c::points::sim3_act_many` meets its contract: the lists are read, the engine is asked, and its answer is written or the refusal handed on. Assumes nothing.
 use borrow.Author.Needs.{needs}
 use mathlib.Core.Path.{refl, sym, ap, _∙_}
