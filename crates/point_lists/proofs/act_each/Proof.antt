@@ -16,8 +16,9 @@ each-requires c κs =
 returns : tie.Need-returns
 unfolding listTold pointsAnswer pointsOut
 returns c =
-    let a = c .before .before .before .before .before .before .before .before .args in
-    let h : pointsAccepted (length (a .pts .now)) (length (a .out .now)) ≡ true = sym (c .before .before .before .before .before .accepted .ensures) ∙ c .before .before .before .before .if1 .taken in
+    let p = c .before .before .before .before in
+    let a = p .before .before .before .before .args in
+    let h : pointsAccepted (length (a .pts .now)) (length (a .out .now)) ≡ true = sym (p .before .accepted .ensures) ∙ p .if1 .taken in
     (simp h, simp (h, c .before .before .each .ensures))
 
 returns-2 : tie.Need-returns-2

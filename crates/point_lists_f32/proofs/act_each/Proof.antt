@@ -1,4 +1,4 @@
--- Written by tools/widths from crates/point_lists/proofs/act_each/Proof.antt: edit that one. Digest 330a3eaf7306db94.
+-- Written by tools/widths from crates/point_lists/proofs/act_each/Proof.antt: edit that one. Digest 5874b96a906c07fa.
 -- `point_lists_f32::act_each` meets its contract: lists that are accepted have every triple moved, and others are left as they were. Assumes nothing.
 use borrow.Author.Needs.{needs}
 use mathlib.Core.Path.{_≡_, sym, _∙_}
@@ -29,8 +29,9 @@ each-requires c κs =
 returns : tie.Need-returns
 unfolding listTold pointsAnswer pointsOut
 returns c =
-    let a = c .before .before .before .before .before .before .before .before .args in
-    let h : pointsAccepted (length (a .pts .now)) (length (a .out .now)) ≡ true = sym (c .before .before .before .before .before .accepted .ensures) ∙ c .before .before .before .before .if1 .taken in (
+    let p = c .before .before .before .before in
+    let a = p .before .before .before .before .args in
+    let h : pointsAccepted (length (a .pts .now)) (length (a .out .now)) ≡ true = sym (p .before .accepted .ensures) ∙ p .if1 .taken in (
       simp (linalg-singles, circle-singles, series-singles, closed-singles, coeffs-singles, so3-singles, sim3-singles, h),
       simp (
         linalg-singles,
