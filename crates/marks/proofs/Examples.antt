@@ -9,7 +9,7 @@ use Rattle.running.specs.Running.{runningNone}
 use Rattle.layout.specs.Layout.{vecIn, quatIn, poseIn, quatNumbers, poseNumbers}
 use Rattle.wire.specs.Wire.{wordOf, wordAt, wordBytes, numberOf, numberAt, numberBytes, itemBytes, itemsBytes, allFinite, numbers}
 use Rattle.outcome.specs.declared.Kind.the-variants as kind
-use Rattle.outcome.specs.Outcome.{markBytes, noBytes, replyOf, Found, took, recordFound}
+use Rattle.outcome.specs.Outcome.{markBytes, noBytes, replyOf, took, recordFound}
 use Rattle.replies.specs.Table.{framedIn, framedItems}
 use Rattle.sheets.specs.Sheets.{none, keeping, shelveOn, shelve, askOn, ask}
 use Rattle.sheets.specs.Store.{shotIn}

@@ -12,7 +12,7 @@ use lib.Ieee.{Format, binary32, binary64}
 use Rattle.linalg.specs.Answer.{Answer, answers, refuses}
 use Rattle.outcome.specs.declared.Entry.{Entry}
 use Rattle.outcome.specs.declared.Entry.the-variants.{Ex, Co, Pa, Ac, Mu, In, Ji, Ar}
-use Rattle.outcome.specs.Outcome.{longest, unknownMark}
+use Rattle.outcome.specs.Outcome.{longest}
 use Rattle.outcome.proofs.Never.{never, untrue}
 use Rattle.running.specs.History.{Event, after}
 use Rattle.running.specs.declared.Running.{Running}
@@ -25,7 +25,7 @@ use Rattle.kept.specs.Chain.{chLetters, rnLetters, chSize, rnSize, chOf, chStep
 use Rattle.kept.specs.Retakes.{shLetters, sqLetters, shSize, sqSize, shOf, shStep, sqStep, shAsks, sqAsks}
 use Rattle.kept.proofs.Records.{same}
 use Rattle.kept.proofs.Most.{ch-most, rn-most, sh-most, sq-most}
-use Rattle.marks.specs.Marks.{Row, row, entryAsks, table, Listed, listed, lookUp, longestRecord, nextAt}
+use Rattle.marks.specs.Marks.{Row, entryAsks, table, Listed, listed, lookUp, longestRecord, nextAt}
 use Rattle.marks.specs.Rows.{rowCount}
 use Rattle.marks.specs.History.{joinIn, renewIn, eventOn, shotIs, shotOn}
 

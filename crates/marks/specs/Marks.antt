@@ -2,7 +2,6 @@
 use Prim.Native.Nat.{ℕ, _+_, _*_}
 use mathlib.Core.Bool.{cond}
 use mathlib.Core.List.{List, [], _∷_}
-use lib.ListN.{length}
 use lib.Dec.{eqb, ltb}
 use lib.Ieee.{Format, binary32, binary64}
 use Rattle.linalg.specs.Answer.{Answer, answers, refuses}
