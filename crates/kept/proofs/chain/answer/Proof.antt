@@ -1,4 +1,4 @@
--- Written by tools/proofs from Proof.template: edit that one. Digest bd52d8fd860181cc.
+-- Written by tools/proofs from Proof.template: edit that one. Digest 74e270a9c884ae41.
 -- `kept::chain::answer` meets its contract: by what is answered, and by whether its numbers are finite. Assumes nothing.
 use borrow.Author.Needs.{needs}
 use native.Mathlib.Omega.{arith}
@@ -44,14 +44,16 @@ unfolding poseTold
 returns c =
     let c1 = c .before .before .before .before .before in
     let c2 = c1 .before .before .before .before .before in
-    rw (c1 .before .before .a .given .1) (pose-replied true (c1 .before .before .a .given .0 .0) (c2 .args .out .now) _ (sym (c .before .finite .ensures) ∙ c .if1 .taken) (c .before .before .before .before .put-framed .ensures))
+    rw (c1 .before .before .a .given .1) (pose-replied true (c1 .before .before .a .given .0 .0) (c2 .args .out .now) _
+    (sym (c .before .pose .ensures) ∙ c .if1 .taken) (c .before .before .before .before .put-framed .ensures))
 
 returns-2 : tie.Need-returns-2
 unfolding poseTold
 returns-2 c =
     let c1 = c .before .before .before .before .before in
     let c2 = c1 .before .before .before .before .before in
-    rw (c1 .before .before .a .given .1) (pose-replied false (c1 .before .before .a .given .0 .0) (c2 .args .out .now) _ (sym (c .before .finite .ensures) ∙ c .if1 .left) (c .before .before .before .before .put-framed .ensures))
+    rw (c1 .before .before .a .given .1) (pose-replied false (c1 .before .before .a .given .0 .0) (c2 .args .out .now) _
+    (sym (c .before .pose .ensures) ∙ c .if1 .left) (c .before .before .before .before .put-framed .ensures))
 
 returns-3 : tie.Need-returns-3
 unfolding poseTold
