@@ -1,4 +1,4 @@
--- Written by tools/widths from crates/sim3_c/proofs/near/sim3_nearest_arm/Proof.antt: edit that one. Digest 845868faabb30d08.
+-- Written by tools/widths from crates/sim3_c/proofs/near/sim3_nearest_arm/Proof.antt: edit that one. Digest a95d99e7184b1aa2.
 -- `sim3_c_f32::near::sim3_nearest_arm_f32` meets its contract: a refusal is handed on; a list of three has the numbers written, and any other is left as it was. Assumes nothing.
 use borrow.Author.Needs.{needs}
 use borrow.Author.Tests.{eq-eqb, ne-eqb}
@@ -12,6 +12,7 @@ use Rattle.to_lists.proofs.Fits.{sets-all}
 use Rattle.sim3_c_f32.proofs.near.sim3_nearest_arm_f32.Statement.{statement}
 use Rattle.sim3_c_f32.proofs.near.sim3_nearest_arm_f32.Tie as tie
 use Rattle.linalg_f32.proofs.As.{linalg-singles}
+use Rattle.closed_f32.proofs.As.{closed-singles}
 use Rattle.coeffs_f32.proofs.As.{coeffs-singles}
 use Rattle.so3_f32.proofs.As.{so3-singles}
 use Rattle.sim3_f32.proofs.As.{sim3-singles}
@@ -25,17 +26,17 @@ unfolding status written nearCall nearestTold
 returns c = rw (← (c .before .before .before .before .nearest-arm .ensures), c .before .before .s .given .1, ne-eqb _ _ (c .if1 .taken)) (refl, refl)
 
 slice-write-out-2 : tie.Need-slice-write-out-2
-slice-write-out-2 c = simp (linalg-singles, coeffs-singles, so3-singles, sim3-singles, jacobian-singles, sides-singles, frames-singles, from-lists-singles, length-set) (search needs)
+slice-write-out-2 c = simp (linalg-singles, closed-singles, coeffs-singles, so3-singles, sim3-singles, jacobian-singles, sides-singles, frames-singles, from-lists-singles, length-set) (search needs)
 
 slice-write-out-3 : tie.Need-slice-write-out-3
-slice-write-out-3 c = simp (linalg-singles, coeffs-singles, so3-singles, sim3-singles, jacobian-singles, sides-singles, frames-singles, from-lists-singles, length-set) (search needs)
+slice-write-out-3 c = simp (linalg-singles, closed-singles, coeffs-singles, so3-singles, sim3-singles, jacobian-singles, sides-singles, frames-singles, from-lists-singles, length-set) (search needs)
 
 returns-2 : tie.Need-returns-2
 unfolding status written nearCall nearestTold
 returns-2 c = rw (← (c .before .before .before .nearest-arm .ensures), c .before .enum-told .given .1, ne-eqb _ _ (c .if2 .taken)) (refl, refl)
 
 slice-write-out-6 : tie.Need-slice-write-out-6
-slice-write-out-6 c = simp (linalg-singles, coeffs-singles, so3-singles, sim3-singles, jacobian-singles, sides-singles, frames-singles, from-lists-singles, length-set) (search needs)
+slice-write-out-6 c = simp (linalg-singles, closed-singles, coeffs-singles, so3-singles, sim3-singles, jacobian-singles, sides-singles, frames-singles, from-lists-singles, length-set) (search needs)
 
 returns-3 : tie.Need-returns-3
 unfolding status written nearCall nearNumbers nearestTold stepTold
