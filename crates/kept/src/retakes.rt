@@ -113,12 +113,12 @@ fn tell(out: &mut [u8], x: Shot) -> Step
     ensures { λ _. ⌜ now (out .exit) ≡ sets (now (out .entry)) 0 (sqReply (answers x) .bytes) ⌝ }
 {
     let take = x.take;
-    let pose = x.pose;
+    let shot = x.pose;
     out[0] = b'S';
     out[1] = b'Q';
     put_short(out, 2, take);
-    put_framed(out, 4, pose);
-    if finite::pose(pose.sim3) {
+    put_framed(out, 4, shot);
+    if finite::pose(shot.sim3) {
         return Step::Took(Kind::Answered, SQ, 2 + 2 + FRAMED);
     }
     Step::Took(Kind::Unusable, SQ, 2 + 2 + FRAMED)

@@ -1,4 +1,4 @@
--- Written by tools/proofs from Proof.template: edit that one. Digest 31629ec5f5676484.
+-- Written by tools/proofs from Proof.template: edit that one. Digest 5915618f77f63b0d.
 -- `kept::retakes::tell` meets its contract: the stores are one run, and it counts by whether its numbers are finite. Assumes nothing.
 use borrow.Author.Needs.{needs}
 use native.Mathlib.Omega.{arith}
@@ -39,14 +39,14 @@ returns : tie.Need-returns
 returns c =
     let c1 = c .before .before .before .before .before in
     let c2 = c1 .before .before .before .before .before in
-    shot-replied true (c2 .before .before .args .x) (c2 .before .before .args .out .now) _ (sym (c2 .pose .ensures) ∙ c .if1 .taken)
+    shot-replied true (c2 .before .before .args .x) (c2 .before .before .args .out .now) _ (sym (c .before .pose .ensures) ∙ c .if1 .taken)
     (rw (c1 .before .before .before .put-short .ensures) at (c .before .before .before .before .put-framed .ensures))
 
 returns-2 : tie.Need-returns-2
 returns-2 c =
     let c1 = c .before .before .before .before .before in
     let c2 = c1 .before .before .before .before .before in
-    shot-replied false (c2 .before .before .args .x) (c2 .before .before .args .out .now) _ (sym (c2 .pose .ensures) ∙ c .if1 .left)
+    shot-replied false (c2 .before .before .args .x) (c2 .before .before .args .out .now) _ (sym (c .before .pose .ensures) ∙ c .if1 .left)
     (rw (c1 .before .before .before .put-short .ensures) at (c .before .before .before .before .put-framed .ensures))
 
 pub tell-spec : {M : Type 1} → statement M
