@@ -1,19 +1,19 @@
--- Written by tools/widths from crates/sim3/proofs/sim3/Sim3/mul/Proof.antt: edit that one. Digest 3adaa4f2112f1252.
-use borrow.Author.Needs.{needs}
-use Rattle.sim3.specs.Pose.{poseMul}
+-- Written by tools/widths from crates/sim3/proofs/sim3/Sim3/mul/Proof.antt: edit that one. Digest 71f342d3d87265e8.
+use mathlib.Core.Path.{refl}
+use Rattle.sim3.specs.Pose.{poseMul, poseAct}
+use Rattle.so3.specs.Quat.{quatMul}
+use Rattle.so3.specs.So3.{so3Act}
+use Rattle.linalg.specs.Vector.{vecCross, vecScale, vecAdd}
+use lib.Ieee.{ofBits}
 use Rattle.sim3_f32.proofs.sim3_f32.Sim3.mul.Statement.{statement}
 use Rattle.sim3_f32.proofs.sim3_f32.Sim3.mul.Tie as tie
-use Rattle.linalg_f32.proofs.As.{linalg-singles}
-use Rattle.circle_f32.proofs.As.{circle-singles}
-use Rattle.series_f32.proofs.As.{series-singles}
-use Rattle.closed_f32.proofs.As.{closed-singles}
-use Rattle.coeffs_f32.proofs.As.{coeffs-singles}
-use Rattle.so3_f32.proofs.As.{so3-singles}
-use Rattle.sim3_f32.proofs.As.{sim3-singles}
+use Rattle.linalg_f32.specs.As.{asVec3}
+use Rattle.so3_f32.specs.As.{asQuat}
+use Rattle.sim3_f32.specs.As.{asSim3}
 
 returns : tie.Need-returns
-unfolding poseMul
-returns c = simp (linalg-singles, circle-singles, series-singles, closed-singles, coeffs-singles, so3-singles, sim3-singles, c .before .before .act .ensures, c .before .before .before .mul .ensures)
+unfolding poseMul poseAct quatMul so3Act vecCross vecScale vecAdd ofBits asQuat asSim3 asVec3
+returns c = refl
 
 pub mul-spec : {M : Type 1} → statement M
-mul-spec = tie.close (tie.spec (λ c κs. search needs) (λ c κs. search needs) returns)
+mul-spec = tie.close (tie.spec returns)
