@@ -1,5 +1,6 @@
 -- The laws of replies, and the runs of stores by which the code writes them.
 pub mod Numbers
+pub mod NoNans
 pub mod Arms
 pub mod Frames
 pub mod Replies

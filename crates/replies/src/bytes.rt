@@ -8,6 +8,7 @@ ghost use lib.ListN.{length};
 ghost use lib.Seq.{sets};
 ghost use Rattle.ieee.specs.Finite.{isFinite};
 ghost use Rattle.wire.specs.Wire.{word, width, wordAt, numberAt, numberBytes, itemBytes};
+ghost use Rattle.replies.specs.Plain.{Plain};
 
 // How many bytes a number has.
 pub(crate) const NUMBER: usize = 8;
@@ -27,6 +28,33 @@ pub(crate) fn number_at(b: &[u8], i: usize) -> f64
         b[at + 6],
         b[at + 7],
     ])
+}
+
+// Whether none of the n numbers from the i-th on is a NaN; then their bits can be taken as they are.
+pub(crate) fn plain(b: &[u8], i: usize, n: usize) -> bool
+    requires { ⌜ (i + n) * width binary64 ≤ length (now b) ⌝ }
+    ensures { λ r. ⌜ (r ≡ true → Plain binary64 (now (b .entry)) i n) ⌝ }
+{
+    wire::no_nan(&b[i * NUMBER..(i + n) * NUMBER])
+}
+
+// The i-th number, which is no NaN: its bits are taken as they are.
+pub(crate) fn plain_at(b: &[u8], i: usize) -> f64
+    requires { ⌜ (i + 1) * width binary64 ≤ length (now b) ⌝ }
+    requires { ⌜ Plain binary64 (now b) i 1 ⌝ }
+    ensures { λ r. ⌜ r ≡ numberAt binary64 (now (b .entry)) i ⌝ }
+{
+    let at = i * NUMBER;
+    f64::from_bits(wire::word_from_le_bytes([
+        b[at],
+        b[at + 1],
+        b[at + 2],
+        b[at + 3],
+        b[at + 4],
+        b[at + 5],
+        b[at + 6],
+        b[at + 7],
+    ]))
 }
 
 pub(crate) fn put_number(out: &mut [u8], i: usize, x: f64)

@@ -20,6 +20,7 @@ use crate::bytes::NUMBER;
 use crate::bytes::number_at;
 use crate::bytes::short_at;
 use crate::places::block_at;
+use crate::places::evaluated_at;
 use crate::places::framed_at;
 use crate::places::mat_at;
 use crate::places::pose_at;
@@ -60,7 +61,8 @@ pub(crate) fn ex(b: &[u8], out: &mut [u8]) -> Gave
     let end = NUMBER * (TANGENT + VALUES);
     let from = short_at(b, end);
     let to = short_at(b, end + FRAME);
-    let finite = answer_framed(out, Pose::exp(tangent_at(b, 0), values_at(b, 7), from, to));
+    let x = evaluated_at(b);
+    let finite = answer_framed(out, Pose::exp(x.tau, x.v, from, to));
     gave(finite, FRAMED)
 }
 

@@ -10,17 +10,23 @@ ghost use Rattle.layout.specs.Layout.{vecIn, matIn, poseIn, tangentIn, valuesIn
 ghost use Rattle.layout.specs.Layout.{matNumbers, poseNumbers, blockNumbers, scaledNumbers};
 ghost use Rattle.wire.specs.Wire.{width, numberAt, numbersBytes, itemsBytes};
 ghost use Rattle.replies.specs.Table.{armItems, framedWidth, framedIn};
+use crate::Evaluated;
 use crate::FRAME;
+use crate::bytes;
 use crate::bytes::NUMBER;
 use crate::bytes::number_at;
 use crate::bytes::put_number;
 use crate::bytes::put_word;
 use crate::bytes::short_at;
+use crate::plain;
 use closed::values::Values;
 use coeffs::sim3::Armed;
 use frames::Pose;
 use jacobian::jac::Sim3Jac;
+use layout::BLOCK;
 use layout::POSE;
+use layout::TANGENT;
+use layout::VALUES;
 use linalg::matrix::Mat3;
 use linalg::vector::Vec3;
 use series::sim3::Sim3Coeffs;
@@ -110,10 +116,30 @@ pub(crate) fn values_at(b: &[u8], i: usize) -> Values
     }
 }
 
+// A tangent with its values, at the front of the bytes.
+pub(crate) fn evaluated_at(b: &[u8]) -> Evaluated
+    requires { ⌜ 17 * width binary64 ≤ length (now b) ⌝ }
+    ensures { λ r. ⌜ r ≡ record { tau = tangentIn (numberAt binary64 (now (b .entry))) 0; v = valuesIn (numberAt binary64 (now (b .entry))) 7 } ⌝ }
+{
+    if bytes::plain(b, 0, TANGENT + VALUES) {
+        return Evaluated {
+            tau: plain::tangent_at(b, 0),
+            v: plain::values_at(b, 7),
+        };
+    }
+    Evaluated {
+        tau: tangent_at(b, 0),
+        v: values_at(b, 7),
+    }
+}
+
 pub(crate) fn block_at(b: &[u8], i: usize) -> Sim3Jac
     requires { ⌜ (i + 31) * width binary64 ≤ length (now b) ⌝ }
     ensures { λ r. ⌜ r ≡ blockIn (numberAt binary64 (now (b .entry))) i ⌝ }
 {
+    if bytes::plain(b, i, BLOCK) {
+        return plain::block_at(b, i);
+    }
     Sim3Jac {
         a: mat_at(b, i),
         b: mat_at(b, i + 9),

@@ -8,6 +8,7 @@ ghost use lib.ListN.{length};
 ghost use lib.Seq.{sets};
 ghost use Rattle.ieee.specs.Finite.{isFinite};
 ghost use Rattle.wire.specs.Wire.{word, width, wordAt, numberAt, numberBytes, itemBytes};
+ghost use Rattle.replies.specs.Plain.{Plain};
 
 // How many bytes a number has.
 pub(crate) const NUMBER: usize = 4;
@@ -18,6 +19,24 @@ pub(crate) fn number_at(b: &[u8], i: usize) -> f32
 {
     let at = i * NUMBER;
     wire::single::from_le_bytes([b[at], b[at + 1], b[at + 2], b[at + 3]])
+}
+
+// Whether none of the n numbers from the i-th on is a NaN; then their bits can be taken as they are.
+pub(crate) fn plain(b: &[u8], i: usize, n: usize) -> bool
+    requires { ⌜ (i + n) * width binary32 ≤ length (now b) ⌝ }
+    ensures { λ r. ⌜ (r ≡ true → Plain binary32 (now (b .entry)) i n) ⌝ }
+{
+    wire::single::no_nan(&b[i * NUMBER..(i + n) * NUMBER])
+}
+
+// The i-th number, which is no NaN: its bits are taken as they are.
+pub(crate) fn plain_at(b: &[u8], i: usize) -> f32
+    requires { ⌜ (i + 1) * width binary32 ≤ length (now b) ⌝ }
+    requires { ⌜ Plain binary32 (now b) i 1 ⌝ }
+    ensures { λ r. ⌜ r ≡ numberAt binary32 (now (b .entry)) i ⌝ }
+{
+    let at = i * NUMBER;
+    f32::from_bits(wire::single::word_from_le_bytes([b[at], b[at + 1], b[at + 2], b[at + 3]]))
 }
 
 pub(crate) fn put_number(out: &mut [u8], i: usize, x: f32)

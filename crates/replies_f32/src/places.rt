@@ -1,4 +1,4 @@
-// Written by tools/widths from crates/replies/src/places.rt: edit that one. Digest f940e0cf52d7b1d4.
+// Written by tools/widths from crates/replies/src/places.rt: edit that one. Digest f0d4e7166a6100fd.
 // Things of several numbers, from the i-th number of a list of bytes on: what is read, and what is
 // written, in the same order.
 ghost use mathlib.Core.Path.{_≡_};
@@ -18,17 +18,24 @@ ghost use Rattle.coeffs_f32.specs.As.{asArmed};
 ghost use Rattle.sim3_f32.specs.As.{asSim3, asSim3Tangent};
 ghost use Rattle.jacobian_f32.specs.As.{asSim3Jac};
 ghost use Rattle.frames_f32.specs.As.{asPose};
+ghost use Rattle.replies_f32.specs.As.{asEvaluated};
+use crate::Evaluated;
 use crate::FRAME;
+use crate::bytes;
 use crate::bytes::NUMBER;
 use crate::bytes::number_at;
 use crate::bytes::put_number;
 use crate::bytes::put_word;
 use crate::bytes::short_at;
+use crate::plain;
 use closed_f32::values::Values;
 use coeffs_f32::sim3::Armed;
 use frames_f32::Pose;
 use jacobian_f32::jac::Sim3Jac;
+use layout::BLOCK;
 use layout::POSE;
+use layout::TANGENT;
+use layout::VALUES;
 use linalg_f32::matrix::Mat3;
 use linalg_f32::vector::Vec3;
 use series_f32::sim3::Sim3Coeffs;
@@ -118,10 +125,30 @@ pub(crate) fn values_at(b: &[u8], i: usize) -> Values
     }
 }
 
+// A tangent with its values, at the front of the bytes.
+pub(crate) fn evaluated_at(b: &[u8]) -> Evaluated
+    requires { ⌜ 17 * width binary32 ≤ length (now b) ⌝ }
+    ensures { λ r. ⌜ asEvaluated r ≡ record { tau = tangentIn (numberAt binary32 (now (b .entry))) 0; v = valuesIn (numberAt binary32 (now (b .entry))) 7 } ⌝ }
+{
+    if bytes::plain(b, 0, TANGENT + VALUES) {
+        return Evaluated {
+            tau: plain::tangent_at(b, 0),
+            v: plain::values_at(b, 7),
+        };
+    }
+    Evaluated {
+        tau: tangent_at(b, 0),
+        v: values_at(b, 7),
+    }
+}
+
 pub(crate) fn block_at(b: &[u8], i: usize) -> Sim3Jac
     requires { ⌜ (i + 31) * width binary32 ≤ length (now b) ⌝ }
     ensures { λ r. ⌜ asSim3Jac r ≡ blockIn (numberAt binary32 (now (b .entry))) i ⌝ }
 {
+    if bytes::plain(b, i, BLOCK) {
+        return plain::block_at(b, i);
+    }
     Sim3Jac {
         a: mat_at(b, i),
         b: mat_at(b, i + 9),

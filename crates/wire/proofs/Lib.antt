@@ -1,3 +1,4 @@
--- The laws of bytes, and of bytes at a place of a list.
+-- The laws of bytes, of bytes at a place of a list, and of numbers looked through for a NaN.
 pub mod Bytes
+pub mod Nans
 pub mod Places

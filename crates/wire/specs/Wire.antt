@@ -1,9 +1,9 @@
 -- Whole numbers and those of a format as bytes, the least first. A byte is a number below 256.
 use Prim.Native.Nat.{ℕ, zero, suc, _+_, _*_, _/_, _%_}
 use mathlib.Core.List.{List, [], _∷_, _++_}
-use lib.ListN.{take, drop}
-use mathlib.Core.Bool.{Bool, true, _&&_}
-use lib.Ieee.{Float, Format, binary32, binary64, ofBits, toBits}
+use lib.ListN.{length, take, drop}
+use mathlib.Core.Bool.{Bool, true, not, _&&_}
+use lib.Ieee.{Float, Format, binary32, binary64, ofBits, toBits, isNan}
 use Rattle.ieee.specs.Finite.{isFinite}
 
 -- the number that the bytes make
@@ -32,6 +32,14 @@ numberOf f b = ofBits f (wordOf b)
 -- the i-th number of the bytes
 unfoldable pub numberAt : Format → List ℕ → ℕ → Float
 numberAt f b i = numberOf f (take (width f) (drop (i * width f) b))
+
+-- whether none of the first n numbers of the bytes is nan; and none of all
+unfoldable pub noneNan : Format → List ℕ → ℕ → Bool
+noneNan f b zero = true
+noneNan f b (suc n) = noneNan f b n && not (isNan (numberAt f b n))
+
+unfoldable pub noNan : Format → List ℕ → Bool
+noNan f b = noneNan f b (length b / width f)
 
 -- toBits gives 7ff8000000000000 for nan, and 7fc00000 in single precision
 unfoldable pub numberBytes : Format → Float → List ℕ

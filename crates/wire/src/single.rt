@@ -1,8 +1,12 @@
 // Singles as little-endian bytes.
 ghost use mathlib.Core.Path.{_≡_};
-ghost use Prim.Native.Nat.{_<_};
+ghost use Prim.Native.Nat.{_+_, _*_, _≤_, _<_};
 ghost use lib.Ieee.{binary32};
-ghost use Rattle.wire.specs.Wire.{numberOf, numberBytes};
+ghost use lib.ListN.{length};
+ghost use Rattle.wire.specs.Wire.{wordOf, wordAt, numberOf, numberBytes, noNan};
+
+// The pattern of the infinity.
+const INFINITY: u32 = 0x7f80_0000;
 
 fn wide(x: u8) -> u32
     ensures { λ r. ⌜ (r ≡ x) × (r < 256) ⌝ }
@@ -10,15 +14,46 @@ fn wide(x: u8) -> u32
     x as u32
 }
 
-// The single whose four bytes, the least first, are `b`. Every NaN pattern reads as NaN.
-pub fn from_le_bytes(b: [u8; 4]) -> f32
-    ensures { λ r. ⌜ r ≡ numberOf binary32 b ⌝ }
+// The whole number whose four bytes, the least first, are `b`.
+pub fn word_from_le_bytes(b: [u8; 4]) -> u32
+    ensures { λ r. ⌜ r ≡ wordOf b ⌝ }
 {
     let b0 = wide(b[0]);
     let b1 = wide(b[1]);
     let b2 = wide(b[2]);
     let b3 = wide(b[3]);
-    ieee_f32::from_bits(b0 + 0x100 * b1 + 0x1_0000 * b2 + 0x100_0000 * b3)
+    b0 + 0x100 * b1 + 0x1_0000 * b2 + 0x100_0000 * b3
+}
+
+// The single whose four bytes, the least first, are `b`. Every NaN pattern reads as NaN.
+pub fn from_le_bytes(b: [u8; 4]) -> f32
+    ensures { λ r. ⌜ r ≡ numberOf binary32 b ⌝ }
+{
+    ieee_f32::from_bits(word_from_le_bytes(b))
+}
+
+// The i-th four bytes of a list as one whole number.
+fn word_at(b: &[u8], i: usize) -> u32
+    requires { ⌜ (i + 1) * 4 ≤ length (now b) ⌝ }
+    ensures { λ r. ⌜ r ≡ wordAt 4 (now (b .entry)) (i * 4) ⌝ }
+{
+    let at = i * 4;
+    word_from_le_bytes([b[at], b[at + 1], b[at + 2], b[at + 3]])
+}
+
+// Whether none of the singles in the bytes is a NaN: without its sign a NaN's pattern is above that of
+// the infinity. Four are looked at in one step.
+pub fn no_nan(b: &[u8]) -> bool
+    ensures { λ r. ⌜ r ≡ noNan binary32 (now (b .entry)) ⌝ }
+{
+    let n = b.len() / 4;
+    let mut none = true;
+    let mut i = 0;
+    while i < n {
+        none = none & (word_at(b, i) % 0x8000_0000 <= INFINITY);
+        i += 1;
+    }
+    none
 }
 
 // The four bytes of `x`, the least first; those of 7fc00000 for every NaN.

@@ -1,4 +1,4 @@
--- Written by tools/widths from crates/replies/proofs/reply/Proof.antt: edit that one. Digest 3d1f150410c15bd4.
+-- Written by tools/widths from crates/replies/proofs/reply/Proof.antt: edit that one. Digest 648a725b0313ab7b.
 -- `replies_f32::reply` meets its contract: a cut record and an output without room are told; else the mark or NO is stored before what the entry wrote. Assumes nothing.
 use borrow.Author.Needs.{needs}
 use native.Mathlib.Omega.{arith}
@@ -23,6 +23,7 @@ use Rattle.sim3_f32.proofs.As.{sim3-singles}
 use Rattle.jacobian_f32.proofs.As.{jacobian-singles}
 use Rattle.sides_f32.proofs.As.{sides-singles}
 use Rattle.frames_f32.proofs.As.{frames-singles}
+use Rattle.replies_f32.proofs.As.{replies-singles}
 
 -- what is known where the entry has answered
 given : (c : tie.After-give) → let a =
@@ -84,6 +85,7 @@ slice-write-out-2 c =
       jacobian-singles,
       sides-singles,
       frames-singles,
+      replies-singles,
       length-set,
     ) (omega (arith, given-length (given (c1 .before .before))))
 
@@ -107,6 +109,7 @@ slice-write-out-4 c =
       jacobian-singles,
       sides-singles,
       frames-singles,
+      replies-singles,
       length-set,
     ) (omega (arith, given-length (given (c1 .before .before))))
 
@@ -129,8 +132,10 @@ slice-write-out-6 c =
       jacobian-singles,
       sides-singles,
       frames-singles,
+      replies-singles,
       length-set,
-    ) (omega (arith, given-length (given (c1))))
+    )
+    (omega (arith, given-length (given (c1))))
 
 slice-write-out-7 : tie.Need-slice-write-out-7
 slice-write-out-7 c =
@@ -146,8 +151,10 @@ slice-write-out-7 c =
       jacobian-singles,
       sides-singles,
       frames-singles,
+      replies-singles,
       length-set,
-    ) (omega (arith, given-length (given (c1))))
+    )
+    (omega (arith, given-length (given (c1))))
 
 same-length : tie.Need-same-length
 same-length c =
@@ -163,6 +170,7 @@ same-length c =
       jacobian-singles,
       sides-singles,
       frames-singles,
+      replies-singles,
       length-set,
     ) (given-length (given (c1 .before .before)))
 
@@ -180,6 +188,7 @@ same-length-2 c =
       jacobian-singles,
       sides-singles,
       frames-singles,
+      replies-singles,
       length-set,
     ) (given-length (given (c1 .before .before)))
 
@@ -197,6 +206,7 @@ same-length-3 c =
       jacobian-singles,
       sides-singles,
       frames-singles,
+      replies-singles,
       length-set,
     ) (given-length (given (c1)))
 

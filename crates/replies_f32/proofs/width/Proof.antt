@@ -1,4 +1,4 @@
--- Written by tools/widths from crates/replies/proofs/width/Proof.antt: edit that one. Digest 60dd49731ff820e0.
+-- Written by tools/widths from crates/replies/proofs/width/Proof.antt: edit that one. Digest 7569f2ac229920d1.
 -- `replies_f32::width` meets its contract: by the entry. Assumes nothing.
 use borrow.Author.Needs.{needs}
 use Rattle.replies_f32.proofs.width.Statement.{statement}
@@ -13,30 +13,135 @@ use Rattle.sim3_f32.proofs.As.{sim3-singles}
 use Rattle.jacobian_f32.proofs.As.{jacobian-singles}
 use Rattle.sides_f32.proofs.As.{sides-singles}
 use Rattle.frames_f32.proofs.As.{frames-singles}
+use Rattle.replies_f32.proofs.As.{replies-singles}
 
 returns : tie.Need-returns
-returns c = simp (linalg-singles, circle-singles, series-singles, closed-singles, coeffs-singles, so3-singles, sim3-singles, jacobian-singles, sides-singles, frames-singles, c .enum-told .given .1)
+returns c = simp (
+  linalg-singles,
+  circle-singles,
+  series-singles,
+  closed-singles,
+  coeffs-singles,
+  so3-singles,
+  sim3-singles,
+  jacobian-singles,
+  sides-singles,
+  frames-singles,
+  replies-singles,
+  c .enum-told .given .1,
+)
 
 returns-2 : tie.Need-returns-2
-returns-2 c = simp (linalg-singles, circle-singles, series-singles, closed-singles, coeffs-singles, so3-singles, sim3-singles, jacobian-singles, sides-singles, frames-singles, c .enum-told2 .given .1)
+returns-2 c = simp (
+  linalg-singles,
+  circle-singles,
+  series-singles,
+  closed-singles,
+  coeffs-singles,
+  so3-singles,
+  sim3-singles,
+  jacobian-singles,
+  sides-singles,
+  frames-singles,
+  replies-singles,
+  c .enum-told2 .given .1,
+)
 
 returns-3 : tie.Need-returns-3
-returns-3 c = simp (linalg-singles, circle-singles, series-singles, closed-singles, coeffs-singles, so3-singles, sim3-singles, jacobian-singles, sides-singles, frames-singles, c .enum-told3 .given .1)
+returns-3 c = simp (
+  linalg-singles,
+  circle-singles,
+  series-singles,
+  closed-singles,
+  coeffs-singles,
+  so3-singles,
+  sim3-singles,
+  jacobian-singles,
+  sides-singles,
+  frames-singles,
+  replies-singles,
+  c .enum-told3 .given .1,
+)
 
 returns-4 : tie.Need-returns-4
-returns-4 c = simp (linalg-singles, circle-singles, series-singles, closed-singles, coeffs-singles, so3-singles, sim3-singles, jacobian-singles, sides-singles, frames-singles, c .enum-told4 .given .1)
+returns-4 c = simp (
+  linalg-singles,
+  circle-singles,
+  series-singles,
+  closed-singles,
+  coeffs-singles,
+  so3-singles,
+  sim3-singles,
+  jacobian-singles,
+  sides-singles,
+  frames-singles,
+  replies-singles,
+  c .enum-told4 .given .1,
+)
 
 returns-5 : tie.Need-returns-5
-returns-5 c = simp (linalg-singles, circle-singles, series-singles, closed-singles, coeffs-singles, so3-singles, sim3-singles, jacobian-singles, sides-singles, frames-singles, c .enum-told5 .given .1)
+returns-5 c = simp (
+  linalg-singles,
+  circle-singles,
+  series-singles,
+  closed-singles,
+  coeffs-singles,
+  so3-singles,
+  sim3-singles,
+  jacobian-singles,
+  sides-singles,
+  frames-singles,
+  replies-singles,
+  c .enum-told5 .given .1,
+)
 
 returns-6 : tie.Need-returns-6
-returns-6 c = simp (linalg-singles, circle-singles, series-singles, closed-singles, coeffs-singles, so3-singles, sim3-singles, jacobian-singles, sides-singles, frames-singles, c .enum-told6 .given .1)
+returns-6 c = simp (
+  linalg-singles,
+  circle-singles,
+  series-singles,
+  closed-singles,
+  coeffs-singles,
+  so3-singles,
+  sim3-singles,
+  jacobian-singles,
+  sides-singles,
+  frames-singles,
+  replies-singles,
+  c .enum-told6 .given .1,
+)
 
 returns-7 : tie.Need-returns-7
-returns-7 c = simp (linalg-singles, circle-singles, series-singles, closed-singles, coeffs-singles, so3-singles, sim3-singles, jacobian-singles, sides-singles, frames-singles, c .enum-told7 .given .1)
+returns-7 c = simp (
+  linalg-singles,
+  circle-singles,
+  series-singles,
+  closed-singles,
+  coeffs-singles,
+  so3-singles,
+  sim3-singles,
+  jacobian-singles,
+  sides-singles,
+  frames-singles,
+  replies-singles,
+  c .enum-told7 .given .1,
+)
 
 returns-8 : tie.Need-returns-8
-returns-8 c = simp (linalg-singles, circle-singles, series-singles, closed-singles, coeffs-singles, so3-singles, sim3-singles, jacobian-singles, sides-singles, frames-singles, c .enum-told8 .given .1)
+returns-8 c = simp (
+  linalg-singles,
+  circle-singles,
+  series-singles,
+  closed-singles,
+  coeffs-singles,
+  so3-singles,
+  sim3-singles,
+  jacobian-singles,
+  sides-singles,
+  frames-singles,
+  replies-singles,
+  c .enum-told8 .given .1,
+)
 
 pub width-spec : {M : Type 1} → statement M
 width-spec =

@@ -1,61 +1,12 @@
--- Written by tools/proofs from Proof.template: edit that one. Digest 70e923b600d2f6d9.
--- `wire::from_le_bytes` meets its contract: the sum is the number that the bytes make. Assumes nothing.
+-- Written by tools/proofs, plain, opening numberOf. Digest 6b351a8758ec1b2c.
 use borrow.Author.Needs.{needs}
 use Rattle.wire.specs.Wire.{numberOf}
-use Rattle.wire.proofs.Bytes.{word-eight}
 use Rattle.wire.proofs.from_le_bytes.Statement.{statement}
 use Rattle.wire.proofs.from_le_bytes.Tie as tie
 
 returns : tie.Need-returns
 unfolding numberOf
-returns c =
-    let c1 = c .before .before .before .before .before in
-    simp (
-      c .from-bits .ensures,
-      c .before .wide8 .ensures .0,
-      c .before .before .wide7 .ensures .0,
-      c .before .before .before .wide6 .ensures .0,
-      c .before .before .before .before .wide5 .ensures .0,
-      c1 .wide4 .ensures .0,
-      c1 .before .wide3 .ensures .0,
-      c1 .before .before .wide2 .ensures .0,
-      c1 .before .before .before .wide .ensures .0,
-      word-eight (c1 .before .before .before .before .args .t1) (search needs),
-    )
+returns c = simp (c .from-bits .ensures, c .before .word-from-le-bytes .ensures)
 
 pub from-le-bytes-spec : {M : Type 1} → statement M
-from-le-bytes-spec =
-    tie.close
-    (tie.spec
-    (λ c. search needs)
-    (λ c κs. search needs)
-    (λ c. search needs)
-    (λ c κs. search needs)
-    (λ c. search needs)
-    (λ c κs. search needs)
-    (λ c. search needs)
-    (λ c κs. search needs)
-    (λ c. search needs)
-    (λ c κs. search needs)
-    (λ c. search needs)
-    (λ c κs. search needs)
-    (λ c. search needs)
-    (λ c κs. search needs)
-    (λ c. search needs)
-    (λ c κs. search needs)
-    (λ c. search needs)
-    (λ c. search needs)
-    (λ c. search needs)
-    (λ c. search needs)
-    (λ c. search needs)
-    (λ c. search needs)
-    (λ c. search needs)
-    (λ c. search needs)
-    (λ c. search needs)
-    (λ c. search needs)
-    (λ c. search needs)
-    (λ c. search needs)
-    (λ c. search needs)
-    (λ c. search needs)
-    (λ c κs. search needs)
-    returns)
+from-le-bytes-spec = tie.close (tie.spec (λ c κs. search needs) (λ c κs. search needs) returns)

@@ -1,4 +1,4 @@
--- Written by tools/proofs from Proof.template: edit that one. Digest 2a3bba3c8eaa005d.
+-- Written by tools/proofs from Proof.template: edit that one. Digest 2fc704d6e52eb458.
 -- `replies::entries::ex` meets its contract: the engine is asked at the numbers and frames read, and its answer written. Assumes nothing.
 use borrow.Author.Needs.{needs}
 use lib.Ieee.{binary64}
@@ -13,13 +13,12 @@ unfolding exOf
 returns c =
     let c1 = c .before .before .before .before .before in
     let c2 = c1 .before .before .before .before .before in
-    wrote-items binary64 _ _ _ _ (c2 .before .before .args .out .now) _ (framed-length binary64 _) (c .gave .ensures)
+    wrote-items binary64 _ _ _ _ (c2 .before .args .out .now) _ (framed-length binary64 _) (c .gave .ensures)
     (rw (
       c .before .before .before .before .exp .ensures,
-      c1 .before .tangent-at .ensures,
-      c1 .values-at .ensures,
-      c1 .before .before .before .before .short-at .ensures,
-      c1 .before .before .before .short-at2 .ensures,
+      c1 .before .evaluated-at .ensures,
+      c1 .before .before .before .short-at .ensures,
+      c1 .before .before .short-at2 .ensures,
     ) at (c .before .before .before .answer-framed .ensures))
 
 pub ex-spec : {M : Type 1} → statement M
@@ -30,7 +29,6 @@ ex-spec =
     (λ c. search needs)
     (λ c κs. search needs)
     (λ c. search needs)
-    (λ c κs. search needs)
     (λ c κs. search needs)
     (λ c κs. search needs)
     (λ c κs. search needs)

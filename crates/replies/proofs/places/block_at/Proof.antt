@@ -1,13 +1,19 @@
--- Written by tools/proofs from Proof.template: edit that one. Digest 9513c44036bba685.
--- `replies::places::block_at` meets its contract: its parts stand one behind another. Assumes nothing.
+-- Written by tools/proofs from Proof.template: edit that one. Digest e80d339011e2cee9.
+-- `replies::places::block_at` meets its contract: its parts stand one behind another, and where none of the numbers is a NaN their bits may be taken. Assumes nothing.
 use borrow.Author.Needs.{needs}
 use Rattle.layout.specs.Layout.{blockIn}
 use Rattle.replies.proofs.places.block_at.Statement.{statement}
 use Rattle.replies.proofs.places.block_at.Tie as tie
 
+block-at-requires : tie.Need-block-at-requires
+block-at-requires c κs = (search needs, c .before .plain .ensures (c .if1 .taken))
+
 returns : tie.Need-returns
+returns c = c .block-at .ensures
+
+returns-2 : tie.Need-returns-2
 unfolding blockIn
-returns c =
+returns-2 c =
     simp (
       c .number-at .ensures,
       c .before .vec-at .ensures,
@@ -21,7 +27,8 @@ block-at-spec =
     tie.close
     (tie.spec
     (λ c κs. search needs)
-    (λ c. search needs)
+    block-at-requires
+    returns
     (λ c κs. search needs)
     (λ c. search needs)
     (λ c κs. search needs)
@@ -29,4 +36,6 @@ block-at-spec =
     (λ c κs. search needs)
     (λ c. search needs)
     (λ c κs. search needs)
-    returns)
+    (λ c. search needs)
+    (λ c κs. search needs)
+    returns-2)

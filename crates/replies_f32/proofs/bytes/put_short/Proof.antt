@@ -1,4 +1,4 @@
--- Written by tools/widths from crates/replies/proofs/bytes/put_short/Proof.antt: edit that one. Digest b515df9cc1b1040c.
+-- Written by tools/widths from crates/replies/proofs/bytes/put_short/Proof.antt: edit that one. Digest 2c687bfb7c4f9b74.
 -- `replies_f32::bytes::put_short` meets its contract: two stores are a run of the two bytes. Assumes nothing.
 use borrow.Author.Needs.{needs}
 use native.Mathlib.Omega.{arith}
@@ -17,6 +17,7 @@ use Rattle.sim3_f32.proofs.As.{sim3-singles}
 use Rattle.jacobian_f32.proofs.As.{jacobian-singles}
 use Rattle.sides_f32.proofs.As.{sides-singles}
 use Rattle.frames_f32.proofs.As.{frames-singles}
+use Rattle.replies_f32.proofs.As.{replies-singles}
 
 returns : tie.Need-returns
 unfolding itemBytes
@@ -34,11 +35,25 @@ slice-write-out-2 c = simp (
   jacobian-singles,
   sides-singles,
   frames-singles,
+  replies-singles,
   length-set,
 ) (omega (arith, c .before .before .pre))
 
 same-length : tie.Need-same-length
-same-length c = simp (linalg-singles, circle-singles, series-singles, closed-singles, coeffs-singles, so3-singles, sim3-singles, jacobian-singles, sides-singles, frames-singles, length-set)
+same-length c = simp (
+  linalg-singles,
+  circle-singles,
+  series-singles,
+  closed-singles,
+  coeffs-singles,
+  so3-singles,
+  sim3-singles,
+  jacobian-singles,
+  sides-singles,
+  frames-singles,
+  replies-singles,
+  length-set,
+)
 
 pub put-short-spec : {M : Type 1} → statement M
 put-short-spec =

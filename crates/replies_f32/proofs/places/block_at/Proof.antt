@@ -1,5 +1,5 @@
--- Written by tools/widths from crates/replies/proofs/places/block_at/Proof.antt: edit that one. Digest 4c88cbd565447dd9.
--- `replies_f32::places::block_at` meets its contract: its parts stand one behind another. Assumes nothing.
+-- Written by tools/widths from crates/replies/proofs/places/block_at/Proof.antt: edit that one. Digest d9e581e622c9d955.
+-- `replies_f32::places::block_at` meets its contract: its parts stand one behind another, and where none of the numbers is a NaN their bits may be taken. Assumes nothing.
 use borrow.Author.Needs.{needs}
 use Rattle.layout.specs.Layout.{blockIn}
 use Rattle.replies_f32.proofs.places.block_at.Statement.{statement}
@@ -14,10 +14,17 @@ use Rattle.sim3_f32.proofs.As.{sim3-singles}
 use Rattle.jacobian_f32.proofs.As.{jacobian-singles}
 use Rattle.sides_f32.proofs.As.{sides-singles}
 use Rattle.frames_f32.proofs.As.{frames-singles}
+use Rattle.replies_f32.proofs.As.{replies-singles}
+
+block-at-requires : tie.Need-block-at-requires
+block-at-requires c κs = (search needs, c .before .plain .ensures (c .if1 .taken))
 
 returns : tie.Need-returns
+returns c = c .block-at .ensures
+
+returns-2 : tie.Need-returns-2
 unfolding blockIn
-returns c =
+returns-2 c =
     simp (
       linalg-singles,
       circle-singles,
@@ -29,6 +36,7 @@ returns c =
       jacobian-singles,
       sides-singles,
       frames-singles,
+      replies-singles,
       c .number-at .ensures,
       c .before .vec-at .ensures,
       c .before .before .mat-at3 .ensures,
@@ -41,7 +49,8 @@ block-at-spec =
     tie.close
     (tie.spec
     (λ c κs. search needs)
-    (λ c. search needs)
+    block-at-requires
+    returns
     (λ c κs. search needs)
     (λ c. search needs)
     (λ c κs. search needs)
@@ -49,4 +58,6 @@ block-at-spec =
     (λ c κs. search needs)
     (λ c. search needs)
     (λ c κs. search needs)
-    returns)
+    (λ c. search needs)
+    (λ c κs. search needs)
+    returns-2)

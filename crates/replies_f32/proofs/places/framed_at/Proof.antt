@@ -1,4 +1,4 @@
--- Written by tools/widths from crates/replies/proofs/places/framed_at/Proof.antt: edit that one. Digest 6816e0c8cc1319ee.
+-- Written by tools/widths from crates/replies/proofs/places/framed_at/Proof.antt: edit that one. Digest d0c8e44c831158ba.
 -- `replies_f32::places::framed_at` meets its contract: the frames stand behind the numbers. Assumes nothing.
 use borrow.Author.Needs.{needs}
 use Rattle.replies.specs.Table.{framedIn}
@@ -14,6 +14,7 @@ use Rattle.sim3_f32.proofs.As.{sim3-singles}
 use Rattle.jacobian_f32.proofs.As.{jacobian-singles}
 use Rattle.sides_f32.proofs.As.{sides-singles}
 use Rattle.frames_f32.proofs.As.{frames-singles}
+use Rattle.replies_f32.proofs.As.{replies-singles}
 
 returns : tie.Need-returns
 unfolding framedIn
@@ -28,6 +29,7 @@ returns c = simp (
   jacobian-singles,
   sides-singles,
   frames-singles,
+  replies-singles,
   c .before .before .pose-at .ensures,
   c .before .short-at .ensures,
   c .short-at2 .ensures,

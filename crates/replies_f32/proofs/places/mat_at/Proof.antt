@@ -1,4 +1,4 @@
--- Written by tools/widths from crates/replies/proofs/places/mat_at/Proof.antt: edit that one. Digest 053e92fe76536e68.
+-- Written by tools/widths from crates/replies/proofs/places/mat_at/Proof.antt: edit that one. Digest a15248a5916d317c.
 -- `replies_f32::places::mat_at` meets its contract: its columns stand three numbers apart. Assumes nothing.
 use borrow.Author.Needs.{needs}
 use Rattle.layout.specs.Layout.{matIn}
@@ -14,6 +14,7 @@ use Rattle.sim3_f32.proofs.As.{sim3-singles}
 use Rattle.jacobian_f32.proofs.As.{jacobian-singles}
 use Rattle.sides_f32.proofs.As.{sides-singles}
 use Rattle.frames_f32.proofs.As.{frames-singles}
+use Rattle.replies_f32.proofs.As.{replies-singles}
 
 returns : tie.Need-returns
 unfolding matIn
@@ -29,6 +30,7 @@ returns c =
       jacobian-singles,
       sides-singles,
       frames-singles,
+      replies-singles,
       c .vec-at3 .ensures,
       c .before .vec-at2 .ensures,
       c .before .before .vec-at .ensures,

@@ -1,4 +1,4 @@
--- Written by tools/widths from crates/replies/proofs/places/pose_at/Proof.antt: edit that one. Digest 650595ad27038ff7.
+-- Written by tools/widths from crates/replies/proofs/places/pose_at/Proof.antt: edit that one. Digest 77ab0d7fdfbe8f19.
 -- `replies_f32::places::pose_at` meets its contract: its parts stand one behind another. Assumes nothing.
 use borrow.Author.Needs.{needs}
 use Rattle.layout.specs.Layout.{poseIn, quatIn}
@@ -14,6 +14,7 @@ use Rattle.sim3_f32.proofs.As.{sim3-singles}
 use Rattle.jacobian_f32.proofs.As.{jacobian-singles}
 use Rattle.sides_f32.proofs.As.{sides-singles}
 use Rattle.frames_f32.proofs.As.{frames-singles}
+use Rattle.replies_f32.proofs.As.{replies-singles}
 
 returns : tie.Need-returns
 unfolding poseIn quatIn
@@ -30,6 +31,7 @@ returns c =
       jacobian-singles,
       sides-singles,
       frames-singles,
+      replies-singles,
       c .number-at5 .ensures,
       c .before .vec-at .ensures,
       c .before .before .number-at4 .ensures,

@@ -1,4 +1,4 @@
--- Written by tools/widths from crates/replies/proofs/places/tangent_at/Proof.antt: edit that one. Digest 7d17467b1bc52da8.
+-- Written by tools/widths from crates/replies/proofs/places/tangent_at/Proof.antt: edit that one. Digest 4a44cbc6d15c78ad.
 -- `replies_f32::places::tangent_at` meets its contract: its parts stand one behind another. Assumes nothing.
 use borrow.Author.Needs.{needs}
 use Rattle.layout.specs.Layout.{tangentIn}
@@ -14,6 +14,7 @@ use Rattle.sim3_f32.proofs.As.{sim3-singles}
 use Rattle.jacobian_f32.proofs.As.{jacobian-singles}
 use Rattle.sides_f32.proofs.As.{sides-singles}
 use Rattle.frames_f32.proofs.As.{frames-singles}
+use Rattle.replies_f32.proofs.As.{replies-singles}
 
 returns : tie.Need-returns
 unfolding tangentIn
@@ -29,6 +30,7 @@ returns c =
       jacobian-singles,
       sides-singles,
       frames-singles,
+      replies-singles,
       c .number-at .ensures,
       c .before .vec-at2 .ensures,
       c .before .before .vec-at .ensures,

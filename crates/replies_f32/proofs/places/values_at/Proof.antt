@@ -1,4 +1,4 @@
--- Written by tools/widths from crates/replies/proofs/places/values_at/Proof.antt: edit that one. Digest 1eff9d61bb9a5ebb.
+-- Written by tools/widths from crates/replies/proofs/places/values_at/Proof.antt: edit that one. Digest 68000a455d975a2a.
 -- `replies_f32::places::values_at` meets its contract: ten numbers from a place on. Assumes nothing.
 use borrow.Author.Needs.{needs}
 use Rattle.layout.specs.Layout.{valuesIn}
@@ -14,6 +14,7 @@ use Rattle.sim3_f32.proofs.As.{sim3-singles}
 use Rattle.jacobian_f32.proofs.As.{jacobian-singles}
 use Rattle.sides_f32.proofs.As.{sides-singles}
 use Rattle.frames_f32.proofs.As.{frames-singles}
+use Rattle.replies_f32.proofs.As.{replies-singles}
 
 returns : tie.Need-returns
 unfolding valuesIn
@@ -30,6 +31,7 @@ returns c =
       jacobian-singles,
       sides-singles,
       frames-singles,
+      replies-singles,
       c .number-at10 .ensures,
       c .before .number-at9 .ensures,
       c .before .before .number-at8 .ensures,

@@ -1,4 +1,4 @@
--- Written by tools/widths from crates/replies/proofs/places/vec_at/Proof.antt: edit that one. Digest 22b41a764762e24a.
+-- Written by tools/widths from crates/replies/proofs/places/vec_at/Proof.antt: edit that one. Digest 21bc227a030f7b6b.
 -- `replies_f32::places::vec_at` meets its contract: three numbers from a place on. Assumes nothing.
 use borrow.Author.Needs.{needs}
 use Rattle.layout.specs.Layout.{vecIn}
@@ -14,6 +14,7 @@ use Rattle.sim3_f32.proofs.As.{sim3-singles}
 use Rattle.jacobian_f32.proofs.As.{jacobian-singles}
 use Rattle.sides_f32.proofs.As.{sides-singles}
 use Rattle.frames_f32.proofs.As.{frames-singles}
+use Rattle.replies_f32.proofs.As.{replies-singles}
 
 returns : tie.Need-returns
 unfolding vecIn
@@ -29,6 +30,7 @@ returns c =
       jacobian-singles,
       sides-singles,
       frames-singles,
+      replies-singles,
       c .number-at3 .ensures,
       c .before .number-at2 .ensures,
       c .before .before .number-at .ensures,
