@@ -1,4 +1,4 @@
--- Written by tools/proofs from Proof.template: edit that one. Digest c15c9bfe2d0f340c.
+-- Written by tools/proofs from Proof.template: edit that one. Digest 8f5cab6d5173aa9f.
 -- `replies::places::evaluated_at` meets its contract: its parts stand one behind another, and where none of the numbers is a NaN their bits may be taken. Assumes nothing.
 use borrow.Author.Needs.{needs}
 use native.Mathlib.Omega.{arith}
@@ -8,12 +8,12 @@ use Rattle.replies.proofs.places.evaluated_at.Statement.{statement}
 use Rattle.replies.proofs.places.evaluated_at.Tie as tie
 
 tangent-at-requires : tie.Need-tangent-at-requires
-tangent-at-requires c κs = (search needs, part binary64 (c .before .before .before .args .b .now) 0 17 0 7 (c .before .plain .ensures (c .if1 .taken)) (omega arith) (omega arith))
+tangent-at-requires c κs = (search needs, part binary64 (c .before .before .before .args .b .now) 0 _ 0 7 (c .before .plain .ensures (c .if1 .taken)) (omega arith) (omega arith))
 
 values-at-requires : tie.Need-values-at-requires
 values-at-requires c κs = (
   search needs,
-  part binary64 (c .before .before .before .before .args .b .now) 0 17 7 10
+  part binary64 (c .before .before .before .before .args .b .now) 0 _ 7 10
       (c .before .before .plain .ensures (c .before .if1 .taken)) (omega arith) (omega arith),
 )
 

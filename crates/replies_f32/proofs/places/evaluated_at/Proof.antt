@@ -1,4 +1,4 @@
--- Written by tools/widths from crates/replies/proofs/places/evaluated_at/Proof.antt: edit that one. Digest 9fedaa7de00b7664.
+-- Written by tools/widths from crates/replies/proofs/places/evaluated_at/Proof.antt: edit that one. Digest a21a0dd6fbc30c16.
 -- `replies_f32::places::evaluated_at` meets its contract: its parts stand one behind another, and where none of the numbers is a NaN their bits may be taken. Assumes nothing.
 use borrow.Author.Needs.{needs}
 use native.Mathlib.Omega.{arith}
@@ -19,12 +19,12 @@ use Rattle.frames_f32.proofs.As.{frames-singles}
 use Rattle.replies_f32.proofs.As.{replies-singles}
 
 tangent-at-requires : tie.Need-tangent-at-requires
-tangent-at-requires c κs = (search needs, part binary32 (c .before .before .before .args .b .now) 0 17 0 7 (c .before .plain .ensures (c .if1 .taken)) (omega arith) (omega arith))
+tangent-at-requires c κs = (search needs, part binary32 (c .before .before .before .args .b .now) 0 _ 0 7 (c .before .plain .ensures (c .if1 .taken)) (omega arith) (omega arith))
 
 values-at-requires : tie.Need-values-at-requires
 values-at-requires c κs = (
   search needs,
-  part binary32 (c .before .before .before .before .args .b .now) 0 17 7 10
+  part binary32 (c .before .before .before .before .args .b .now) 0 _ 7 10
       (c .before .before .plain .ensures (c .before .if1 .taken)) (omega arith) (omega arith),
 )
 
