@@ -3,9 +3,9 @@ use Prim.Native.Nat.{ℕ, zero, suc, _+_, _*_, _/_, _%_, _≤_, _<_}
 use mathlib.Core.Path.{_≡_, refl, sym, ap, subst, _∙_}
 use mathlib.Core.Bool.{Bool, true, false, not, cond, _&&_}
 use mathlib.Core.List.{List}
-use native.Mathlib.Nat.{add-zero}
 use native.Mathlib.Omega.{arith}
-use borrow.Author.Tests.{ltb-true, ltb-false, ne-eqb, le-leb, lt-leb}
+use borrow.Author.Tests.{ltb-true, ltb-false, eq-eqb, ne-eqb, le-leb, lt-leb}
+use lib.Bits.{bitOr, or-zero-r, or-add-and, and-le-l, or-shr}
 use lib.Dec.{T, eqb, ltb, leb}
 use lib.ListN.{length, take, drop}
 use lib.Ieee.{Format, binary32, binary64, ofBits, isNan}
@@ -20,7 +20,7 @@ single-nan w = sym (nanBits-is binary32 w) ∙ nanBits-above binary32 w
 double-nan : (w : ℕ) → isNan (ofBits binary64 w) ≡ ltb 0x7ff0_0000_0000_0000 (w % 0x8000_0000_0000_0000)
 double-nan w = sym (nanBits-is binary64 w) ∙ nanBits-above binary64 w
 
--- what is added for a double
+-- what a double comes to
 carried :
     (m : ℕ) (t : Bool) → m < 0x8000_0000_0000_0000 → ltb 0x7ff0_0000_0000_0000 m ≡ t →
     (m + 0x000f_ffff_ffff_ffff) / 0x8000_0000_0000_0000 ≡ cond t 1 0
@@ -38,21 +38,37 @@ asked m false e = le-leb _ _ (ltb-false _ m e)
 pub nan-above : (w : ℕ) → leb (w % 0x8000_0000) 0x7f80_0000 ≡ not (isNan (ofBits binary32 w))
 nan-above w = asked (w % 0x8000_0000) _ refl ∙ ap not (sym (single-nan w))
 
--- one number more
-added : (a s : Bool) (n : ℕ) → eqb n 0 ≡ a → eqb (n + cond s 1 0) 0 ≡ a && not s
-added true true n e = ne-eqb _ _ (λ (h : n + 1 ≡ 0). omega arith)
-added true false n e = rw (add-zero n) e
-added false true n e = ne-eqb _ _ (λ (h : n + 1 ≡ 0). omega arith)
-added false false n e = rw (add-zero n) e
+-- one number more; of what was put together the highest bit, of 64, is looked at
+abbrev pub highBitZero : ℕ → Bool
+highBitZero n = ltb n 0x8000_0000_0000_0000
+
+cases : (n : ℕ) (t : Bool) → highBitZero n ≡ t → t ≡ eqb (n / 0x8000_0000_0000_0000) 0
+cases n true e = let h = ltb-true n _ e in sym (eq-eqb (n / 0x8000_0000_0000_0000) 0 (omega arith))
+cases n false e = let h = ltb-false n _ e in sym (ne-eqb _ _ (λ (g : n / 0x8000_0000_0000_0000 ≡ 0). omega arith))
+
+halved : (n : ℕ) → highBitZero n ≡ eqb (n / 0x8000_0000_0000_0000) 0
+halved n = cases n _ refl
+
+marked : (n : ℕ) → bitOr n 1 ≡ 0 → ⊥
+marked n h = let e = or-add-and n 1 in let g = and-le-l n 1 in omega arith
+
+put-in : (a s : Bool) (n : ℕ) → eqb n 0 ≡ a → eqb (bitOr n (cond s 1 0)) 0 ≡ a && not s
+put-in true true n e = ne-eqb _ _ (marked n)
+put-in true false n e = rw (or-zero-r n) e
+put-in false true n e = ne-eqb _ _ (marked n)
+put-in false false n e = rw (or-zero-r n) e
 
 next : (i : ℕ) → i + 1 ≡ suc i
 next i = omega arith
 
 pub double-more :
-    (b : List ℕ) (i nans w : ℕ) → w ≡ wordAt 8 b (i * 8) → eqb nans 0 ≡ noneNan binary64 b i →
-    eqb (nans + (w % 0x8000_0000_0000_0000 + 0x000f_ffff_ffff_ffff) / 0x8000_0000_0000_0000) 0 ≡ noneNan binary64 b (i + 1)
+    (b : List ℕ) (i seen w : ℕ) → w ≡ wordAt 8 b (i * 8) → highBitZero seen ≡ noneNan binary64 b i →
+    highBitZero (bitOr seen (w % 0x8000_0000_0000_0000 + 0x000f_ffff_ffff_ffff)) ≡ noneNan binary64 b (i + 1)
 unfolding noneNan numberAt numberOf wordAt
-double-more b i nans w e h = rw (nan-adds w, e, next i) (added (noneNan binary64 b i) (isNan (numberAt binary64 b i)) nans h)
+double-more b i seen w e h =
+    let t = w % 0x8000_0000_0000_0000 + 0x000f_ffff_ffff_ffff in
+    rw (halved (bitOr seen t), or-shr seen t 63, nan-adds w, e, next i)
+    (put-in (noneNan binary64 b i) (isNan (numberAt binary64 b i)) (seen / 0x8000_0000_0000_0000) (sym (halved seen) ∙ h))
 
 pub single-more :
     (b : List ℕ) (i w : ℕ) (none : Bool) → w ≡ wordAt 4 b (i * 4) → none ≡ noneNan binary32 b i →

@@ -67,19 +67,19 @@ fn word_at(b: &[u8], i: usize) -> u64
 }
 
 // Whether none of the doubles in the bytes is a NaN. Without its sign a NaN's pattern is above that of
-// the infinity, so FRACTION carries it to SIGN, and no other; what is added is 1 for a NaN and 0 for
-// any other. So nothing is tested number by number, and two are looked at in one step.
+// the infinity, so that FRACTION carries it to the bit of the sign, and no other; all are put together,
+// and that bit is looked at once. So nothing is tested number by number, and two are taken in one step.
 pub fn no_nan(b: &[u8]) -> bool
     ensures { λ r. ⌜ r ≡ noNan binary64 (now (b .entry)) ⌝ }
 {
     let n = b.len() / 8;
-    let mut nans: u64 = 0;
+    let mut seen: u64 = 0;
     let mut i = 0;
     while i < n {
-        nans += (word_at(b, i) % SIGN + FRACTION) / SIGN;
+        seen = seen | (word_at(b, i) % SIGN + FRACTION);
         i += 1;
     }
-    nans == 0
+    seen < SIGN
 }
 
 // The eight bytes of `n`, the least first.
