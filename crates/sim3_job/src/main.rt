@@ -239,6 +239,12 @@ fn put(live: bool, bytes: &[u8], sink: &mut [u8], sent: usize) -> Sent
     Sent::All(sent + bytes.len())
 }
 
+fn ended_as(outcome: Outcome, sent: usize) -> Ran
+    ensures { λ r. ⌜ r ≡ record { outcome = outcome; sent = sent } ⌝ }
+{
+    Ran { outcome, sent }
+}
+
 // Reads, feeds and writes until the job ends or a read or write fails. From a tape, however it is
 // cut, no read fails; where the sink has room for what the job writes, that is what it then holds.
 fn run(live: bool, tape: &[u8], cuts: &[usize], sink: &mut [u8]) -> Ran
@@ -260,10 +266,7 @@ fn run(live: bool, tape: &[u8], cuts: &[usize], sink: &mut [u8]) -> Ran
     let mut sent = 0;
     let left = loop {
         match fill(live, tape, cuts, at, buf, have, asked, last) {
-            Filled::Failed => break Ran {
-                outcome: Outcome::Unread,
-                sent: sent,
-            },
+            Filled::Failed => break ended_as(Outcome::Unread, sent),
             Filled::Bytes(n, ended, next) => {
                 have += n;
                 last = ended;
@@ -271,20 +274,14 @@ fn run(live: bool, tape: &[u8], cuts: &[usize], sink: &mut [u8]) -> Ran
                 let f = turn(buf, have, c, mem, last, out);
                 let written = f.written;
                 match put(live, &out[..written], sink, sent) {
-                    Sent::Failed => break Ran {
-                        outcome: Outcome::Unwritten,
-                        sent: sent,
-                    },
+                    Sent::Failed => break ended_as(Outcome::Unwritten, sent),
                     Sent::All(end) => {
                         sent = end;
                         have -= f.used;
                         c = f.counts;
                         let reason = f.reason;
                         if !goes_on(reason) {
-                            break Ran {
-                                outcome: Outcome::Done,
-                                sent: sent,
-                            };
+                            break ended_as(Outcome::Done, sent);
                         }
                         asked = asks_for(reason);
                     }

@@ -4,50 +4,63 @@ use mathlib.Core.Path.{_≡_, refl, sym, ap, subst, _∙_}
 use mathlib.Core.Bool.{Bool, true, false, not, cond, _&&_}
 use mathlib.Core.List.{List}
 use native.Mathlib.Omega.{arith}
-use borrow.Author.Tests.{ltb-true, ltb-false, eq-eqb, ne-eqb, le-leb, lt-leb}
+use borrow.Author.Tests.{ltb-true, ltb-false, eq-eqb, ne-eqb}
 use lib.Bits.{bitOr, or-zero-r, or-add-and, and-le-l, or-shr}
-use lib.Dec.{T, eqb, ltb, leb}
+use lib.Dec.{T, eqb, ltb}
 use lib.ListN.{length, take, drop}
 use lib.Ieee.{Format, binary32, binary64, ofBits, isNan}
 use lib.Ieee.Bits.{nanBits-is, nanBits-above}
 use Rattle.wire.specs.Wire.{width, wordAt, numberOf, numberAt, noneNan, noNan}
 use Rattle.wire.proofs.Places.{part-count, part-read}
 
--- a pattern is a NaN's where it is above the infinity's, but for the sign
-single-nan : (w : ℕ) → isNan (ofBits binary32 w) ≡ ltb 0x7f80_0000 (w % 0x8000_0000)
-single-nan w = sym (nanBits-is binary32 w) ∙ nanBits-above binary32 w
+-- the bit of the sign as a number, and all bits of the fraction
+abbrev pub signBit : Format → ℕ
+signBit binary32 = 0x8000_0000
+signBit binary64 = 0x8000_0000_0000_0000
 
-double-nan : (w : ℕ) → isNan (ofBits binary64 w) ≡ ltb 0x7ff0_0000_0000_0000 (w % 0x8000_0000_0000_0000)
-double-nan w = sym (nanBits-is binary64 w) ∙ nanBits-above binary64 w
+abbrev pub fraction : Format → ℕ
+fraction binary32 = 0x007f_ffff
+fraction binary64 = 0x000f_ffff_ffff_ffff
 
--- what a double comes to
-carried :
-    (m : ℕ) (t : Bool) → m < 0x8000_0000_0000_0000 → ltb 0x7ff0_0000_0000_0000 m ≡ t →
-    (m + 0x000f_ffff_ffff_ffff) / 0x8000_0000_0000_0000 ≡ cond t 1 0
-carried m true h e = let k = ltb-true _ m e in omega arith
-carried m false h e = let k = ltb-false _ m e in omega arith
+-- the infinity's pattern; a pattern is a NaN's where it is above that, but for the sign
+abbrev infinite : Format → ℕ
+infinite binary32 = 0x7f80_0000
+infinite binary64 = 0x7ff0_0000_0000_0000
 
-pub nan-adds : (w : ℕ) → (w % 0x8000_0000_0000_0000 + 0x000f_ffff_ffff_ffff) / 0x8000_0000_0000_0000 ≡ cond (isNan (ofBits binary64 w)) 1 0
-nan-adds w = carried (w % 0x8000_0000_0000_0000) _ (omega arith) refl ∙ ap (λ (t : Bool). cond t 1 0) (sym (double-nan w))
+nan-above : (f : Format) (w : ℕ) → isNan (ofBits f w) ≡ ltb (infinite f) (w % signBit f)
+nan-above binary32 w = sym (nanBits-is binary32 w) ∙ nanBits-above binary32 w
+nan-above binary64 w = sym (nanBits-is binary64 w) ∙ nanBits-above binary64 w
 
--- what is asked of a single
-asked : (m : ℕ) (t : Bool) → ltb 0x7f80_0000 m ≡ t → leb m 0x7f80_0000 ≡ not t
-asked m true e = lt-leb _ _ (ltb-true _ m e)
-asked m false e = le-leb _ _ (ltb-false _ m e)
+-- the fraction's bits carry such a pattern to the bit of the sign, and no other
+carried : (f : Format) (m : ℕ) (t : Bool) → m < signBit f → ltb (infinite f) m ≡ t → (m + fraction f) / signBit f ≡ cond t 1 0
+carried binary32 m true h e = let k = ltb-true _ m e in omega arith
+carried binary32 m false h e = let k = ltb-false _ m e in omega arith
+carried binary64 m true h e = let k = ltb-true _ m e in omega arith
+carried binary64 m false h e = let k = ltb-false _ m e in omega arith
 
-pub nan-above : (w : ℕ) → leb (w % 0x8000_0000) 0x7f80_0000 ≡ not (isNan (ofBits binary32 w))
-nan-above w = asked (w % 0x8000_0000) _ refl ∙ ap not (sym (single-nan w))
+unsigned : (f : Format) (w : ℕ) → w % signBit f < signBit f
+unsigned binary32 w = omega arith
+unsigned binary64 w = omega arith
 
--- one number more; of what was put together the highest bit, of 64, is looked at
-abbrev pub highBitZero : ℕ → Bool
-highBitZero n = ltb n 0x8000_0000_0000_0000
+nan-adds : (f : Format) (w : ℕ) → (w % signBit f + fraction f) / signBit f ≡ cond (isNan (ofBits f w)) 1 0
+nan-adds f w = carried f (w % signBit f) _ (unsigned f w) refl ∙ ap (λ (t : Bool). cond t 1 0) (sym (nan-above f w))
 
-cases : (n : ℕ) (t : Bool) → highBitZero n ≡ t → t ≡ eqb (n / 0x8000_0000_0000_0000) 0
-cases n true e = let h = ltb-true n _ e in sym (eq-eqb (n / 0x8000_0000_0000_0000) 0 (omega arith))
-cases n false e = let h = ltb-false n _ e in sym (ne-eqb _ _ (λ (g : n / 0x8000_0000_0000_0000 ≡ 0). omega arith))
+-- ---- one number more; of what was put together the bit of the sign is looked at
+abbrev pub highBitZero : Format → ℕ → Bool
+highBitZero f n = ltb n (signBit f)
 
-halved : (n : ℕ) → highBitZero n ≡ eqb (n / 0x8000_0000_0000_0000) 0
-halved n = cases n _ refl
+cases : (f : Format) (n : ℕ) (t : Bool) → highBitZero f n ≡ t → t ≡ eqb (n / signBit f) 0
+cases binary32 n true e = let h = ltb-true n _ e in sym (eq-eqb (n / 0x8000_0000) 0 (omega arith))
+cases binary32 n false e = let h = ltb-false n _ e in sym (ne-eqb _ _ (λ (g : n / 0x8000_0000 ≡ 0). omega arith))
+cases binary64 n true e = let h = ltb-true n _ e in sym (eq-eqb (n / 0x8000_0000_0000_0000) 0 (omega arith))
+cases binary64 n false e = let h = ltb-false n _ e in sym (ne-eqb _ _ (λ (g : n / 0x8000_0000_0000_0000 ≡ 0). omega arith))
+
+halved : (f : Format) (n : ℕ) → highBitZero f n ≡ eqb (n / signBit f) 0
+halved f n = cases f n _ refl
+
+or-halved : (f : Format) (a b : ℕ) → bitOr a b / signBit f ≡ bitOr (a / signBit f) (b / signBit f)
+or-halved binary32 a b = or-shr a b 31
+or-halved binary64 a b = or-shr a b 63
 
 marked : (n : ℕ) → bitOr n 1 ≡ 0 → ⊥
 marked n h = let e = or-add-and n 1 in let g = and-le-l n 1 in omega arith
@@ -61,20 +74,14 @@ put-in false false n e = rw (or-zero-r n) e
 next : (i : ℕ) → i + 1 ≡ suc i
 next i = omega arith
 
-pub double-more :
-    (b : List ℕ) (i seen w : ℕ) → w ≡ wordAt 8 b (i * 8) → highBitZero seen ≡ noneNan binary64 b i →
-    highBitZero (bitOr seen (w % 0x8000_0000_0000_0000 + 0x000f_ffff_ffff_ffff)) ≡ noneNan binary64 b (i + 1)
+pub one-more :
+    (f : Format) (b : List ℕ) (i seen w : ℕ) → w ≡ wordAt (width f) b (i * width f) → highBitZero f seen ≡ noneNan f b i →
+    highBitZero f (bitOr seen (w % signBit f + fraction f)) ≡ noneNan f b (i + 1)
 unfolding noneNan numberAt numberOf wordAt
-double-more b i seen w e h =
-    let t = w % 0x8000_0000_0000_0000 + 0x000f_ffff_ffff_ffff in
-    rw (halved (bitOr seen t), or-shr seen t 63, nan-adds w, e, next i)
-    (put-in (noneNan binary64 b i) (isNan (numberAt binary64 b i)) (seen / 0x8000_0000_0000_0000) (sym (halved seen) ∙ h))
-
-pub single-more :
-    (b : List ℕ) (i w : ℕ) (none : Bool) → w ≡ wordAt 4 b (i * 4) → none ≡ noneNan binary32 b i →
-    none && leb (w % 0x8000_0000) 0x7f80_0000 ≡ noneNan binary32 b (i + 1)
-unfolding noneNan numberAt numberOf wordAt
-single-more b i w none e h = rw (nan-above w, e, h, next i)
+one-more f b i seen w e h =
+    let t = w % signBit f + fraction f in
+    rw (halved f (bitOr seen t), or-halved f seen t, nan-adds f w, e, next i)
+    (put-in (noneNan f b i) (isNan (numberAt f b i)) (seen / signBit f) (sym (halved f seen) ∙ h))
 
 -- ---- where none is a NaN, no single one is
 both : (a s : Bool) → a && not s ≡ true → (a ≡ true) × (s ≡ false)

@@ -1,5 +1,6 @@
 // Doubles, counts and numbers of 16 bits as little-endian bytes. The functions go between a value and an array of its
-// bytes, so that each is total; where in a list the bytes stand is the business of the crates above.
+// bytes, so that each is total; where in a list the bytes stand is the business of the crates above, but for the one
+// that looks through a whole list for a NaN.
 ghost use mathlib.Core.Path.{_≡_};
 ghost use Prim.Native.Nat.{_+_, _*_, _≤_, _<_};
 ghost use lib.Ieee.{binary64};

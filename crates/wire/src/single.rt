@@ -5,8 +5,10 @@ ghost use lib.Ieee.{binary32};
 ghost use lib.ListN.{length};
 ghost use Rattle.wire.specs.Wire.{wordOf, wordAt, numberOf, numberBytes, noNan};
 
-// The pattern of the infinity.
-const INFINITY: u32 = 0x7f80_0000;
+// The sign's bit, and all bits of the fraction.
+const SIGN: u32 = 0x8000_0000;
+
+const FRACTION: u32 = 0x007f_ffff;
 
 fn wide(x: u8) -> u32
     ensures { λ r. ⌜ (r ≡ x) × (r < 256) ⌝ }
@@ -41,19 +43,18 @@ fn word_at(b: &[u8], i: usize) -> u32
     word_from_le_bytes([b[at], b[at + 1], b[at + 2], b[at + 3]])
 }
 
-// Whether none of the singles in the bytes is a NaN: without its sign a NaN's pattern is above that of
-// the infinity. Four are looked at in one step.
+// Whether none of the singles in the bytes is a NaN, found as for doubles, four in one step.
 pub fn no_nan(b: &[u8]) -> bool
     ensures { λ r. ⌜ r ≡ noNan binary32 (now (b .entry)) ⌝ }
 {
     let n = b.len() / 4;
-    let mut none = true;
+    let mut seen: u32 = 0;
     let mut i = 0;
     while i < n {
-        none = none & (word_at(b, i) % 0x8000_0000 <= INFINITY);
+        seen = seen | (word_at(b, i) % SIGN + FRACTION);
         i += 1;
     }
-    none
+    seen < SIGN
 }
 
 // The four bytes of `x`, the least first; those of 7fc00000 for every NaN.

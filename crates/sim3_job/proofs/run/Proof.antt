@@ -1,4 +1,4 @@
--- Written by tools/proofs from Proof.template: edit that one. Digest b0740ebe2ebe131d.
+-- Written by tools/proofs from Proof.template: edit that one. Digest a20ed6762cc648b9.
 -- `sim3_job::run` meets its contract. From a tape, what the sink holds and what the job still writes are together what it writes for the whole tape; and each
 -- turn brings the end nearer, wherever it reads from.
 use borrow.Author.Needs.{needs}
@@ -172,7 +172,8 @@ loop-again c =
 same-length : tie.Need-same-length Inv-loop μ-loop
 same-length c =
     let c1 = c .before .before .before .before .before in
-    c1 .before .before .before .before .loop .inv .7
+    let c2 = c1 .before .before .before .before .before in
+    c2 .loop .inv .7
 
 returns : tie.Need-returns Inv-loop μ-loop
 returns c =
@@ -180,11 +181,12 @@ returns c =
     let c2 = c1 .before .before .before .before .before in
     let c3 = c2 .before .before .before .before .before in
     let c4 = c3 .before .before .before .before .before in
-    let a = c4 .before .before .before .args in
-    let l = c1 .before .before .before .before .loop in (
+    let a = c4 .before .before .before .before .args in
+    let l = c2 .loop in
+    rw (c .ended-as .ensures) (
       omega (arith, l .inv .6, l .inv .7),
-      λ e. tape-failed (c .before .before .before .enum-told .given .1) (a .tape .now) (l .at) (l .have)
-          (l .buf) _ (l .last) (c1 .before .before .fill .ensures .1 .1 e),
+      λ e. tape-failed (c .before .before .before .before .enum-told .given .1) (a .tape .now) (l .at) (l .have)
+          (l .buf) _ (l .last) (c1 .before .before .before .fill .ensures .1 .1 e),
     )
 
 same-length-2 : tie.Need-same-length-2 Inv-loop μ-loop
@@ -194,7 +196,7 @@ same-length-2 c =
     let c3 = c2 .before .before .before .before .before in
     let c4 = c3 .before .before .before .before .before in
     let c5 = c4 .before .before .before .before .before in
-    c1 .before .before .put .kept .1 .1 .0 ∙ c5 .before .before .loop .inv .7
+    c1 .before .before .before .put .kept .1 .1 .0 ∙ c5 .before .before .before .loop .inv .7
 
 returns-2 : tie.Need-returns-2 Inv-loop μ-loop
 returns-2 c =
@@ -206,26 +208,27 @@ returns-2 c =
     let c6 = c5 .before .before .before .before .before in
     let c7 = c6 .before .before .before .before .before in
     let c8 = c7 .before .before .before .before .before in
-    let a = c8 .before .args in
-    let l = c5 .before .before .loop in
+    let a = c8 .before .before .args in
+    let l = c5 .before .before .before .loop in
     let i = l .inv in
-    let f = c5 .fill in
-    let t = c3 .before .turn in
-    let p = c1 .before .before .put in
-    let n = c4 .before .n .given .0 .0 in
-    let ended = c4 .before .n .given .0 .1 .0 in
-    let next = c4 .before .n .given .0 .1 .1 .0 in
+    let f = c5 .before .fill in
+    let t = c3 .before .before .turn in
+    let p = c1 .before .before .before .put in
+    let n = c4 .before .before .n .given .0 .0 in
+    let ended = c4 .before .before .n .given .0 .1 .0 in
+    let next = c4 .before .before .n .given .0 .1 .1 .0 in
     let buf₁ = f .last .1 .1 .1 .1 .0 in
     let F = feedOf jobLimit true (standing (l .c) (stateOf (l .mem))) (take (l .have + n) buf₁) ended (length (l .out)) in
     let held₁ = held (l .mem) (i .9) in
     let told = rw held₁ at (t .ensures .0) in
-    let wrote = rw held₁ at (t .ensures .1 .0) in (
+    let wrote = rw held₁ at (t .ensures .1 .0) in
+    rw (c .ended-as2 .ensures) (
       omega (arith, i .6, i .7),
       λ e.
-          let r = tape-read (c4 .before .n .given .1) jobLimit (a .tape .now) (l .sink) (standing (l .c) (stateOf (l .mem))) (l .buf) buf₁ (l .last)
+          let r = tape-read (c4 .before .before .n .given .1) jobLimit (a .tape .now) (l .sink) (standing (l .c) (stateOf (l .mem))) (l .buf) buf₁ (l .last)
           (l .at) (l .have) (l .sent) (f .ensures .1 .1 e) (i .8 e) in
           let b = handed (F .bytes) (l .out) _ (t .result .written) (ap (λ (x : Fed). x .written) told) wrote in
-          let w = sink-short (c .before .before .before .enum-told2 .given .1) _ (l .sink) _ (l .sent) (p .ensures .1 e) in
+          let w = sink-short (c .before .before .before .before .enum-told2 .given .1) _ (l .sink) _ (l .sent) (p .ensures .1 e) in
           let s = underway-short jobLimit (a .tape .now) (l .sink) (standing (l .c) (stateOf (l .mem))) (take (l .have + n) buf₁) ended next (l .sent) r (i .4) (length (l .out))
           (i .6) (omega (arith, w .1, ap length b)) in
           (omega (arith, s .0, i .7), rw (w .0) (s .1)),
@@ -239,7 +242,7 @@ same-length-3 c =
     let c4 = c3 .before .before .before .before .before in
     let c5 = c4 .before .before .before .before .before in
     let c6 = c5 .before .before .before .before .before in
-    c2 .before .before .put .kept .1 .1 .0 ∙ c6 .before .before .loop .inv .7
+    c2 .before .before .before .put .kept .1 .1 .0 ∙ c6 .before .before .before .loop .inv .7
 
 returns-3 : tie.Need-returns-3 Inv-loop μ-loop
 returns-3 c =
@@ -252,32 +255,32 @@ returns-3 c =
     let c7 = c6 .before .before .before .before .before in
     let c8 = c7 .before .before .before .before .before in
     let c9 = c8 .before .before .before .before .before in
-    let a = c9 .before .args in
-    let l = c6 .before .before .loop in
+    let a = c9 .before .before .args in
+    let l = c6 .before .before .before .loop in
     let i = l .inv in
-    let f = c6 .fill in
-    let t = c4 .before .turn in
-    let p = c2 .before .before .put in
-    let n = c5 .before .n .given .0 .0 in
-    let ended = c5 .before .n .given .0 .1 .0 in
-    let next = c5 .before .n .given .0 .1 .1 .0 in
-    let end = c1 .before .before .before .end .given .0 .0 in
+    let f = c6 .before .fill in
+    let t = c4 .before .before .turn in
+    let p = c2 .before .before .before .put in
+    let n = c5 .before .before .n .given .0 .0 in
+    let ended = c5 .before .before .n .given .0 .1 .0 in
+    let next = c5 .before .before .n .given .0 .1 .1 .0 in
+    let end = c1 .before .before .before .before .end .given .0 .0 in
     let buf₁ = f .last .1 .1 .1 .1 .0 in
     let sink₁ = p .last .1 .1 .0 in
     let F = feedOf jobLimit true (standing (l .c) (stateOf (l .mem))) (take (l .have + n) buf₁) ended (length (l .out)) in
     let held₁ = held (l .mem) (i .9) in
     let told = rw held₁ at (t .ensures .0) in
     let wrote = rw held₁ at (t .ensures .1 .0) in
-    let off : goesOn (t .result .reason) ≡ false = sym (c .before .before .before .before .goes-on .ensures) ∙ not-true _ (c .before .before .before .if1 .taken) in (
-      omega (arith, sink-within (c1 .before .before .before .end .given .1) (length (l .sink)) (p .ensures .0), i .7),
+    let off : goesOn (t .result .reason) ≡ false = sym (c1 .goes-on .ensures) ∙ not-true _ (c .before .before .before .before .if1 .taken) in
+    rw (c .ended-as3 .ensures) (
+      omega (arith, sink-within (c1 .before .before .before .before .end .given .1) (length (l .sink)) (p .ensures .0), i .7),
       λ e.
-          let r = tape-read (c5 .before .n .given .1) jobLimit (a .tape .now) (l .sink) (standing (l .c) (stateOf (l .mem))) (l .buf) buf₁ (l .last)
+          let r = tape-read (c5 .before .before .n .given .1) jobLimit (a .tape .now) (l .sink) (standing (l .c) (stateOf (l .mem))) (l .buf) buf₁ (l .last)
           (l .at) (l .have) (l .sent) (f .ensures .1 .1 e) (i .8 e) in
           let b = handed (F .bytes) (l .out) _ (t .result .written) (ap (λ (x : Fed). x .written) told) wrote in
-          let w : take end sink₁ ≡ take (l .sent) (l .sink) ++ F .bytes = sink-holds (c1 .before .before .before .end .given .1) _ (l .sink) sink₁
+          let w : take end sink₁ ≡ take (l .sent) (l .sink) ++ F .bytes = sink-holds (c1 .before .before .before .before .end .given .1) _ (l .sink) sink₁
           (l .sent) (p .ensures .1 e) ∙ ap (λ (x : List ℕ). take (l .sent) (l .sink) ++ x) b in
-          underway-done jobLimit (a .tape .now) (l .sink) (standing (l .c) (stateOf (l .mem))) (take (l .have + n) buf₁) ended next (l .sent) r (i .4)
-          (length (l .out)) sink₁ end (t .result) told off w,
+          underway-done jobLimit (a .tape .now) (l .sink) (standing (l .c) (stateOf (l .mem))) (take (l .have + n) buf₁) ended next (l .sent) r (i .4) (length (l .out)) sink₁ end (t .result) told off w,
     )
 
 pub run-spec : {M : Type 1} → statement M
@@ -296,6 +299,7 @@ run-spec =
     loop-holds
     fill-requires
     (λ c. search needs)
+    (λ c κs. search needs)
     (λ c. search needs)
     add-have
     turn-requires
@@ -303,8 +307,10 @@ run-spec =
     slice-aggregate-put
     put-requires
     (λ c. search needs)
+    (λ c κs. search needs)
     (λ c. search needs)
     sub-have
+    (λ c κs. search needs)
     (λ c κs. search needs)
     (λ c κs. search needs)
     loop-less

@@ -1,4 +1,4 @@
--- Written by tools/proofs from Proof.template: edit that one. Digest a2a94012517390ac.
+-- Written by tools/proofs from Proof.template: edit that one. Digest 9872b1aa95d215f4.
 -- `wire::no_nan` meets its contract: the highest bit of what was put together tells of the numbers looked at so far. Assumes nothing.
 use borrow.Author.Needs.{needs}
 use Prim.Native.Nat.{_/_, _-_, _≤_}
@@ -7,12 +7,12 @@ use native.Mathlib.Omega.{arith}
 use lib.ListN.{length}
 use lib.Ieee.{binary64}
 use Rattle.wire.specs.Wire.{noneNan, noNan}
-use Rattle.wire.proofs.Nans.{highBitZero, double-more}
+use Rattle.wire.proofs.Nans.{highBitZero, one-more}
 use Rattle.wire.proofs.no_nan.Statement.{statement}
 use Rattle.wire.proofs.no_nan.Tie as tie
 
 abbrev Inv-loop : tie.InvT-loop
-Inv-loop b n seen₀ i₀ seen i = (i ≤ n) × (n ≡ length b / 8) × (highBitZero seen ≡ noneNan binary64 b i)
+Inv-loop b n seen₀ i₀ seen i = (i ≤ n) × (n ≡ length b / 8) × (highBitZero binary64 seen ≡ noneNan binary64 b i)
 
 abbrev μ-loop : tie.MeasureT-loop
 μ-loop b n seen₀ i₀ seen i = n - i
@@ -25,7 +25,7 @@ loop-again : tie.Need-loop-again Inv-loop μ-loop
 loop-again c = (
   omega arith,
   c .before .before .loop .inv .1,
-  double-more (c .before .before .before .before .args .b .now) (c .before .before .loop .i)
+  one-more binary64 (c .before .before .before .before .args .b .now) (c .before .before .loop .i)
       (c .before .before .loop .seen) _ (c .word-at .ensures) (c .before .before .loop .inv .2),
 )
 

@@ -1,5 +1,5 @@
--- Written by tools/proofs from Proof.template: edit that one. Digest 8edde7b58fc38667.
--- `wire::single::no_nan` meets its contract: it has told of the numbers looked at so far. Assumes nothing.
+-- Written by tools/proofs from Proof.template: edit that one. Digest d26c76b0b107f41f.
+-- `wire::single::no_nan` meets its contract: the highest bit of what was put together tells of the numbers looked at so far. Assumes nothing.
 use borrow.Author.Needs.{needs}
 use Prim.Native.Nat.{_/_, _-_, _≤_}
 use mathlib.Core.Path.{_≡_, refl}
@@ -7,15 +7,15 @@ use native.Mathlib.Omega.{arith}
 use lib.ListN.{length}
 use lib.Ieee.{binary32}
 use Rattle.wire.specs.Wire.{noneNan, noNan}
-use Rattle.wire.proofs.Nans.{single-more}
+use Rattle.wire.proofs.Nans.{highBitZero, one-more}
 use Rattle.wire.proofs.single.no_nan.Statement.{statement}
 use Rattle.wire.proofs.single.no_nan.Tie as tie
 
 abbrev Inv-loop : tie.InvT-loop
-Inv-loop b n none₀ i₀ none i = (i ≤ n) × (n ≡ length b / 4) × (none ≡ noneNan binary32 b i)
+Inv-loop b n seen₀ i₀ seen i = (i ≤ n) × (n ≡ length b / 4) × (highBitZero binary32 seen ≡ noneNan binary32 b i)
 
 abbrev μ-loop : tie.MeasureT-loop
-μ-loop b n none₀ i₀ none i = n - i
+μ-loop b n seen₀ i₀ seen i = n - i
 
 loop-holds : tie.Need-loop-holds Inv-loop μ-loop
 unfolding noneNan
@@ -25,8 +25,8 @@ loop-again : tie.Need-loop-again Inv-loop μ-loop
 loop-again c = (
   omega arith,
   c .before .before .loop .inv .1,
-  single-more (c .before .before .before .before .args .b .now) (c .before .before .loop .i) _
-      (c .before .before .loop .none) (c .word-at .ensures) (c .before .before .loop .inv .2),
+  one-more binary32 (c .before .before .before .before .args .b .now) (c .before .before .loop .i)
+      (c .before .before .loop .seen) _ (c .word-at .ensures) (c .before .before .loop .inv .2),
 )
 
 returns : tie.Need-returns Inv-loop μ-loop
@@ -41,6 +41,7 @@ no-nan-spec =
     μ-loop
     loop-holds
     (λ c κs. search needs)
+    (λ c. search needs)
     (λ c. search needs)
     (λ c. search needs)
     loop-again
