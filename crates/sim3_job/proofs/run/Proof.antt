@@ -1,4 +1,4 @@
--- Written by tools/proofs from Proof.template: edit that one. Digest a20ed6762cc648b9.
+-- Written by tools/proofs from Proof.template: edit that one. Digest 7f46821f5e8f705d.
 -- `sim3_job::run` meets its contract. From a tape, what the sink holds and what the job still writes are together what it writes for the whole tape; and each
 -- turn brings the end nearer, wherever it reads from.
 use borrow.Author.Needs.{needs}
@@ -80,7 +80,7 @@ slice-reshare-prefix-put c =
 slice-aggregate-put : tie.Need-slice-aggregate-put Inv-loop μ-loop
 slice-aggregate-put c =
     let c1 = c .before .before .before .before .before in
-    sym (length-take-le _ _ (omega (arith, c1 .before .before .turn .ensures .1 .1 .1 .0 .1, c1 .before .before .turn .kept .1 .1 .1 .1 .1 .0)))
+    sym (length-take-le (c1 .before .before .turn .result .written) _ (omega (arith, c1 .before .before .turn .ensures .1 .1 .1 .0 .1, c1 .before .before .turn .kept .1 .1 .1 .1 .1 .0)))
 
 put-requires : tie.Need-put-requires Inv-loop μ-loop
 put-requires c κs =
