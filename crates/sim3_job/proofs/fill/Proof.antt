@@ -1,4 +1,4 @@
--- Written by tools/proofs from Proof.template: edit that one. Digest f51ae77465cba5aa.
+-- Written by tools/proofs from Proof.template: edit that one. Digest 199392b1413bee8d.
 -- `sim3_job::fill` meets its contract: nothing is read where nothing is asked for. Assumes nothing.
 use borrow.Author.Needs.{needs}
 use native.Mathlib.Omega.{arith}
@@ -22,7 +22,8 @@ returns : tie.Need-returns
 returns c =
     let c1 = c .before .before .before .before .before in
     let a = c1 .before .before .before .before .args in (
-      subst (λ (b : Bool). Within (c .before .before .read-input .result) (a .have) (length (a .buf .now)) b (length (a .tape .now))) (sym (c1 .if1 .taken)) (c .before .before .read-input .ensures .0),
+      subst (λ (b : Bool). Within (c .before .before .read-input .result) (a .have) (length (a .buf .now)) b (length (a .tape .now)))
+          (sym (c1 .if1 .taken)) (c .before .before .read-input .ensures .0),
       (c .before .before .read-input .ensures .1, λ e. untrue (sym e ∙ c .before .before .before .before .if2 .taken)),
     )
 

@@ -1,4 +1,4 @@
--- Written by tools/proofs from Proof.template: edit that one. Digest 7f46821f5e8f705d.
+-- Written by tools/proofs from Proof.template: edit that one. Digest a513fa6d19bb3470.
 -- `sim3_job::run` meets its contract. From a tape, what the sink holds and what the job still writes are together what it writes for the whole tape; and each
 -- turn brings the end nearer, wherever it reads from.
 use borrow.Author.Needs.{needs}
@@ -280,7 +280,8 @@ returns-3 c =
           let b = handed (F .bytes) (l .out) _ (t .result .written) (ap (λ (x : Fed). x .written) told) wrote in
           let w : take end sink₁ ≡ take (l .sent) (l .sink) ++ F .bytes = sink-holds (c1 .before .before .before .before .end .given .1) _ (l .sink) sink₁
           (l .sent) (p .ensures .1 e) ∙ ap (λ (x : List ℕ). take (l .sent) (l .sink) ++ x) b in
-          underway-done jobLimit (a .tape .now) (l .sink) (standing (l .c) (stateOf (l .mem))) (take (l .have + n) buf₁) ended next (l .sent) r (i .4) (length (l .out)) sink₁ end (t .result) told off w,
+          underway-done jobLimit (a .tape .now) (l .sink) (standing (l .c) (stateOf (l .mem))) (take (l .have + n) buf₁) ended next (l .sent) r (i .4)
+          (length (l .out)) sink₁ end (t .result) told off w,
     )
 
 pub run-spec : {M : Type 1} → statement M
