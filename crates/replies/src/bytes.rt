@@ -4,10 +4,10 @@ ghost use mathlib.Core.Path.{_≡_};
 ghost use mathlib.Core.Bool.{true};
 ghost use Prim.Native.Nat.{_+_, _*_, _≤_};
 ghost use lib.Ieee.{binary64};
-ghost use lib.ListN.{length};
+ghost use lib.ListN.{length, take, drop};
 ghost use lib.Seq.{sets};
 ghost use Rattle.ieee.specs.Finite.{isFinite};
-ghost use Rattle.wire.specs.Wire.{word, width, wordAt, numberAt, numberBytes, itemBytes};
+ghost use Rattle.wire.specs.Wire.{word, width, wordAt, numberAt, noNan, numberBytes, itemBytes};
 ghost use Rattle.replies.specs.Plain.{Plain};
 
 // How many bytes a number has.
@@ -33,7 +33,7 @@ pub(crate) fn number_at(b: &[u8], i: usize) -> f64
 // Whether none of the n numbers from the i-th on is a NaN; then their bits can be taken as they are.
 pub(crate) fn plain(b: &[u8], i: usize, n: usize) -> bool
     requires { ⌜ (i + n) * width binary64 ≤ length (now b) ⌝ }
-    ensures { λ r. ⌜ (r ≡ true → Plain binary64 (now (b .entry)) i n) ⌝ }
+    ensures { λ r. ⌜ r ≡ noNan binary64 (take (n * width binary64) (drop (i * width binary64) (now (b .entry)))) ⌝ }
 {
     wire::no_nan(&b[i * NUMBER..(i + n) * NUMBER])
 }

@@ -4,10 +4,10 @@ ghost use mathlib.Core.Path.{_≡_};
 ghost use mathlib.Core.Bool.{true};
 ghost use Prim.Native.Nat.{_+_, _*_, _≤_};
 ghost use lib.Ieee.{binary32};
-ghost use lib.ListN.{length};
+ghost use lib.ListN.{length, take, drop};
 ghost use lib.Seq.{sets};
 ghost use Rattle.ieee.specs.Finite.{isFinite};
-ghost use Rattle.wire.specs.Wire.{word, width, wordAt, numberAt, numberBytes, itemBytes};
+ghost use Rattle.wire.specs.Wire.{word, width, wordAt, numberAt, noNan, numberBytes, itemBytes};
 ghost use Rattle.replies.specs.Plain.{Plain};
 
 // How many bytes a number has.
@@ -24,7 +24,7 @@ pub(crate) fn number_at(b: &[u8], i: usize) -> f32
 // Whether none of the n numbers from the i-th on is a NaN; then their bits can be taken as they are.
 pub(crate) fn plain(b: &[u8], i: usize, n: usize) -> bool
     requires { ⌜ (i + n) * width binary32 ≤ length (now b) ⌝ }
-    ensures { λ r. ⌜ (r ≡ true → Plain binary32 (now (b .entry)) i n) ⌝ }
+    ensures { λ r. ⌜ r ≡ noNan binary32 (take (n * width binary32) (drop (i * width binary32) (now (b .entry)))) ⌝ }
 {
     wire::single::no_nan(&b[i * NUMBER..(i + n) * NUMBER])
 }

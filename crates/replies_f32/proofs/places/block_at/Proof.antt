@@ -1,9 +1,13 @@
--- Written by tools/widths from crates/replies/proofs/places/block_at/Proof.antt: edit that one. Digest d9e581e622c9d955.
+-- Written by tools/widths from crates/replies/proofs/places/block_at/Proof.antt: edit that one. Digest d8a8798e6084adbd.
 -- `replies_f32::places::block_at` meets its contract: its parts stand one behind another, and where none of the numbers is a NaN their bits may be taken. Assumes nothing.
 use borrow.Author.Needs.{needs}
+use mathlib.Core.Path.{refl, sym, _∙_}
+use lib.Ieee.{binary32}
 use Rattle.layout.specs.Layout.{blockIn}
+use Rattle.wire.proofs.Nans.{part-plain}
 use Rattle.replies_f32.proofs.places.block_at.Statement.{statement}
 use Rattle.replies_f32.proofs.places.block_at.Tie as tie
+use Rattle.jacobian_f32.specs.As.{asSim3Jac}
 use Rattle.linalg_f32.proofs.As.{linalg-singles}
 use Rattle.circle_f32.proofs.As.{circle-singles}
 use Rattle.series_f32.proofs.As.{series-singles}
@@ -17,7 +21,12 @@ use Rattle.frames_f32.proofs.As.{frames-singles}
 use Rattle.replies_f32.proofs.As.{replies-singles}
 
 block-at-requires : tie.Need-block-at-requires
-block-at-requires c κs = (search needs, c .before .plain .ensures (c .if1 .taken))
+unfolding asSim3Jac
+block-at-requires c κs = (
+  search needs,
+  part-plain binary32 (c .before .before .before .args .b .now) _ (c .before .before .before .args .i) 31 refl
+      (c .before .before .before .pre) (sym (c .before .plain .ensures) ∙ c .if1 .taken),
+)
 
 returns : tie.Need-returns
 returns c = c .block-at .ensures
