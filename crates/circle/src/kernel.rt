@@ -195,12 +195,12 @@ fn five_group(z: f64, root: f64, sin_half: f64, cos_half: f64, sin: f64) -> Sinc
     }
 }
 
-// Whether b is on its exact arm at x^2 = z, which a NaN is: nothing is worked. For a caller that forms
-// sin x/x, which is 1 - b z, another way there.
-pub fn b_takes_exact_arm(z: f64) -> bool
-    ensures { λ r. ⌜ r ≡ not (lt z (rowLimit binary64 bRow)) ⌝ }
+// Whether b is on its exact arm at the squared norm of a rotation vector, which a NaN is: nothing is
+// worked. For a caller that forms sin x/x, which is 1 - b z, another way there.
+pub fn b_takes_exact_arm_of(phi: Vec3) -> bool
+    ensures { λ r. ⌜ r ≡ not (lt (vecNormSq binary64 phi) (rowLimit binary64 bRow)) ⌝ }
 {
-    !(z < generated::below(Row::B))
+    !(phi.norm_sq() < generated::below(Row::B))
 }
 
 // (sin x/x, a, b, d) at x^2 = z, which the closed forms of Sim(3) read; refusal 1 for z below zero.

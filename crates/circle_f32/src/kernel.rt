@@ -1,4 +1,4 @@
-// Written by tools/widths from crates/circle/src/kernel.rt: edit that one. Digest a78c0ddec7973c83.
+// Written by tools/widths from crates/circle/src/kernel.rt: edit that one. Digest b0a5cd642c302a3b.
 // The exact arms, the series arms and the two groups, at a squared angle z = x^2. Its root x, the sine
 // and cosine of x/2 and the sine of x are handed in. A NaN is below no limit, so it takes the exact
 // arms.
@@ -199,12 +199,12 @@ fn five_group(z: f32, root: f32, sin_half: f32, cos_half: f32, sin: f32) -> Sinc
     }
 }
 
-// Whether b is on its exact arm at x^2 = z, which a NaN is: nothing is worked. For a caller that forms
-// sin x/x, which is 1 - b z, another way there.
-pub fn b_takes_exact_arm(z: f32) -> bool
-    ensures { λ r. ⌜ r ≡ not (lt z (rowLimit binary32 bRow)) ⌝ }
+// Whether b is on its exact arm at the squared norm of a rotation vector, which a NaN is: nothing is
+// worked. For a caller that forms sin x/x, which is 1 - b z, another way there.
+pub fn b_takes_exact_arm_of(phi: Vec3) -> bool
+    ensures { λ r. ⌜ r ≡ not (lt (vecNormSq binary32 (asVec3 phi)) (rowLimit binary32 bRow)) ⌝ }
 {
-    !(z < generated::below(Row::B))
+    !(phi.norm_sq() < generated::below(Row::B))
 }
 
 // (sin x/x, a, b, d) at x^2 = z, which the closed forms of Sim(3) read; refusal 1 for z below zero.

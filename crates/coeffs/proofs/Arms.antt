@@ -18,9 +18,9 @@ use Rattle.circle.proofs.Angle.{norm-not-below}
 use Rattle.series.specs.Series.{seriesFull, seriesV, coeffs4, seriesMost, seriesVMost, seriesGuard, seriesAnswer, seriesPairAnswer}
 use Rattle.closed.specs.Limits.{coeffsDelta, formBBelow, w0Below}
 use Rattle.closed.specs.Arm.{coeffsArm, armTerms, armEnds}
-use Rattle.closed.specs.Closed.{closedFrom, closedV, closedVFrom, closedOnly, closedNine, closedJoined}
+use Rattle.coeffs.specs.Closed.{closedFrom, closedV, closedVFrom, closedOnly, closedNine, closedJoined}
 use Rattle.closed.proofs.Arm.{ends-closed}
-use Rattle.coeffs.specs.Shared.{closedOne, seriesArm}
+use Rattle.coeffs.specs.Private.{closedOne, seriesArm}
 use Rattle.coeffs.specs.Group.{closedScaled, coeffsScaled, coeffsArmed, coeffsVScaled, coeffsUnscale, coeffsUnscaleV, coeffsPlain, coeffsV}
 use Rattle.coeffs.specs.Entries.{scaledAnswer, armedAnswer}
 use Rattle.closed.specs.declared.values.Values.{Values}
@@ -161,3 +161,12 @@ pub v-answers :
     notBelowZero z (coeffsV f sigma z v) ≡ answers (coeffsUnscaleV f (s .c) (v .up) (s .scaled))
 unfolding coeffsV coeffsPlain coeffsVScaled coeffs4 coeffsUnscale coeffsUnscaleV
 v-answers f sigma z v s r = arm-answers z _ s _ (λ (x : VScaled). coeffsUnscaleV f (x .c) (v .up) (x .scaled)) refl r
+
+-- ---- the flag depends on σ and z alone: any values give the same
+flag-of : (b : Bool) (x y : Scaled) → cond b x y .scaled ≡ cond b (x .scaled) (y .scaled)
+flag-of true x y = refl
+flag-of false x y = refl
+
+pub flag-same : (f : Format) (sigma z : Float) (v w : Values) → coeffsScaled f sigma z v .scaled ≡ coeffsScaled f sigma z w .scaled
+unfolding coeffsScaled
+flag-same f sigma z v w = flag-of (ltb (coeffsArm f (coeffsDelta f sigma z)) 5) _ _ ∙ sym (flag-of (ltb (coeffsArm f (coeffsDelta f sigma z)) 5) _ _)

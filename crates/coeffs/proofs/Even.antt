@@ -18,9 +18,9 @@ use Rattle.closed.specs.Limits.{coeffsDelta, w0Below}
 use Rattle.closed.specs.Arm.{coeffsArm, armTerms, armEnds}
 use Rattle.coeffs.specs.Group.{coeffsScaled, coeffsPair, coeffsArmed, coeffsArmedPair}
 use Rattle.coeffs.specs.Entries.{scaledAnswer, beside, pairAnswer, armedAnswer, besideArmed, armedPairAnswer}
-use Rattle.closed.specs.Closed.{closedFrom, closedVFrom}
-use Rattle.closed.specs.Shared.{closedExps, closedEnds, closedWith}
-use Rattle.coeffs.specs.Shared.{minusEtMt, pairEnds, closedPair, seriesArms}
+use Rattle.coeffs.specs.Closed.{closedFrom, closedVFrom}
+use Rattle.coeffs.specs.Private.{closedExps, closedEnds, closedWith}
+use Rattle.coeffs.specs.Private.{minusEtMt, pairEnds, closedPair, seriesArms}
 use Rattle.closed.specs.declared.values.Values.{Values}
 use Rattle.coeffs.specs.declared.sim3.ScaledPair.{ScaledPair}
 use Rattle.coeffs.specs.declared.sim3.ArmedPair.{ArmedPair}

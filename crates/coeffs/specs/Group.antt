@@ -11,7 +11,7 @@ use Rattle.circle.specs.declared.kernel.SincABD.{SincABD}
 use Rattle.closed.specs.Values.{mirrored}
 use Rattle.closed.specs.Limits.{coeffsDelta, formBBelow}
 use Rattle.closed.specs.Arm.{coeffsArm, armTerms, armEnds}
-use Rattle.closed.specs.Closed.{closedFrom}
+use Rattle.coeffs.specs.Closed.{closedFrom}
 use Rattle.closed.specs.declared.values.Values.{Values}
 use Rattle.coeffs.specs.declared.sim3.Scaled.{Scaled}
 use Rattle.coeffs.specs.declared.sim3.VScaled.{VScaled}

@@ -1,3 +1,4 @@
+pub mod Closed
 pub mod Group
 pub mod Entries
-pub mod Shared
+pub mod Private

@@ -5,18 +5,18 @@ ghost use lib.Ieee.{binary64};
 ghost use Rattle.linalg.specs.Answer.{answers, andThen};
 ghost use Rattle.linalg.specs.Vector.{vecNormSq};
 ghost use Rattle.coeffs.specs.Group.{coeffsScaled, coeffsUnscale, coeffsUnscaleV, coeffsPlain, coeffsV, coeffsPair};
-ghost use Rattle.coeffs.specs.Shared.{closedOne, minusEtMt, pairEnds, closedPair, seriesArm, seriesArms};
+ghost use Rattle.coeffs.specs.Private.{closedOne, minusEtMt, pairEnds, closedPair, seriesArm, seriesArms};
 ghost use Rattle.coeffs.specs.Entries.{scaledTold, coeffsTold, vTold, vScaledTold, pairTold, scaledAnswer, coeffsAnswer, vAnswer, vScaledAnswer, pairAnswer};
 ghost use Rattle.coeffs.specs.Entries.{armedTold, armedPairTold, armedAnswer, armedPairAnswer};
+use crate::closed_form::Ends;
+use crate::closed_form::EtMt;
+use crate::closed_form::closed_both;
+use crate::closed_form::closed_from;
+use crate::closed_form::closed_v;
+use crate::closed_form::ends_both;
 use circle::kernel::SincAAnswer;
 use circle::kernel::SincABD;
 use circle::kernel::SincABDAnswer;
-use closed::Ends;
-use closed::EtMt;
-use closed::closed_both;
-use closed::closed_from;
-use closed::closed_v;
-use closed::ends_both;
 use closed::limits::CLOSED;
 use closed::limits::arm;
 use closed::limits::on_form_b;
@@ -311,7 +311,7 @@ fn closed_pair(sigma: f64, z: f64, delta: f64, h: Ends, t: SincABD, v: Values) -
 fn pair_by_series(sigma: f64, z: f64, arm: u8) -> PairAnswer
     ensures { λ r. ⌜ pairTold r ≡ seriesArms binary64 sigma z arm ⌝ }
 {
-    match series_pair::pair::series_pair(sigma, z, terms(arm)) {
+    match series::pair::series_pair(sigma, z, terms(arm)) {
         SeriesPairAnswer::Coeffs(p) => {
             let a = p.pos;
             let b = p.neg;
@@ -385,19 +385,33 @@ pub fn sim3_coeffs_scaled_pair(sigma: f64, z: f64, v: Values) -> PairAnswer
 // ---- the same at z = |phi|^2, which is never below zero: nothing is refused, and the refusing arm
 // of each match is never taken.
 
-// What stands in an arm that is never taken.
-fn no_coeffs() -> Sim3Coeffs {
-    Sim3Coeffs {
-        v0: 0.0,
-        v1: 0.0,
-        v2: 0.0,
-        w0: 0.0,
-        w1: 0.0,
-        w2: 0.0,
-        dv1: 0.0,
-        dv2: 0.0,
-        chi_delta: 0.0,
-    }
+// What stands in an arm that is never taken: whoever calls it has proved that nothing comes there.
+fn no_scaled() -> Scaled
+    requires { ⌜ ⊥ ⌝ }
+    ensures { λ _. ⌜ ⊥ ⌝ }
+{
+    loop {}
+}
+
+fn no_coeffs() -> Sim3Coeffs
+    requires { ⌜ ⊥ ⌝ }
+    ensures { λ _. ⌜ ⊥ ⌝ }
+{
+    loop {}
+}
+
+fn no_v() -> Coeffs4
+    requires { ⌜ ⊥ ⌝ }
+    ensures { λ _. ⌜ ⊥ ⌝ }
+{
+    loop {}
+}
+
+fn no_pair() -> ScaledPair
+    requires { ⌜ ⊥ ⌝ }
+    ensures { λ _. ⌜ ⊥ ⌝ }
+{
+    loop {}
 }
 
 // sim3_coeffs_scaled at |phi|^2.
@@ -406,10 +420,7 @@ pub fn sim3_coeffs_scaled_of(phi: Vec3, sigma: f64, v: Values) -> Scaled
 {
     match sim3_coeffs_scaled(sigma, phi.norm_sq(), v) {
         ScaledAnswer::Coeffs(s) => s,
-        ScaledAnswer::Refused(_) => Scaled {
-            c: no_coeffs(),
-            scaled: false,
-        },
+        ScaledAnswer::Refused(_) => no_scaled(),
     }
 }
 
@@ -429,12 +440,7 @@ pub fn sim3_v_of(phi: Vec3, sigma: f64, v: Values) -> Coeffs4
 {
     match sim3_v(sigma, phi.norm_sq(), v) {
         VAnswer::Coeffs(c) => c,
-        VAnswer::Refused(_) => Coeffs4 {
-            v0: 0.0,
-            v1: 0.0,
-            v2: 0.0,
-            chi_delta: 0.0,
-        },
+        VAnswer::Refused(_) => no_v(),
     }
 }
 
@@ -444,15 +450,6 @@ pub fn sim3_coeffs_scaled_pair_of(phi: Vec3, sigma: f64, v: Values) -> ScaledPai
 {
     match sim3_coeffs_scaled_pair(sigma, phi.norm_sq(), v) {
         PairAnswer::Coeffs(p) => p,
-        PairAnswer::Refused(_) => ScaledPair {
-            pos: Scaled {
-                c: no_coeffs(),
-                scaled: false,
-            },
-            neg: Scaled {
-                c: no_coeffs(),
-                scaled: false,
-            },
-        },
+        PairAnswer::Refused(_) => no_pair(),
     }
 }

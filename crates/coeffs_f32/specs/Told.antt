@@ -1,4 +1,4 @@
--- Written by tools/widths from crates/coeffs: edit that one. Digest 3e6dbe7e3c737fc3.
+-- Written by tools/widths from crates/coeffs: edit that one. Digest 52623b2f42a47fc2.
 -- What each answer of coeffs_f32 says.
 use Rattle.coeffs_f32.specs.declared.sim3.ScaledAnswer as codeScaledAnswer
 use Rattle.coeffs_f32.specs.declared.sim3.ScaledAnswer.the-variants as inScaledAnswer
@@ -14,9 +14,9 @@ use Rattle.coeffs_f32.specs.declared.sim3.ArmedAnswer as codeArmedAnswer
 use Rattle.coeffs_f32.specs.declared.sim3.ArmedAnswer.the-variants as inArmedAnswer
 use Rattle.coeffs_f32.specs.declared.sim3.ArmedPairAnswer as codeArmedPairAnswer
 use Rattle.coeffs_f32.specs.declared.sim3.ArmedPairAnswer.the-variants as inArmedPairAnswer
-use Rattle.linalg.specs.Answer.{Answer, answers, refuses}
 use Rattle.series.specs.declared.sim3.Sim3Coeffs.{Sim3Coeffs}
 use Rattle.series.specs.declared.sim3.Coeffs4.{Coeffs4}
+use Rattle.linalg.specs.Answer.{Answer, answers, refuses}
 use Rattle.coeffs.specs.declared.sim3.Scaled.{Scaled}
 use Rattle.coeffs.specs.declared.sim3.VScaled.{VScaled}
 use Rattle.coeffs.specs.declared.sim3.ScaledPair.{ScaledPair}

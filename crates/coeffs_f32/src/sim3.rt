@@ -1,4 +1,4 @@
-// Written by tools/widths from crates/coeffs/src/sim3.rt: edit that one. Digest d8f883f7f5448eb9.
+// Written by tools/widths from crates/coeffs/src/sim3.rt: edit that one. Digest 17e887e511afde90.
 // The entries of the coefficient group: scaled, with the arm told, unscaled, v alone, and the pair for
 // both signs. Each finds the arm once.
 ghost use mathlib.Core.Path.{_≡_};
@@ -6,7 +6,7 @@ ghost use lib.Ieee.{binary32};
 ghost use Rattle.linalg.specs.Answer.{answers, andThen};
 ghost use Rattle.linalg.specs.Vector.{vecNormSq};
 ghost use Rattle.coeffs.specs.Group.{coeffsScaled, coeffsUnscale, coeffsUnscaleV, coeffsPlain, coeffsV, coeffsPair};
-ghost use Rattle.coeffs.specs.Shared.{closedOne, minusEtMt, pairEnds, closedPair, seriesArm, seriesArms};
+ghost use Rattle.coeffs.specs.Private.{closedOne, minusEtMt, pairEnds, closedPair, seriesArm, seriesArms};
 ghost use Rattle.coeffs.specs.Entries.{scaledAnswer, coeffsAnswer, vAnswer, vScaledAnswer, pairAnswer};
 ghost use Rattle.coeffs_f32.specs.Told.{scaledTold, coeffsTold, vTold, vScaledTold, pairTold};
 ghost use Rattle.coeffs.specs.Entries.{armedAnswer, armedPairAnswer};
@@ -14,17 +14,17 @@ ghost use Rattle.coeffs_f32.specs.Told.{armedTold, armedPairTold};
 ghost use Rattle.linalg_f32.specs.As.{asVec3};
 ghost use Rattle.circle_f32.specs.As.{asSincABD};
 ghost use Rattle.series_f32.specs.As.{asCoeffs4, asSim3Coeffs};
-ghost use Rattle.closed_f32.specs.As.{asEnds, asEtMt, asValues};
-ghost use Rattle.coeffs_f32.specs.As.{asScaled, asScaledPair};
+ghost use Rattle.closed_f32.specs.As.{asValues};
+ghost use Rattle.coeffs_f32.specs.As.{asEnds, asEtMt, asScaled, asScaledPair};
+use crate::closed_form::Ends;
+use crate::closed_form::EtMt;
+use crate::closed_form::closed_both;
+use crate::closed_form::closed_from;
+use crate::closed_form::closed_v;
+use crate::closed_form::ends_both;
 use circle_f32::kernel::SincAAnswer;
 use circle_f32::kernel::SincABD;
 use circle_f32::kernel::SincABDAnswer;
-use closed_f32::Ends;
-use closed_f32::EtMt;
-use closed_f32::closed_both;
-use closed_f32::closed_from;
-use closed_f32::closed_v;
-use closed_f32::ends_both;
 use closed_f32::limits::CLOSED;
 use closed_f32::limits::arm;
 use closed_f32::limits::on_form_b;
@@ -319,7 +319,7 @@ fn closed_pair(sigma: f32, z: f32, delta: f32, h: Ends, t: SincABD, v: Values) -
 fn pair_by_series(sigma: f32, z: f32, arm: u8) -> PairAnswer
     ensures { λ r. ⌜ pairTold r ≡ seriesArms binary32 sigma z arm ⌝ }
 {
-    match series_pair_f32::pair::series_pair(sigma, z, terms(arm)) {
+    match series_f32::pair::series_pair(sigma, z, terms(arm)) {
         SeriesPairAnswer::Coeffs(p) => {
             let a = p.pos;
             let b = p.neg;
@@ -393,19 +393,33 @@ pub fn sim3_coeffs_scaled_pair(sigma: f32, z: f32, v: Values) -> PairAnswer
 // ---- the same at z = |phi|^2, which is never below zero: nothing is refused, and the refusing arm
 // of each match is never taken.
 
-// What stands in an arm that is never taken.
-fn no_coeffs() -> Sim3Coeffs {
-    Sim3Coeffs {
-        v0: 0.0,
-        v1: 0.0,
-        v2: 0.0,
-        w0: 0.0,
-        w1: 0.0,
-        w2: 0.0,
-        dv1: 0.0,
-        dv2: 0.0,
-        chi_delta: 0.0,
-    }
+// What stands in an arm that is never taken: whoever calls it has proved that nothing comes there.
+fn no_scaled() -> Scaled
+    requires { ⌜ ⊥ ⌝ }
+    ensures { λ _. ⌜ ⊥ ⌝ }
+{
+    loop {}
+}
+
+fn no_coeffs() -> Sim3Coeffs
+    requires { ⌜ ⊥ ⌝ }
+    ensures { λ _. ⌜ ⊥ ⌝ }
+{
+    loop {}
+}
+
+fn no_v() -> Coeffs4
+    requires { ⌜ ⊥ ⌝ }
+    ensures { λ _. ⌜ ⊥ ⌝ }
+{
+    loop {}
+}
+
+fn no_pair() -> ScaledPair
+    requires { ⌜ ⊥ ⌝ }
+    ensures { λ _. ⌜ ⊥ ⌝ }
+{
+    loop {}
 }
 
 // sim3_coeffs_scaled at |phi|^2.
@@ -414,10 +428,7 @@ pub fn sim3_coeffs_scaled_of(phi: Vec3, sigma: f32, v: Values) -> Scaled
 {
     match sim3_coeffs_scaled(sigma, phi.norm_sq(), v) {
         ScaledAnswer::Coeffs(s) => s,
-        ScaledAnswer::Refused(_) => Scaled {
-            c: no_coeffs(),
-            scaled: false,
-        },
+        ScaledAnswer::Refused(_) => no_scaled(),
     }
 }
 
@@ -437,12 +448,7 @@ pub fn sim3_v_of(phi: Vec3, sigma: f32, v: Values) -> Coeffs4
 {
     match sim3_v(sigma, phi.norm_sq(), v) {
         VAnswer::Coeffs(c) => c,
-        VAnswer::Refused(_) => Coeffs4 {
-            v0: 0.0,
-            v1: 0.0,
-            v2: 0.0,
-            chi_delta: 0.0,
-        },
+        VAnswer::Refused(_) => no_v(),
     }
 }
 
@@ -452,15 +458,6 @@ pub fn sim3_coeffs_scaled_pair_of(phi: Vec3, sigma: f32, v: Values) -> ScaledPai
 {
     match sim3_coeffs_scaled_pair(sigma, phi.norm_sq(), v) {
         PairAnswer::Coeffs(p) => p,
-        PairAnswer::Refused(_) => ScaledPair {
-            pos: Scaled {
-                c: no_coeffs(),
-                scaled: false,
-            },
-            neg: Scaled {
-                c: no_coeffs(),
-                scaled: false,
-            },
-        },
+        PairAnswer::Refused(_) => no_pair(),
     }
 }

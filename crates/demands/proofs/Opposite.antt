@@ -14,7 +14,7 @@ use Rattle.linalg.specs.Vector.{sum3, vecScale, vecDot, vecCross, vecAdd, vecSu
 use Rattle.linalg.specs.Matrix.{rowMul, matScale, matAdd, matSub, matMul, matMulVec, matHat, vecHatMul, matHatMul}
 use Rattle.linalg.specs.declared.vector.Vec3.{Vec3}
 use Rattle.linalg.specs.declared.matrix.Mat3.{Mat3}
-use Rattle.blocks.specs.Blocks.{matOuter}
+use Rattle.sides.specs.Blocks.{matOuter}
 use Rattle.demands.specs.Turned.{Opposite, OppositeVec, OppositeMat, OppositeIs}
 
 -- ---- what it says of two values

@@ -16,7 +16,7 @@ use Rattle.series.specs.declared.sim3.Sim3Coeffs.{Sim3Coeffs}
 use Rattle.closed.specs.declared.values.Values.{Values}
 use Rattle.sim3.specs.Exp.{polyApply, vApply, poseExp}
 use Rattle.sim3.specs.declared.tangent.Sim3Tangent.{Sim3Tangent}
-use Rattle.blocks.specs.Blocks.{combined, jlQ, jlBlocks, jacJl, jlAndInverseFrom, jlAndInverse}
+use Rattle.sides.specs.Blocks.{combined, jlQ, jlBlocks, jacJl, jlAndInverseFrom, jlAndInverse}
 use Rattle.sides.specs.Side.{expAndJl}
 use Rattle.sides.specs.Pair.{blockPair}
 use Rattle.frames.specs.Pose.{framedExp}

@@ -15,7 +15,7 @@ use Rattle.coeffs.specs.Group.{coeffsScaled, coeffsUnscale, coeffsPlain, coeffs
 use Rattle.closed.specs.declared.values.Values.{Values}
 use Rattle.sim3.specs.Tangent.{tangentZero}
 use Rattle.sim3.specs.Exp.{polyApply, vApply, poseExp}
-use Rattle.blocks.specs.Blocks.{matOuter, jlQ, jlBlocks, polyMatrix, jacJl}
+use Rattle.sides.specs.Blocks.{matOuter, jlQ, jlBlocks, polyMatrix, jacJl}
 use Rattle.demands.specs.Turned.{turnedRound}
 use Rattle.demands.specs.TurnedExamples.{StepTurned, TurnedExamples}
 

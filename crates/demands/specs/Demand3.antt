@@ -19,8 +19,8 @@ use Rattle.sim3.specs.Tangent.{tangentNeg}
 use Rattle.sim3.specs.Exp.{poseExp}
 use Rattle.sim3.specs.declared.sim3.Sim3.{Sim3}
 use Rattle.sim3.specs.declared.tangent.Sim3Tangent.{Sim3Tangent}
-use Rattle.blocks.specs.Blocks.{jlAndInverse}
-use Rattle.blocks.specs.declared.JacAndInverse.{JacAndInverse}
+use Rattle.sides.specs.Blocks.{jlAndInverse}
+use Rattle.sides.specs.declared.blocks.JacAndInverse.{JacAndInverse}
 use Rattle.sides.specs.declared.pair.BlockPair.{BlockPair}
 
 -- what the eight calls answer: the pair of coefficients and each sign's, the pair of blocks and each sign's, the exponential of the tangent and of its negative

@@ -14,7 +14,7 @@ use Rattle.sim3.specs.Tangent.{tangent}
 use Rattle.sim3.specs.declared.sim3.Sim3.{Sim3}
 use Rattle.sim3.specs.declared.tangent.Sim3Tangent.{Sim3Tangent}
 use Rattle.jacobian.specs.declared.jac.Sim3Jac.{Sim3Jac}
-use Rattle.blocks.specs.Blocks.{jacJl, jlAndInverse}
+use Rattle.sides.specs.Blocks.{jacJl, jlAndInverse}
 use Rattle.sides.specs.Side.{expAndJl}
 use Rattle.sides.specs.Pair.{blockPair}
 use Rattle.frames.specs.Pose.{framedExp}

@@ -11,7 +11,7 @@ use Rattle.closed.specs.declared.values.Values.{Values}
 use Rattle.sim3.specs.Tangent.{tangent, tangentZero}
 use Rattle.sim3.specs.Exp.{poseExp}
 use Rattle.sim3.specs.declared.tangent.Sim3Tangent.{Sim3Tangent}
-use Rattle.blocks.specs.Blocks.{jacJl}
+use Rattle.sides.specs.Blocks.{jacJl}
 use Rattle.demands.specs.Turned.{turnedRound}
 
 -- at the zero tangent the first number of t and of b is +0 both ways, and that of f is -0 both ways, whatever the values; so y ≡ −x, bit for bit, holds of none

@@ -8,12 +8,12 @@ ghost use Rattle.coeffs.specs.Entries.{armedPairTold};
 ghost use Rattle.demands.specs.Demand3.{Demand3};
 ghost use Rattle.demands.specs.Flags.{FlagsScale};
 ghost use Rattle.demands.specs.Told.{signsTold};
-use blocks::JacAndInverse;
 use closed::values::Values;
 use coeffs::sim3::ArmedPairAnswer;
 use coeffs::sim3::PairAnswer;
 use coeffs::sim3::ScaledAnswer;
 use linalg::matrix::Mat3;
+use sides::blocks::JacAndInverse;
 use sides::pair::BlockPair;
 use sim3::sim3::Sim3;
 use sim3::tangent::Sim3Tangent;
@@ -69,12 +69,13 @@ pub struct Flagged {
     pub block: BlockPair,
 }
 
-// The armed pair at tau's sigma and |phi|^2, and the block pair of tau.
-pub fn same_flags(tau: Sim3Tangent, v: Values, jl: Mat3, jl_inv: Mat3) -> Flagged
-    ensures { λ r. ⌜ FlagsScale binary64 tau v jl «jl_inv» (armedPairTold (r .armed)) (r .block) ⌝ }
+// The armed pair at tau's sigma and |phi|^2 on the values v, and the block pair of tau on any other values
+// w.
+pub fn same_flags(tau: Sim3Tangent, v: Values, w: Values, jl: Mat3, jl_inv: Mat3) -> Flagged
+    ensures { λ r. ⌜ FlagsScale binary64 tau w jl «jl_inv» (armedPairTold (r .armed)) (r .block) ⌝ }
 {
     let phi = tau.phi;
     let armed = coeffs::sim3::sim3_coeffs_armed_pair(tau.sigma, phi.norm_sq(), v);
-    let block = sides::pair::block_pair(tau, v, jl, jl_inv);
+    let block = sides::pair::block_pair(tau, w, jl, jl_inv);
     Flagged { armed, block }
 }

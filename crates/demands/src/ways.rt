@@ -3,11 +3,11 @@
 ghost use mathlib.Core.Path.{_≡_};
 ghost use lib.Ieee.{binary64};
 ghost use Rattle.demands.specs.Turned.{turnedRound, waysOf, Turned};
-use blocks::JacAndInverse;
 use closed::values::Values;
 use frames::Pose;
 use jacobian::jac::Sim3Jac;
 use linalg::matrix::Mat3;
+use sides::blocks::JacAndInverse;
 use sides::pair::BlockPair;
 use sides::side::ExpAndJl;
 use sim3::tangent::Sim3Tangent;

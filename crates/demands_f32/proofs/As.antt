@@ -1,15 +1,14 @@
--- Written by tools/widths from crates/demands: edit that one. Digest 89049ef68531d2a8.
+-- Written by tools/widths from crates/demands: edit that one. Digest 8bf86c4ba29f3164.
 -- The structs of demands_f32 field by field, as rules for `simp`: a number that the code reads of a struct is the number of the definitions' record. Assumes nothing.
 use mathlib.Core.Path.{_≡_, refl}
 use Rattle.demands_f32.specs.declared.ways.BothWays.{BothWays}
 use Rattle.sides_f32.specs.declared.pair.BlockPair.{BlockPair}
 use Rattle.sides_f32.specs.declared.side.ExpAndJl.{ExpAndJl}
-use Rattle.blocks_f32.specs.declared.JacAndInverse.{JacAndInverse}
+use Rattle.sides_f32.specs.declared.blocks.JacAndInverse.{JacAndInverse}
 use Rattle.frames_f32.specs.declared.Pose.{Pose}
 use Rattle.jacobian_f32.specs.declared.jac.Sim3Jac.{Sim3Jac}
 use Rattle.jacobian_f32.specs.As.{asSim3Jac}
-use Rattle.blocks_f32.specs.As.{asJacAndInverse}
-use Rattle.sides_f32.specs.As.{asBlockPair, asExpAndJl}
+use Rattle.sides_f32.specs.As.{asBlockPair, asExpAndJl, asJacAndInverse}
 use Rattle.frames_f32.specs.As.{asPose}
 use Rattle.demands_f32.specs.As.{asBothWays}
 

@@ -1,10 +1,9 @@
--- Written by tools/widths from crates/demands: edit that one. Digest 22f73a9868b56ca5.
+-- Written by tools/widths from crates/demands: edit that one. Digest bae5ff89c1fe9b75.
 -- The structs of demands_f32 as the records that the definitions speak of, number by number: a float of either width is one type of the logic.
 use Rattle.demands.specs.declared.ways.BothWays as wideBothWays
 use Rattle.demands_f32.specs.declared.ways.BothWays.{BothWays}
 use Rattle.jacobian_f32.specs.As.{asSim3Jac}
-use Rattle.blocks_f32.specs.As.{asJacAndInverse}
-use Rattle.sides_f32.specs.As.{asBlockPair, asExpAndJl}
+use Rattle.sides_f32.specs.As.{asBlockPair, asExpAndJl, asJacAndInverse}
 use Rattle.frames_f32.specs.As.{asPose}
 
 unfoldable pub asBothWays : BothWays → wideBothWays.BothWays

@@ -1,11 +1,10 @@
--- Written by tools/widths from crates/demands: edit that one. Digest cd7cf061b4875858.
+-- Written by tools/widths from crates/demands: edit that one. Digest 28086d2048a63b62.
 -- What each answer of demands_f32 says.
 use Rattle.demands_f32.specs.declared.BothSigns as codeBothSigns
 use Rattle.demands.specs.Demand3.{Signs}
 use Rattle.coeffs_f32.specs.Told.{scaledTold, pairTold}
 use Rattle.sim3_f32.specs.As.{asSim3}
-use Rattle.blocks_f32.specs.As.{asJacAndInverse}
-use Rattle.sides_f32.specs.As.{asBlockPair}
+use Rattle.sides_f32.specs.As.{asBlockPair, asJacAndInverse}
 
 abbrev pub signsTold : codeBothSigns.BothSigns → Signs
 signsTold r =

@@ -1,4 +1,4 @@
-// Written by tools/widths from crates/demands/src/lib.rt: edit that one. Digest e08a719183d8d8b1.
+// Written by tools/widths from crates/demands/src/lib.rt: edit that one. Digest 56ed8a7af842b2fe.
 // What is said of several calls together. Each function here makes the calls of which a demand speaks,
 // and its contract is the demand: it rests on the contracts of these functions and on nothing else of
 // them. The third demand: the paired evaluation gives for both signs what the one-sign functions give.
@@ -13,12 +13,12 @@ ghost use Rattle.linalg_f32.specs.As.{asMat3};
 ghost use Rattle.closed_f32.specs.As.{asValues};
 ghost use Rattle.sim3_f32.specs.As.{asSim3Tangent};
 ghost use Rattle.sides_f32.specs.As.{asBlockPair};
-use blocks_f32::JacAndInverse;
 use closed_f32::values::Values;
 use coeffs_f32::sim3::ArmedPairAnswer;
 use coeffs_f32::sim3::PairAnswer;
 use coeffs_f32::sim3::ScaledAnswer;
 use linalg_f32::matrix::Mat3;
+use sides_f32::blocks::JacAndInverse;
 use sides_f32::pair::BlockPair;
 use sim3_f32::sim3_f32::Sim3;
 use sim3_f32::tangent::Sim3Tangent;
@@ -74,12 +74,13 @@ pub struct Flagged {
     pub block: BlockPair,
 }
 
-// The armed pair at tau's sigma and |phi|^2, and the block pair of tau.
-pub fn same_flags(tau: Sim3Tangent, v: Values, jl: Mat3, jl_inv: Mat3) -> Flagged
-    ensures { λ r. ⌜ FlagsScale binary32 (asSim3Tangent tau) (asValues v) (asMat3 jl) (asMat3 «jl_inv») (armedPairTold (r .armed)) (asBlockPair (r .block)) ⌝ }
+// The armed pair at tau's sigma and |phi|^2 on the values v, and the block pair of tau on any other values
+// w.
+pub fn same_flags(tau: Sim3Tangent, v: Values, w: Values, jl: Mat3, jl_inv: Mat3) -> Flagged
+    ensures { λ r. ⌜ FlagsScale binary32 (asSim3Tangent tau) (asValues w) (asMat3 jl) (asMat3 «jl_inv») (armedPairTold (r .armed)) (asBlockPair (r .block)) ⌝ }
 {
     let phi = tau.phi;
     let armed = coeffs_f32::sim3::sim3_coeffs_armed_pair(tau.sigma, phi.norm_sq(), v);
-    let block = sides_f32::pair::block_pair(tau, v, jl, jl_inv);
+    let block = sides_f32::pair::block_pair(tau, w, jl, jl_inv);
     Flagged { armed, block }
 }

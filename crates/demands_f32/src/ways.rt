@@ -1,4 +1,4 @@
-// Written by tools/widths from crates/demands/src/ways.rt: edit that one. Digest 5163d93f561bf019.
+// Written by tools/widths from crates/demands/src/ways.rt: edit that one. Digest b4fe0de48f7064b3.
 // Turning the translation round: with all of rho negated, the exponential's t and the blocks b and f of
 // the left Jacobian are negated, and all else of both has the same bits.
 ghost use mathlib.Core.Path.{_≡_};
@@ -8,11 +8,11 @@ ghost use Rattle.linalg_f32.specs.As.{asMat3};
 ghost use Rattle.closed_f32.specs.As.{asValues};
 ghost use Rattle.sim3_f32.specs.As.{asSim3Tangent};
 ghost use Rattle.demands_f32.specs.As.{asBothWays};
-use blocks_f32::JacAndInverse;
 use closed_f32::values::Values;
 use frames_f32::Pose;
 use jacobian_f32::jac::Sim3Jac;
 use linalg_f32::matrix::Mat3;
+use sides_f32::blocks::JacAndInverse;
 use sides_f32::pair::BlockPair;
 use sides_f32::side::ExpAndJl;
 use sim3_f32::tangent::Sim3Tangent;

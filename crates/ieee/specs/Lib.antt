@@ -3,3 +3,4 @@ pub mod Patterns
 pub mod Signs
 pub mod Finite
 pub mod Table
+pub mod Infix

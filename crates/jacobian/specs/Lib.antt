@@ -1,3 +1,3 @@
 pub mod Jac
 pub mod Dense
-pub mod DenseRows
+pub mod Private

@@ -6,7 +6,7 @@ ghost use lib.ListN.{length};
 ghost use lib.Seq.{sets};
 ghost use Rattle.linalg.specs.Vector.{vec};
 ghost use Rattle.sim3.specs.Tangent.{tangent, tangentToDense};
-ghost use Rattle.jacobian.specs.DenseRows.{sevenRows};
+ghost use Rattle.jacobian.specs.Private.{sevenRows};
 ghost use Rattle.jacobian.specs.Dense.{columnAt, sevenOf, sevenFlat, sevenTranspose, sevenApply, jacSandwich, jacDense};
 use crate::jac::Sim3Jac;
 use linalg::vector::Vec3;

@@ -1,4 +1,4 @@
-// Written by tools/widths from crates/jacobian/src/dense.rt: edit that one. Digest 2317834c76ddfbd5.
+// Written by tools/widths from crates/jacobian/src/dense.rt: edit that one. Digest 14db9a90df2fdafa.
 // 7x7 matrices as 49 numbers, column by column.
 ghost use mathlib.Core.Path.{_≡_};
 ghost use Prim.Native.Nat.{_+_, _≤_};
@@ -7,7 +7,7 @@ ghost use lib.ListN.{length};
 ghost use lib.Seq.{sets};
 ghost use Rattle.linalg.specs.Vector.{vec};
 ghost use Rattle.sim3.specs.Tangent.{tangent, tangentToDense};
-ghost use Rattle.jacobian.specs.DenseRows.{sevenRows};
+ghost use Rattle.jacobian.specs.Private.{sevenRows};
 ghost use Rattle.jacobian.specs.Dense.{columnAt, sevenOf, sevenFlat, sevenTranspose, sevenApply, jacSandwich, jacDense};
 ghost use Rattle.linalg_f32.specs.As.{asVec3};
 ghost use Rattle.sim3_f32.specs.As.{asSim3Tangent};

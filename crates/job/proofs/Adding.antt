@@ -11,7 +11,7 @@ use Rattle.marks.specs.Marks.{foundOf}
 use Rattle.marks.specs.Rows.{rowAt}
 use Rattle.job.specs.Counts.{countsNone, countsMore}
 use Rattle.job.specs.Job.{Standing, standingNone, moved, trailer, jobOn, jobFrom, countsOn, countsFrom, CountsTheorem}
-use Rattle.job.specs.Inner.{Sound}
+use Rattle.job.specs.Private.{Sound}
 use Rattle.job.proofs.Rows.{none-total}
 use Rattle.job.proofs.Loop.{counted-sound}
 use Rattle.job.proofs.Turns.{counted-begun}

@@ -18,7 +18,7 @@ use Rattle.job.specs.declared.Reason.the-variants.{More, Room, Bad, Full
 use Rattle.job.specs.Job.{trailer}
 use Rattle.marks.specs.Rows.{rowCount}
 use Rattle.job.specs.Counts.{rowsBytes}
-use Rattle.job.specs.Inner.{trailerLength}
+use Rattle.job.specs.Private.{trailerLength}
 use Rattle.job.specs.Feed.{closing, closingOf, ends}
 use Rattle.job.proofs.Rows.{rows-length}
 

@@ -3,6 +3,7 @@ pub mod Rows
 pub mod Turns
 pub mod Loop
 pub mod Steps
+pub mod Lent
 pub mod Ending
 pub mod Pieces
 pub mod Stream
@@ -10,4 +11,5 @@ pub mod Whole
 pub mod Adding
 pub mod Few
 pub mod Progress
+pub mod Input
 pub mod Examples

@@ -19,8 +19,8 @@ use Rattle.marks.specs.Marks.{foundOf}
 use Rattle.kept.specs.State.{State}
 use Rattle.marks.specs.Rows.{rowAt}
 use Rattle.job.specs.Job.{Standing, moved}
-use Rattle.job.specs.Feed.{halt, after, recordsOf, toldPart}
-use Rattle.job.specs.Inner.{Sound}
+use Rattle.job.specs.Feed.{halt, after, recordsOf}
+use Rattle.job.specs.Private.{Sound, partFed}
 use Rattle.marks.proofs.Heads.{taken}
 use Rattle.marks.proofs.Rows.{row-few}
 use Rattle.job.proofs.Rows.{rows-add}
@@ -63,7 +63,7 @@ going-start limit input last j out s = record {
 -- what the loop answers, what the output holds then, and the state
 abbrev pub Left : ℕ → List ℕ → Bool → Standing → List ℕ → Fed → List ℕ → State → Type 0
 Left limit input last j₀ out₀ f out w =
-    (f ≡ toldPart (recordsOf (limit - j₀ .counts .begun) j₀ input last (length out₀)))
+    (f ≡ partFed (recordsOf (limit - j₀ .counts .begun) j₀ input last (length out₀)))
     × ((out ≡ sets out₀ 0 (recordsOf (limit - j₀ .counts .begun) j₀ input last (length out₀) .bytes))
     × (w ≡ recordsOf (limit - j₀ .counts .begun) j₀ input last (length out₀) .standing .state))
 

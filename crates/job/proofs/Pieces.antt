@@ -1,7 +1,7 @@
 -- One call: the loop's value fits the input and the output, and with the end written behind it it is `feedOf`. Assumes nothing.
 use Prim.Native.Nat.{ℕ, suc, _+_, _-_, _≤_}
 use mathlib.Core.Path.{_≡_, refl, sym, ap, _∙_}
-use mathlib.Core.Bool.{Bool, true, false, _&&_}
+use mathlib.Core.Bool.{Bool, true, false, cond, _&&_}
 use mathlib.Core.List.{List, _++_}
 use native.Mathlib.Nat.{zero-add}
 use native.Mathlib.Omega.{arith}
@@ -11,17 +11,18 @@ use lib.Seq.{sets, length-sets}
 use lib.Dec.{leb, eqb}
 use Rattle.layout.proofs.Runs.{sets-front, sets-split}
 use Rattle.outcome.specs.declared.Kind.the-variants.{Refused}
-use Rattle.outcome.specs.Outcome.{longest, Found}
+use Rattle.outcome.specs.Outcome.{longest, unknownMark, Found}
 use Rattle.job.specs.declared.Counts.{Counts}
 use Rattle.job.specs.declared.Fed.{Fed}
 use Rattle.job.specs.declared.Reason.{Reason}
-use Rattle.job.specs.declared.Reason.the-variants.{Bad}
+use Rattle.job.specs.declared.Reason.the-variants.{More, Room, Bad, Full, End, Unknown, Cut}
 use Rattle.job.specs.Counts.{total, countsSound}
-use Rattle.kept.specs.State.{State}
+use Rattle.kept.specs.State.{State, holds}
 use Rattle.marks.specs.Rows.{rowCount, rowAt}
-use Rattle.job.specs.Job.{Standing}
-use Rattle.job.specs.Feed.{Part, halt, closed, closing, ends, recordsOf, feedOf, toldPart}
-use Rattle.job.specs.Inner.{Sound}
+use Rattle.job.specs.Job.{Standing, jobLimit}
+use Rattle.job.specs.Feed.{Part, halt, closed, closing, ends, recordsOf, memRecords, feedOf, fedMem, Told, wantsBytes, wantsRoom, unsound, atLimit, atEnd, refused}
+use Rattle.job.specs.Feed.{reasonTold, CallTold, fedTold, partTold}
+use Rattle.job.specs.Private.{Sound, partFed}
 use Rattle.outcome.proofs.Never.{untrue}
 use Rattle.marks.proofs.Heads.{taken}
 use Rattle.job.proofs.Turns.{Stops, at-end, at-pause, at-unknown, at-cut, at-part, records-by, counted-begun}
@@ -130,10 +131,48 @@ pub feed-good :
 unfolding feedOf
 feed-good limit held j xs last room e = rw e
 
+-- ---- what an answer says is all of it: the reason can be read back
+reasonOf : Told → Reason
+reasonOf wantsBytes = More
+reasonOf wantsRoom = Room
+reasonOf unsound = Bad
+reasonOf atLimit = Full
+reasonOf atEnd = End
+reasonOf (refused k) = cond (eqb k unknownMark) Unknown Cut
+
+reason-back : (r : Reason) → reasonOf (reasonTold r) ≡ r
+unfolding reasonOf
+reason-back More = refl
+reason-back Room = refl
+reason-back Bad = refl
+reason-back Full = refl
+reason-back End = refl
+reason-back Unknown = refl
+reason-back Cut = refl
+
+pub told-back : (f : Fed) (p : Part) → fedTold f ≡ partTold p → f ≡ partFed p
+told-back f p e = λ i. record {
+  reason = (sym (reason-back (f .reason)) ∙ ap (λ (t : CallTold). reasonOf (t .reason)) e ∙ reason-back (p .reason)) i;
+  counts = e i .counts;
+  used = e i .used;
+  written = e i .written;
+}
+
+-- the bytes lent for the state, likewise
+module _ (c : Counts) (m xs : List ℕ) (room : ℕ) where
+  pub mem-bad : holds m && countsSound jobLimit c ≡ false → fedMem c m xs room ≡ m
+  unfolding fedMem
+  mem-bad e = rw e
+
+  pub mem-good : holds m && countsSound jobLimit c ≡ true →
+      fedMem c m xs room ≡ memRecords (jobLimit - c .begun) m xs room
+  unfolding fedMem
+  mem-good e = rw e
+
 -- ---- the counts are a job's, the bytes hold a state, and the loop has answered l and left the output out₁ and the state w
 pub record Looped (limit : ℕ) (held : Bool) (j : Standing) (xs : List ℕ) (last : Bool) (out : List ℕ) (l : Fed) (out₁ : List ℕ) (w : State) : Type 0 where
   pub good : held && countsSound limit (j .counts) ≡ true
-  pub told : l ≡ toldPart (recordsOf (limit - j .counts .begun) j xs last (length out))
+  pub told : l ≡ partFed (recordsOf (limit - j .counts .begun) j xs last (length out))
   pub wrote : out₁ ≡ sets out 0 (recordsOf (limit - j .counts .begun) j xs last (length out) .bytes)
   pub left : w ≡ recordsOf (limit - j .counts .begun) j xs last (length out) .standing .state
 
@@ -153,8 +192,16 @@ module _ {limit : ℕ} {held : Bool} {j : Standing} {xs : List ℕ} {last : Bool
 
   pub feed-told :
       (n : ℕ) → n ≡ length (closing (l .reason) (l .counts)) →
-      record { reason = l .reason; counts = l .counts; used = l .used; written = l .written + n } ≡ toldPart (feedOf limit held j xs last (length out))
+      record { reason = l .reason; counts = l .counts; used = l .used; written = l .written + n } ≡
+      partFed (feedOf limit held j xs last (length out))
   feed-told n e = rw (e, k .told, feed-good limit held j xs last (length out) (k .good), length-append)
+
+  -- as it is read
+  pub feed-view :
+      (n : ℕ) → n ≡ length (closing (l .reason) (l .counts)) →
+      fedTold (record { reason = l .reason; counts = l .counts; used = l .used; written = l .written + n }) ≡
+      partTold (feedOf limit held j xs last (length out))
+  feed-view n e = ap fedTold (feed-told n e)
 
   pub feed-wrote :
       (n : ℕ) (out₂ : List ℕ) → n ≡ length (closing (l .reason) (l .counts)) → out₂ ≡ sets out₁ (l .written) (closing (l .reason) (l .counts)) →

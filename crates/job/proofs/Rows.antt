@@ -19,7 +19,7 @@ use Rattle.job.specs.declared.Counts.{Counts}
 use Rattle.job.specs.declared.Four.{Four}
 use Rattle.job.specs.Counts.{rowsMore, total, rowsBytes, countsMore}
 use Rattle.job.specs.Job.{jobLimit}
-use Rattle.job.specs.Inner.{Sound, Small, fourOf, fourMore, joined}
+use Rattle.job.specs.Private.{Sound, Small, fourOf, fourMore, joined}
 
 -- ---- the sum
 pub none-total : total (replicate rowCount 0) ≡ 0

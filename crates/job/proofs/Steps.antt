@@ -1,6 +1,6 @@
 -- The record loop as the code goes through it: by the limit, by what it is answered of the record at the head, and by the room that is left for the end. Assumes nothing.
 use Prim.Native.Nat.{ℕ, suc, _+_, _-_, _≤_, _<_}
-use mathlib.Core.Path.{_≡_, refl, sym, ap, subst, _∙_}
+use mathlib.Core.Path.{_≡_, refl, sym, ap, _∙_}
 use mathlib.Core.Bool.{Bool, true, false, cond}
 use mathlib.Core.List.{List, [], _++_}
 use native.Mathlib.Omega.{arith}
@@ -11,7 +11,6 @@ use lib.Seq.{sets, take-all, length-sets, length-take-le}
 use Rattle.outcome.specs.declared.Kind.{Kind}
 use Rattle.outcome.specs.declared.Kind.the-variants.{Refused}
 use Rattle.job.specs.declared.Counts.{Counts}
-use Rattle.job.specs.declared.Four.{Four}
 use Rattle.job.specs.declared.Fed.{Fed}
 use Rattle.job.specs.declared.Reason.{Reason}
 use Rattle.job.specs.declared.Reason.the-variants.{More, Room, Full, End, Unknown, Cut}
@@ -22,14 +21,13 @@ use Rattle.marks.specs.Marks.{foundOf, nextOf}
 use Rattle.marks.specs.Rows.{rowCount, rowAt}
 use Rattle.job.specs.Job.{Standing, standing, moved, lost}
 use Rattle.job.specs.Feed.{halt, recordsOf}
-use Rattle.job.specs.Inner.{fourOf, joined, stopOf}
+use Rattle.job.specs.Private.{stopOf}
 use Rattle.layout.proofs.Runs.{sets-part}
 use Rattle.outcome.specs.declared.Step.{Step}
 use Rattle.outcome.specs.declared.Step.the-variants as step
 use Rattle.outcome.proofs.Told.{told-took, told-room, told-ended, told-unknown, told-cut, stop-bytes}
 use Rattle.marks.proofs.Heads.{taken, taking, still}
 use Rattle.marks.proofs.Rows.{row-few}
-use Rattle.job.proofs.Rows.{rejoined}
 use Rattle.job.proofs.Turns.{records-room, records-full, records-ended, records-unknown, records-cut}
 use Rattle.job.proofs.Loop.{Going, Left, going-halt, going-took}
 
@@ -72,11 +70,11 @@ pub record Turn
 module _
     {limit : ℕ} {input : List ℕ} {last : Bool} {j₀ : Standing} {out₀ : List ℕ} {j : Standing} {out : List ℕ} {at to : ℕ} {q : Step} {p : ℕ} {R : List ℕ} {w : State}
     (t : Turn limit input last j₀ out₀ j out at to q p R w) where
-  here : take (length input - at) (drop at input) ≡ drop at input
+  pub here : take (length input - at) (drop at input) ≡ drop at input
   here = take-all (length input - at) (drop at input) (simp length-drop (omega arith))
 
   -- the room from `to` on, and the output as a whole
-  spare : length (take (length out - to) (drop to out)) ≡ length out - to
+  pub spare : length (take (length out - to) (drop to out)) ≡ length out - to
   spare = length-take-le (length out - to) (drop to out) (simp length-drop (omega arith))
 
   abbrev after-it : List ℕ
@@ -90,7 +88,7 @@ module _
       let n : length (take to out) ≡ to = length-take-le to out room in
       simp (length-append, length-drop) (omega arith)
 
-  told-here : stepTold q ≡ becameOf (foundOf (j .state) (drop at input)) (length out - to)
+  pub told-here : stepTold q ≡ becameOf (foundOf (j .state) (drop at input)) (length out - to)
   told-here = rw (here, spare) at (t .told)
 
   stored : length (writtenOf (foundOf (j .state) (drop at input)) (length out - to)) ≤ length out - to → after-it ≡ sets out to (writtenOf (foundOf (j .state) (drop at input)) (length out - to))
@@ -145,13 +143,13 @@ module _
   stays-room : q ≡ step.Room → w ≡ j .state
   stays-room e = left-here ∙ rw (lt-ltb (length out - to) longest (told-room (foundOf (j .state) (drop at input)) (length out - to) (sym told-here ∙ ap stepTold e) .0))
 
-  found-ended : q ≡ step.End → foundOf (j .state) (drop at input) ≡ ended
+  pub found-ended : q ≡ step.End → foundOf (j .state) (drop at input) ≡ ended
   found-ended e = told-ended (foundOf (j .state) (drop at input)) (length out - to) (sym told-here ∙ ap stepTold e)
 
-  found-unknown : q ≡ step.Unknown → foundOf (j .state) (drop at input) ≡ unknown
+  pub found-unknown : q ≡ step.Unknown → foundOf (j .state) (drop at input) ≡ unknown
   found-unknown e = told-unknown (foundOf (j .state) (drop at input)) (length out - to) (sym told-here ∙ ap stepTold e)
 
-  found-cut : q ≡ step.Cut → foundOf (j .state) (drop at input) ≡ cut
+  pub found-cut : q ≡ step.Cut → foundOf (j .state) (drop at input) ≡ cut
   found-cut e = told-cut (foundOf (j .state) (drop at input)) (length out - to) (sym told-here ∙ ap stepTold e)
 
   quiet-end : q ≡ step.End → after-it ≡ out
@@ -192,10 +190,3 @@ module _
 
   pub left-part : q ≡ step.Cut → last ≡ false → (f : Fed) → f ≡ stopOf More (j .counts) (j .counts) at to (length after-it - to) → Left limit input last j₀ out₀ f after-it w
   left-part e l f is = stop (quiet-cut e) (stayed cut (found-cut e) refl) More j f refl is (λ n r. records-cut n j _ last _ r (found-cut e) ∙ rw l)
-
--- the counts that the loop began with, put together again
-pub left-from :
-    (limit : ℕ) (input : List ℕ) (last : Bool) (z : State) (out₀ : List ℕ) (q : Four) (c : Counts) → q ≡ fourOf c → {f : Fed} {out : List ℕ} {w : State} →
-    Left limit input last (standing (joined q (c .rows)) z) out₀ f out w → Left limit input last (standing c z) out₀ f out w
-left-from limit input last z out₀ q c e {f = f} {out = out} {w = w} l =
-    subst (λ (x : Counts). Left limit input last (standing x z) out₀ f out w) (rejoined q c e) l

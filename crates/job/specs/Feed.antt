@@ -8,7 +8,7 @@ use lib.Dec.{ltb}
 use Rattle.outcome.specs.declared.Kind.{Kind}
 use Rattle.outcome.specs.Outcome.{longest, unknownMark, cutRecord, noBytes, Found, took, ended, unknown, cut}
 use Rattle.kept.specs.State.{stateOf, holds}
-use Rattle.marks.specs.Marks.{longestRecord, foundOf}
+use Rattle.marks.specs.Marks.{longestRecord, foundOf, behindOf}
 use Rattle.job.specs.declared.Counts.{Counts}
 use Rattle.job.specs.declared.Fed.{Fed}
 use Rattle.job.specs.declared.Reason.{Reason}
@@ -44,28 +44,47 @@ recordsOf (suc n) j xs last room =
     cond (ltb room longest) (halt Room j)
     (partOn last (foundOf (j .state) xs) j xs (λ q k bytes. recordsOf n (moved q xs j) (drop k xs) last (room - length bytes)))
 
--- what a reason says: the caller is to call again, with more bytes or more room; the counts handed in are none of a job's, or the bytes lent for the state are not so many;
--- the job has ended; or it has ended by a refusal. The first two are no refusals: nothing is written for them.
+-- the bytes m lent for the state, behind the records that the loop takes: by the same turns,
+-- and as they were where it takes none
+unfoldable pub memOn : Found → List ℕ → (ℕ → List ℕ → List ℕ) → List ℕ
+memOn (took q k bytes) m go = go k bytes
+memOn ended m go = m
+memOn unknown m go = m
+memOn cut m go = m
+
+unfoldable pub memRecords : ℕ → List ℕ → List ℕ → ℕ → List ℕ
+memRecords zero m xs room = m
+memRecords (suc n) m xs room =
+    cond (ltb room longest) m
+    (memOn (foundOf (stateOf m) xs) m (λ k bytes. memRecords n (behindOf m xs) (drop k xs) (room - length bytes)))
+
+-- what a reason says: the caller is to call again, with more bytes, or with more room; the counts handed in are none
+-- of a job's, or the bytes lent for the state are not so many; the job has ended, at the limit, or with the input; or
+-- it has ended by a refusal. The first three are no refusals: nothing is written for them.
 pub data Told : Type 0 where
-  again : Told
+  wantsBytes : Told
+  wantsRoom : Told
   unsound : Told
-  over : Told
+  atLimit : Told
+  atEnd : Told
   refused : ℕ → Told
 
 abbrev pub reasonTold : Reason → Told
-reasonTold More = again
-reasonTold Room = again
+reasonTold More = wantsBytes
+reasonTold Room = wantsRoom
 reasonTold Bad = unsound
-reasonTold Full = over
-reasonTold End = over
+reasonTold Full = atLimit
+reasonTold End = atEnd
 reasonTold Unknown = refused unknownMark
 reasonTold Cut = refused cutRecord
 
 -- what is written when the loop was left: the refusal, if any, and the counts
 unfoldable pub closingOf : Told → Counts → List ℕ
-closingOf again c = []
+closingOf wantsBytes c = []
+closingOf wantsRoom c = []
 closingOf unsound c = []
-closingOf over c = trailer c
+closingOf atLimit c = trailer c
+closingOf atEnd c = trailer c
 closingOf (refused k) c = noBytes k ++ trailer c
 
 abbrev pub closing : Reason → Counts → List ℕ
@@ -83,6 +102,10 @@ feedOf limit held j xs last room =
 abbrev pub fedOf : Counts → List ℕ → List ℕ → Bool → ℕ → Part
 fedOf c m xs last room = feedOf jobLimit (holds m) (standing c (stateOf m)) xs last room
 
+-- all bytes lent for the state behind that call: none is written where all is handed back
+unfoldable pub fedMem : Counts → List ℕ → List ℕ → ℕ → List ℕ
+fedMem c m xs room = cond (holds m && countsSound jobLimit c) (memRecords (jobLimit - c .begun) m xs room) m
+
 -- with the counts of a job each call, whatever its input and its room, leaves counts of a job: the last three of the four add up to the first, and those by mark too
 abbrev pub FeedTheorem : Type 0
 FeedTheorem =
@@ -90,24 +113,42 @@ FeedTheorem =
     (countsSound limit (feedOf limit held j xs last room .standing .counts) ≡ true)
     × (Adds (feedOf limit held j xs last room .standing .counts) × RowsAdd (feedOf limit held j xs last room .standing .counts))
 
--- what the function answers: the counts, and how many bytes it wrote in place of the bytes
-abbrev pub toldPart : Part → Fed
-toldPart p = record { reason = p .reason; counts = p .standing .counts; used = p .used; written = length (p .bytes) }
+-- what the function answers: what its reason says, the counts, how many bytes it is done with, and how many it wrote
+pub record CallTold : Type 0 where
+  pub reason : Told
+  pub counts : Counts
+  pub used : ℕ
+  pub written : ℕ
+
+abbrev pub fedTold : Fed → CallTold
+fedTold r = record { reason = reasonTold (r .reason); counts = r .counts; used = r .used; written = r .written }
+
+abbrev pub partTold : Part → CallTold
+partTold p = record {
+  reason = reasonTold (p .reason);
+  counts = p .standing .counts;
+  used = p .used;
+  written = length (p .bytes);
+}
 
 -- whether the job has ended, and whether a call is to be made again
 abbrev pub endsBy : Told → Bool
-endsBy again = false
+endsBy wantsBytes = false
+endsBy wantsRoom = false
 endsBy unsound = false
-endsBy over = true
+endsBy atLimit = true
+endsBy atEnd = true
 endsBy (refused k) = true
 
 abbrev pub ends : Reason → Bool
 ends r = endsBy (reasonTold r)
 
 abbrev pub againBy : Told → Bool
-againBy again = true
+againBy wantsBytes = true
+againBy wantsRoom = true
 againBy unsound = false
-againBy over = false
+againBy atLimit = false
+againBy atEnd = false
 againBy (refused k) = false
 
 abbrev pub goesOn : Reason → Bool

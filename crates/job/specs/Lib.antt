@@ -2,4 +2,5 @@ pub mod Counts
 pub mod Job
 pub mod Feed
 pub mod Run
-pub mod Inner
+pub mod Input
+pub mod Private

@@ -13,10 +13,11 @@ ghost use Rattle.outcome.specs.declared.Kind.{Kind};
 ghost use Rattle.outcome.specs.Outcome.{longest, markBytes, noBytes};
 ghost use Rattle.marks.specs.Rows.{rowCount};
 ghost use Rattle.job.specs.Counts.{countsNone, countsMore, countsSound, rowsBytes, total};
-ghost use Rattle.kept.specs.State.{stateNone, stateOf, memory, holds};
+ghost use Rattle.kept.specs.State.{stateNone, stateOf, memory, holds, freshOf};
 ghost use Rattle.job.specs.Job.{standingNone, trailer, jobOf, jobLimit};
-ghost use Rattle.job.specs.Feed.{Part, closing, ends, feedOf, fedOf, toldPart};
-ghost use Rattle.job.specs.Inner.{Sound, Small, fourOf, fourMore, joined, loopedOf, stopOf, trailerLength};
+ghost use Rattle.job.specs.Input.{InputTheorem};
+ghost use Rattle.job.specs.Feed.{Part, closing, ends, feedOf, fedOf, fedMem, fedTold, partTold};
+ghost use Rattle.job.specs.Private.{Sound, Small, fourOf, fourMore, joined, loopedOf, partFed, loopedMem, stopOf, trailerLength};
 use marks::ROWS;
 use outcome::Kind;
 use outcome::LONGEST;
@@ -201,8 +202,9 @@ fn lose(
 fn records(c0: Counts, mem: &mut [u8], input: &[u8], last: bool, out: &mut [u8]) -> Fed
     requires { ⌜ Sound jobLimit c0 ⌝ }
     requires { ⌜ length (now mem) ≡ memory ⌝ }
-    ensures { λ r. ⌜ r ≡ toldPart (loopedOf c0 (now (mem .entry)) (now (input .entry)) last (length (now (out .entry)))) ⌝ }
+    ensures { λ r. ⌜ r ≡ partFed (loopedOf c0 (now (mem .entry)) (now (input .entry)) last (length (now (out .entry)))) ⌝ }
     ensures { λ _. ⌜ now (out .exit) ≡ sets (now (out .entry)) 0 (loopedOf c0 (now (mem .entry)) (now (input .entry)) last (length (now (out .entry))) .bytes) ⌝ }
+    ensures { λ _. ⌜ now (mem .exit) ≡ loopedMem c0 (now (mem .entry)) (now (input .entry)) (length (now (out .entry))) ⌝ }
     ensures { λ _. ⌜ stateOf (now (mem .exit)) ≡ loopedOf c0 (now (mem .entry)) (now (input .entry)) last (length (now (out .entry))) .standing .state ⌝ }
 {
     let mut c = without_rows(c0);
@@ -372,8 +374,9 @@ fn sound(c: Counts) -> bool
 // `mem`, in which the job's state stands. Counts that are none of a job's, and a `mem` that is not as
 // long as a state, are answered `Bad`, and nothing is written.
 pub fn feed(c: Counts, mem: &mut [u8], input: &[u8], last: bool, out: &mut [u8]) -> Fed
-    ensures { λ r. ⌜ r ≡ toldPart (fedOf c (now (mem .entry)) (now (input .entry)) last (length (now (out .entry)))) ⌝ }
+    ensures { λ r. ⌜ fedTold r ≡ partTold (fedOf c (now (mem .entry)) (now (input .entry)) last (length (now (out .entry)))) ⌝ }
     ensures { λ r. ⌜ now (out .exit) ≡ (fedOf c (now (mem .entry)) (now (input .entry)) last (length (now (out .entry))) .bytes) ++ drop (r .written) (now (out .entry)) ⌝ }
+    ensures { λ _. ⌜ now (mem .exit) ≡ fedMem c (now (mem .entry)) (now (input .entry)) (length (now (out .entry))) ⌝ }
     ensures { λ _. ⌜ stateOf (now (mem .exit)) ≡ fedOf c (now (mem .entry)) (now (input .entry)) last (length (now (out .entry))) .standing .state ⌝ }
     ensures { λ r. ⌜ (r .used ≤ length (now (input .entry))) × (r .written ≤ length (now (out .entry))) ⌝ }
 {
@@ -407,17 +410,20 @@ pub fn no_counts() -> Counts
 
 // Makes the bytes lent for the state those of a job that has not begun, if they are as many as it has.
 pub fn fresh(mem: &mut [u8])
+    ensures { λ _. ⌜ now (mem .exit) ≡ freshOf (now (mem .entry)) ⌝ }
     ensures { λ _. ⌜ stateOf (now (mem .exit)) ≡ cond (holds (now (mem .entry))) stateNone (stateOf (now (mem .entry))) ⌝ }
 {
     kept::fresh(mem);
 }
 
 // The whole job on one slice. Where `out` is too short the reason is `Room`, and the records that
-// found room are answered.
+// found room are answered. What the job writes are the replies to the records of the input, each by
+// what is kept after those before it (`InputTheorem`).
 pub fn run(input: &[u8], out: &mut [u8]) -> Fed
-    ensures { λ r. ⌜ r ≡ toldPart (feedOf jobLimit true standingNone (now (input .entry)) true (length (now (out .entry)))) ⌝ }
+    ensures { λ r. ⌜ fedTold r ≡ partTold (feedOf jobLimit true standingNone (now (input .entry)) true (length (now (out .entry)))) ⌝ }
     ensures { λ r. ⌜ now (out .exit) ≡ (feedOf jobLimit true standingNone (now (input .entry)) true (length (now (out .entry))) .bytes) ++ drop (r .written) (now (out .entry)) ⌝ }
     ensures { λ r. ⌜ (ends (r .reason) ≡ true → now (out .exit) ≡ jobOf jobLimit (now (input .entry)) ++ drop (r .written) (now (out .entry))) ⌝ }
+    ensures { λ _. ⌜ InputTheorem jobLimit (now (input .entry)) ⌝ }
 {
     let mut mem: [u8; kept::MEMORY] = [0; kept::MEMORY];
     fresh(&mut mem);

@@ -12,7 +12,7 @@ use Rattle.outcome.specs.declared.Step.the-variants as step
 use Rattle.outcome.specs.Outcome.{longest, becameOf, writtenOf, stepTold}
 use Rattle.outcome.proofs.Record.{record-whole, reply-cut, reply-roomless}
 use Rattle.kept.specs.State.{State, stateOf, memory, holds}
-use Rattle.kept.specs.Records.{Asks, foundBy, nextBy, metBy, bytesBy, stateBy, tookOf}
+use Rattle.kept.specs.Records.{Asks, foundBy, nextBy, behindBy, metBy, bytesBy, stateBy, memBy, tookOf}
 
 pub same : {A : Type 0} (t : Bool) (z : A) → cond t z z ≡ z
 same true z = refl
@@ -28,45 +28,51 @@ unfolding holds
 unheld m e = rw (ne-eqb (length m) memory e)
 
 -- ---- what a call tells and writes, and the state that it leaves
-abbrev pub Told : Asks → List ℕ → List ℕ → List ℕ → Step → List ℕ → State → Type 0
-Told a m s out q out′ w = (stepTold q ≡ metBy a m s (length out)) × ((out′ ≡ sets out 0 (bytesBy a m s (length out))) × (w ≡ stateBy a m s (length out)))
+abbrev pub Told : Asks → List ℕ → List ℕ → List ℕ → Step → List ℕ → List ℕ → Type 0
+Told a m s out q out′ m′ =
+    (stepTold q ≡ metBy a m s (length out))
+    × ((out′ ≡ sets out 0 (bytesBy a m s (length out))) × ((m′ ≡ memBy a m s (length out)) × (stateOf m′ ≡ stateBy a m s (length out))))
 
 module _ (a : Asks) (m s out : List ℕ) where
-  pub told-unheld : (length m ≡ memory → ⊥) → Told a m s out step.Room out (stateOf m)
-  unfolding metBy bytesBy stateBy
-  told-unheld h = rw (unheld m h) (refl, (refl, refl))
+  pub told-unheld : (length m ≡ memory → ⊥) → Told a m s out step.Room out m
+  unfolding metBy bytesBy memBy stateBy
+  told-unheld h = rw (unheld m h) (refl, (refl, (refl, refl)))
 
   -- where they hold a state
   pub told-held :
       length m ≡ memory →
       (metBy a m s (length out) ≡ becameOf (foundBy a (stateOf m) s) (length out))
       × ((bytesBy a m s (length out) ≡ writtenOf (foundBy a (stateOf m) s) (length out))
-      × (stateBy a m s (length out) ≡ cond (ltb (length out) longest) (stateOf m) (nextBy a (stateOf m) s)))
-  unfolding metBy bytesBy stateBy
-  told-held h = rw (held m h) (refl, (refl, refl))
+      × ((memBy a m s (length out) ≡ cond (ltb (length out) longest) m (behindBy a m s))
+      × (stateBy a m s (length out) ≡ cond (ltb (length out) longest) (stateOf m) (nextBy a (stateOf m) s))))
+  unfolding metBy bytesBy memBy stateBy
+  told-held h = rw (held m h) (refl, (refl, (refl, refl)))
 
-  pub told-cut : length m ≡ memory → length s < a .bytes → Told a m s out step.Cut out (stateOf m)
-  unfolding foundBy nextBy
+  pub told-cut : length m ≡ memory → length s < a .bytes → Told a m s out step.Cut out m
+  unfolding foundBy nextBy behindBy
   told-cut h l =
       let t = reply-cut (length out) (a .bytes) (λ r. a .step (stateOf m) r .reply) s l in
       let u = told-held h in
-      rw (u .0, u .1 .0, u .1 .1) (t .0, (ap (sets out 0) (t .1), sym (rw (lt-ltb (length s) (a .bytes) l) (same (ltb (length out) longest) (stateOf m)))))
+      let c = lt-ltb (length s) (a .bytes) l in
+      rw (u .0, u .1 .0, u .1 .1 .0, u .1 .1 .1)
+      (t .0, (ap (sets out 0) (t .1), (sym (rw c (same (ltb (length out) longest) m)), sym (rw c (same (ltb (length out) longest) (stateOf m))))))
 
-  pub told-roomless : length m ≡ memory → a .bytes ≤ length s → length out < longest → Told a m s out step.Room out (stateOf m)
+  pub told-roomless : length m ≡ memory → a .bytes ≤ length s → length out < longest → Told a m s out step.Room out m
   unfolding foundBy
   told-roomless h l r =
       let t = reply-roomless (length out) (a .bytes) (λ r. a .step (stateOf m) r .reply) s l r in
       let u = told-held h in
-      rw (u .0, u .1 .0, u .1 .1) (t .0, (ap (sets out 0) (t .1), sym (rw (lt-ltb (length out) longest r) refl)))
+      let c = lt-ltb (length out) longest r in
+      rw (u .0, u .1 .0, u .1 .1 .0, u .1 .1 .1) (t .0, (ap (sets out 0) (t .1), (sym (rw c refl), sym (rw c refl))))
 
   pub told-whole :
       length m ≡ memory → a .bytes ≤ length s → longest ≤ length out → let k = a .step (stateOf m) (take (a .bytes) s) in
-      (metBy a m s (length out) ≡ tookOf (a .bytes) (k .reply)) × ((bytesBy a m s (length out) ≡ k .reply .bytes) × (stateBy a m s (length out) ≡ k .state))
-  unfolding foundBy nextBy becameOf writtenOf
+      (metBy a m s (length out) ≡ tookOf (a .bytes) (k .reply))
+      × ((bytesBy a m s (length out) ≡ k .reply .bytes) × ((memBy a m s (length out) ≡ a .after m (take (a .bytes) s)) × (stateBy a m s (length out) ≡ k .state)))
+  unfolding foundBy nextBy behindBy becameOf writtenOf
   told-whole h l r =
       let u = told-held h in
       let f = record-whole (a .bytes) (λ r. a .step (stateOf m) r .reply) s l in
-      rw (u .0, u .1 .0, u .1 .1) (
-        rw (f, le-ltb (length out) longest r) refl,
-        (rw (f, le-ltb (length out) longest r) refl, rw (le-ltb (length out) longest r, le-ltb (length s) (a .bytes) l) refl),
-      )
+      let c = le-ltb (length out) longest r in
+      let d = le-ltb (length s) (a .bytes) l in
+      rw (u .0, u .1 .0, u .1 .1 .0, u .1 .1 .1) (rw (f, c) refl, (rw (f, c) refl, (rw (c, d) refl, rw (c, d) refl)))

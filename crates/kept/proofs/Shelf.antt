@@ -19,15 +19,15 @@ use Rattle.outcome.specs.Outcome.{longest, markBytes, noBytes, kindOf, replyOf,
 use Rattle.replies.specs.Table.{framedIn, framedItems}
 use Rattle.replies.proofs.Frames.{rest-is, framed-length, framed-finite}
 use Rattle.sheets.specs.Sheets.{shelved, ask}
-use Rattle.sheets.specs.Store.{size, holds, sheetsOf, shotIn, Lent, lent, putAnswer, putSheets, getAnswer}
+use Rattle.sheets.specs.Store.{size, holds, sheetsOf, shotIn, Lent, lent, putAnswer, putSheets, putBytes, getAnswer}
 use Rattle.sheets.specs.declared.Shot.{Shot}
 use Rattle.sheets.proofs.Framed.{frame}
 use Rattle.kept.specs.State.{runningOf, runningSize, stateOf, memory}
 use Rattle.kept.specs.Records.{metBy, bytesBy, tookOf}
-use Rattle.kept.specs.Retakes.{shSize, sqSize, shOf, shReply, sqReply, shStep, sqStep, shAsks, sqAsks}
+use Rattle.kept.specs.Retakes.{shSize, sqSize, shOf, shReply, sqReply, shStep, sqStep, shAfter, shAsks, sqAsks}
 use Rattle.kept.proofs.Records.{Told, told-whole}
 use Rattle.kept.proofs.Lent.{own}
-use Rattle.kept.proofs.State.{rest-back}
+use Rattle.kept.proofs.State.{rest-none, rest-back}
 
 -- ---- the answers as the code writes them: SH, SQ by whether its numbers are finite, and the refusals
 pub shelf-replied :
@@ -59,9 +59,9 @@ sq-refused k = (refl, refl)
 -- ---- what a store tells and leaves
 pub shelf-told :
     (m b : List ℕ) (n t : ℕ) (x : Pose) → length m ≡ size → n ≡ wordAt 2 b 0 → t ≡ wordAt 2 b 2 → x ≡ framedIn binary64 (drop 4 b) →
-    (putAnswer m n (record { take = t; pose = x }) ≡ lent (shOf (sheetsOf m) b .answer)) × (putSheets m n (record { take = t; pose = x }) ≡ shOf (sheetsOf m) b .sheets)
+    (putAnswer m n (record { take = t; pose = x }) ≡ lent (shOf (sheetsOf m) b .answer)) × ((putBytes m n (record { take = t; pose = x }) ≡ putBytes m (wordAt 2 b 0) (shotIn b)) × (putSheets m n (record { take = t; pose = x }) ≡ shOf (sheetsOf m) b .sheets))
 unfolding putAnswer putSheets holds shOf shotIn
-shelf-told m b n t x l e f g = rw (eq-eqb (length m) size l, e, f, g) (refl, refl)
+shelf-told m b n t x l e f g = rw (eq-eqb (length m) size l, e, f, g) (refl, (refl, refl))
 
 pub shelf-asked : (m b : List ℕ) (n : ℕ) → length m ≡ size → n ≡ wordAt 2 b 0 → getAnswer m n ≡ lent (ask (sheetsOf m) (wordAt 2 b 0))
 unfolding getAnswer holds
@@ -74,13 +74,15 @@ module _ (m s out : List ℕ) (l : length m ≡ memory) where
 
   pub sh-whole :
       shSize ≤ length s → longest ≤ length out → (q : Step) (out′ R : List ℕ) → let j = shOf (sheetsOf store) (take 72 (drop 2 s)) in
-      stepTold q ≡ tookOf shSize (shReply (j .answer)) → out′ ≡ sets out 0 (shReply (j .answer) .bytes) → sheetsOf R ≡ j .sheets →
-      Told shAsks m s out q out′ (stateOf (take runningSize m ++ (R ++ drop (length m - runningSize) (drop runningSize m))))
-  unfolding shStep stateOf
-  sh-whole h r q out′ R told put left =
+      stepTold q ≡ tookOf shSize (shReply (j .answer)) → out′ ≡ sets out 0 (shReply (j .answer) .bytes) →
+      R ≡ putBytes store (wordAt 2 (take 72 (drop 2 s)) 0) (shotIn (take 72 (drop 2 s))) → sheetsOf R ≡ j .sheets →
+      Told shAsks m s out q out′ (take runningSize m ++ (R ++ drop (length m - runningSize) (drop runningSize m)))
+  unfolding shStep shAfter stateOf
+  sh-whole h r q out′ R told put became left =
       let t = told-whole shAsks m s out l h r in
       let d = rest-is m runningSize in
-      rw (t .0, t .1 .0, t .1 .1, own 72 s h) (rw d at told, (rw d at put, rest-back m l R _ (rw d at left)))
+      let all = ap (λ (x : List ℕ). take runningSize m ++ x) (rest-none m l R ∙ (rw d at became)) in
+      rw (t .0, t .1 .0, t .1 .1 .0, t .1 .1 .1, own 72 s h) (rw d at told, (rw d at put, (all, rest-back m l R _ (rw d at left))))
 
   pub sq-whole :
       sqSize ≤ length s → longest ≤ length out → (q : Step) (out′ : List ℕ) → let a = ask (sheetsOf store) (wordAt 2 (take 2 (drop 2 s)) 0) in

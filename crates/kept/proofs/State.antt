@@ -12,8 +12,8 @@ use Rattle.running.specs.declared.Running.{Running}
 use Rattle.wire.specs.Wire.{wordOf, wordAt}
 use Rattle.replies.proofs.Frames.{rest-is}
 use Rattle.sheets.specs.Sheets.{Sheets, noSheets}
-use Rattle.sheets.specs.Store.{size, sheetsOf, holds as storeHolds}
-use Rattle.kept.specs.State.{stateNone, startOf, runningOf, runningSize, stateOf, memory, holds}
+use Rattle.sheets.specs.Store.{size, sheetsOf, holds as storeHolds, freshBytes}
+use Rattle.kept.specs.State.{stateNone, startOf, runningOf, runningSize, stateOf, memory, holds, freshOf}
 
 module _ (m : List ℕ) (l : length m ≡ memory) where
   -- ---- the running join's part
@@ -38,16 +38,19 @@ module _ (m : List ℕ) (l : length m ≡ memory) where
   pub rest-length : length (take (length m - runningSize) (drop runningSize m)) ≡ size
   rest-length = rw (rest-is m runningSize) (simp length-drop (omega arith))
 
+  pub rest-none : (R : List ℕ) → R ++ drop (length m - runningSize) (drop runningSize m) ≡ R
+  rest-none R =
+      ap (λ (x : List ℕ). R ++ x) (drop-of-length-le (drop runningSize m) {i = length m - runningSize} (simp length-drop (omega arith))) ∙ append-nil R
+
   pub rest-back :
       (R : List ℕ) (s : Sheets) → sheetsOf R ≡ s →
       stateOf (take runningSize m ++ (R ++ drop (length m - runningSize) (drop runningSize m))) ≡ record { running = runningOf (take runningSize m); sheets = s }
   unfolding stateOf
   rest-back R s k =
       let d = drop (length m - runningSize) (drop runningSize m) in
-      let z : R ++ d ≡ R = ap (λ (x : List ℕ). R ++ x) (drop-of-length-le (drop runningSize m) {i = length m - runningSize} (simp length-drop (omega arith))) ∙ append-nil R in
       λ i. record {
         running = runningOf (take-at (take runningSize m) (R ++ d) runningSize front-length i);
-        sheets = (ap sheetsOf (drop-at (take runningSize m) (R ++ d) runningSize front-length ∙ z) ∙ k) i;
+        sheets = (ap sheetsOf (drop-at (take runningSize m) (R ++ d) runningSize front-length ∙ rest-none R) ∙ k) i;
       }
 
   store-holds : storeHolds (take (length m - runningSize) (drop runningSize m)) ≡ true
@@ -72,14 +75,16 @@ zeroed-length m = simp length-set
 
 pub made-fresh :
     (m R : List ℕ) → length m ≡ memory → let d = take (length (zeroed m) - runningSize) (drop runningSize (zeroed m)) in
-    sheetsOf R ≡ cond (storeHolds d) noSheets (sheetsOf d) →
-    stateOf (take runningSize (zeroed m) ++ (R ++ drop (length (zeroed m) - runningSize) (drop runningSize (zeroed m)))) ≡ cond (holds m) stateNone (stateOf m)
-unfolding holds
-made-fresh m R e k =
+    R ≡ freshBytes d → sheetsOf R ≡ cond (storeHolds d) noSheets (sheetsOf d) →
+    let m′ = take runningSize (zeroed m) ++ (R ++ drop (length (zeroed m) - runningSize) (drop runningSize (zeroed m))) in
+    (m′ ≡ freshOf m) × (stateOf m′ ≡ cond (holds m) stateNone (stateOf m))
+unfolding holds freshOf
+made-fresh m R e b k =
     let n = zeroed-length m ∙ e in
+    let all = ap (λ (x : List ℕ). take runningSize (zeroed m) ++ x) (rest-none (zeroed m) n R ∙ (rw (rest-is (zeroed m) runningSize) at b)) in
     rw (eq-eqb (length m) memory e)
-    (rest-back (zeroed m) n R noSheets (rw (store-holds (zeroed m) n) at k) ∙ (λ i. record { running = zeroed-running m e i; sheets = noSheets }))
+    (all, rest-back (zeroed m) n R noSheets (rw (store-holds (zeroed m) n) at k) ∙ (λ i. record { running = zeroed-running m e i; sheets = noSheets }))
 
-pub left-alone : (m : List ℕ) → (length m ≡ memory → ⊥) → stateOf m ≡ cond (holds m) stateNone (stateOf m)
-unfolding holds
-left-alone m e = rw (ne-eqb (length m) memory e)
+pub left-alone : (m : List ℕ) → (length m ≡ memory → ⊥) → (m ≡ freshOf m) × (stateOf m ≡ cond (holds m) stateNone (stateOf m))
+unfolding holds freshOf
+left-alone m e = rw (ne-eqb (length m) memory e) (refl, refl)

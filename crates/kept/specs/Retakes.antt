@@ -11,10 +11,10 @@ use Rattle.layout.specs.Layout.{poseCount}
 use Rattle.outcome.specs.Outcome.{markBytes, Reply, replyOf, Became, roomless}
 use Rattle.replies.specs.Table.{framedItems}
 use Rattle.sheets.specs.Sheets.{Sheets, Shelved, Shelf, shelve, ask}
-use Rattle.sheets.specs.Store.{slotWidth, shotIn, Lent, lent, storeless}
+use Rattle.sheets.specs.Store.{slotWidth, shotIn, Lent, lent, storeless, putBytes}
 use Rattle.sheets.specs.declared.Shot.{Shot}
 use Rattle.sheets.specs.Back.{keeps, Bytes, nansOne}
-use Rattle.kept.specs.State.{State}
+use Rattle.kept.specs.State.{State, runningSize}
 use Rattle.kept.specs.Records.{Stepped, Asks, tookOf}
 
 -- their letters as one number, the first times 256 and the second
@@ -50,11 +50,15 @@ shStep z r = let j = shOf (z .sheets) (drop 2 r) in record { state = record { ru
 unfoldable pub sqStep : State → List ℕ → Stepped
 sqStep z r = record { state = z; reply = sqReply (ask (z .sheets) (wordAt 2 (drop 2 r) 0)) }
 
+-- ---- the lent bytes behind a whole SH r, where m are those before it: what the store writes, and nothing before it
+unfoldable pub shAfter : List ℕ → List ℕ → List ℕ
+shAfter m r = let b = drop 2 r in take runningSize m ++ putBytes (drop runningSize m) (wordAt 2 b 0) (shotIn b)
+
 abbrev pub shAsks : Asks
-shAsks = record { bytes = shSize; step = shStep }
+shAsks = record { bytes = shSize; step = shStep; after = shAfter }
 
 abbrev pub sqAsks : Asks
-sqAsks = record { bytes = sqSize; step = sqStep }
+sqAsks = record { bytes = sqSize; step = sqStep; after = λ m r. m }
 
 -- ---- a record of k bytes whose answer comes from the store, as it is told, and what is written; lent bytes that are no store are no room
 unfoldable pub lentBecame : {A : Type 0} → ℕ → (A → Reply) → Lent A → Became

@@ -2,7 +2,7 @@
 // the retaken sheets. What is kept stands in bytes that the caller lends.
 ghost use mathlib.Core.Path.{_≡_};
 ghost use mathlib.Core.Bool.{cond};
-ghost use Rattle.kept.specs.State.{stateNone, stateOf, holds};
+ghost use Rattle.kept.specs.State.{stateNone, stateOf, holds, freshOf};
 use sheets::STORE;
 
 // How many bytes are lent for the running join: n and the count, whether there is a pose, and the pose
@@ -18,6 +18,7 @@ pub mod retakes; // the retaken sheets
 
 // Makes the lent bytes the state of a job that has not begun, if they are as many as a state has.
 pub fn fresh(mem: &mut [u8])
+    ensures { λ _. ⌜ now (mem .exit) ≡ freshOf (now (mem .entry)) ⌝ }
     ensures { λ _. ⌜ stateOf (now (mem .exit)) ≡ cond (holds (now (mem .entry))) stateNone (stateOf (now (mem .entry))) ⌝ }
 {
     if mem.len() == MEMORY {

@@ -9,9 +9,9 @@ ghost use Rattle.linalg.specs.Answer.{answers};
 ghost use Rattle.outcome.specs.Outcome.{longest, noBytes, wrote, stepTold};
 ghost use Rattle.outcome.specs.declared.Kind.{Kind};
 ghost use Rattle.sheets.specs.Sheets.{shelved, ask};
-ghost use Rattle.sheets.specs.Store.{sheetsOf, size, putTold, getTold};
+ghost use Rattle.sheets.specs.Store.{sheetsOf, size, shotIn, putTold, getTold, putBytes};
 ghost use Rattle.kept.specs.State.{stateOf};
-ghost use Rattle.kept.specs.Records.{metBy, bytesBy, stateBy, tookOf};
+ghost use Rattle.kept.specs.Records.{metBy, bytesBy, stateBy, memBy, tookOf};
 ghost use Rattle.kept.specs.Retakes.{shSize, sqSize, shOf, shReply, sqReply, shAsks, sqAsks, lentBecame, lentBytes};
 use crate::MEMORY;
 use crate::RUNNING;
@@ -79,6 +79,7 @@ fn shelve(b: &[u8], store: &mut [u8], out: &mut [u8]) -> Step
     requires { ⌜ longest ≤ length (now out) ⌝ }
     ensures { λ r. ⌜ stepTold r ≡ tookOf shSize (shReply (shOf (sheetsOf (now (store .entry))) (now (b .entry)) .answer)) ⌝ }
     ensures { λ _. ⌜ now (out .exit) ≡ sets (now (out .entry)) 0 (shReply (shOf (sheetsOf (now (store .entry))) (now (b .entry)) .answer) .bytes) ⌝ }
+    ensures { λ _. ⌜ now (store .exit) ≡ putBytes (now (store .entry)) (wordAt 2 (now (b .entry)) 0) (shotIn (now (b .entry))) ⌝ }
     ensures { λ _. ⌜ sheetsOf (now (store .exit)) ≡ shOf (sheetsOf (now (store .entry))) (now (b .entry)) .sheets ⌝ }
 {
     let sheet = short_at(b, 0);
@@ -91,6 +92,7 @@ fn shelve(b: &[u8], store: &mut [u8], out: &mut [u8]) -> Step
 pub fn sh(s: &[u8], mem: &mut [u8], out: &mut [u8]) -> Step
     ensures { λ r. ⌜ stepTold r ≡ metBy shAsks (now (mem .entry)) (now (s .entry)) (length (now (out .entry))) ⌝ }
     ensures { λ _. ⌜ now (out .exit) ≡ sets (now (out .entry)) 0 (bytesBy shAsks (now (mem .entry)) (now (s .entry)) (length (now (out .entry)))) ⌝ }
+    ensures { λ _. ⌜ now (mem .exit) ≡ memBy shAsks (now (mem .entry)) (now (s .entry)) (length (now (out .entry))) ⌝ }
     ensures { λ _. ⌜ stateOf (now (mem .exit)) ≡ stateBy shAsks (now (mem .entry)) (now (s .entry)) (length (now (out .entry))) ⌝ }
 {
     if mem.len() != MEMORY {

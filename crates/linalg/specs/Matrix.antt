@@ -1,11 +1,13 @@
--- Matrices of three columns, in the operations of a format f, and the answers of the entries that refuse a row or column above 2.
+-- Matrices of three columns, in the operations of a format f, and the answers of the entries that refuse a row or column
+-- above 2.
 use Prim.Native.Nat.{ℕ}
 use mathlib.Core.Bool.{Bool, cond, _&&_}
 use lib.Dec.{eqb}
-use lib.Ieee.{Float, Format, neg, add, mul}
+use lib.Ieee.{Float, Format, neg}
 use Rattle.ieee.specs.Numbers.{f0, f1}
+use Rattle.ieee.specs.Infix.{Operations, operations}
 use Rattle.linalg.specs.Answer.{Answer, answers, refuses, andThen}
-use Rattle.linalg.specs.Vector.{vec, sum3, vecScale, vecDot, vecCross, vecAdd, vecSub, vecNeg, vecOver}
+use Rattle.linalg.specs.Vector.{vec, sum3, vecDot, vecNeg, vecOver, VecOperations, vecOperations}
 use Rattle.linalg.specs.declared.vector.Vec3.{Vec3}
 use Rattle.linalg.specs.declared.matrix.Mat3.{Mat3}
 use Rattle.linalg.specs.declared.matrix.Inverse.{Inverse}
@@ -64,63 +66,73 @@ vecPut v on i x = vec (cond (on && eqb i 0) x (v .x)) (cond (on && eqb i 1) x (v
 
 unfoldable pub matSet : Mat3 → ℕ → ℕ → Float → Answer Mat3
 matSet m r c x =
-    andThen (matGet m r c) (λ _. answers (mat (vecPut (m .c0) (eqb c 0) r x) (vecPut (m .c1) (eqb c 1) r x) (vecPut (m .c2) (eqb c 2) r x)))
-
--- ---- arithmetic
-unfoldable pub matScale : Format → Mat3 → Float → Mat3
-matScale f m s = mat (vecScale f (m .c0) s) (vecScale f (m .c1) s) (vecScale f (m .c2) s)
-
-unfoldable pub matAdd : Format → Mat3 → Mat3 → Mat3
-matAdd f a b = mat (vecAdd f (a .c0) (b .c0)) (vecAdd f (a .c1) (b .c1)) (vecAdd f (a .c2) (b .c2))
-
-unfoldable pub matSub : Format → Mat3 → Mat3 → Mat3
-matSub f a b = mat (vecSub f (a .c0) (b .c0)) (vecSub f (a .c1) (b .c1)) (vecSub f (a .c2) (b .c2))
+    andThen (matGet m r c)
+    (λ _. answers (mat (vecPut (m .c0) (eqb c 0) r x) (vecPut (m .c1) (eqb c 1) r x) (vecPut (m .c2) (eqb c 2) r x)))
 
 unfoldable pub matNeg : Mat3 → Mat3
-matNeg m = mat (vecNeg (m .c0)) (vecNeg (m .c1)) (vecNeg (m .c2))
+matNeg m = mat (vecNeg m.c0) (vecNeg m.c1) (vecNeg m.c2)
 
--- the row (a, b, c) of a matrix times a vector
-abbrev pub rowMul : Format → Float → Float → Float → Vec3 → Float
-rowMul f a b c v = sum3 f (mul f a (v .x)) (mul f b (v .y)) (mul f c (v .z))
-
-unfoldable pub matMulVec : Format → Mat3 → Vec3 → Vec3
-matMulVec f m v =
-    vec
-    (rowMul f (m .c0 .x) (m .c1 .x) (m .c2 .x) v)
-    (rowMul f (m .c0 .y) (m .c1 .y) (m .c2 .y) v)
-    (rowMul f (m .c0 .z) (m .c1 .z) (m .c2 .z) v)
-
-unfoldable pub matMul : Format → Mat3 → Mat3 → Mat3
-matMul f a b = mat (matMulVec f a (b .c0)) (matMulVec f a (b .c1)) (matMulVec f a (b .c2))
-
--- the adjugate over the determinant, a zero determinant included
-unfoldable pub matInverseAdj : Format → Mat3 → Inverse
-matInverseAdj f m =
-    let r0 = vecCross f (m .c1) (m .c2) in
-    let r1 = vecCross f (m .c2) (m .c0) in
-    let r2 = vecCross f (m .c0) (m .c1) in
-    let det = vecDot f (m .c0) r0 in
-    record { inv = matOfRows (vecOver f r0 det) (vecOver f r1 det) (vecOver f r2 det); det = det }
-
--- ---- hat: the matrix of v × _, and the products by it that skip its zeros
+-- hat: the matrix of v × _
 unfoldable pub matHat : Vec3 → Mat3
-matHat v = mat (vec f0 (v .z) (neg (v .y))) (vec (neg (v .z)) f0 (v .x)) (vec (v .y) (neg (v .x)) f0)
+matHat v = mat (vec f0 v.z (neg v.y)) (vec (neg v.z) f0 v.x) (vec v.y (neg v.x) f0)
 
--- a (hat v)
-unfoldable pub matMulHat : Format → Mat3 → Vec3 → Mat3
-matMulHat f a v =
-    mat
-    (vecAdd f (vecScale f (a .c1) (v .z)) (vecScale f (a .c2) (neg (v .y))))
-    (vecAdd f (vecScale f (a .c0) (neg (v .z))) (vecScale f (a .c2) (v .x)))
-    (vecAdd f (vecScale f (a .c0) (v .y)) (vecScale f (a .c1) (neg (v .x))))
+-- ---- arithmetic
+module _ (f : Format) where
+  infixl 60 _⊕_ _⊖_ _⊞_ _⊟_
+  infixl 70 _⊗_ _⊘_ _⊡_
+  infixl 80 _⨯_
+  open Operations (operations f) using (_⊕_, _⊖_, _⊗_, _⊘_)
+  open VecOperations (vecOperations f) using (_⊞_, _⊟_, _⊡_, _⨯_)
 
--- (hat v) b, for a vector and for a matrix
-unfoldable pub vecHatMul : Format → Vec3 → Vec3 → Vec3
-vecHatMul f v b =
-    vec
-    (add f (mul f (neg (v .z)) (b .y)) (mul f (v .y) (b .z)))
-    (add f (mul f (v .z) (b .x)) (mul f (neg (v .x)) (b .z)))
-    (add f (mul f (neg (v .y)) (b .x)) (mul f (v .x) (b .y)))
+  unfoldable pub matScale : Mat3 → Float → Mat3
+  matScale m s = mat (m.c0 ⊡ s) (m.c1 ⊡ s) (m.c2 ⊡ s)
 
-unfoldable pub matHatMul : Format → Vec3 → Mat3 → Mat3
-matHatMul f v b = mat (vecHatMul f v (b .c0)) (vecHatMul f v (b .c1)) (vecHatMul f v (b .c2))
+  unfoldable pub matAdd : Mat3 → Mat3 → Mat3
+  matAdd a b = mat (a.c0 ⊞ b.c0) (a.c1 ⊞ b.c1) (a.c2 ⊞ b.c2)
+
+  unfoldable pub matSub : Mat3 → Mat3 → Mat3
+  matSub a b = mat (a.c0 ⊟ b.c0) (a.c1 ⊟ b.c1) (a.c2 ⊟ b.c2)
+
+  -- the row (a, b, c) of a matrix times a vector
+  abbrev pub rowMul : Float → Float → Float → Vec3 → Float
+  rowMul a b c v = sum3 f (a ⊗ v.x) (b ⊗ v.y) (c ⊗ v.z)
+
+  unfoldable pub matMulVec : Mat3 → Vec3 → Vec3
+  matMulVec m v = vec (rowMul m.c0.x m.c1.x m.c2.x v) (rowMul m.c0.y m.c1.y m.c2.y v) (rowMul m.c0.z m.c1.z m.c2.z v)
+
+  unfoldable pub matMul : Mat3 → Mat3 → Mat3
+  matMul a b = mat (matMulVec a b.c0) (matMulVec a b.c1) (matMulVec a b.c2)
+
+  -- the adjugate over the determinant, a zero determinant included
+  unfoldable pub matInverseAdj : Mat3 → Inverse
+  matInverseAdj m =
+      let r0 = m.c1 ⨯ m.c2 in
+      let r1 = m.c2 ⨯ m.c0 in
+      let r2 = m.c0 ⨯ m.c1 in
+      let det = vecDot f m.c0 r0 in
+      record { inv = matOfRows (vecOver f r0 det) (vecOver f r1 det) (vecOver f r2 det); det = det }
+
+  -- the products by hat v that skip its zeros: a (hat v)
+  unfoldable pub matMulHat : Mat3 → Vec3 → Mat3
+  matMulHat a v =
+      mat (a.c1 ⊡ v.z ⊞ a.c2 ⊡ neg v.y) (a.c0 ⊡ neg v.z ⊞ a.c2 ⊡ v.x) (a.c0 ⊡ v.y ⊞ a.c1 ⊡ neg v.x)
+
+  -- (hat v) b, for a vector and for a matrix
+  unfoldable pub vecHatMul : Vec3 → Vec3 → Vec3
+  vecHatMul v b =
+      vec (neg v.z ⊗ b.y ⊕ v.y ⊗ b.z) (v.z ⊗ b.x ⊕ neg v.x ⊗ b.z) (neg v.y ⊗ b.x ⊕ v.x ⊗ b.y)
+
+  unfoldable pub matHatMul : Vec3 → Mat3 → Mat3
+  matHatMul v b = mat (vecHatMul v b.c0) (vecHatMul v b.c1) (vecHatMul v b.c2)
+
+-- the same between matrices, for files that open them: the sum a ⊞ᵐ b, the difference a ⊟ᵐ b, a ⊡ᵐ s (each entry times s),
+-- the product a ⊠ b, and a ⊠ᵛ v, the matrix times a vector
+pub record MatOperations : Type 0 where
+  pub _⊞ᵐ_ : Mat3 → Mat3 → Mat3
+  pub _⊟ᵐ_ : Mat3 → Mat3 → Mat3
+  pub _⊡ᵐ_ : Mat3 → Float → Mat3
+  pub _⊠_ : Mat3 → Mat3 → Mat3
+  pub _⊠ᵛ_ : Mat3 → Vec3 → Vec3
+
+abbrev pub matOperations : Format → MatOperations
+matOperations f = record { _⊞ᵐ_ = matAdd f; _⊟ᵐ_ = matSub f; _⊡ᵐ_ = matScale f; _⊠_ = matMul f; _⊠ᵛ_ = matMulVec f }

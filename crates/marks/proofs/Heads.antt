@@ -19,15 +19,36 @@ use Rattle.outcome.proofs.Never.{never, untrue}
 use Rattle.outcome.proofs.Record.{settled, record-by, record-whole, record-taken, record-few, record-not-ended, record-more}
 use Rattle.replies.specs.Table.{entryFound}
 use Rattle.kept.specs.State.{State, stateOf, memory, holds}
-use Rattle.kept.specs.Records.{foundBy, nextBy, metBy, bytesBy, stateBy}
+use Rattle.kept.specs.Records.{Asks, foundBy, nextBy, behindBy, metBy, bytesBy, stateBy, memBy}
 use Rattle.kept.specs.Retakes.{sqSize, sqStep, sqAsks}
 use Rattle.kept.proofs.Records.{same, held, unheld, Told, told-held}
-use Rattle.marks.specs.Marks.{entryAsks, Listed, markOf, longestRecord, foundAt, nextAt, foundOf, nextOf, metOf, metBytes, metState}
+use Rattle.marks.specs.Marks.{entryAsks, Listed, markOf, longestRecord, foundAt, nextAt, behindAt, foundOf, nextOf, behindOf, metOf, metBytes, metState, metMem}
 use Rattle.marks.proofs.Table.{Good, good}
 
 -- ---- by the length and the mark
 abbrev pub Meets : State → List ℕ → Found → State → Type 0
 Meets z s f w = (foundOf z s ≡ f) × (nextOf z s ≡ w)
+
+-- and what becomes of the lent bytes, likewise
+pub behind-short : (m s : List ℕ) → length s < 2 → behindOf m s ≡ m
+unfolding behindOf
+behind-short m [] h = refl
+behind-short m (a ∷ []) h = refl
+behind-short m (a ∷ b ∷ s) h = absurd (omega arith)
+
+behind-two : (m s : List ℕ) → 2 ≤ length s → behindOf m s ≡ behindAt (markOf (getD s 0 0) (getD s 1 0)) m s
+unfolding behindOf
+behind-two m [] h = absurd (omega arith)
+behind-two m (a ∷ []) h = absurd (omega arith)
+behind-two m (a ∷ b ∷ s) h = refl
+
+pub behind-unknown : (m s : List ℕ) → 2 ≤ length s → markOf (getD s 0 0) (getD s 1 0) ≡ refuses unknownMark → behindOf m s ≡ m
+unfolding behindAt
+behind-unknown m s h e = behind-two m s h ∙ rw e
+
+behind-mark : (m s : List ℕ) (l : Listed) → 2 ≤ length s → markOf (getD s 0 0) (getD s 1 0) ≡ answers l → behindOf m s ≡ behindBy (l .asks) m s
+unfolding behindAt
+behind-mark m s l h e = behind-two m s h ∙ rw e
 
 pub found-none : (z : State) (s : List ℕ) → length s ≡ 0 → Meets z s ended z
 unfolding foundOf nextOf
@@ -128,51 +149,58 @@ next-more z (x ∷ []) ys how k b q = never (cc)
 next-more z (x ∷ y ∷ s) ys how k b q = next-at-more (markOf x y) z (x ∷ y ∷ s) ys how k b q
 
 -- ---- what a call tells and writes, and the state that it leaves: where the bytes m hold no state; by what stands at the head; and by what its mark asks for
-abbrev pub Met : List ℕ → List ℕ → List ℕ → Step → List ℕ → State → Type 0
-Met m s out q out′ w = (stepTold q ≡ metOf m s (length out)) × ((out′ ≡ sets out 0 (metBytes m s (length out))) × (w ≡ metState m s (length out)))
+abbrev pub Met : List ℕ → List ℕ → List ℕ → Step → List ℕ → List ℕ → Type 0
+Met m s out q out′ m′ =
+    (stepTold q ≡ metOf m s (length out))
+    × ((out′ ≡ sets out 0 (metBytes m s (length out))) × ((m′ ≡ metMem m s (length out)) × (stateOf m′ ≡ metState m s (length out))))
 
-pub met-unheld : (m s out : List ℕ) → (length m ≡ memory → ⊥) → Met m s out step.Room out (stateOf m)
-unfolding metOf metBytes metState
-met-unheld m s out h = rw (unheld m h) (refl, (refl, refl))
+pub met-unheld : (m s out : List ℕ) → (length m ≡ memory → ⊥) → Met m s out step.Room out m
+unfolding metOf metBytes metMem metState
+met-unheld m s out h = rw (unheld m h) (refl, (refl, (refl, refl)))
 
 pub met-still :
-    (m s out : List ℕ) → length m ≡ memory → (f : Found) → Meets (stateOf m) s f (stateOf m) → (q : Step) →
-    stepTold q ≡ becameOf f (length out) → out ≡ sets out 0 (writtenOf f (length out)) → Met m s out q out (stateOf m)
-unfolding metOf metBytes metState
-met-still m s out h f t q a b = rw (held m h, t .0, t .1) (a, (b, sym (same (ltb (length out) longest) (stateOf m))))
+    (m s out : List ℕ) → length m ≡ memory → (f : Found) → Meets (stateOf m) s f (stateOf m) → behindOf m s ≡ m → (q : Step) →
+    stepTold q ≡ becameOf f (length out) → out ≡ sets out 0 (writtenOf f (length out)) → Met m s out q out m
+unfolding metOf metBytes metMem metState
+met-still m s out h f t u q a b =
+    rw (held m h, t .0, t .1, u) (a, (b, (sym (same (ltb (length out) longest) m), sym (same (ltb (length out) longest) (stateOf m)))))
 
 pub met-by :
-    (m s out : List ℕ) (l : Listed) → 2 ≤ length s → markOf (getD s 0 0) (getD s 1 0) ≡ answers l → (q : Step) (out′ : List ℕ) (w : State) →
-    Told (l .asks) m s out q out′ w → Met m s out q out′ w
-unfolding metOf metBytes metState metBy bytesBy stateBy
-met-by m s out l h e q out′ w t = let f = found-mark (stateOf m) s l h e in rw (f .0, f .1) t
+    (m s out : List ℕ) (l : Listed) → 2 ≤ length s → markOf (getD s 0 0) (getD s 1 0) ≡ answers l → (q : Step) (out′ m′ : List ℕ) →
+    Told (l .asks) m s out q out′ m′ → Met m s out q out′ m′
+unfolding metOf metBytes metMem metState metBy bytesBy memBy stateBy
+met-by m s out l h e q out′ m′ t = let f = found-mark (stateOf m) s l h e in rw (f .0, f .1, behind-mark m s l h e) t
 
 -- an entry of the engine
 pub entry-told :
     (f : Format) (e : Entry) (m s out : List ℕ) → length m ≡ memory → (q : Step) (out′ : List ℕ) → stepTold q ≡ becameOf (entryFound f e s) (length out) →
-    out′ ≡ sets out 0 (writtenOf (entryFound f e s) (length out)) → Told (entryAsks f e) m s out q out′ (stateOf m)
-unfolding foundBy nextBy
+    out′ ≡ sets out 0 (writtenOf (entryFound f e s) (length out)) → Told (entryAsks f e) m s out q out′ m
+unfolding foundBy nextBy behindBy
 entry-told f e m s out h q out′ a b =
     let t = told-held (entryAsks f e) m s out h in
     let n = same (ltb (length s) (entryAsks f e .bytes)) (stateOf m) in
-    rw (t .0, t .1 .0, t .1 .1, n) (a, (b, sym (same (ltb (length out) longest) (stateOf m))))
+    let u = same (ltb (length s) (entryAsks f e .bytes)) m in
+    rw (t .0, t .1 .0, t .1 .1 .0, t .1 .1 .1, n, u) (a, (b, (sym (same (ltb (length out) longest) m), sym (same (ltb (length out) longest) (stateOf m)))))
 
 -- SQ, which is lent the state to read
 pub asked-told :
     (m s out : List ℕ) → length m ≡ memory → (q : Step) (out′ : List ℕ) → stepTold q ≡ metBy sqAsks m s (length out) → out′ ≡ sets out 0 (bytesBy sqAsks m s (length out)) →
-    Told sqAsks m s out q out′ (stateOf m)
-unfolding nextBy sqStep
+    Told sqAsks m s out q out′ m
+unfolding nextBy behindBy sqStep
 asked-told m s out h q out′ a b =
     let t = told-held sqAsks m s out h in
     let n = same (ltb (length s) sqSize) (stateOf m) in
-    (a, (b, sym (t .1 .1 ∙ rw n (same (ltb (length out) longest) (stateOf m)))))
+    let u = same (ltb (length s) sqSize) m in
+    (a, (b, (sym (t .1 .1 .0 ∙ rw u (same (ltb (length out) longest) m)), sym (t .1 .1 .1 ∙ rw n (same (ltb (length out) longest) (stateOf m))))))
 
 -- what the contract says where the bytes hold a state
 pub met : (m s : List ℕ) (room : ℕ) → holds m ≡ true →
     (metOf m s room ≡ becameOf (foundOf (stateOf m) s) room)
-    × ((metBytes m s room ≡ writtenOf (foundOf (stateOf m) s) room) × (metState m s room ≡ cond (ltb room longest) (stateOf m) (nextOf (stateOf m) s)))
-unfolding metOf metBytes metState
-met m s room h = rw h (refl, (refl, refl))
+    × ((metBytes m s room ≡ writtenOf (foundOf (stateOf m) s) room)
+    × ((metMem m s room ≡ cond (ltb room longest) m (behindOf m s))
+    × (metState m s room ≡ cond (ltb room longest) (stateOf m) (nextOf (stateOf m) s))))
+unfolding metOf metBytes metMem metState
+met m s room h = rw h (refl, (refl, (refl, refl)))
 
 -- where no record is taken the state stays
 abbrev pub taking : Found → Bool
@@ -181,13 +209,23 @@ taking ended = false
 taking unknown = false
 taking cut = false
 
-still-at : (v : Answer Listed) (z : State) (s : List ℕ) (f : Found) → foundAt v z s ≡ f → taking f ≡ false → nextAt v z s ≡ z
-unfolding foundAt nextAt foundBy nextBy
-still-at (answers l) z s f q k = by (ltb (length s) (l .asks .bytes)) refl
+-- a record that is not taken is not whole
+short-by :
+    (a : Asks) (z : State) (s : List ℕ) (f : Found) → foundBy a z s ≡ f → taking f ≡ false →
+    ltb (length s) (a .bytes) ≡ true
+unfolding foundBy
+short-by a z s f q k = by (ltb (length s) (a .bytes)) refl
   where
-    by : (t : Bool) → ltb (length s) (l .asks .bytes) ≡ t → cond (ltb (length s) (l .asks .bytes)) z (l .asks .step z (take (l .asks .bytes) s) .state) ≡ z
-    by true t = rw t
-    by false t = untrue (sym (rw (← (sym (record-whole (l .asks .bytes) (λ r. l .asks .step z r .reply) s (ltb-false (length s) (l .asks .bytes) t)) ∙ q)) at k))
+    by : (t : Bool) → ltb (length s) (a .bytes) ≡ t → ltb (length s) (a .bytes) ≡ true
+    by true t = t
+    by false t =
+        let w = record-whole (a .bytes) (λ r. a .step z r .reply) s (ltb-false (length s) (a .bytes) t) in
+        untrue (sym (rw (← (sym w ∙ q)) at k))
+
+still-at :
+    (v : Answer Listed) (z : State) (s : List ℕ) (f : Found) → foundAt v z s ≡ f → taking f ≡ false → nextAt v z s ≡ z
+unfolding foundAt nextAt nextBy
+still-at (answers l) z s f q k = rw (short-by (l .asks) z s f q k)
 still-at (refuses n) z s f q k = refl
 
 pub still : (z : State) (s : List ℕ) (f : Found) → foundOf z s ≡ f → taking f ≡ false → nextOf z s ≡ z
@@ -195,3 +233,17 @@ unfolding foundOf nextOf
 still z [] f q k = refl
 still z (x ∷ []) f q k = refl
 still z (x ∷ y ∷ s) f q k = still-at (markOf x y) z (x ∷ y ∷ s) f q k
+
+-- and so do the lent bytes
+bytes-still-at :
+    (v : Answer Listed) (z : State) (m s : List ℕ) (f : Found) → foundAt v z s ≡ f → taking f ≡ false →
+    behindAt v m s ≡ m
+unfolding foundAt behindAt behindBy
+bytes-still-at (answers l) z m s f q k = rw (short-by (l .asks) z s f q k)
+bytes-still-at (refuses n) z m s f q k = refl
+
+pub bytes-still : (z : State) (m s : List ℕ) (f : Found) → foundOf z s ≡ f → taking f ≡ false → behindOf m s ≡ m
+unfolding foundOf behindOf
+bytes-still z m [] f q k = refl
+bytes-still z m (x ∷ []) f q k = refl
+bytes-still z m (x ∷ y ∷ s) f q k = bytes-still-at (markOf x y) z m (x ∷ y ∷ s) f q k

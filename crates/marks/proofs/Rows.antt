@@ -63,9 +63,9 @@ pub row-mark : (m s : List ℕ) (l : Listed) → length m ≡ memory → 2 ≤ l
 unfolding rowKnown
 row-mark m s l h n e = sym (met-held m s h ∙ two s n ∙ ap rowKnown e)
 
--- the fourth fact beside three
-pub beside : {A B C D : Type 0} → A × (B × C) → D → A × (B × (C × D))
-beside t d = (t .0, (t .1 .0, (t .1 .1, d)))
+-- the fifth fact beside four
+pub beside : {A B C D E : Type 0} → A × (B × (C × D)) → E → A × (B × (C × (D × E)))
+beside t e = (t .0, (t .1 .0, (t .1 .1 .0, (t .1 .1 .1, e))))
 
 -- ---- whatever follows
 pub row-more : (z : State) (s ys : List ℕ) (f : Found) → foundOf z s ≡ f → settled f ≡ true → rowAt (s ++ ys) ≡ rowAt s

@@ -1,5 +1,5 @@
--- What holds of every row of the table, and so of whatever two letters are found to be: no record and no reply is longer than the longest, and a record moves the running join and the
--- sheets as what it means does. Assumes nothing.
+-- What holds of every row of the table, and so of whatever two letters are found to be: a record has its mark, no record and no reply is longer than the longest, and a record moves
+-- the running join and the sheets as what it means does. Assumes nothing.
 use Prim.Native.Nat.{ℕ, _+_, _≤_, _<_}
 use mathlib.Core.Path.{_≡_, refl, sym, ap, _∙_}
 use mathlib.Core.Bool.{Bool, true, false, cond}
@@ -31,6 +31,7 @@ use Rattle.marks.specs.History.{joinIn, renewIn, eventOn, shotIs, shotOn
 
 -- ---- of the letters k that ask for a
 pub record Sound (k : ℕ) (a : Asks) : Type 0 where
+  pub least : 2 ≤ a .bytes
   pub size : a .bytes ≤ longestRecord
   pub reply : (z : State) (r : List ℕ) → length (a .step z r .reply .bytes) ≤ longest
   pub event : (z : State) (r : List ℕ) (h : List Event) → after binary64 (nextBy a z r .running) h ≡ after binary64 (z .running) (eventOn k r h)
@@ -69,6 +70,7 @@ other-shot k r h s = sym (rw s refl)
 entry-sound : (f : Format) (e : Entry) (k : ℕ) → eqb k chLetters ≡ false → eqb k rnLetters ≡ false → eqb k shLetters ≡ false → Sound k (entryAsks f e)
 unfolding nextBy
 entry-sound f e k c n s = record {
+  least = omega arith;
   size = omega (arith, width-most f e);
   reply = λ z r. entry-most f e r;
   event = λ z r h. ap (λ (w : State). after binary64 (w .running) h) (same (ltb (length r) (entryAsks f e .bytes)) z) ∙ ap (after binary64 (z .running)) (other-event k r h c n);
@@ -79,6 +81,7 @@ entry-sound f e k c n s = record {
 ch-sound : Sound chLetters chAsks
 unfolding nextBy chStep chOf eventOn joinIn shotOn after
 ch-sound = record {
+  least = omega arith;
   size = omega arith;
   reply = λ z r. ch-most _;
   event = λ z r h. pick (ltb (length r) chSize) z _ h _ refl;
@@ -88,6 +91,7 @@ ch-sound = record {
 rn-sound : Sound rnLetters rnAsks
 unfolding nextBy rnStep eventOn renewIn shotOn after
 rn-sound = record {
+  least = omega arith;
   size = omega arith;
   reply = λ z r. rn-most _;
   event = λ z r h. pick (ltb (length r) rnSize) z _ h _ refl;
@@ -97,6 +101,7 @@ rn-sound = record {
 sh-sound : Sound shLetters shAsks
 unfolding nextBy shStep shOf eventOn shotOn shotIs afterShots
 sh-sound = record {
+  least = omega arith;
   size = omega arith;
   reply = λ z r. sh-most _;
   event = λ z r h. ap (λ (x : Running). after binary64 x h) (beside (ltb (length r) shSize) z _);
@@ -106,6 +111,7 @@ sh-sound = record {
 sq-sound : Sound sqLetters sqAsks
 unfolding nextBy sqStep eventOn shotOn
 sq-sound = record {
+  least = omega arith;
   size = omega arith;
   reply = λ z r. sq-most _;
   event = λ z r h. ap (λ (w : State). after binary64 (w .running) h) (same (ltb (length r) sqSize) z);

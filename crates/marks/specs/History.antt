@@ -1,16 +1,18 @@
--- The records that came, and what each means to the running join and to the retaken sheets. Proved as `records` and `retakes` in proofs/Past.antt.
-use Prim.Native.Nat.{ℕ, _+_, _*_}
+-- The records that came, what each means to the running join and to the retaken sheets, and what is kept after them.
+-- Proved as `kept-after` in proofs/Past.antt, of any records of bytes.
+use Prim.Native.Nat.{ℕ, _+_, _*_, _≤_}
 use mathlib.Core.Path.{_≡_}
 use mathlib.Core.Bool.{cond}
 use mathlib.Core.List.{List, [], _∷_}
 use lib.ListN.{length, take, drop}
 use lib.Dec.{eqb, ltb}
 use lib.Ieee.{binary64}
-use Rattle.running.specs.History.{Event, join, renew, ran, Small}
+use Rattle.running.specs.History.{Event, join, renew, ran}
+use Rattle.running.specs.declared.Start.{Start}
 use Rattle.running.specs.declared.Start.the-variants.{Unset}
-use Rattle.sheets.specs.Sheets.{none, noSheets}
+use Rattle.sheets.specs.Sheets.{Kept, none, keptBelow, sheetNumbers, noSheets, most}
 use Rattle.sheets.specs.Store.{shotIn}
-use Rattle.sheets.specs.History.{Sent, accepted, highest}
+use Rattle.sheets.specs.History.{Sent, accepted, highest, Highest}
 use Rattle.wire.specs.Wire.{wordAt, numberAt}
 use Rattle.replies.specs.Table.{framedWidth, framedIn}
 use Rattle.kept.specs.State.{State, stateNone}
@@ -44,9 +46,9 @@ unfoldable pub eventsOf : List (List ℕ) → List Event
 eventsOf [] = []
 eventsOf (r ∷ rs) = eventIn r (eventsOf rs)
 
--- after any records of a job the running pose is that of the plain history of its CH and RN
-abbrev pub RecordsTheorem : Type 0
-RecordsTheorem = (rs : List (List ℕ)) → Small (eventsOf rs) → keptAfter stateNone rs .running .pose ≡ ran binary64 Unset 0 0 (eventsOf rs)
+-- the running pose after these records, by the plain history of the CH and RN among them
+unfoldable pub poseAfter : List (List ℕ) → Start
+poseAfter rs = ran binary64 Unset 0 0 (eventsOf rs)
 
 -- a whole SH, before what h holds, where k are the record's letters; other records bring no shot
 unfoldable pub shotIs : List ℕ → List Sent → List Sent
@@ -66,6 +68,26 @@ unfoldable pub shotsOf : List (List ℕ) → List Sent
 shotsOf [] = []
 shotsOf (r ∷ rs) = shotFrom r (shotsOf rs)
 
--- after any records of a job what is kept of a sheet is the highest take among its SH that were accepted
-abbrev pub SheetsTheorem : Type 0
-SheetsTheorem = (rs : List (List ℕ)) (n : ℕ) → keptAfter stateNone rs .sheets .at n ≡ highest n none (accepted noSheets (shotsOf rs))
+-- the SH among these records that were accepted; the highest take among those of the sheet n; and of how many sheets
+-- there is one
+unfoldable pub acceptedOf : List (List ℕ) → List Sent
+acceptedOf rs = accepted noSheets (shotsOf rs)
+
+unfoldable pub sheetAfter : List (List ℕ) → ℕ → Kept
+sheetAfter rs n = highest n none (acceptedOf rs)
+
+unfoldable pub sheetCount : List (List ℕ) → ℕ
+sheetCount rs = keptBelow (sheetAfter rs) sheetNumbers
+
+-- ---- what is kept after the records rs
+pub record KeptAfter (rs : List (List ℕ)) : Type 0 where
+  -- the running pose is that of the plain history of CH and RN
+  pub pose : keptAfter stateNone rs .running .pose ≡ poseAfter rs
+  -- of each sheet the highest take among its SH that were accepted
+  pub sheet : (n : ℕ) → keptAfter stateNone rs .sheets .at n ≡ sheetAfter rs n
+  -- it is one of them, and none of them is higher; nothing is kept where there is none
+  pub highest : (n : ℕ) → Highest n (acceptedOf rs) (sheetAfter rs n)
+  -- the count is that of the sheets of which a shot is kept
+  pub count : keptAfter stateNone rs .sheets .count ≡ sheetCount rs
+  -- which are at most 512
+  pub few : sheetCount rs ≤ most

@@ -10,7 +10,7 @@ use Rattle.outcome.specs.declared.Entry.the-variants.{Ex, Co, Pa, Ac, Mu, In, J
 use Rattle.outcome.specs.Outcome.{longest, unknownMark, Found, ended, unknown, cut, Became, roomless, becameOf, writtenOf}
 use Rattle.replies.specs.Table.{widthOf, entryReply}
 use Rattle.kept.specs.State.{State, stateOf, holds}
-use Rattle.kept.specs.Records.{Asks, foundBy, nextBy}
+use Rattle.kept.specs.Records.{Asks, foundBy, nextBy, behindBy}
 use Rattle.kept.specs.Chain.{chLetters, rnLetters, chAsks, rnAsks}
 use Rattle.kept.specs.Retakes.{shLetters, sqLetters, shAsks, sqAsks}
 use Rattle.marks.specs.declared.Mark.{Mark}
@@ -28,7 +28,7 @@ row k a = record { letters = k; asks = a }
 
 -- an entry of the engine, which leaves the state as it is; on doubles, and on singles
 abbrev pub entryAsks : Format → Entry → Asks
-entryAsks f e = record { bytes = 2 + widthOf f e; step = λ z r. record { state = z; reply = entryReply f e r } }
+entryAsks f e = record { bytes = 2 + widthOf f e; step = λ z r. record { state = z; reply = entryReply f e r }; after = λ m r. m }
 
 abbrev pub double : Entry → Asks
 double e = entryAsks binary64 e
@@ -111,6 +111,16 @@ nextOf z [] = z
 nextOf z (a ∷ []) = z
 nextOf z (a ∷ b ∷ rest) = nextAt (markOf a b) z (a ∷ b ∷ rest)
 
+-- the lent bytes m behind it, which are as they were where no whole record stands there
+unfoldable pub behindAt : Answer Listed → List ℕ → List ℕ → List ℕ
+behindAt (answers l) m s = behindBy (l .asks) m s
+behindAt (refuses k) m s = m
+
+unfoldable pub behindOf : List ℕ → List ℕ → List ℕ
+behindOf m [] = m
+behindOf m (a ∷ []) = m
+behindOf m (a ∷ b ∷ rest) = behindAt (markOf a b) m (a ∷ b ∷ rest)
+
 -- ---- what becomes of it, where the bytes m are lent for the state and the output has some room: without room for the state or for the longest answer nothing changes
 unfoldable pub metOf : List ℕ → List ℕ → ℕ → Became
 metOf m s room = cond (holds m) (becameOf (foundOf (stateOf m) s) room) roomless
@@ -120,3 +130,6 @@ metBytes m s room = cond (holds m) (writtenOf (foundOf (stateOf m) s) room) []
 
 unfoldable pub metState : List ℕ → List ℕ → ℕ → State
 metState m s room = cond (holds m) (cond (ltb room longest) (stateOf m) (nextOf (stateOf m) s)) (stateOf m)
+
+unfoldable pub metMem : List ℕ → List ℕ → ℕ → List ℕ
+metMem m s room = cond (holds m) (cond (ltb room longest) m (behindOf m s)) m

@@ -5,7 +5,7 @@ ghost use lib.ListN.{length};
 ghost use lib.Seq.{sets};
 ghost use Rattle.outcome.specs.Outcome.{stepTold};
 ghost use Rattle.kept.specs.State.{stateOf};
-ghost use Rattle.marks.specs.Marks.{table, lookUp, markOf, lookTold, metOf, metBytes, metState};
+ghost use Rattle.marks.specs.Marks.{table, lookUp, markOf, lookTold, metOf, metBytes, metState, metMem};
 ghost use Rattle.marks.specs.Rows.{metRow};
 use kept::MEMORY;
 use kept::chain::ch;
@@ -99,6 +99,7 @@ fn tell(step: Step, row: usize) -> Heard
 pub fn reply(s: &[u8], mem: &mut [u8], out: &mut [u8]) -> Heard
     ensures { λ r. ⌜ stepTold (r .step) ≡ metOf (now (mem .entry)) (now (s .entry)) (length (now (out .entry))) ⌝ }
     ensures { λ _. ⌜ now (out .exit) ≡ sets (now (out .entry)) 0 (metBytes (now (mem .entry)) (now (s .entry)) (length (now (out .entry)))) ⌝ }
+    ensures { λ _. ⌜ now (mem .exit) ≡ metMem (now (mem .entry)) (now (s .entry)) (length (now (out .entry))) ⌝ }
     ensures { λ _. ⌜ stateOf (now (mem .exit)) ≡ metState (now (mem .entry)) (now (s .entry)) (length (now (out .entry))) ⌝ }
     ensures { λ r. ⌜ r .row ≡ metRow (now (mem .entry)) (now (s .entry)) ⌝ }
 {

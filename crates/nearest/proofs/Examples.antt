@@ -13,7 +13,7 @@ use Rattle.ieee.specs.Patterns.{patterns}
 use Rattle.closed.specs.Limits.{coeffsDelta}
 use Rattle.closed.specs.Arm.{coeffsArm}
 use Rattle.nearest.specs.Nearest.{Way, down, up, step, none, nearestFrom, armAt}
-use Rattle.nearest.specs.Parts.{Parts}
+use Rattle.nearest.specs.Private.{Parts}
 use Rattle.nearest.proofs.Rising.{arm-rising, all-closed}
 use Rattle.nearest.proofs.Tried.{nearest-is}
 use Rattle.nearest.proofs.Only.{only-one}

@@ -2,7 +2,7 @@
 use Prim.Native.Nat.{ℕ, _+_, _≤_, _<_, zero-le}
 use native.Mathlib.Nat.{le-refl, le-trans}
 use native.Mathlib.Omega.{arith}
-use Rattle.nearest.specs.Parts.{Parts}
+use Rattle.nearest.specs.Private.{Parts}
 
 -- what is known when the patterns `from` to `to` - 1 are left
 pub record Left (arm : ℕ → ℕ) (end a from to : ℕ) : Type 0 where

@@ -8,5 +8,6 @@ pub mod Sides
 pub mod Starts
 pub mod Answers
 pub mod Theorem
+pub mod Neighbours
 pub mod Ties
 pub mod Examples

@@ -7,7 +7,7 @@ use lib.Dec.{T}
 use Rattle.ieee.proofs.Signed.{order}
 use Rattle.nearest.specs.Nearest.{Way, down, up, changes, step, none, nearestFrom}
 use Rattle.nearest.specs.Theorem.{Least}
-use Rattle.nearest.specs.Parts.{Parts}
+use Rattle.nearest.specs.Private.{Parts}
 use Rattle.nearest.proofs.Steps.{down-changes, up-changes, down-permitted, up-permitted, another}
 use Rattle.nearest.proofs.Tried.{nearest-is}
 use Rattle.nearest.proofs.Only.{only-one}

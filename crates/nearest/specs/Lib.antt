@@ -1,3 +1,4 @@
 pub mod Nearest
 pub mod Theorem
-pub mod Parts
+pub mod Neighbours
+pub mod Private

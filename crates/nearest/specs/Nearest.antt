@@ -72,9 +72,12 @@ nearestFrom arm end first p = leastFrom arm end first p end 1
 abbrev pub firstTold : Way
 firstTold = up
 
--- the arm at σ and the value with the pattern p
+-- the arm at σ and z, and at σ and the value with the pattern p
+abbrev pub armOf : Format → Float → Float → ℕ
+armOf f sigma z = coeffsArm f (coeffsDelta f sigma z)
+
 unfoldable pub armAt : Format → Float → ℕ → ℕ
-armAt f sigma p = coeffsArm f (coeffsDelta f sigma (ofBits f p))
+armAt f sigma p = armOf f sigma (ofBits f p)
 
 -- refusal 1 for z < 0, then 8 where σ or z is a NaN or an infinity; -0 counts as +0
 unfoldable pub nearestOf : Format → Way → Float → Float → Answer Near

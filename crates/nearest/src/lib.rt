@@ -9,7 +9,7 @@ ghost use Rattle.ieee.specs.Finite.{isFinite};
 ghost use Rattle.ieee.specs.Patterns.{patterns};
 ghost use Rattle.linalg.specs.Answer.{answers};
 ghost use Rattle.nearest.specs.Nearest.{step, down, up, nearestTold, nearestFrom, firstTold, armAt, nearestOf};
-ghost use Rattle.nearest.specs.Parts.{Parts};
+ghost use Rattle.nearest.specs.Private.{Parts};
 use crate::width::END;
 use crate::width::pattern;
 use crate::width::value;

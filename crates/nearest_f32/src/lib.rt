@@ -1,4 +1,4 @@
-// Written by tools/widths from crates/nearest/src/lib.rt: edit that one. Digest 67128c0f8941d402.
+// Written by tools/widths from crates/nearest/src/lib.rt: edit that one. Digest 8a05799e00a24821.
 // How near another arm of the coefficients is: the fewest neighbouring values that z must move, down
 // or up, for the arm at (sigma, z) to change. Neighbouring values have neighbouring bit patterns, and
 // the arm does not fall as z grows; so the two ends of z's arm are found by halving the patterns.
@@ -11,7 +11,7 @@ ghost use Rattle.ieee.specs.Patterns.{patterns};
 ghost use Rattle.linalg.specs.Answer.{answers};
 ghost use Rattle.nearest.specs.Nearest.{step, down, up, nearestFrom, firstTold, armAt, nearestOf};
 ghost use Rattle.nearest_f32.specs.Told.{nearestTold};
-ghost use Rattle.nearest.specs.Parts.{Parts};
+ghost use Rattle.nearest.specs.Private.{Parts};
 use crate::width::END;
 use crate::width::pattern;
 use crate::width::value;

@@ -1,4 +1,4 @@
 pub mod TotalOrder
 pub mod Order
 pub mod Theorem
-pub mod Merge
+pub mod Private

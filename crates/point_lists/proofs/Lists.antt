@@ -14,7 +14,7 @@ use borrow.Rule.Slice.PartAt.{part-to-end}
 use Rattle.linalg.specs.Vector.{vecNumbers}
 use Rattle.linalg.specs.declared.vector.Vec3.{Vec3}
 use Rattle.point_lists.specs.Points.{pointAt, pointsMoved, pointsAccepted}
-use Rattle.point_lists.specs.Stores.{putPoint}
+use Rattle.point_lists.specs.Private.{putPoint}
 
 pub moved-length : (g : Vec3 → Vec3) (l : List Float) (n : ℕ) → length (pointsMoved g l n) ≡ n * 3
 unfolding pointsMoved vecNumbers

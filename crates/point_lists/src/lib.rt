@@ -8,7 +8,7 @@ ghost use mathlib.Core.List.{_++_};
 ghost use lib.ListN.{length, drop};
 ghost use Rattle.point_lists.specs.Points.{pointAt, pointsMoved, pointsAccepted, listTold, pointsAnswer, pointsOut, matAct, poseActMany, poseActEach};
 ghost use Rattle.sim3.specs.Pose.{poseAct};
-ghost use Rattle.point_lists.specs.Stores.{putPoint};
+ghost use Rattle.point_lists.specs.Private.{putPoint};
 use crate::many::many;
 use linalg::matrix::Mat3;
 use linalg::vector::Vec3;

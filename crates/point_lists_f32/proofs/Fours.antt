@@ -14,9 +14,9 @@ use Rattle.linalg.specs.Matrix.{mat}
 use Rattle.linalg.specs.declared.vector.Vec3.{Vec3}
 use Rattle.linalg.specs.declared.matrix.Mat3.{Mat3}
 use Rattle.point_lists.specs.Points.{pointAt, pointsMoved}
-use Rattle.point_lists.specs.Stores.{putPoint}
+use Rattle.point_lists.specs.Private.{putPoint}
 use Rattle.point_lists.proofs.Lists.{moved-length, moved-more}
-use Rattle.point_lists_f32.specs.Fours.{matTurned, putTwo, putFour}
+use Rattle.point_lists_f32.specs.Private.{matTurned, putTwo, putFour}
 
 -- ---- the signs
 neg-twice : (v : Vec3) → vecNeg (vecNeg v) ≡ v

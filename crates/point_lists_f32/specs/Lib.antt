@@ -1,3 +1,3 @@
--- Written by tools/widths from crates/point_lists: edit that one. Digest ea085fff7a979447.
+-- Written by tools/widths from crates/point_lists: edit that one. Digest 6f567eadc5bf81ef.
 pub mod Told
-pub mod Fours
+pub mod Private

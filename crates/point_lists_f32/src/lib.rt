@@ -1,4 +1,4 @@
-// Written by tools/widths from crates/point_lists/src/lib.rt: edit that one. Digest 46f0c9c9a13e717b.
+// Written by tools/widths from crates/point_lists/src/lib.rt: edit that one. Digest adefe7f4e7b22273.
 // The action of a pose on a list of points, three numbers each, into another list. Two entries:
 // act_many has the bits of the Rust's act_many, which forms the matrix s R once; act_each moves each
 // point as Sim3::act and the mark AC do. The two differ in the last bits.
@@ -10,7 +10,7 @@ ghost use lib.ListN.{length, drop};
 ghost use Rattle.point_lists.specs.Points.{pointAt, pointsMoved, pointsAccepted, pointsAnswer, pointsOut, matAct, poseActMany, poseActEach};
 ghost use Rattle.point_lists_f32.specs.Told.{listTold};
 ghost use Rattle.sim3.specs.Pose.{poseAct};
-ghost use Rattle.point_lists.specs.Stores.{putPoint};
+ghost use Rattle.point_lists.specs.Private.{putPoint};
 ghost use Rattle.linalg_f32.specs.As.{asMat3, asVec3};
 ghost use Rattle.sim3_f32.specs.As.{asSim3};
 use crate::many::many;

@@ -6,7 +6,7 @@ ghost use Prim.Native.Nat.{_+_, _*_, _%_, _≤_};
 ghost use lib.Ieee.{binary32};
 ghost use lib.ListN.{length, drop};
 ghost use Rattle.point_lists.specs.Points.{pointsMoved, matAct};
-ghost use Rattle.point_lists_f32.specs.Fours.{matTurned, putTwo, putFour};
+ghost use Rattle.point_lists_f32.specs.Private.{matTurned, putTwo, putFour};
 ghost use Rattle.linalg_f32.specs.As.{asMat3, asVec3};
 use crate::last;
 use crate::leading;

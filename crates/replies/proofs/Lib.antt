@@ -5,4 +5,5 @@ pub mod Arms
 pub mod Frames
 pub mod Replies
 mod ArAsCo
+mod ArAsPa
 mod Examples

@@ -19,7 +19,7 @@ use Rattle.ieee.proofs.Values.{value-rounds}
 use Rattle.ieee.proofs.Patterns.{units-large, pattern-value}
 use Rattle.root.specs.declared.RootParts.{RootParts}
 use Rattle.root.specs.Root.{wholeRoot, quarters, nearer, partsAt, rootParts}
-use Rattle.root.specs.Scaled.{ScaledTo}
+use Rattle.root.specs.Private.{ScaledTo}
 use Rattle.root.specs.Theorem.{Largest}
 use Rattle.root.proofs.Squares.{bracket}
 use Rattle.root.proofs.Largest.{whole-root-is}
@@ -97,7 +97,7 @@ module _ (m r rest v : ℕ) (least : 2 ^ 104 ≤ m) (most : m ≤ (2 ^ 53 - 1) *
   pub r-range : (2 ^ 52 ≤ r) × (r < 2 ^ 53)
   r-range = bracket r rest m (2 ^ 52) (2 ^ 53) e k (omega arith) (omega arith)
 
-  next-small : r < rest → r + 1 < 2 ^ 53
+  pub next-small : r < rest → r + 1 < 2 ^ 53
   next-small l = elim (order (r + 1) (2 ^ 53)) [
     | inl g ↦ g
     | inr g ↦

@@ -16,7 +16,7 @@ use lib.Ieee.{binary64}
 use Rattle.ieee.specs.Patterns.{patterns, patternUnits}
 use Rattle.ieee.proofs.Signed.{order}
 use Rattle.ieee.proofs.Patterns.{units-small, units-large}
-use Rattle.root.specs.Scaled.{ScaledTo}
+use Rattle.root.specs.Private.{ScaledTo}
 
 moved : (b j k : ℕ) → j + k ≡ 52 → 2 ^ j ≤ b → b < 2 ^ suc j → ScaledTo b (b * 2 ^ k % 2 ^ 64) j
 moved b j k e lo hi =

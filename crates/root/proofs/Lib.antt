@@ -7,5 +7,6 @@ pub mod Cases
 pub mod Only
 pub mod Nearest
 pub mod Rounding
+pub mod Level
 pub mod Theorem
 pub mod Examples

@@ -1,33 +1,39 @@
--- `root-theorem`: of every double above 0 the answer is what the request asks for, nothing else is, and its double is the correctly rounded square root. Assumes nothing.
+-- `root-theorem`: of every double above 0 the answer is what the request asks for, nothing else is, its double is the
+-- correctly rounded square root, and its numbers lie in their ranges; a zero gives zeros, and what is refused is refused by
+-- its number. Assumes nothing.
 use mathlib.Core.Path.{_≡_, refl, sym, ap, _∙_, subst}
 use mathlib.Core.Logic.{inl, inr}
 use Prim.Native.Nat.{ℕ, zero, suc, _+_, _-_, _*_, _/_, _%_, _^_, _≤_, _<_}
-use native.Mathlib.Nat.{lt-of-lt-of-le, mul-pos, mul-le-mul-right, zero-mul, eq-of-mul-eq-mul-right}
+use native.Mathlib.Nat.{lt-of-lt-of-le, mul-pos, mul-le-mul, mul-le-mul-right, zero-mul, eq-of-mul-eq-mul-right}
 use native.Mathlib.Omega.{arith}
 use mathlib.Core.Bool.{Bool, true, false}
 use borrow.Author.Tests.{lt-ltb, le-ltb}
-use lib.IntN.{ℤ, subℕ}
+use lib.IntN.{ℤ, pos, subℕ}
 use lib.Dec.{T, lit<}
 use lib.Pow.{pow-add, pow-pos, pow-mono, shl-lt}
-use lib.Ieee.{Float, nan, inf, fin, binary64, up, down, units, round, lt, fits, toBits}
+use lib.Ieee.{Float, nan, inf, fin, binary64, up, down, units, round, lt, le, fits, toBits, ofBits}
+use lib.Ieee.Order.{le-of-values}
+use lib.Ieee.Positive.{positive}
 use lib.Ieee.Exact.{HasValue, round-exact}
 use lib.Ieee.Nearest.{closest}
 use lib.Ieee.Scale.{round-same}
 use lib.Ieee.Fits.{down-pos, round-fits}
 use Rattle.ieee.specs.Numbers.{f0}
-use Rattle.ieee.specs.Patterns.{unitsOf}
+use Rattle.ieee.specs.Patterns.{unitsOf, fieldUnits, patternUnits}
 use Rattle.ieee.proofs.Signed.{order}
 use Rattle.ieee.proofs.Values.{value-cross}
-use Rattle.ieee.proofs.Patterns.{pattern-below, pattern-pos, pattern-units, units-exact, units-are}
+use Rattle.ieee.proofs.Patterns.{pattern-below, pattern-pos, pattern-units, pattern-value, units-exact, units-are}
 use Rattle.linalg.specs.Answer.{answers}
-use Rattle.root.specs.Root.{wholeRoot, quarters, nearer, partsAt, rootParts, rootFrom, rootOf}
-use Rattle.root.specs.Scaled.{ScaledTo}
-use Rattle.root.specs.Theorem.{Largest, RootIs, Nearer, Rounded, Beside, Answered, RootTheorem}
+use Rattle.root.specs.Root.{wholeRoot, quarters, nearer, partsAt, rootParts, rootZero, rootFrom, rootOf}
+use Rattle.root.specs.Private.{ScaledTo}
+use Rattle.root.specs.Theorem.{Largest, RootIs, Nearer, Rounded, Beside, Ranges, Answered, RootTheorem}
 use Rattle.root.proofs.Largest.{whole-root-largest}
-use Rattle.root.proofs.Cases.{from}
+use Rattle.root.proofs.Cases.{below, from}
 use Rattle.root.proofs.Only.{root-only}
 use Rattle.root.proofs.Digits.{scaled}
-use Rattle.root.proofs.Assembly.{quarters-is, whole-m, whole-even, four-is, range, r-range, v-range, either, regroup}
+use Rattle.root.proofs.Assembly.{quarters-is, whole-m, whole-even, four-is, range, r-range, v-range, next-small}
+use Rattle.root.proofs.Assembly.{either, regroup}
+use Rattle.root.proofs.Level.{level-of, level-at}
 use Rattle.root.proofs.Rounding.{closest-down, closest-up, round-whole}
 use Rattle.root.proofs.Nearest.{Within, half-below, half-above, double-nearer}
 
@@ -65,6 +71,8 @@ scale-square x d m J K K-pos p U D q =
 
 -- the j and the m of n units
 record Place (n j m : ℕ) : Type 0 where
+  digits : ℕ
+  multiple : m ≡ digits * 2 ^ 52
   few : j ≤ 1048
   least : 2 ^ 104 ≤ m
   most : m ≤ (2 ^ 53 - 1) * 2 ^ 53
@@ -76,6 +84,8 @@ place n c y h =
     let M : n * 2 ^ 104 / 4 ^ quarters n ≡ c * (1 + y % 2) * 2 ^ 52 = ap (λ (j : ℕ). n * 2 ^ 104 / 4 ^ j) J ∙ whole-m n c y (h .value) in
     let g = range n c y h in
     record {
+      digits = c * (1 + y % 2);
+      multiple = M;
       few = omega (arith, J, h .few);
       least = rw M (g .2);
       most = rw M (g .3);
@@ -155,7 +165,11 @@ module _ (n j m : ℕ) (p : Place n j m) where
       go : (L S : ℕ) → x' * L ≡ n * d → n * S ≡ m * (2 ^ j * 2 ^ j) → x' * (L * S) ≡ m * (2 ^ j * 2 ^ j) * d
       go L S a b = omega (arith, ap (λ (y : ℕ). y * S) a, ap (λ (y : ℕ). y * d) b)
 
-  is-root : (z : Float) → HasValue z false (m * (up (subℕ j 589) * up (subℕ j 589))) (down (subℕ j 589) * down (subℕ j 589)) → RootIs z (partsAt j m (wholeRoot 53 m))
+  -- z is m × 4 ^ (j − 589)
+  abbrev Scales : Float → Type 0
+  Scales z = HasValue z false (m * (up (subℕ j 589) * up (subℕ j 589))) (down (subℕ j 589) * down (subℕ j 589))
+
+  is-root : (z : Float) → Scales z → RootIs z (partsAt j m (wholeRoot 53 m))
   unfolding r v x
   is-root z h = record {
     m = m;
@@ -165,6 +179,45 @@ module _ (n j m : ℕ) (p : Place n j m) where
     double = round-fits binary64 false (v * 2 ^ j) (2 ^ 589);
     nearest = to-exponent x v j 589 value;
   }
+
+  -- ---- the ranges
+  least-normal : patternUnits binary64 0x0010000000000000 ≡ 2 ^ 52
+  unfolding patternUnits fieldUnits
+  least-normal = refl
+
+  normal : T (le (ofBits binary64 0x0010000000000000) x)
+  normal =
+      let b : ℕ = 0x0010000000000000 in
+      le-of-values (ofBits binary64 b) x (patternUnits binary64 b) (2 ^ 1074) (v * 2 ^ j) (2 ^ 589) (pow-pos 1074) (pow-pos 589)
+      (pattern-value binary64 b (lit< tt)) value
+      (rw least-normal (go (2 ^ 589) (2 ^ 485) (2 ^ j) (pow-pos 485) (pow-pos j)))
+    where
+      times : (a Q K : ℕ) → 2 ^ 52 ≤ a → 0 < Q → 2 ^ 52 * K ≤ a * (Q * K)
+      times a Q K h q = mul-le-mul h (omega (arith, mul-le-mul-right K q))
+
+      go : (K Q S : ℕ) → 0 < Q → 0 < S → 2 ^ 52 * K ≤ v * S * (Q * K)
+      go K Q S Q-pos S-pos = times (v * S) Q K (omega (arith, mul-le-mul (v-between .0) S-pos)) Q-pos
+
+  ranges : Ranges m (partsAt j m (wholeRoot 53 m))
+  unfolding r v x
+  ranges = record {
+    j = j;
+    few = p .few;
+    exponent = refl;
+    least = r-between .0;
+    most = r-between .1;
+    next = next-small m r (m - r * r) v (p .least) (p .most) remainder (omega (arith, largest)) v-is;
+    normal = normal;
+    level =
+        λ e.
+        level-of (p .digits) r m (r-between .0) (r-between .1) (p .multiple)
+        (sym remainder ∙ ap (λ (y : ℕ). r * r + y) e);
+    levelAt = λ l. level-at r m largest l;
+  }
+
+  ranges-of : (z : Float) (h : Scales z) → Ranges (is-root z h .m) (partsAt j m (wholeRoot 53 m))
+  unfolding is-root
+  ranges-of z h = ranges
 
   rounded : (z : Float) → ((a : ℕ) → HasValue z false a (2 ^ 1074) → a ≡ n) → Rounded z (partsAt j m (wholeRoot 53 m) .nearest)
   unfolding r v x
@@ -227,19 +280,36 @@ at-double k e t =
     let j = quarters n in
     let m = n * 2 ^ 104 / 4 ^ j in
     let p : Place n j m = place n (s .0) (s .1) h in
-    let is = is-root n j m p z (refl, exact n j m p (suc k * up e) (down e) (units-exact binary64 (suc k) e t)) in
+    let v : Scales n j m p z = (refl, exact n j m p (suc k * up e) (down e) (units-exact binary64 (suc k) e t)) in
+    let is = is-root n j m p z v in
     record {
       parts = rootParts n;
       answered = answered k e;
       is = is;
       only = λ q i. root-only z q (rootParts n) i is;
+      ranges = ranges-of n j m p z v;
       rounded = rounded n j m p z (λ a v. units-are binary64 false false (suc k) e a t v);
       rounds = fraction n j m p;
     }
 
+above : (z : Float) → T (fits binary64 z) → T (positive z) → Answered z
+above nan t p = absurd p
+above (inf s) t p = absurd p
+above (fin true k e) t p = absurd p
+above (fin false zero e) t p = absurd p
+above (fin false (suc k) e) t p = at-double k e t
+
 pub root-theorem : RootTheorem
-root-theorem nan t p = absurd p
-root-theorem (inf s) t p = absurd p
-root-theorem (fin true k e) t p = absurd p
-root-theorem (fin false zero e) t p = absurd p
-root-theorem (fin false (suc k) e) t p = at-double k e t
+unfolding rootOf rootFrom lt
+root-theorem = record {
+  aboveZero = above;
+  zeros = zeros;
+  belowZero = λ z h. sym (below z h);
+  minusInfinity = refl;
+  plusInfinity = refl;
+  notANumber = refl;
+}
+  where
+    zeros : (s : Bool) → rootOf (fin s 0 (pos 0)) ≡ answers (rootZero (fin s 0 (pos 0)))
+    zeros true = refl
+    zeros false = refl

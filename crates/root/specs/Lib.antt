@@ -1,3 +1,3 @@
 pub mod Root
 pub mod Theorem
-pub mod Scaled
+pub mod Private

@@ -1,13 +1,15 @@
 -- What the root's numbers are, in the request's words and without the way they are computed: `RootTheorem` below, proved as `root-theorem` in proofs/Theorem.antt.
 use mathlib.Core.Path.{_≡_}
+use mathlib.Core.Logic.{_⊎_}
 use mathlib.Core.Bool.{Bool, true, false}
 use Prim.Native.Nat.{ℕ, _+_, _-_, _*_, _^_, _≤_, _<_}
-use lib.IntN.{ℤ}
+use lib.IntN.{ℤ, pos, subℕ}
 use lib.Dec.{T}
-use lib.Ieee.{Float, binary64, up, down, round, fits}
+use lib.Ieee.{Float, nan, inf, fin, binary64, ofBits, up, down, round, fits, lt, le}
 use lib.Ieee.Exact.{HasValue}
 use lib.Ieee.Positive.{positive}
-use Rattle.linalg.specs.Answer.{answers}
+use Rattle.ieee.specs.Numbers.{f0}
+use Rattle.linalg.specs.Answer.{answers, refuses}
 use Rattle.root.specs.declared.RootParts.{RootParts}
 use Rattle.root.specs.Root.{nearer, rootOf}
 
@@ -50,16 +52,45 @@ pub record Beside (r remainder a q : ℕ) : Type 0 where
   pub below : remainder ≤ r → 2 * a < (2 * r + 1) * q
   pub above : r < remainder → (2 * r + 1) * q < 2 * a
 
+-- m is that of 3ff0000000000001 or of 400fffffffffffff: z is one of the two times a power of four
+abbrev pub Level : ℕ → Type 0
+Level m = (m ≡ (2 ^ 52 + 1) * 2 ^ 52) ⊎ (m ≡ (2 ^ 53 - 1) * 2 ^ 53)
+
+-- in which ranges the numbers lie
+pub record Ranges (m : ℕ) (p : RootParts) : Type 0 where
+  -- the exponent is j − 589, from −589 to 459
+  pub j : ℕ
+  pub few : j ≤ 1048
+  pub exponent : p .exponent ≡ subℕ j 589
+  -- r has 53 binary digits, and so has r + 1 where the double is made of it
+  pub least : 2 ^ 52 ≤ p .root
+  pub most : p .root < 2 ^ 53
+  pub next : p .root < p .remainder → p .root + 1 < 2 ^ 53
+  -- the double is not subnormal: the least normal double is not above it
+  pub normal : T (le (ofBits binary64 0x0010000000000000) (p .nearest))
+  -- where the remainder is r, the middle between r and r + 1 is as near as it can be
+  pub level : p .remainder ≡ p .root → Level m
+  pub levelAt : Level m → p .remainder ≡ p .root
+
 -- what is answered is asked for, nothing else is, and the double is the correctly rounded root
 pub record Answered (z : Float) : Type 0 where
   pub parts : RootParts
   pub answered : rootOf z ≡ answers parts
   pub is : RootIs z parts
   pub only : (p : RootParts) → RootIs z p → p ≡ parts
+  pub ranges : Ranges (is .m) parts
   pub rounded : Rounded z (parts .nearest)
   -- and so does the format's rounding have it: it takes every fraction beside √m, times 2 ^ s, to this double
   pub rounds : (a q : ℕ) → Beside (parts .root) (parts .remainder) a q → round binary64 false (a * up (parts .exponent)) (q * down (parts .exponent)) ≡ parts .nearest
 
--- of every double that is finite and above 0
-abbrev pub RootTheorem : Type 0
-RootTheorem = (z : Float) → T (fits binary64 z) → T (positive z) → Answered z
+pub record RootTheorem : Type 0 where
+  -- of every double that is finite and above 0
+  pub aboveZero : (z : Float) → T (fits binary64 z) → T (positive z) → Answered z
+  -- a zero gives zeros, and the double keeps its sign
+  pub zeros : (s : Bool) →
+      rootOf (fin s 0 (pos 0)) ≡ answers (record { root = 0; remainder = 0; exponent = pos 0; nearest = fin s 0 (pos 0) })
+  -- 1 comes before 8: −∞ gets 1
+  pub belowZero : (z : Float) → lt z f0 ≡ true → rootOf z ≡ refuses 1
+  pub minusInfinity : rootOf (inf true) ≡ refuses 1
+  pub plusInfinity : rootOf (inf false) ≡ refuses 8
+  pub notANumber : rootOf nan ≡ refuses 8

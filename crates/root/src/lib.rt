@@ -8,7 +8,7 @@ ghost use Prim.Native.Nat.{_+_, _*_, _^_, _<_, _≤_};
 ghost use lib.Ieee.{binary64};
 ghost use Rattle.ieee.specs.Patterns.{patterns, patternUnits};
 ghost use Rattle.root.specs.Root.{rootTold, rootOf, rootParts, nearer as nearerOf};
-ghost use Rattle.root.specs.Scaled.{ScaledTo};
+ghost use Rattle.root.specs.Private.{ScaledTo};
 
 const HIDDEN: u64 = 0x10_0000_0000_0000; // 2^52: the weight of a pattern's exponent field
 

@@ -1,7 +1,8 @@
 -- The laws of the series, each over any format.
 pub mod Mirror
-pub mod Terms
-pub mod Stopped
+pub mod PartialSums
 pub mod Sum
 pub mod Solo
 pub mod Asked
+pub mod Pairs
+pub mod Minus

@@ -12,7 +12,7 @@ use Rattle.ieee.proofs.Sign.{mul-neg-l, mul-neg-r, mul-neg-neg}
 use Rattle.ieee.proofs.Signed.{order, add-same, sub-same, neg-add, neg-sub}
 use Rattle.ieee.proofs.Product.{mul-same}
 use Rattle.series.specs.Series.{seriesFirst, seriesNext, seriesLevel}
-use Rattle.series.specs.Turns.{odd}
+use Rattle.series.specs.Private.{odd}
 use Rattle.series.specs.declared.recurrence.Level.{Level}
 
 -- -x where b, else x

@@ -6,7 +6,7 @@ use native.Mathlib.Numerals.{add-one}
 use lib.Ieee.{Float, Format, add, mul}
 use Rattle.tables.specs.Tables.{recipFact}
 use Rattle.series.specs.Series.{seriesFirst, seriesNext, seriesLevel, levelTerms, seriesTerms, seriesSum, seriesSums}
-use Rattle.series.specs.Turns.{sumsNone, sumsGain, tailTerms, sumsLast, soloTurn, soloTurns, vNone, vTurn, vTurns}
+use Rattle.series.specs.Private.{sumsNone, sumsGain, tailTerms, sumsLast, soloTurn, soloTurns, vNone, vTurn, vTurns}
 use Rattle.series.specs.declared.recurrence.TurnsV.{TurnsV}
 use Rattle.series.proofs.Sum.{sumsBelow, sum-more, tail-is}
 

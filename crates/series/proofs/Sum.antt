@@ -10,7 +10,7 @@ use Rattle.ieee.specs.Signs.{notMinusZero}
 use Rattle.ieee.proofs.Clear.{add-clear}
 use Rattle.tables.specs.Tables.{recipFact}
 use Rattle.series.specs.Series.{seriesNext, seriesLevel, levelTerms, seriesTerms, seriesSum}
-use Rattle.series.specs.Turns.{tailTerms}
+use Rattle.series.specs.Private.{tailTerms}
 use Rattle.series.specs.declared.recurrence.Sums.{Sums}
 
 pub sum-fits : (f : Format) (t : ℕ → Float) (n : ℕ) → T (fits f (seriesSum f t n))

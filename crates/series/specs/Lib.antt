@@ -1,5 +1,4 @@
 pub mod Series
 pub mod Pass
-pub mod Small
-pub mod Turns
 pub mod Asked
+pub mod Private

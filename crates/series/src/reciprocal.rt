@@ -6,18 +6,21 @@ ghost use Rattle.tables.specs.Tables.{recipFact};
 use tables::double::Recip;
 use tables::double::recip_fact;
 
-// 1/n!. Where the table has none there is no number to give, and the function would not return: for
-// the indices that it takes it is proved to return at its first turn.
+// Stands where nothing can come: whoever calls it has proved so.
+fn never() -> f64
+    requires { ⌜ ⊥ ⌝ }
+    ensures { λ _. ⌜ ⊥ ⌝ }
+{
+    loop {}
+}
+
+// 1/n!, for an index that the table has.
 pub fn recip(n: usize) -> f64
     requires { ⌜ n ≤ 32 ⌝ }
     ensures { λ r. ⌜ r ≡ recipFact binary64 n ⌝ }
 {
-    loop {
-        match recip_fact(n) {
-            Recip::Number(r) => {
-                return r;
-            }
-            Recip::None => {}
-        }
+    match recip_fact(n) {
+        Recip::Number(r) => r,
+        Recip::None => never(),
     }
 }

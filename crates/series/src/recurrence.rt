@@ -3,7 +3,7 @@
 ghost use mathlib.Core.Path.{_≡_};
 ghost use lib.Ieee.{binary64};
 ghost use Rattle.series.specs.Series.{seriesFirst, seriesNext, levelTerms, seriesChi, seriesCoeffs};
-ghost use Rattle.series.specs.Turns.{sumsNone, sumsGain, tailTerms, sumsLast, vNone, vTurn};
+ghost use Rattle.series.specs.Private.{sumsNone, sumsGain, tailTerms, sumsLast, vNone, vTurn};
 use crate::sim3::Sim3Coeffs;
 
 // Level j: p = sigma^j, xi and zeta, and the z-derivatives of these two.

@@ -1,7 +1,7 @@
 // The series for v alone at its shortest: how many terms that is, the width of the numbers decides.
 ghost use mathlib.Core.Path.{_≡_};
 ghost use lib.Ieee.{binary64};
-ghost use Rattle.series.specs.Turns.{vTurns};
+ghost use Rattle.series.specs.Private.{vTurns};
 use crate::reciprocal::recip;
 use crate::recurrence::TurnsV;
 use crate::recurrence::none_v;

@@ -5,7 +5,7 @@ ghost use mathlib.Core.Path.{_≡_};
 ghost use Prim.Native.Nat.{_+_, _≤_};
 ghost use lib.Ieee.{binary64};
 ghost use Rattle.series.specs.Series.{seriesSums, seriesFull, seriesV, seriesTold, seriesVTold, seriesAnswer, seriesVAnswer};
-ghost use Rattle.series.specs.Turns.{soloTurn, soloTurns, vTurns};
+ghost use Rattle.series.specs.Private.{soloTurn, soloTurns, vTurns};
 use crate::horner::g_series;
 use crate::reciprocal::recip;
 use crate::recurrence;

@@ -1,4 +1,4 @@
--- Written by tools/widths from crates/series: edit that one. Digest 54a9efa41c21b524.
+-- Written by tools/widths from crates/series: edit that one. Digest dac89968444c4557.
 -- The structs of series_f32 field by field, as rules for `simp`: a number that the code reads of a struct is the number of the definitions' record. Assumes nothing.
 use mathlib.Core.Path.{_≡_, refl}
 use lib.Ieee.{Float}
@@ -14,7 +14,8 @@ use Rattle.series_f32.specs.declared.sim3.Coeffs4.{Coeffs4}
 use Rattle.series_f32.specs.declared.sim3.CoeffsPair.{CoeffsPair}
 use Rattle.series_f32.specs.declared.sim3.GPair.{GPair}
 use Rattle.series_f32.specs.declared.sim3.Horner.{Horner}
-use Rattle.series_f32.specs.As.{asCoeffs4, asCoeffsPair, asGPair, asHorner, asLevel, asSim3Coeffs, asSums, asSumsPair, asTail, asTurns, asTurnsPair, asTurnsV}
+use Rattle.series_f32.specs.declared.stopped.Stopped.{Stopped}
+use Rattle.series_f32.specs.As.{asCoeffs4, asCoeffsPair, asGPair, asHorner, asLevel, asSim3Coeffs, asStopped, asSums, asSumsPair, asTail, asTurns, asTurnsPair, asTurnsV}
 
 pub xi-of-Level : (a : Level) → a .xi ≡ asLevel a .xi
 unfolding asLevel
@@ -268,6 +269,34 @@ pub made-Horner : (v0 : GPair) (w0 : GPair) → asHorner (record { v0 = v0; w0 =
 unfolding asHorner
 made-Horner v0 w0 = refl
 
+pub series-of-Stopped : (a : Stopped) → asHorner (a .series) ≡ asStopped a .series
+unfolding asStopped
+series-of-Stopped a = refl
+
+pub series-alone-of-Stopped : (a : Stopped) → asHorner (a .«series_alone») ≡ asStopped a .«series_alone»
+unfolding asStopped
+series-alone-of-Stopped a = refl
+
+pub closed-of-Stopped : (a : Stopped) → asHorner (a .closed) ≡ asStopped a .closed
+unfolding asStopped
+closed-of-Stopped a = refl
+
+pub closed-alone-of-Stopped : (a : Stopped) → asHorner (a .«closed_alone») ≡ asStopped a .«closed_alone»
+unfolding asStopped
+closed-alone-of-Stopped a = refl
+
+pub made-Stopped : (series : Horner) («series_alone» : Horner) (closed : Horner) («closed_alone» : Horner) → asStopped
+    (record { series = series; «series_alone» = «series_alone»; closed = closed; «closed_alone» = «closed_alone» })
+    ≡ record {
+      series = asHorner series;
+      «series_alone» = asHorner «series_alone»;
+      closed = asHorner closed;
+      «closed_alone» = asHorner
+          «closed_alone»;
+    }
+unfolding asStopped
+made-Stopped series «series_alone» closed «closed_alone» = refl
+
 pub ruleset series-singles = (
   xi-of-Level,
   dxi-of-Level,
@@ -330,4 +359,9 @@ pub ruleset series-singles = (
   v0-of-Horner,
   w0-of-Horner,
   made-Horner,
+  series-of-Stopped,
+  series-alone-of-Stopped,
+  closed-of-Stopped,
+  closed-alone-of-Stopped,
+  made-Stopped,
 )

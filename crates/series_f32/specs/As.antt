@@ -1,4 +1,4 @@
--- Written by tools/widths from crates/series: edit that one. Digest 6a751196337b3e2d.
+-- Written by tools/widths from crates/series: edit that one. Digest 4a1f326f5cc693e4.
 -- The structs of series_f32 as the records that the definitions speak of, number by number: a float of either width is one type of the logic.
 use Rattle.series.specs.declared.recurrence.Level as wideLevel
 use Rattle.series_f32.specs.declared.recurrence.Level.{Level}
@@ -24,6 +24,8 @@ use Rattle.series.specs.declared.sim3.GPair as wideGPair
 use Rattle.series_f32.specs.declared.sim3.GPair.{GPair}
 use Rattle.series.specs.declared.sim3.Horner as wideHorner
 use Rattle.series_f32.specs.declared.sim3.Horner.{Horner}
+use Rattle.series.specs.declared.stopped.Stopped as wideStopped
+use Rattle.series_f32.specs.declared.stopped.Stopped.{Stopped}
 
 unfoldable pub asLevel : Level → wideLevel.Level
 asLevel a = record { xi = a .xi; dxi = a .dxi; zeta = a .zeta; dzeta = a .dzeta; p = a .p }
@@ -60,3 +62,6 @@ asGPair a = record { pos = a .pos; neg = a .neg }
 
 unfoldable pub asHorner : Horner → wideHorner.Horner
 asHorner a = record { v0 = asGPair (a .v0); w0 = asGPair (a .w0) }
+
+unfoldable pub asStopped : Stopped → wideStopped.Stopped
+asStopped a = record { series = asHorner (a .series); «series_alone» = asHorner (a .«series_alone»); closed = asHorner (a .closed); «closed_alone» = asHorner (a .«closed_alone») }

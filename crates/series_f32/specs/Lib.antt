@@ -1,4 +1,4 @@
--- Written by tools/widths from crates/series: edit that one. Digest f89f4dd8f435663e.
+-- Written by tools/widths from crates/series: edit that one. Digest cdfefde73cfe3d02.
 pub mod As
 pub mod Told
-pub mod Small
+pub mod Private

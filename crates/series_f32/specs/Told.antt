@@ -1,5 +1,7 @@
--- Written by tools/widths from crates/series: edit that one. Digest 5ee1ae3dec82c149.
+-- Written by tools/widths from crates/series: edit that one. Digest 3292d3ab46611a4c.
 -- What each answer of series_f32 says.
+use Rattle.series_f32.specs.declared.stopped.StoppedAnswer as codeStoppedAnswer
+use Rattle.series_f32.specs.declared.stopped.StoppedAnswer.the-variants as inStoppedAnswer
 use Rattle.series_f32.specs.declared.sim3.SeriesAnswer as codeSeriesAnswer
 use Rattle.series_f32.specs.declared.sim3.SeriesAnswer.the-variants as inSeriesAnswer
 use Rattle.series_f32.specs.declared.sim3.SeriesVAnswer as codeSeriesVAnswer
@@ -7,10 +9,15 @@ use Rattle.series_f32.specs.declared.sim3.SeriesVAnswer.the-variants as 
 use Rattle.series_f32.specs.declared.sim3.SeriesPairAnswer as codeSeriesPairAnswer
 use Rattle.series_f32.specs.declared.sim3.SeriesPairAnswer.the-variants as inSeriesPairAnswer
 use Rattle.linalg.specs.Answer.{Answer, answers, refuses}
+use Rattle.series.specs.declared.stopped.Stopped.{Stopped}
+use Rattle.series.specs.declared.sim3.CoeffsPair.{CoeffsPair}
 use Rattle.series.specs.declared.sim3.Sim3Coeffs.{Sim3Coeffs}
 use Rattle.series.specs.declared.sim3.Coeffs4.{Coeffs4}
-use Rattle.series.specs.declared.sim3.CoeffsPair.{CoeffsPair}
-use Rattle.series_f32.specs.As.{asCoeffs4, asCoeffsPair, asSim3Coeffs}
+use Rattle.series_f32.specs.As.{asCoeffs4, asCoeffsPair, asSim3Coeffs, asStopped}
+
+unfoldable pub stoppedTold : codeStoppedAnswer.StoppedAnswer → Answer Stopped
+stoppedTold (inStoppedAnswer.Sums s) = answers (asStopped s)
+stoppedTold (inStoppedAnswer.Refused n) = refuses n
 
 unfoldable pub seriesTold : codeSeriesAnswer.SeriesAnswer → Answer Sim3Coeffs
 seriesTold (inSeriesAnswer.Coeffs c) = answers (asSim3Coeffs c)

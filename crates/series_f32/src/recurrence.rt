@@ -1,10 +1,10 @@
-// Written by tools/widths from crates/series/src/recurrence.rt: edit that one. Digest 60552bb2d5c96285.
+// Written by tools/widths from crates/series/src/recurrence.rt: edit that one. Digest 3e80569dbded90d3.
 // The recurrence of the total-degree series: its levels, the terms that a level gives, and the six
 // sums of them, for one sign.
 ghost use mathlib.Core.Path.{_≡_};
 ghost use lib.Ieee.{binary32};
 ghost use Rattle.series.specs.Series.{seriesFirst, seriesNext, levelTerms, seriesChi, seriesCoeffs};
-ghost use Rattle.series.specs.Turns.{sumsNone, sumsGain, tailTerms, sumsLast, vNone, vTurn};
+ghost use Rattle.series.specs.Private.{sumsNone, sumsGain, tailTerms, sumsLast, vNone, vTurn};
 ghost use Rattle.series_f32.specs.As.{asLevel, asSim3Coeffs, asSums, asTail, asTurnsV};
 use crate::sim3::Sim3Coeffs;
 

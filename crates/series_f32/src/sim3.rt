@@ -1,4 +1,4 @@
-// Written by tools/widths from crates/series/src/sim3.rt: edit that one. Digest 966e4e9d3f7fb26d.
+// Written by tools/widths from crates/series/src/sim3.rt: edit that one. Digest f84e90d6c03242ba.
 // The Sim(3) coefficients, and their total-degree series at one sign of sigma: the full one, and
 // the one for v alone, which has the full one's bits. k is the number of terms of v0 and w0; the
 // other sums run to the level that gives every coefficient the same total degree.
@@ -7,7 +7,7 @@ ghost use Prim.Native.Nat.{_+_, _≤_};
 ghost use lib.Ieee.{binary32};
 ghost use Rattle.series.specs.Series.{seriesSums, seriesFull, seriesV, seriesAnswer, seriesVAnswer};
 ghost use Rattle.series_f32.specs.Told.{seriesTold, seriesVTold};
-ghost use Rattle.series.specs.Turns.{soloTurn, soloTurns, vTurns};
+ghost use Rattle.series.specs.Private.{soloTurn, soloTurns, vTurns};
 ghost use Rattle.series_f32.specs.As.{asCoeffs4, asSim3Coeffs, asSums, asTurns, asTurnsV};
 use crate::horner::g_series;
 use crate::reciprocal::recip;

@@ -2,21 +2,27 @@
 // width of the numbers decides.
 ghost use mathlib.Core.Path.{_≡_};
 ghost use Prim.Native.Nat.{_+_, _≤_};
+ghost use mathlib.Core.List.{_∷_};
+ghost use lib.ListN.{getD};
 ghost use lib.Ieee.{binary32};
 ghost use Rattle.series.specs.Series.{gSeries, gSeriesPair, w0Terms};
+ghost use Rattle.series.specs.Pass.{hornerStopped};
+ghost use Rattle.ieee.specs.Numbers.{f0};
 ghost use Rattle.tables.specs.Tables.{recipFact};
-ghost use Rattle.series.specs.Turns.{gTerm};
-ghost use Rattle.series.specs.Small.{passed};
+ghost use Rattle.series.specs.Private.{gTerm, passed};
 ghost use Rattle.series_f32.specs.As.{asGPair, asHorner};
-ghost use Rattle.series_f32.specs.Small.{passTold};
+ghost use Rattle.series_f32.specs.Private.{passTold};
+use crate::horner::entries_read;
 use crate::horner::g_series;
 use crate::horner::g_term;
 use crate::reciprocal::recip;
 use crate::sim3::GPair;
 use crate::sim3::Horner;
 
-// The terms of w0; v0 has one more.
-const W0_TERMS: usize = 8;
+// The terms of v0, and of w0.
+pub const V0_TERMS: usize = 9;
+
+pub const W0_TERMS: usize = 8;
 
 // v0 of the closed arm at small sigma, 9 terms: the first, and sigma times the 8 of `g2`.
 pub fn g1(sigma: f32) -> f32
@@ -92,4 +98,37 @@ pub fn horner_small(sigma: f32) -> Horner
     let v0 = p.after9;
     let w0 = p.after8;
     Horner { v0, w0 }
+}
+
+// What the pass holds after n of its entries.
+fn after(p: Pass, n: usize) -> GPair
+    requires { ⌜ n ≤ 9 ⌝ }
+    ensures { λ r. ⌜ asGPair r ≡ getD (record { pos = f0; neg = f0 } ∷ passTold p) n (asGPair (p .after9)) ⌝ }
+{
+    match n {
+        0 => GPair { pos: 0.0, neg: 0.0 },
+        1 => p.after1,
+        2 => p.after2,
+        3 => p.after3,
+        4 => p.after4,
+        5 => p.after5,
+        6 => p.after6,
+        7 => p.after7,
+        8 => p.after8,
+        _ => p.after9,
+    }
+}
+
+// The pass of `horner_small` stopped after `stop` entries: a stop behind the last entry of a sum is its
+// last.
+pub fn horner_small_stopped(sigma: f32, stop: usize) -> Horner
+    ensures { λ r. ⌜ asHorner r ≡ hornerStopped binary32 sigma (w0Terms binary32 + 1) (w0Terms binary32) stop ⌝ }
+{
+    let p = passes(sigma);
+    let v = entries_read(stop, V0_TERMS);
+    let w = entries_read(stop, W0_TERMS);
+    Horner {
+        v0: after(p, v),
+        w0: after(p, w),
+    }
 }

@@ -6,8 +6,8 @@ use mathlib.Core.List.{List, [], _∷_}
 use native.Mathlib.Omega.{arith}
 use borrow.Author.Tests.{eq-eqb, ne-eqb, eqb-true, eqb-false, ltb-true}
 use lib.Dec.{ltb, eqb}
-use Rattle.sheets.specs.Sheets.{Kept, none, kept, Sheets, noSheets, most, keeping, shelveOn, shelve}
-use Rattle.sheets.specs.History.{Sent, after, one, keptBelow, Small, CountTheorem}
+use Rattle.sheets.specs.Sheets.{Kept, none, kept, Sheets, one, keptBelow, noSheets, most, keeping, shelveOn, shelve}
+use Rattle.sheets.specs.History.{Sent, after, Small, CountTheorem}
 use Rattle.sheets.specs.declared.Shot.{Shot}
 
 -- ---- one more sheet
@@ -36,7 +36,7 @@ module _ (at : ℕ → Kept) (n : ℕ) (x : Shot) where
       let d = eqb-false _ _ t in
       rw (other k d) (omega (arith, go (omega arith)))
 
-  above : (k : ℕ) → n < k → keptBelow (keeping n x at) k + one (at n) ≡ keptBelow at k + 1
+  pub above : (k : ℕ) → n < k → keptBelow (keeping n x at) k + one (at n) ≡ keptBelow at k + 1
   above zero h = absurd (omega arith)
   above (suc k) h = above-by k h (eqb k n) refl (above k)
 
@@ -77,7 +77,7 @@ unfolding after Small
 going [] s m c = c
 going (x ∷ h) s m c = going h (shelve s (x .sheet) (x .shot) .sheets) (m .1) (step s (x .sheet) (x .shot) (m .0) c)
 
-empty : (k : ℕ) → keptBelow (noSheets .at) k ≡ 0
+pub empty : (k : ℕ) → keptBelow (noSheets .at) k ≡ 0
 unfolding keptBelow
 empty zero = refl
 empty (suc k) = rw (empty k) refl

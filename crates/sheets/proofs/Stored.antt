@@ -16,10 +16,12 @@ use Rattle.wire.specs.Wire.{wordAt, wordBytes, itemBytes, itemsBytes}
 use Rattle.wire.proofs.Bytes.{word-length}
 use Rattle.replies.specs.Table.{framedIn, framedItems}
 use Rattle.replies.proofs.Frames.{framed-length}
-use Rattle.sheets.specs.Sheets.{Kept, none, kept, Sheets, noSheets, most, noRoom, neverKept, keeping, Shelved, shelved, Shelf, shelveOn, shelve, askOn, ask}
-use Rattle.sheets.specs.Store.{slotWidth, slots, tail, size, usedOf, slotOf, slotAt, shotIn, heldAt, keptOf, sheetsOf, slotBytes, addOf, Lent, lent, retakeTold, retakeBytes}
+use Rattle.sheets.specs.Sheets.{Kept, none, kept, Sheets, one, keptBelow, sheetNumbers, noSheets, most, noRoom, neverKept, keeping, Shelved, shelved, Shelf, shelveOn, shelve, askOn, ask}
+use Rattle.sheets.specs.Store.{slotWidth, slots, tail, size, usedOf, slotOf, slotAt, shotIn, heldAt, keptOf, sheetsOf, sheetIn, ownAt, freeSlot, slotBytes, assignOf, addOf, Lent, lent, retakeTold, retakeBytes}
 use Rattle.sheets.specs.declared.Shot.{Shot}
 use Rattle.sheets.proofs.Framed.{frame, Fit, short-back, framed-back}
+use Rattle.sheets.proofs.Counted.{above, empty}
+use Rattle.sheets.proofs.Own.{and-left, and-right, and-false, slot-few, unkept, unkept-other, unused, count-used, free-own, free-found, free-none}
 use Rattle.sheets.proofs.Parts.{short-in, short-before, short-after, short-on, short-word, slot-before, slot-after, slot-on}
 
 -- ---- the bytes of a slot: how many they are, and that they read back
@@ -42,10 +44,6 @@ pose-is n x = refl
 pub shot-back : (n : ℕ) (x : Shot) → x .take < 65536 → Fit (x .pose) → shotIn (slotBytes n x) ≡ x
 shot-back n x h f = λ i. record { take = (take-is n x ∙ short-word (x .take) h) i; pose = (pose-is n x ∙ framed-back (x .pose) f) i }
 
-pub slot-few : (m : List ℕ) (n : ℕ) → slotOf m n < most
-unfolding slotOf
-slot-few m n = omega arith
-
 -- m′ has the bytes b, of the sheet n, in the slot i, and is else as m
 pub record Stored (m m′ : List ℕ) (n i : ℕ) (b : List ℕ) : Type 0 where
   pub sheet : wordAt 2 b 0 ≡ n
@@ -55,7 +53,7 @@ pub record Stored (m m′ : List ℕ) (n i : ℕ) (b : List ℕ) : Type 0 where
   pub used : heldAt m′ n i ≡ true
   pub slot : slotAt m′ i ≡ b
   pub apart : (y s : ℕ) → s < most → (s ≡ i → ⊥) → (heldAt m′ y s ≡ heldAt m y s) × (slotAt m′ s ≡ slotAt m s)
-  pub free : (y : ℕ) → (y ≡ n → ⊥) → (heldAt m′ y i ≡ false) × (heldAt m y i ≡ false)
+  pub free : (y : ℕ) → (y ≡ n → ⊥) → slotOf m y ≡ i → (heldAt m′ y i ≡ false) × (keptOf m y ≡ none)
 
 module _ {m m′ : List ℕ} {n i : ℕ} {b : List ℕ} (k : Stored m m′ n i b) where
   of-own : keptOf m′ n ≡ kept (shotIn b)
@@ -66,8 +64,8 @@ module _ {m m′ : List ℕ} {n i : ℕ} {b : List ℕ} (k : Stored m m′ n i b
   unfolding keptOf
   of-other y h d true e =
       let s : slotOf m y ≡ i = eqb-true _ _ e in
-      let f = k .free y d in
-      rw (lt-ltb y 65536 h, k .others y h d, s, f .0, f .1)
+      let f = k .free y d s in
+      rw (lt-ltb y 65536 h, k .others y h d, s, f .0) refl ∙ sym (f .1)
   of-other y h d false e =
       let a = k .apart y (slotOf m y) (slot-few m y) (eqb-false _ _ e) in
       rw (lt-ltb y 65536 h, k .others y h d, a .0, a .1)
@@ -85,22 +83,32 @@ module _ {m m′ : List ℕ} {n i : ℕ} {b : List ℕ} (k : Stored m m′ n i b
   pub stored : keptOf m′ ≡ keeping n (shotIn b) (keptOf m)
   stored = fun-ext (λ y. stored-by y (eqb y n) (ltb y 65536) refl refl)
 
+  -- the count: a sheet more, or as many
+  count-now : keptBelow (keptOf m′) sheetNumbers + one (keptOf m n) ≡ keptBelow (keptOf m) sheetNumbers + 1
+  count-now =
+      ap (λ (f : ℕ → Kept). keptBelow f sheetNumbers + one (keptOf m n)) stored
+      ∙ above (keptOf m) n (shotIn b) sheetNumbers (k .inside)
+
+  pub stored-new :
+      keptOf m n ≡ none →
+      sheetsOf m′ ≡ record { count = sheetsOf m .count + 1; at = keeping n (shotIn b) (sheetsOf m .at) }
+  unfolding sheetsOf
+  stored-new e =
+      let z : one (keptOf m n) ≡ 0 = ap one e in
+      let c : keptBelow (keptOf m′) sheetNumbers ≡ keptBelow (keptOf m) sheetNumbers + 1 =
+      omega (arith, count-now, z) in
+      λ i. record { count = c i; at = stored i }
+
+  pub stored-old :
+      (o : Shot) → keptOf m n ≡ kept o →
+      sheetsOf m′ ≡ record { count = sheetsOf m .count; at = keeping n (shotIn b) (sheetsOf m .at) }
+  unfolding sheetsOf
+  stored-old o e =
+      let z : one (keptOf m n) ≡ 1 = ap one e in
+      let c : keptBelow (keptOf m′) sheetNumbers ≡ keptBelow (keptOf m) sheetNumbers = omega (arith, count-now, z) in
+      λ i. record { count = c i; at = stored i }
+
 -- ---- tests
-and-left : (a b : Bool) → a && b ≡ true → a ≡ true
-and-left true b e = refl
-and-left false b e = e
-
-and-right : (a b : Bool) → a && b ≡ true → b ≡ true
-and-right true b e = e
-and-right false b e = absurd (subst T e′ tt)
-  where
-    e′ : _≡_ {A = Bool} true false
-    e′ = sym e
-
-and-false : (a : Bool) → a && false ≡ false
-and-false true = refl
-and-false false = refl
-
 less-next : (s u : ℕ) → (s ≡ u → ⊥) → (t : Bool) → ltb s u ≡ t → ltb s (u + 1) ≡ t
 less-next s u n true t = lt-ltb s (u + 1) (let h : s < u = ltb-true s u t in omega arith)
 less-next s u n false t = le-ltb s (u + 1) (let h : u ≤ s = ltb-false s u t in omega arith)
@@ -141,9 +149,9 @@ module _ (m b : List ℕ) (i : ℕ) (h : i < most) (l : length m ≡ size) (e : 
   other s k n = other-by s k n (ltb s i) refl
 
   replaced-stored : (n : ℕ) → wordAt 2 b 0 ≡ n → n < 65536 → slotOf m n ≡ i → heldAt m n i ≡ true → Stored m (sets m at b) n i b
-  unfolding heldAt
+  unfolding heldAt sheetIn
   replaced-stored n p q o u =
-      let was : wordAt 2 m at ≡ n = eqb-true _ _ (and-right (ltb i (usedOf m)) _ u) in
+      let was : sheetIn m i ≡ n = eqb-true _ _ (and-right (ltb i (usedOf m)) _ u) in
       record {
         sheet = p;
         inside = q;
@@ -152,116 +160,151 @@ module _ (m b : List ℕ) (i : ℕ) (h : i < most) (l : length m ≡ size) (e : 
         used = rw (used-same, head-own, p, and-left (ltb i (usedOf m)) _ u, eq-eqb n n refl);
         slot = slot-own;
         apart = λ y s k d. let a = other s k d in (rw (used-same, a .0), a .1);
-        free = λ y d.
-            let z = ne-eqb n y (λ e. d (sym e)) in
-            (rw (head-own, p, z) (and-false (ltb i (usedOf (sets m at b)))), rw (was, z) (and-false (ltb i (usedOf m))));
+        free = λ y d s. (
+          rw (head-own, p, ne-eqb n y (λ e. d (sym e))) (and-false (ltb i (usedOf (sets m at b)))),
+          unkept-other m y i s (λ e. d (e ∙ was)),
+        );
       }
 
-replaced :
-    (m b : List ℕ) (n : ℕ) → length m ≡ size → length b ≡ slotWidth → wordAt 2 b 0 ≡ n → n < 65536 → heldAt m n (slotOf m n) ≡ true →
-    sheetsOf (sets m (slots + slotWidth * slotOf m n) b) ≡ record { count = sheetsOf m .count; at = keeping n (shotIn b) (sheetsOf m .at) }
-unfolding sheetsOf
-replaced m b n l e p q u =
-    let s = slot-few m n in
-    let k = replaced-stored m b (slotOf m n) s l e n p q refl u in
-    λ i. record { count = used-same m b (slotOf m n) s l e i; at = stored k i }
-
--- ---- bytes in the next slot
-module _ (m b : List ℕ) (n : ℕ) (l : length m ≡ size) (e : length b ≡ slotWidth) (q : n < 65536) (h : usedOf m < most) where
-  abbrev u : ℕ
-  u = usedOf m
-
+-- ---- bytes in the slot i, which is no sheet's own, and the slot named for the sheet n
+module _
+    (m b : List ℕ) (n i : ℕ) (l : length m ≡ size) (e : length b ≡ slotWidth) (q : n < 65536) (h : i < most)
+    (p : wordAt 2 b 0 ≡ n) (w : ownAt m i ≡ false) where
   abbrev m1 : List ℕ
-  m1 = sets m (2 * n) (wordBytes 2 u)
+  m1 = sets m (2 * n) (wordBytes 2 i)
 
   abbrev m2 : List ℕ
-  m2 = sets m1 (slots + slotWidth * u) b
-
-  abbrev m3 : List ℕ
-  m3 = sets m2 tail (wordBytes 2 (u + 1))
+  m2 = sets m1 (slots + slotWidth * i) b
 
   l1 : length m1 ≡ size
-  l1 = length-sets m (2 * n) (wordBytes 2 u) ∙ l
+  l1 = length-sets m (2 * n) (wordBytes 2 i) ∙ l
 
   l2 : length m2 ≡ size
-  l2 = length-sets m1 (slots + slotWidth * u) b ∙ l1
-
-  used-three : usedOf m3 ≡ u + 1
-  unfolding usedOf
-  used-three =
-      let w : length (wordBytes 2 (u + 1)) ≡ 2 = word-length 2 (u + 1) in
-      short-on (wordBytes 2 (u + 1)) m2 tail (omega (arith, l2)) (omega arith) ∙ short-word (u + 1) (omega arith)
-
-  -- before the tail the last store changes nothing
-  last-short : (a : ℕ) → a + 2 ≤ tail → wordAt 2 m3 a ≡ wordAt 2 m2 a
-  last-short a k = short-before (wordBytes 2 (u + 1)) m2 tail a k
+  l2 = length-sets m1 (slots + slotWidth * i) b ∙ l1
 
   -- behind the index the first store changes nothing
   first-short : (a : ℕ) → slots ≤ a → wordAt 2 m1 a ≡ wordAt 2 m a
-  first-short a k = let w : length (wordBytes 2 u) ≡ 2 = word-length 2 u in short-after (wordBytes 2 u) m (2 * n) a (omega arith)
+  first-short a k =
+      let z : length (wordBytes 2 i) ≡ 2 = word-length 2 i in
+      short-after (wordBytes 2 i) m (2 * n) a (omega arith)
 
-  index-short : (y : ℕ) → y < 65536 → wordAt 2 m3 (2 * y) ≡ wordAt 2 m1 (2 * y)
-  index-short y k = last-short (2 * y) (omega arith) ∙ short-before b m1 (slots + slotWidth * u) (2 * y) (omega arith)
+  used-one : usedOf m1 ≡ usedOf m
+  unfolding usedOf
+  used-one = first-short tail (omega arith)
 
-  slot-own-three : slotOf m3 n ≡ u
+  used-two : usedOf m2 ≡ usedOf m
+  used-two = used-same m1 b i h l1 e ∙ used-one
+
+  index-two : (y : ℕ) → y < 65536 → wordAt 2 m2 (2 * y) ≡ wordAt 2 m1 (2 * y)
+  index-two y k = short-before b m1 (slots + slotWidth * i) (2 * y) (omega arith)
+
+  slot-own-two : slotOf m2 n ≡ i
   unfolding slotOf
-  slot-own-three =
-      let w : length (wordBytes 2 u) ≡ 2 = word-length 2 u in
-      ap (λ (k : ℕ). k % most) (index-short n q ∙ short-on (wordBytes 2 u) m (2 * n) (omega (arith, l)) (omega arith) ∙ short-word u (omega arith))
+  slot-own-two =
+      let z : length (wordBytes 2 i) ≡ 2 = word-length 2 i in
+      let y = short-on (wordBytes 2 i) m (2 * n) (omega (arith, l)) (omega arith) in
+      ap (λ (k : ℕ). k % most) (index-two n q ∙ y ∙ short-word i (omega arith))
       ∙ mod-eq-of-lt h
 
   index-by : (y : ℕ) → y < 65536 → (y ≡ n → ⊥) → (t : Bool) → ltb y n ≡ t → wordAt 2 m1 (2 * y) ≡ wordAt 2 m (2 * y)
-  index-by y k d true t = let z : y < n = ltb-true y n t in short-before (wordBytes 2 u) m (2 * n) (2 * y) (omega arith)
+  index-by y k d true t = let z : y < n = ltb-true y n t in short-before (wordBytes 2 i) m (2 * n) (2 * y) (omega arith)
   index-by y k d false t =
-      let w : length (wordBytes 2 u) ≡ 2 = word-length 2 u in
+      let v : length (wordBytes 2 i) ≡ 2 = word-length 2 i in
       let z : n ≤ y = ltb-false y n t in
       let z′ : n < y = omega arith in
-      short-after (wordBytes 2 u) m (2 * n) (2 * y) (omega arith)
+      short-after (wordBytes 2 i) m (2 * n) (2 * y) (omega arith)
 
-  slot-other : (y : ℕ) → y < 65536 → (y ≡ n → ⊥) → slotOf m3 y ≡ slotOf m y
+  slot-other-two : (y : ℕ) → y < 65536 → (y ≡ n → ⊥) → slotOf m2 y ≡ slotOf m y
   unfolding slotOf
-  slot-other y k d = ap (λ (n : ℕ). n % most) (index-short y k ∙ index-by y k d (ltb y n) refl)
+  slot-other-two y k d = ap (λ (x : ℕ). x % most) (index-two y k ∙ index-by y k d (ltb y n) refl)
 
-  head-three : wordAt 2 m3 (slots + slotWidth * u) ≡ wordAt 2 b 0
-  head-three = last-short (slots + slotWidth * u) (omega arith) ∙ head-own m1 b u h l1 e
+  head-two : wordAt 2 m2 (slots + slotWidth * i) ≡ n
+  head-two = head-own m1 b i h l1 e ∙ p
 
-  slot-three : slotAt m3 u ≡ b
-  slot-three = slot-before (wordBytes 2 (u + 1)) m2 tail u (omega arith) ∙ slot-own m1 b u h l1 e
+  slot-two : slotAt m2 i ≡ b
+  slot-two = slot-own m1 b i h l1 e
 
-  head-other : (s : ℕ) → s < most → (s ≡ u → ⊥) → wordAt 2 m3 (slots + slotWidth * s) ≡ wordAt 2 m (slots + slotWidth * s)
-  head-other s k d = last-short (slots + slotWidth * s) (omega arith) ∙ other m1 b u h l1 e s k d .0 ∙ first-short (slots + slotWidth * s) (omega arith)
+  head-other :
+      (s : ℕ) → s < most → (s ≡ i → ⊥) → wordAt 2 m2 (slots + slotWidth * s) ≡ wordAt 2 m (slots + slotWidth * s)
+  head-other s k d = other m1 b i h l1 e s k d .0 ∙ first-short (slots + slotWidth * s) (omega arith)
 
-  bytes-other : (s : ℕ) → s < most → (s ≡ u → ⊥) → slotAt m3 s ≡ slotAt m s
+  bytes-other : (s : ℕ) → s < most → (s ≡ i → ⊥) → slotAt m2 s ≡ slotAt m s
   bytes-other s k d =
-      let w : length (wordBytes 2 u) ≡ 2 = word-length 2 u in
-      slot-before (wordBytes 2 (u + 1)) m2 tail s (omega arith) ∙ other m1 b u h l1 e s k d .1 ∙ slot-after (wordBytes 2 u) m (2 * n) s (omega arith)
+      let z : length (wordBytes 2 i) ≡ 2 = word-length 2 i in
+      other m1 b i h l1 e s k d .1 ∙ slot-after (wordBytes 2 i) m (2 * n) s (omega arith)
 
-  added-stored : wordAt 2 b 0 ≡ n → Stored m m3 n u b
+  -- in use already
+  assigned-stored : i < usedOf m → Stored m m2 n i b
   unfolding heldAt
-  added-stored p = record {
+  assigned-stored v = record {
     sheet = p;
     inside = q;
-    own = slot-own-three;
-    others = slot-other;
-    used = rw (used-three, head-three, lt-ltb u (u + 1) (omega arith), eq-eqb _ _ p);
-    slot = slot-three;
-    apart = λ y s k d. (rw (used-three, head-other s k d, less-next s u d (ltb s u) refl), bytes-other s k d);
-    free = λ y d. (rw (head-three, p, ne-eqb n y (λ e. d (sym e))) (and-false (ltb u (usedOf m3))), rw (le-ltb u u (omega arith)));
+    own = slot-own-two;
+    others = slot-other-two;
+    used = rw (used-two, head-two, lt-ltb i (usedOf m) v, eq-eqb n n refl);
+    slot = slot-two;
+    apart = λ y s k d. (rw (used-two, head-other s k d), bytes-other s k d);
+    free = λ y d s. (rw (head-two, ne-eqb n y (λ e. d (sym e))) (and-false (ltb i (usedOf m2))), unkept m y i s w);
   }
 
-  added : wordAt 2 b 0 ≡ n → sheetsOf m3 ≡ record { count = sheetsOf m .count + 1; at = keeping n (shotIn b) (sheetsOf m .at) }
-  unfolding sheetsOf
-  added p = λ i. record { count = used-three i; at = stored (added-stored p) i }
+  -- the next, which is in use then
+  abbrev m3 : List ℕ
+  m3 = sets m2 tail (wordBytes 2 (i + 1))
+
+  used-three : usedOf m3 ≡ i + 1
+  unfolding usedOf
+  used-three =
+      let z : length (wordBytes 2 (i + 1)) ≡ 2 = word-length 2 (i + 1) in
+      short-on (wordBytes 2 (i + 1)) m2 tail (omega (arith, l2)) (omega arith) ∙ short-word (i + 1) (omega arith)
+
+  -- before the tail the last store changes nothing
+  last-short : (a : ℕ) → a + 2 ≤ tail → wordAt 2 m3 a ≡ wordAt 2 m2 a
+  last-short a k = short-before (wordBytes 2 (i + 1)) m2 tail a k
+
+  slot-three : (y : ℕ) → y < 65536 → slotOf m3 y ≡ slotOf m2 y
+  unfolding slotOf
+  slot-three y k = ap (λ (x : ℕ). x % most) (last-short (2 * y) (omega arith))
+
+  head-three : (s : ℕ) → s < most → wordAt 2 m3 (slots + slotWidth * s) ≡ wordAt 2 m2 (slots + slotWidth * s)
+  head-three s k = last-short (slots + slotWidth * s) (omega arith)
+
+  bytes-three : (s : ℕ) → s < most → slotAt m3 s ≡ slotAt m2 s
+  bytes-three s k = slot-before (wordBytes 2 (i + 1)) m2 tail s (omega arith)
+
+  added-stored : i ≡ usedOf m → Stored m m3 n i b
+  unfolding heldAt
+  added-stored v = record {
+    sheet = p;
+    inside = q;
+    own = slot-three n q ∙ slot-own-two;
+    others = λ y k d. slot-three y k ∙ slot-other-two y k d;
+    used = rw (used-three, head-three i h, head-two, lt-ltb i (i + 1) (omega arith), eq-eqb n n refl);
+    slot = bytes-three i h ∙ slot-two;
+    apart = λ y s k d. (
+      rw (used-three, head-three s k, head-other s k d, less-next s i d (ltb s i) refl, ← v),
+      bytes-three s k ∙ bytes-other s k d,
+    );
+    free = λ y d s.
+        (rw (head-three i h, head-two, ne-eqb n y (λ e. d (sym e))) (and-false (ltb i (usedOf m3))), unkept m y i s w);
+  }
 
 -- ---- the sheet n, whose slot is i: what is asked for
 module _ (m : List ℕ) (n i : ℕ) (q : n < 65536) (o : i ≡ slotOf m n) (l : length m ≡ size) where
+  kept-none : heldAt m n i ≡ false → keptOf m n ≡ none
+  unfolding keptOf
+  kept-none h = rw (← o, lt-ltb n 65536 q, h)
+
+  kept-shot : heldAt m n i ≡ true → keptOf m n ≡ kept (shotIn (slotAt m i))
+  unfolding keptOf
+  kept-shot h = rw (← o, lt-ltb n 65536 q, h)
+
   at-none : heldAt m n i ≡ false → sheetsOf m .at n ≡ none
-  unfolding sheetsOf keptOf
-  at-none h = rw (← o, lt-ltb n 65536 q, h)
+  unfolding sheetsOf
+  at-none h = kept-none h
 
   at-shot : heldAt m n i ≡ true → sheetsOf m .at n ≡ kept (shotIn (slotAt m i))
-  unfolding sheetsOf keptOf
-  at-shot h = rw (← o, lt-ltb n 65536 q, h)
+  unfolding sheetsOf
+  at-shot h = kept-shot h
 
   pub found : heldAt m n i ≡ true → ask (sheetsOf m) n ≡ answers (shotIn (slotAt m i))
   unfolding ask askOn
@@ -271,32 +314,42 @@ module _ (m : List ℕ) (n i : ℕ) (q : n < 65536) (o : i ≡ slotOf m n) (l : 
   unfolding ask askOn
   missed h = rw (at-none h)
 
-  count-is : sheetsOf m .count ≡ usedOf m
-  unfolding sheetsOf
-  count-is = refl
-
-  held-is : heldAt m n i ≡ true → heldAt m n (slotOf m n) ≡ true
-  held-is h = ap (heldAt m n) (sym o) ∙ h
-
   -- ---- and what becomes of its shot x
   module _ (x : Shot) where
     abbrev Took : Answer Shelved → List ℕ → Type 0
     Took t m′ = (t ≡ shelve (sheetsOf m) n x .answer) × (sheetsOf m′ ≡ shelve (sheetsOf m) n x .sheets)
 
-    pub took-full : heldAt m n i ≡ false → (u : ℕ) → u ≡ usedOf m → most ≤ u → Took (refuses noRoom) m
+    pub took-full : heldAt m n i ≡ false → most ≤ freeSlot m → Took (refuses noRoom) m
     unfolding shelve shelveOn
-    took-full h u v k =
-        let c : most ≤ sheetsOf m .count = rw (count-is, ← v) k in
+    took-full h k =
+        let c : most ≤ sheetsOf m .count = omega (arith, free-none m k) in
         rw (at-none h, le-ltb (sheetsOf m .count) most c) (refl, refl)
 
     module _ (t : x .take < 65536) (f : Fit (x .pose)) where
+      -- in bytes m′ in which it is stored as that of a sheet of which none was kept, where fewer than 512 are
+      took-stored :
+          heldAt m n i ≡ false → sheetsOf m .count < most → (u : ℕ) (m′ : List ℕ) →
+          Stored m m′ n u (slotBytes n x) → Took (shelved 1 0) m′
+      unfolding shelve shelveOn
+      took-stored h c u m′ k =
+          let s = stored-new k (kept-none h) in
+          rw (at-none h, lt-ltb (sheetsOf m .count) most c) (refl, rw (shot-back n x t f) at s)
+
       pub took-new : heldAt m n i ≡ false → (u : ℕ) → u ≡ usedOf m → u < most → Took (shelved 1 0) (addOf m n u x)
-      unfolding shelve shelveOn addOf
+      unfolding addOf assignOf
       took-new h u v k =
-          let c : sheetsOf m .count < most = rw (count-is, ← v) k in
-          let s = added m (slotBytes n x) n l (slot-length n x) q (rw v at k) (sheet-back n x q) in
-          rw (at-none h, lt-ltb (sheetsOf m .count) most c, v)
-          (refl, rw (shot-back n x t f) at s)
+          let free = unused m u (omega (arith, v)) in
+          let s = added-stored m (slotBytes n x) n u l (slot-length n x) q k (sheet-back n x q) free v in
+          took-stored h (omega (arith, count-used m, v)) u _ s
+
+      pub took-free :
+          heldAt m n i ≡ false → most ≤ usedOf m → freeSlot m < most → Took (shelved 1 0) (assignOf m n (freeSlot m) x)
+      unfolding assignOf
+      took-free h v k =
+          let s =
+          assigned-stored m (slotBytes n x) n (freeSlot m) l (slot-length n x) q k (sheet-back n x q) (free-own m k)
+          (omega arith) in
+          took-stored h (free-found m k) (freeSlot m) _ s
 
       -- the take that is kept
       abbrev old : ℕ
@@ -308,8 +361,9 @@ module _ (m : List ℕ) (n i : ℕ) (q : n < 65536) (o : i ≡ slotOf m n) (l : 
 
       replaced-is : heldAt m n i ≡ true → sheetsOf (sets m (slots + slotWidth * i) (slotBytes n x)) ≡ record { count = sheetsOf m .count; at = keeping n x (sheetsOf m .at) }
       replaced-is h =
-          let s = replaced m (slotBytes n x) n l (slot-length n x) (sheet-back n x q) q (held-is h) in
-          rw o (rw (shot-back n x t f) at s)
+          let few : i < most = rw o (slot-few m n) in
+          let k = replaced-stored m (slotBytes n x) i few l (slot-length n x) n (sheet-back n x q) q (sym o) h in
+          rw (shot-back n x t f) at (stored-old k _ (kept-shot h))
 
       abbrev Again : Type 0
       Again = (retakeTold m i x ≡ lent (shelve (sheetsOf m) n x .answer)) × (sheetsOf (retakeBytes m i n x) ≡ shelve (sheetsOf m) n x .sheets)
@@ -334,7 +388,11 @@ none-at m e n = rw (e, le-ltb (slotOf m n) 0 (omega arith)) (by (ltb n 65536) _)
 
 none-used : (m : List ℕ) → usedOf m ≡ 0 → sheetsOf m ≡ noSheets
 unfolding sheetsOf
-none-used m e = λ i. record { count = e i; at = fun-ext (none-at m e) i }
+none-used m e =
+    let a : keptOf m ≡ noSheets .at = fun-ext (none-at m e) in
+    let c : keptBelow (keptOf m) sheetNumbers ≡ 0 =
+    ap (λ (f : ℕ → Kept). keptBelow f sheetNumbers) a ∙ empty sheetNumbers in
+    λ i. record { count = c i; at = a i }
 
 pub emptied : (m : List ℕ) → length m ≡ size → sheetsOf (sets m tail (wordBytes 2 0)) ≡ noSheets
 unfolding usedOf

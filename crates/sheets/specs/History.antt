@@ -1,12 +1,14 @@
 -- Any shots, one after the other: of each sheet the highest take among those accepted is kept, and answered; and the count is that of the sheets of which one is kept, which are
--- never more than 512. Proved as `history` in proofs/Past.antt and `counted` in proofs/Counted.antt.
-use Prim.Native.Nat.{ℕ, zero, suc, _+_, _<_, _≤_}
+-- never more than 512. Proved as `history` in proofs/Past.antt, `highest-is` in proofs/Highest.antt and `counted` in
+-- proofs/Counted.antt.
+use Prim.Native.Nat.{ℕ, _<_, _≤_}
 use mathlib.Core.Path.{_≡_}
+use mathlib.Core.Logic.{_⊎_}
 use mathlib.Core.Bool.{cond}
 use mathlib.Core.List.{List, [], _∷_}
 use lib.Dec.{ltb, eqb}
 use Rattle.linalg.specs.Answer.{Answer, answers, refuses}
-use Rattle.sheets.specs.Sheets.{Kept, none, kept, Sheets, noSheets, most, Shelved, shelve, askOn, ask}
+use Rattle.sheets.specs.Sheets.{Kept, none, kept, Sheets, keptBelow, sheetNumbers, noSheets, most, Shelved, shelve, askOn, ask}
 use Rattle.sheets.specs.declared.Shot.{Shot}
 
 -- a shot, with the number of its sheet
@@ -43,19 +45,28 @@ HistoryTheorem =
     (h : List Sent) (n : ℕ) → let best = highest n none (accepted noSheets h) in
     (after noSheets h .at n ≡ best) × (ask (after noSheets h) n ≡ askOn best)
 
--- of how many sheets with a number below n one is kept
-abbrev pub one : Kept → ℕ
-one none = 0
-one (kept x) = 1
+-- the same without a fold: x is one of these
+unfoldable pub Among : Sent → List Sent → Type 0
+Among x [] = ⊥
+Among x (y ∷ h) = (x ≡ y) ⊎ Among x h
 
-unfoldable pub keptBelow : (ℕ → Kept) → ℕ → ℕ
-keptBelow at zero = 0
-keptBelow at (suc n) = keptBelow at n + one (at n)
+abbrev pub sent : ℕ → Shot → Sent
+sent n x = record { sheet = n; shot = x }
+
+-- nothing, and none of these is of the sheet n; or a shot of that sheet that is one of these, and none of that sheet
+-- has a higher take
+abbrev pub Highest : ℕ → List Sent → Kept → Type 0
+Highest n h none = (x : Shot) → Among (sent n x) h → ⊥
+Highest n h (kept y) = Among (sent n y) h × ((x : Shot) → Among (sent n x) h → x .take ≤ y .take)
+
+abbrev pub HighestTheorem : Type 0
+HighestTheorem = (h : List Sent) (n : ℕ) → Highest n h (highest n none h)
 
 -- every sheet number has 16 bits
 unfoldable pub Small : List Sent → Type 0
 Small [] = Unit {0}
-Small (x ∷ h) = (x .sheet < 65536) × Small h
+Small (x ∷ h) = (x .sheet < sheetNumbers) × Small h
 
 abbrev pub CountTheorem : Type 0
-CountTheorem = (h : List Sent) → Small h → let s = after noSheets h in (s .count ≡ keptBelow (s .at) 65536) × (s .count ≤ most)
+CountTheorem =
+    (h : List Sent) → Small h → let s = after noSheets h in (s .count ≡ keptBelow (s .at) sheetNumbers) × (s .count ≤ most)

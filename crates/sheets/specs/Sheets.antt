@@ -1,5 +1,5 @@
 -- The sheets of which a shot is kept, and what a further shot and a question are answered.
-use Prim.Native.Nat.{ℕ, _+_}
+use Prim.Native.Nat.{ℕ, zero, suc, _+_}
 use mathlib.Core.Bool.{cond}
 use lib.Dec.{ltb, eqb}
 use Rattle.linalg.specs.Answer.{Answer, answers, refuses}
@@ -14,6 +14,19 @@ pub data Kept : Type 0 where
 pub record Sheets : Type 0 where
   pub count : ℕ
   pub at : ℕ → Kept
+
+-- of how many sheets with a number below n one is kept
+abbrev pub one : Kept → ℕ
+one none = 0
+one (kept x) = 1
+
+unfoldable pub keptBelow : (ℕ → Kept) → ℕ → ℕ
+keptBelow at zero = 0
+keptBelow at (suc n) = keptBelow at n + one (at n)
+
+-- a sheet's number has 16 bits
+abbrev pub sheetNumbers : ℕ
+sheetNumbers = 65536
 
 abbrev pub noSheets : Sheets
 noSheets = record { count = 0; at = λ n. none }

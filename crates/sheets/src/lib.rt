@@ -1,15 +1,17 @@
 // Retaken sheets: the pose of the highest take for each of up to 512 sheets, in bytes that the caller
 // lends. They are an index that names a slot for each sheet number, the slots, and how many of these
-// are in use. A slot is a sheet's if it is in use and holds that sheet's number: so nothing is searched,
-// whatever bytes are lent are a store, and only the last two must be set before the first use.
+// are in use. A slot is a sheet's if it is in use, holds that sheet's number and is named for it: so
+// whatever bytes are lent are a store, and only the last two must be set before the first use. Nothing
+// is searched but where all slots are in use and a sheet without one comes: then for a slot that is no
+// sheet's own, which bytes that no store of ours left may have.
 ghost use mathlib.Core.Path.{_≡_};
-ghost use mathlib.Core.Bool.{cond, false};
-ghost use Prim.Native.Nat.{_+_, _*_, _<_};
+ghost use mathlib.Core.Bool.{cond};
+ghost use Prim.Native.Nat.{_+_, _*_, _≤_, _<_};
 ghost use lib.ListN.{length};
 ghost use lib.Seq.{sets};
 ghost use Rattle.sheets.specs.Sheets.{noSheets, most};
-ghost use Rattle.sheets.specs.Store.{slotWidth, slots, size, usedOf, slotOf, shotIn, slotBytes, heldAt, addOf, sheetsOf, holds};
-ghost use Rattle.sheets.specs.Store.{putTold, putAnswer, putSheets, getTold, getAnswer, retakeTold, retakeBytes};
+ghost use Rattle.sheets.specs.Store.{slotWidth, slots, size, usedOf, slotOf, shotIn, slotBytes, heldAt, freeSlot, assignOf, addOf, sheetsOf, holds};
+ghost use Rattle.sheets.specs.Store.{putTold, putAnswer, putSheets, getTold, getAnswer, retakeTold, retakeBytes, reuseTold, reuseBytes, putBytes, freshBytes};
 use crate::bytes::framed_at;
 use crate::bytes::put_framed;
 use crate::bytes::put_short;
@@ -101,15 +103,58 @@ fn put_slot(store: &mut [u8], slot: usize, sheet: u16, shot: Shot)
 }
 
 // ---- shots
-// Of a sheet of which none is kept: the next slot becomes its own.
+// A slot becomes the sheet's own: it is named for it, and holds its shot.
+fn assign(store: &mut [u8], sheet: u16, slot: u16, shot: Shot)
+    requires { ⌜ length (now store) ≡ size ⌝ }
+    requires { ⌜ slot < most ⌝ }
+    ensures { λ _. ⌜ now (store .exit) ≡ assignOf (now (store .entry)) sheet slot shot ⌝ }
+{
+    put_short(store, 2 * (sheet as usize), slot);
+    put_slot(store, slot as usize, sheet, shot);
+}
+
+// Of a sheet of which none is kept: the next slot.
 fn add(store: &mut [u8], sheet: u16, used: u16, shot: Shot)
     requires { ⌜ length (now store) ≡ size ⌝ }
     requires { ⌜ used < most ⌝ }
     ensures { λ _. ⌜ now (store .exit) ≡ addOf (now (store .entry)) sheet used shot ⌝ }
 {
-    put_short(store, 2 * (sheet as usize), used);
-    put_slot(store, used as usize, sheet, shot);
+    assign(store, sheet, used, shot);
     put_short(store, TAIL, used + 1);
+}
+
+// Where all slots are in use, the first that is no sheet's own; their number where each is.
+fn free_slot(store: &[u8]) -> u16
+    requires { ⌜ length (now store) ≡ size ⌝ }
+    requires { ⌜ most ≤ usedOf (now store) ⌝ }
+    ensures { λ r. ⌜ r ≡ freeSlot (now (store .entry)) ⌝ }
+{
+    let mut slot: u16 = 0;
+    while slot < MOST {
+        let at = slot as usize;
+        let sheet = short_at(store, SLOTS + SLOT * at);
+        if slot_of(store, sheet) != at {
+            return slot;
+        }
+        slot += 1;
+    }
+    slot
+}
+
+// Of a sheet of which none is kept, where all slots are in use: one that is no sheet's own. Where there
+// is none, 512 sheets are kept.
+fn reuse(store: &mut [u8], sheet: u16, shot: Shot) -> PutAnswer
+    requires { ⌜ length (now store) ≡ size ⌝ }
+    requires { ⌜ most ≤ usedOf (now store) ⌝ }
+    ensures { λ r. ⌜ putTold r ≡ reuseTold (now (store .entry)) ⌝ }
+    ensures { λ _. ⌜ now (store .exit) ≡ reuseBytes (now (store .entry)) sheet shot ⌝ }
+{
+    let slot = free_slot(store);
+    if slot < MOST {
+        assign(store, sheet, slot, shot);
+        return PutAnswer::New;
+    }
+    PutAnswer::Refused(11)
 }
 
 // Of a sheet of which that slot holds one: the higher take stays.
@@ -133,19 +178,20 @@ fn retake(store: &mut [u8], sheet: u16, slot: usize, shot: Shot) -> PutAnswer
 
 // Makes the lent bytes a store in which nothing is kept, if they are as many as a store has.
 pub fn fresh(store: &mut [u8])
+    ensures { λ _. ⌜ now (store .exit) ≡ freshBytes (now (store .entry)) ⌝ }
     ensures { λ _. ⌜ sheetsOf (now (store .exit)) ≡ cond (holds (now (store .entry))) noSheets (sheetsOf (now (store .entry))) ⌝ }
-    ensures { λ _. ⌜ (holds (now (store .entry)) ≡ false → now (store .exit) ≡ now (store .entry)) ⌝ }
 {
     if store.len() == STORE {
         put_short(store, TAIL, 0);
     }
 }
 
-// A shot of a sheet: it is kept if none of that sheet is, or one of a lower take.
+// A shot of a sheet: it is kept if none of that sheet is, or one of a lower take. Refused with 11 where
+// none of that sheet is and 512 others are, whatever bytes are lent.
 pub fn put(store: &mut [u8], sheet: u16, shot: Shot) -> PutAnswer
     ensures { λ r. ⌜ putTold r ≡ putAnswer (now (store .entry)) sheet shot ⌝ }
+    ensures { λ _. ⌜ now (store .exit) ≡ putBytes (now (store .entry)) sheet shot ⌝ }
     ensures { λ _. ⌜ sheetsOf (now (store .exit)) ≡ putSheets (now (store .entry)) sheet shot ⌝ }
-    ensures { λ _. ⌜ (holds (now (store .entry)) ≡ false → now (store .exit) ≡ now (store .entry)) ⌝ }
 {
     if store.len() != STORE {
         return PutAnswer::Storeless;
@@ -159,7 +205,7 @@ pub fn put(store: &mut [u8], sheet: u16, shot: Shot) -> PutAnswer
         add(store, sheet, used, shot);
         return PutAnswer::New;
     }
-    PutAnswer::Refused(11)
+    reuse(store, sheet, shot)
 }
 
 // The shot that is kept of a sheet.

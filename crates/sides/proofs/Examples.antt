@@ -15,7 +15,7 @@ use Rattle.series.specs.Series.{seriesFirst, seriesNext, seriesLevel, levelTerm
 use Rattle.series.specs.Series.{seriesAnswer, seriesVAnswer, seriesPairAnswer}
 use Rattle.closed.specs.Arm.{coeffsArm, armEnds}
 use Rattle.closed.specs.Values.{atZero}
-use Rattle.closed.specs.Closed.{closedV0, closedW0, closedV, closedWs, closedDvs, closedJoined, closedNine, closedVFrom, closedFrom}
+use Rattle.coeffs.specs.Closed.{closedV0, closedW0, closedV, closedWs, closedDvs, closedJoined, closedNine, closedVFrom, closedFrom}
 use Rattle.coeffs.specs.Group.{coeffsScaled, coeffsUnscale, coeffsPlain, coeffsV}
 use Rattle.so3.specs.Quat.{quatNormSq, quatRenormalized}
 use Rattle.so3.specs.So3.{so3Exp}

@@ -1,3 +1,4 @@
+pub mod Blocks
 pub mod Side
 pub mod Pair
 pub mod Examples

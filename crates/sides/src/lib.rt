@@ -1,4 +1,5 @@
 // The Jacobians of Sim(3) by blocks: those of the exponential, both sides of the action, composition
 // and inverse, and the pair that serves both sides at once.
+pub mod blocks; // the left Jacobian of the exponential and its inverse, by blocks
 pub mod side; // both sides' Jacobians
 pub mod pair; // the block pair

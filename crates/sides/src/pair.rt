@@ -2,7 +2,7 @@
 ghost use mathlib.Core.Path.{_≡_};
 ghost use lib.Ieee.{binary64};
 ghost use Rattle.sides.specs.Pair.{blockPair};
-use blocks::jl_and_inverse_at;
+use crate::blocks::jl_and_inverse_at;
 use closed::values::Values;
 use coeffs::sim3::ArmedPairAnswer;
 use coeffs::sim3::sim3_coeffs_armed_pair;
@@ -18,14 +18,12 @@ pub struct BlockPair {
     pub right_inv: Sim3Jac,
 }
 
-// What stands in an arm that is never taken.
-fn no_blocks() -> BlockPair {
-    BlockPair {
-        left: Sim3Jac::identity(),
-        left_inv: Sim3Jac::identity(),
-        right: Sim3Jac::identity(),
-        right_inv: Sim3Jac::identity(),
-    }
+// Stands in an arm that is never taken: whoever calls it has proved that nothing comes there.
+fn no_blocks() -> BlockPair
+    requires { ⌜ ⊥ ⌝ }
+    ensures { λ _. ⌜ ⊥ ⌝ }
+{
+    loop {}
 }
 
 // The left block and inverse of tau, and those of -tau on the mirrored values and the transposed

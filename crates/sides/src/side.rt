@@ -2,11 +2,11 @@
 // handed-in values, so each has its own function.
 ghost use mathlib.Core.Path.{_≡_};
 ghost use lib.Ieee.{binary64};
-ghost use Rattle.blocks.specs.Blocks.{jacJl, jlAndInverse};
+ghost use Rattle.sides.specs.Blocks.{jacJl, jlAndInverse};
 ghost use Rattle.sides.specs.Side.{poseAdjoint, tangentAd, jacJr, jacJlInv, jacJrInv, expAndJl, lplusJacobians, rplusJacobians, actJacobiansRight, actJacobiansLeft, poseInverseAdjoint, composeJacobiansRight, composeJacobiansLeft, inverseJacobianRight, inverseJacobianLeft};
-use blocks::JacAndInverse;
-use blocks::jl_and_inverse_from;
-use blocks::jl_blocks_with;
+use crate::blocks::JacAndInverse;
+use crate::blocks::jl_and_inverse_from;
+use crate::blocks::jl_blocks_with;
 use closed::values::Values;
 use jacobian::jac::Sim3Jac;
 use linalg::matrix::Mat3;

@@ -1,6 +1,9 @@
--- Written by tools/widths from crates/sides: edit that one. Digest 788f30af2b06ea64.
+-- Written by tools/widths from crates/sides: edit that one. Digest 6b925d8691d80ca2.
 -- The structs of sides_f32 field by field, as rules for `simp`: a number that the code reads of a struct is the number of the definitions' record. Assumes nothing.
 use mathlib.Core.Path.{_≡_, refl}
+use lib.Ieee.{Float}
+use Rattle.sides_f32.specs.declared.blocks.Three.{Three}
+use Rattle.sides_f32.specs.declared.blocks.JacAndInverse.{JacAndInverse}
 use Rattle.sides_f32.specs.declared.pair.BlockPair.{BlockPair}
 use Rattle.sides_f32.specs.declared.side.ActJacobians.{ActJacobians}
 use Rattle.sides_f32.specs.declared.side.TwoJacobians.{TwoJacobians}
@@ -12,7 +15,35 @@ use Rattle.linalg_f32.specs.declared.vector.Vec3.{Vec3}
 use Rattle.linalg_f32.specs.As.{asMat3, asVec3}
 use Rattle.sim3_f32.specs.As.{asSim3}
 use Rattle.jacobian_f32.specs.As.{asSim3Jac}
-use Rattle.sides_f32.specs.As.{asActJacobians, asBlockPair, asExpAndJl, asTwoJacobians}
+use Rattle.sides_f32.specs.As.{asActJacobians, asBlockPair, asExpAndJl, asJacAndInverse, asThree, asTwoJacobians}
+
+pub x0-of-Three : (a : Three) → a .x0 ≡ asThree a .x0
+unfolding asThree
+x0-of-Three a = refl
+
+pub x1-of-Three : (a : Three) → a .x1 ≡ asThree a .x1
+unfolding asThree
+x1-of-Three a = refl
+
+pub x2-of-Three : (a : Three) → a .x2 ≡ asThree a .x2
+unfolding asThree
+x2-of-Three a = refl
+
+pub made-Three : (x0 : Float) (x1 : Float) (x2 : Float) → asThree (record { x0 = x0; x1 = x1; x2 = x2 }) ≡ record { x0 = x0; x1 = x1; x2 = x2 }
+unfolding asThree
+made-Three x0 x1 x2 = refl
+
+pub j-of-JacAndInverse : (a : JacAndInverse) → asSim3Jac (a .j) ≡ asJacAndInverse a .j
+unfolding asJacAndInverse
+j-of-JacAndInverse a = refl
+
+pub inv-of-JacAndInverse : (a : JacAndInverse) → asSim3Jac (a .inv) ≡ asJacAndInverse a .inv
+unfolding asJacAndInverse
+inv-of-JacAndInverse a = refl
+
+pub made-JacAndInverse : (j : Sim3Jac) (inv : Sim3Jac) → asJacAndInverse (record { j = j; inv = inv }) ≡ record { j = asSim3Jac j; inv = asSim3Jac inv }
+unfolding asJacAndInverse
+made-JacAndInverse j inv = refl
 
 pub left-of-BlockPair : (a : BlockPair) → asSim3Jac (a .left) ≡ asBlockPair a .left
 unfolding asBlockPair
@@ -83,6 +114,13 @@ unfolding asExpAndJl
 made-ExpAndJl x jl = refl
 
 pub ruleset sides-singles = (
+  x0-of-Three,
+  x1-of-Three,
+  x2-of-Three,
+  made-Three,
+  j-of-JacAndInverse,
+  inv-of-JacAndInverse,
+  made-JacAndInverse,
   left-of-BlockPair,
   left-inv-of-BlockPair,
   right-of-BlockPair,

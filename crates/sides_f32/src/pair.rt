@@ -1,4 +1,4 @@
-// Written by tools/widths from crates/sides/src/pair.rt: edit that one. Digest c03eb3235f1b69c4.
+// Written by tools/widths from crates/sides/src/pair.rt: edit that one. Digest 02629689b8a9f699.
 // The blocks of both sides from one paired evaluation of the coefficients.
 ghost use mathlib.Core.Path.{_≡_};
 ghost use lib.Ieee.{binary32};
@@ -7,7 +7,7 @@ ghost use Rattle.linalg_f32.specs.As.{asMat3};
 ghost use Rattle.closed_f32.specs.As.{asValues};
 ghost use Rattle.sim3_f32.specs.As.{asSim3Tangent};
 ghost use Rattle.sides_f32.specs.As.{asBlockPair};
-use blocks_f32::jl_and_inverse_at;
+use crate::blocks::jl_and_inverse_at;
 use closed_f32::values::Values;
 use coeffs_f32::sim3::ArmedPairAnswer;
 use coeffs_f32::sim3::sim3_coeffs_armed_pair;
@@ -23,14 +23,12 @@ pub struct BlockPair {
     pub right_inv: Sim3Jac,
 }
 
-// What stands in an arm that is never taken.
-fn no_blocks() -> BlockPair {
-    BlockPair {
-        left: Sim3Jac::identity(),
-        left_inv: Sim3Jac::identity(),
-        right: Sim3Jac::identity(),
-        right_inv: Sim3Jac::identity(),
-    }
+// Stands in an arm that is never taken: whoever calls it has proved that nothing comes there.
+fn no_blocks() -> BlockPair
+    requires { ⌜ ⊥ ⌝ }
+    ensures { λ _. ⌜ ⊥ ⌝ }
+{
+    loop {}
 }
 
 // The left block and inverse of tau, and those of -tau on the mirrored values and the transposed

@@ -1,19 +1,18 @@
-// Written by tools/widths from crates/sides/src/side.rt: edit that one. Digest b5a613f982fbb3f9.
+// Written by tools/widths from crates/sides/src/side.rt: edit that one. Digest 1d57062d7c7df44b.
 // The Jacobians of both sides: right, X Exp(tau), and left, Exp(tau) X. The two sides read different
 // handed-in values, so each has its own function.
 ghost use mathlib.Core.Path.{_≡_};
 ghost use lib.Ieee.{binary32};
-ghost use Rattle.blocks.specs.Blocks.{jacJl, jlAndInverse};
+ghost use Rattle.sides.specs.Blocks.{jacJl, jlAndInverse};
 ghost use Rattle.sides.specs.Side.{poseAdjoint, tangentAd, jacJr, jacJlInv, jacJrInv, expAndJl, lplusJacobians, rplusJacobians, actJacobiansRight, actJacobiansLeft, poseInverseAdjoint, composeJacobiansRight, composeJacobiansLeft, inverseJacobianRight, inverseJacobianLeft};
 ghost use Rattle.linalg_f32.specs.As.{asMat3, asVec3};
 ghost use Rattle.closed_f32.specs.As.{asValues};
 ghost use Rattle.sim3_f32.specs.As.{asSim3, asSim3Tangent};
 ghost use Rattle.jacobian_f32.specs.As.{asSim3Jac};
-ghost use Rattle.blocks_f32.specs.As.{asJacAndInverse};
-ghost use Rattle.sides_f32.specs.As.{asActJacobians, asExpAndJl, asTwoJacobians};
-use blocks_f32::JacAndInverse;
-use blocks_f32::jl_and_inverse_from;
-use blocks_f32::jl_blocks_with;
+ghost use Rattle.sides_f32.specs.As.{asActJacobians, asExpAndJl, asJacAndInverse, asTwoJacobians};
+use crate::blocks::JacAndInverse;
+use crate::blocks::jl_and_inverse_from;
+use crate::blocks::jl_blocks_with;
 use closed_f32::values::Values;
 use jacobian_f32::jac::Sim3Jac;
 use linalg_f32::matrix::Mat3;

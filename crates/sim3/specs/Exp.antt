@@ -1,7 +1,8 @@
 -- The exponential of a tangent: (Exp φ, V ρ, σ), and the composition with it on either side.
 use mathlib.Core.Bool.{cond}
-use lib.Ieee.{Float, Format, add, mul, div, lt}
-use Rattle.linalg.specs.Vector.{vecScale, vecDot, vecNormSq, vecCross, vecAdd}
+use lib.Ieee.{Float, Format, lt}
+use Rattle.ieee.specs.Infix.{Operations, operations}
+use Rattle.linalg.specs.Vector.{vecDot, vecNormSq, VecOperations, vecOperations}
 use Rattle.linalg.specs.declared.vector.Vec3.{Vec3}
 use Rattle.so3.specs.So3.{so3Exp}
 use Rattle.tables.specs.Tables.{bRow}
@@ -14,29 +15,37 @@ use Rattle.sim3.specs.Pose.{pose, poseMul}
 use Rattle.sim3.specs.declared.sim3.Sim3.{Sim3}
 use Rattle.sim3.specs.declared.tangent.Sim3Tangent.{Sim3Tangent}
 
--- x₀ v + x₁ φ×v + x₂ φ×(φ×v)
-unfoldable pub polyApply : Format → Vec3 → Float → Float → Float → Vec3 → Vec3
-polyApply f phi x0 x1 x2 v =
-    let mu = vecCross f phi v in
-    vecAdd f (vecAdd f (vecScale f v x0) (vecScale f mu x1)) (vecScale f (vecCross f phi mu) x2)
+module _ (f : Format) where
+  infixl 60 _⊞_
+  infixl 70 _⊗_ _⊘_ _⊡_
+  infixl 80 _⨯_
+  open Operations (operations f) using (_⊗_, _⊘_)
+  open VecOperations (vecOperations f) using (_⊞_, _⊡_, _⨯_)
 
--- V ρ: by χ = χΔ/Δ where z = |φ|² is not below b's limit, a NaN included; else by two cross products
-unfoldable pub vApply : Format → Vec3 → Float → Coeffs4 → Vec3 → Vec3
-vApply f phi sigma c rho =
-    let z = vecNormSq f phi in
-    cond (lt z (rowLimit f bRow)) (polyApply f phi (c .v0) (c .v1) (c .v2) rho)
-    (vecAdd f (vecAdd f (vecScale f rho (div f (c .«chi_delta») (coeffsDelta f sigma z))) (vecScale f (vecCross f phi rho) (c .v1))) (vecScale f phi (mul f (c .v2) (vecDot f phi rho))))
+  -- x₀ v + x₁ φ×v + x₂ φ×(φ×v)
+  unfoldable pub polyApply : Vec3 → Float → Float → Float → Vec3 → Vec3
+  polyApply phi x0 x1 x2 v =
+      let mu = phi ⨯ v in
+      v ⊡ x0 ⊞ mu ⊡ x1 ⊞ phi ⨯ mu ⊡ x2
 
-unfoldable pub poseExp : Format → Sim3Tangent → Values → Sim3
-poseExp f tau v =
-    pose
-    (so3Exp f (tau .phi) (v .root) (v .«sin_half») (v .«cos_half»))
-    (vApply f (tau .phi) (tau .sigma) (coeffsV f (tau .sigma) (vecNormSq f (tau .phi)) v) (tau .rho))
-    (tau .sigma)
+  -- V ρ: by χ = χΔ/Δ where z = |φ|² is not below b's limit, a NaN included; else by two cross products
+  unfoldable pub vApply : Vec3 → Float → Coeffs4 → Vec3 → Vec3
+  vApply phi sigma c rho =
+      let z = vecNormSq f phi in
+      cond (lt z (rowLimit f bRow))
+      (polyApply phi c.v0 c.v1 c.v2 rho)
+      (rho ⊡ (c.«chi_delta» ⊘ coeffsDelta f sigma z) ⊞ phi ⨯ rho ⊡ c.v1 ⊞ phi ⊡ (c.v2 ⊗ vecDot f phi rho))
 
--- X Exp(τ), reading X's e^σ; and Exp(τ) X, reading τ's
-unfoldable pub poseRplus : Format → Sim3 → Float → Sim3Tangent → Values → Sim3
-poseRplus f x up tau v = poseMul f x (poseExp f tau v) up
+  unfoldable pub poseExp : Sim3Tangent → Values → Sim3
+  poseExp tau v =
+      pose
+      (so3Exp f tau.phi v.root v.«sin_half» v.«cos_half»)
+      (vApply tau.phi tau.sigma (coeffsV f tau.sigma (vecNormSq f tau.phi) v) tau.rho)
+      tau.sigma
 
-unfoldable pub poseLplus : Format → Sim3 → Sim3Tangent → Values → Sim3
-poseLplus f x tau v = poseMul f (poseExp f tau v) x (v .up)
+  -- X Exp(τ), reading X's e^σ; and Exp(τ) X, reading τ's
+  unfoldable pub poseRplus : Sim3 → Float → Sim3Tangent → Values → Sim3
+  poseRplus x up tau v = poseMul f x (poseExp tau v) up
+
+  unfoldable pub poseLplus : Sim3 → Sim3Tangent → Values → Sim3
+  poseLplus x tau v = poseMul f (poseExp tau v) x v.up

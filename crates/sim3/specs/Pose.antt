@@ -1,7 +1,8 @@
 -- Poses (q, t, σ), in the operations of a format f. The scale e^σ and its inverse are handed in, by the place that reads them.
-use lib.Ieee.{Float, Format, neg, add, sub}
+use lib.Ieee.{Float, Format, neg}
 use Rattle.ieee.specs.Numbers.{f0}
-use Rattle.linalg.specs.Vector.{vec, vecScale, vecAdd, vecSub, vecNeg}
+use Rattle.ieee.specs.Infix.{Operations, operations}
+use Rattle.linalg.specs.Vector.{vec, vecNeg, VecOperations, vecOperations}
 use Rattle.linalg.specs.declared.vector.Vec3.{Vec3}
 use Rattle.so3.specs.Quat.{quatIdentity, quatConjugate, quatMul, quatRenormalized}
 use Rattle.so3.specs.So3.{so3Act}
@@ -14,32 +15,38 @@ pose q t sigma = record { q = q; t = t; sigma = sigma }
 unfoldable pub poseIdentity : Sim3
 poseIdentity = pose quatIdentity (vec f0 f0 f0) f0
 
--- X⁻¹ = (R⁻¹, −e^-σ R⁻¹ t, −σ)
-unfoldable pub poseInverse : Format → Sim3 → Float → Sim3
-poseInverse f x down =
-    let r = quatConjugate (x .q) in
-    pose r (vecNeg (vecScale f (so3Act f r (x .t)) down)) (neg (x .sigma))
+module _ (f : Format) where
+  infixl 60 _⊕_ _⊖_ _⊞_ _⊟_
+  infixl 70 _⊡_
+  open Operations (operations f) using (_⊕_, _⊖_)
+  open VecOperations (vecOperations f) using (_⊞_, _⊟_, _⊡_)
 
--- X p = s R p + t
-unfoldable pub poseAct : Format → Sim3 → Float → Vec3 → Vec3
-poseAct f x up p = vecAdd f (vecScale f (so3Act f (x .q) p) up) (x .t)
+  -- X⁻¹ = (R⁻¹, −e^-σ R⁻¹ t, −σ)
+  unfoldable pub poseInverse : Sim3 → Float → Sim3
+  poseInverse x down =
+      let r = quatConjugate x.q in
+      pose r (vecNeg (so3Act f r x.t ⊡ down)) (neg x.sigma)
 
--- X Y = (R_X R_Y, s_X R_X t_Y + t_X, σ_X + σ_Y)
-unfoldable pub poseMul : Format → Sim3 → Sim3 → Float → Sim3
-poseMul f x y up = pose (quatMul f (x .q) (y .q)) (poseAct f x up (y .t)) (add f (x .sigma) (y .sigma))
+  -- X p = s R p + t
+  unfoldable pub poseAct : Sim3 → Float → Vec3 → Vec3
+  poseAct x up p = so3Act f x.q p ⊡ up ⊞ x.t
 
--- X Y⁻¹, ds the exponential of σ_X − σ_Y
-unfoldable pub poseMulInv : Format → Sim3 → Sim3 → Float → Sim3
-poseMulInv f x y ds =
-    let q = quatMul f (x .q) (quatConjugate (y .q)) in
-    pose q (vecSub f (x .t) (vecScale f (so3Act f q (y .t)) ds)) (sub f (x .sigma) (y .sigma))
+  -- X Y = (R_X R_Y, s_X R_X t_Y + t_X, σ_X + σ_Y)
+  unfoldable pub poseMul : Sim3 → Sim3 → Float → Sim3
+  poseMul x y up = pose (quatMul f x.q y.q) (poseAct x up y.t) (x.sigma ⊕ y.sigma)
 
--- Y⁻¹ X, down the exponential of −σ_Y
-unfoldable pub poseInvMul : Format → Sim3 → Sim3 → Float → Sim3
-poseInvMul f x y down =
-    let c = quatConjugate (y .q) in
-    pose (quatMul f c (x .q)) (vecScale f (so3Act f c (vecSub f (x .t) (y .t))) down) (sub f (x .sigma) (y .sigma))
+  -- X Y⁻¹, ds the exponential of σ_X − σ_Y
+  unfoldable pub poseMulInv : Sim3 → Sim3 → Float → Sim3
+  poseMulInv x y ds =
+      let q = quatMul f x.q (quatConjugate y.q) in
+      pose q (x.t ⊟ so3Act f q y.t ⊡ ds) (x.sigma ⊖ y.sigma)
 
--- the rotation's Newton step alone
-unfoldable pub poseRenormalized : Format → Sim3 → Sim3
-poseRenormalized f x = pose (quatRenormalized f (x .q)) (x .t) (x .sigma)
+  -- Y⁻¹ X, down the exponential of −σ_Y
+  unfoldable pub poseInvMul : Sim3 → Sim3 → Float → Sim3
+  poseInvMul x y down =
+      let c = quatConjugate y.q in
+      pose (quatMul f c x.q) (so3Act f c (x.t ⊟ y.t) ⊡ down) (x.sigma ⊖ y.sigma)
+
+  -- the rotation's Newton step alone
+  unfoldable pub poseRenormalized : Sim3 → Sim3
+  poseRenormalized x = pose (quatRenormalized f x.q) x.t x.sigma

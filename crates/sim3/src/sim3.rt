@@ -1,4 +1,5 @@
-// A pose of Sim(3), X p = e^sigma R p + t. Exponentials of log scales are handed in.
+// A pose of Sim(3), X p = e^sigma R p + t, by its numbers alone. Exponentials of log scales are handed
+// in.
 ghost use mathlib.Core.Path.{_≡_};
 ghost use lib.Ieee.{binary64};
 ghost use Rattle.sim3.specs.Pose.{poseIdentity, poseInverse, poseAct, poseMul, poseMulInv, poseInvMul, poseRenormalized};
@@ -9,6 +10,8 @@ use linalg::vector::Vec3;
 use series::sim3::Coeffs4;
 use so3::quat::Quat;
 
+// The numbers of a pose. A pose with the frames between which it maps is `frames::Pose`, and what gives
+// one is there, over the functions here.
 pub struct Sim3 {
     pub q: Quat,
     pub t: Vec3,
@@ -209,7 +212,7 @@ pub fn v_apply(phi: Vec3, sigma: f64, c: Coeffs4, rho: Vec3) -> Vec3
     ensures { λ r. ⌜ r ≡ vApply binary64 phi sigma c rho ⌝ }
 {
     let z = phi.norm_sq();
-    if !circle::kernel::b_takes_exact_arm(z) {
+    if !circle::kernel::b_takes_exact_arm_of(phi) {
         return poly_apply(phi, c.v0, c.v1, c.v2, rho);
     }
     let chi = c.chi_delta / (sigma * sigma + z);

@@ -2,3 +2,4 @@ pub mod Root
 pub mod Order
 pub mod Join
 pub mod Shelf
+pub mod Probe

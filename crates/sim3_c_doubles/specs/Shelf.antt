@@ -7,8 +7,8 @@ use lib.ListN.{length}
 use lib.Ieee.{Float}
 use Rattle.linalg.specs.Answer.{Answer, answers, refuses, andThen}
 use Rattle.frames.specs.declared.Pose.{Pose}
-use Rattle.sheets.specs.Sheets.{Sheets, noSheets, Shelved}
-use Rattle.sheets.specs.Store.{holds, sheetsOf, Lent, lent, storeless, putAnswer, putSheets, getAnswer}
+use Rattle.sheets.specs.Sheets.{Sheets, Shelved}
+use Rattle.sheets.specs.Store.{holds, sheetsOf, Lent, lent, storeless, putAnswer, putSheets, putBytes, freshBytes, getAnswer}
 use Rattle.sheets.specs.declared.Shot.{Shot}
 use Rattle.layout.specs.Layout.{poseCount}
 use Rattle.from_lists.specs.Lists.{wrongLength, PoseLists, poseLists, framesCount, framedFrom}
@@ -23,8 +23,8 @@ ofStore (lent a) = a
 ofStore storeless = refuses wrongLength
 
 -- ---- a new store
-unfoldable pub freshCall : List ℕ → Answer Sheets
-freshCall m = cond (holds m) (answers noSheets) (refuses wrongLength)
+unfoldable pub freshCall : List ℕ → Answer (List ℕ)
+freshCall m = cond (holds m) (answers (freshBytes m)) (refuses wrongLength)
 
 -- ---- a shot: 1, 2 or 3 and the take that stood before; and what is kept then
 unfoldable pub twoFitting : List ℕ → ℕ → ℕ → Answer (List ℕ)
@@ -35,6 +35,11 @@ shelvedFitting out a = andThen (ofStore a) (λ s. twoFitting out (s .how) (s .be
 
 unfoldable pub putCall : List ℕ → ℕ → ℕ → PoseLists → List ℕ → Answer (List ℕ)
 putCall m n t x out = andThen (framedFrom x) (λ a. cond (eqb (length out) 2) (shelvedFitting out (putAnswer m n (shot t a))) (refuses wrongLength))
+
+-- the store's bytes then: as they were where a list has a wrong length
+unfoldable pub storeAfter : List ℕ → ℕ → ℕ → Answer Pose → List ℕ → List ℕ
+storeAfter m n t (answers a) out = cond (eqb (length out) 2) (putBytes m n (shot t a)) m
+storeAfter m n t (refuses k) out = m
 
 unfoldable pub keptAfter : List ℕ → ℕ → ℕ → Answer Pose → List ℕ → Sheets
 keptAfter m n t (answers a) out = cond (eqb (length out) 2) (putSheets m n (shot t a)) (sheetsOf m)

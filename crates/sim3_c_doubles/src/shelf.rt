@@ -1,11 +1,12 @@
 // The sheets between calls: the pose of the highest take for each of up to 512 sheets, kept in bytes that
 // the caller lends.
-ghost use mathlib.Core.Bool.{false};
+ghost use mathlib.Core.Bool.{cond};
 ghost use mathlib.Core.Path.{_≡_};
+ghost use Rattle.sheets.specs.Sheets.{noSheets};
 ghost use Rattle.sheets.specs.Store.{holds, sheetsOf, putTold, getTold};
 ghost use Rattle.from_lists.specs.Lists.{poseLists, framedFrom};
 ghost use Rattle.to_lists.specs.Written.{status, written};
-ghost use Rattle.sim3_c_doubles.specs.Shelf.{freshCall, twoFitting, shelvedFitting, putCall, keptAfter, shotLists, shotFitting, getCall, shotWritten};
+ghost use Rattle.sim3_c_doubles.specs.Shelf.{freshCall, twoFitting, shelvedFitting, putCall, storeAfter, keptAfter, shotLists, shotFitting, getCall, shotWritten};
 use from_lists::FRAMES;
 use from_lists::FramedRead;
 use from_lists::LIST_LENGTH;
@@ -26,8 +27,8 @@ const TAKE: usize = 1;
 #[no_mangle]
 pub extern "C" fn sim3_sheets_start(store: &mut [u8]) -> u32
     ensures { λ r. ⌜ r ≡ status (freshCall (now (store .entry))) ⌝ }
-    ensures { λ _. ⌜ sheetsOf (now (store .exit)) ≡ written (freshCall (now (store .entry))) (sheetsOf (now (store .entry))) ⌝ }
-    ensures { λ _. ⌜ (holds (now (store .entry)) ≡ false → now (store .exit) ≡ now (store .entry)) ⌝ }
+    ensures { λ _. ⌜ now (store .exit) ≡ written (freshCall (now (store .entry))) (now (store .entry)) ⌝ }
+    ensures { λ _. ⌜ sheetsOf (now (store .exit)) ≡ cond (holds (now (store .entry))) noSheets (sheetsOf (now (store .entry))) ⌝ }
 {
     if store.len() != STORE {
         return LIST_LENGTH;
@@ -77,9 +78,11 @@ pub extern "C" fn sim3_sheets_put(
         ≡ written (putCall (now (store .entry)) sheet take (poseLists (now (x .entry)) (now («x_frames» .entry))) (now (out .entry))) (now (out .entry))
         ⌝ }
     ensures { λ _. ⌜
+        now (store .exit) ≡ storeAfter (now (store .entry)) sheet take (framedFrom (poseLists (now (x .entry)) (now («x_frames» .entry)))) (now (out .entry))
+        ⌝ }
+    ensures { λ _. ⌜
         sheetsOf (now (store .exit)) ≡ keptAfter (now (store .entry)) sheet take (framedFrom (poseLists (now (x .entry)) (now («x_frames» .entry)))) (now (out .entry))
         ⌝ }
-    ensures { λ _. ⌜ (holds (now (store .entry)) ≡ false → now (store .exit) ≡ now (store .entry)) ⌝ }
 {
     let FramedRead::Got(a) = framed_from(x, x_frames) else {
         return LIST_LENGTH;

@@ -1,5 +1,6 @@
-// Written by tools/widths from crates/sim3/src/sim3.rt: edit that one. Digest 071721f3ec82b02f.
-// A pose of Sim(3), X p = e^sigma R p + t. Exponentials of log scales are handed in.
+// Written by tools/widths from crates/sim3/src/sim3.rt: edit that one. Digest 62a00fb5a1dc5dac.
+// A pose of Sim(3), X p = e^sigma R p + t, by its numbers alone. Exponentials of log scales are handed
+// in.
 ghost use mathlib.Core.Path.{_≡_};
 ghost use lib.Ieee.{binary32};
 ghost use Rattle.sim3.specs.Pose.{poseIdentity, poseInverse, poseAct, poseMul, poseMulInv, poseInvMul, poseRenormalized};
@@ -15,6 +16,8 @@ use linalg_f32::vector::Vec3;
 use series_f32::sim3::Coeffs4;
 use so3_f32::quat::Quat;
 
+// The numbers of a pose. A pose with the frames between which it maps is `frames_f32::Pose`, and what gives
+// one is there, over the functions here.
 pub struct Sim3 {
     pub q: Quat,
     pub t: Vec3,
@@ -215,7 +218,7 @@ pub fn v_apply(phi: Vec3, sigma: f32, c: Coeffs4, rho: Vec3) -> Vec3
     ensures { λ r. ⌜ asVec3 r ≡ vApply binary32 (asVec3 phi) sigma (asCoeffs4 c) (asVec3 rho) ⌝ }
 {
     let z = phi.norm_sq();
-    if !circle_f32::kernel::b_takes_exact_arm(z) {
+    if !circle_f32::kernel::b_takes_exact_arm_of(phi) {
         return poly_apply(phi, c.v0, c.v1, c.v2, rho);
     }
     let chi = c.chi_delta / (sigma * sigma + z);

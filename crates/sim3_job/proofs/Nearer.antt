@@ -12,7 +12,8 @@ use Rattle.job.specs.declared.Reason.{Reason}
 use Rattle.job.specs.declared.Reason.the-variants.{More, Room, Bad, Full, End, Unknown, Cut}
 use Rattle.job.specs.Counts.{countsNone, countsSound, total}
 use Rattle.job.specs.Job.{Standing, jobLimit}
-use Rattle.job.specs.Feed.{feedOf, toldPart, goesOn, answerRoom}
+use Rattle.job.specs.Feed.{feedOf, goesOn, answerRoom}
+use Rattle.job.specs.Private.{partFed}
 use Rattle.job.proofs.Pieces.{sound-is}
 use Rattle.job.proofs.Progress.{feed-progress}
 use Rattle.job.proofs.Whole.{feed-sound}
@@ -54,7 +55,8 @@ less-by t Cut asked ended b b₁ have n used q g w l u m o h k = untrue g
 
 pub nearer :
     (j : Standing) (kept : List ℕ) (asked ended : Bool) (have n room : ℕ) (f : Fed) → countsSound jobLimit (j .counts) ≡ true → answerRoom ≤ room →
-    f ≡ toldPart (feedOf jobLimit true j kept ended room) → goesOn (f .reason) ≡ true → (asked ≡ true → n ≡ 0 → ended ≡ true) → have + n ≤ 65536 →
+    f ≡ partFed (feedOf jobLimit true j kept ended room) → goesOn (f .reason) ≡ true →
+    (asked ≡ true → n ≡ 0 → ended ≡ true) → have + n ≤ 65536 →
     toGo (f .counts) (have + n - f .used) (asksFor (f .reason)) < toGo (j .counts) have asked
 nearer j kept asked ended have n room f s k e g h i =
     let F = feedOf jobLimit true j kept ended room in
@@ -65,7 +67,8 @@ nearer j kept asked ended have n room f s k e g h i =
     (sound-is jobLimit (F .standing .counts) (feed-sound jobLimit true j kept ended room s) .few) (m .still) (m .more) (m .roomy k) h i)
 
 pub still-sound :
-    (j : Standing) (kept : List ℕ) (last : Bool) (room : ℕ) (f : Fed) → countsSound jobLimit (j .counts) ≡ true → f ≡ toldPart (feedOf jobLimit true j kept last room) →
+    (j : Standing) (kept : List ℕ) (last : Bool) (room : ℕ) (f : Fed) → countsSound jobLimit (j .counts) ≡ true →
+    f ≡ partFed (feedOf jobLimit true j kept last room) →
     countsSound jobLimit (f .counts) ≡ true
 still-sound j kept last room f s e = rw e (feed-sound jobLimit true j kept last room s)
 
@@ -83,5 +86,6 @@ asks-more Unknown e = untrue e
 asks-more Cut e = untrue e
 
 pub not-bad :
-    (j : Standing) (kept : List ℕ) (last : Bool) (room : ℕ) (f : Fed) → countsSound jobLimit (j .counts) ≡ true → f ≡ toldPart (feedOf jobLimit true j kept last room) → f .reason ≡ Bad → ⊥
+    (j : Standing) (kept : List ℕ) (last : Bool) (room : ℕ) (f : Fed) → countsSound jobLimit (j .counts) ≡ true →
+    f ≡ partFed (feedOf jobLimit true j kept last room) → f .reason ≡ Bad → ⊥
 not-bad j kept last room f s e u = feed-progress jobLimit j kept last room s .fair (rw e at u)

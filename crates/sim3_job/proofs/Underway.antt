@@ -13,7 +13,8 @@ use lib.Seq.{length-take-le, take-append-seam, take-take, take-at, drop-drop, dr
 use Rattle.job.specs.declared.Fed.{Fed}
 use Rattle.job.specs.Counts.{countsSound}
 use Rattle.job.specs.Job.{Standing, standingNone, jobOf}
-use Rattle.job.specs.Feed.{feedOf, toldPart, goesOn}
+use Rattle.job.specs.Feed.{feedOf, goesOn}
+use Rattle.job.specs.Private.{partFed}
 use Rattle.job.specs.Run.{jobWith}
 use Rattle.job.proofs.Stream.{stream}
 use Rattle.sim3_job.specs.declared.Filled.{Filled}
@@ -54,7 +55,8 @@ module _
   alone e = ap (λ (n : ℕ). drop n tape) (p .over e) ∙ drop-length tape
 
   pub underway-feed :
-      (sink₁ kept₁ : List ℕ) (sent₁ : ℕ) (f : Fed) → f ≡ toldPart (feedOf limit true j kept last room) → goesOn (f .reason) ≡ true →
+      (sink₁ kept₁ : List ℕ) (sent₁ : ℕ) (f : Fed) → f ≡ partFed (feedOf limit true j kept last room) → goesOn
+      (f .reason) ≡ true →
       take sent₁ sink₁ ≡ take sent sink ++ feedOf limit true j kept last room .bytes → kept₁ ≡ drop (f .used) kept →
       Underway limit tape sink₁ (feedOf limit true j kept last room .standing) kept₁ last at sent₁
   underway-feed sink₁ kept₁ sent₁ f e g w k =
@@ -71,7 +73,8 @@ module _
       }
 
   pub underway-done :
-      (sink₁ : List ℕ) (sent₁ : ℕ) (f : Fed) → f ≡ toldPart (feedOf limit true j kept last room) → goesOn (f .reason) ≡ false →
+      (sink₁ : List ℕ) (sent₁ : ℕ) (f : Fed) → f ≡ partFed (feedOf limit true j kept last room) → goesOn (f .reason)
+      ≡ false →
       take sent₁ sink₁ ≡ take sent sink ++ feedOf limit true j kept last room .bytes → take sent₁ sink₁ ≡ jobOf limit tape
   underway-done sink₁ sent₁ f e g w =
       let F = feedOf limit true j kept last room in

@@ -14,8 +14,10 @@ ghost use lib.ListN.{length, take, drop, getD};
 ghost use lib.Seq.{paste};
 ghost use Rattle.job.specs.Counts.{countsSound};
 ghost use Rattle.job.specs.Job.{jobLimit, jobOf};
+ghost use Rattle.job.specs.Input.{InputTheorem};
 ghost use Rattle.kept.specs.State.{stateOf, memory};
-ghost use Rattle.job.specs.Feed.{fedOf, toldPart, goesOn, recordRoom};
+ghost use Rattle.job.specs.Feed.{fedOf, goesOn, recordRoom};
+ghost use Rattle.job.specs.Private.{partFed};
 ghost use Rattle.job.specs.declared.Reason.{Reason};
 ghost use Rattle.sim3_job.specs.Filled.{Within, FromTape, filledOf};
 ghost use Rattle.sim3_job.specs.Sent.{WithinSink, ToSink, sentOf};
@@ -23,6 +25,8 @@ ghost use Rattle.sim3_job.specs.Ran.{asksFor, Performed};
 use job::Counts;
 use job::Fed;
 use job::Reason;
+
+mod probe; // whether the process computes as the proofs say
 
 // What a read gave: how many bytes, whether they are the last, and where the tape then stands; or it
 // failed.
@@ -68,7 +72,7 @@ fn turn(buf: &mut [u8], have: usize, c: Counts, mem: &mut [u8], last: bool, out:
     requires { ⌜ have ≤ length (now buf) ⌝ }
     requires { ⌜ countsSound jobLimit c ≡ true ⌝ }
     requires { ⌜ length (now mem) ≡ memory ⌝ }
-    ensures { λ r. ⌜ r ≡ toldPart (fedOf c (now (mem .entry)) (take have (now (buf .entry))) last (length (now (out .entry)))) ⌝ }
+    ensures { λ r. ⌜ r ≡ partFed (fedOf c (now (mem .entry)) (take have (now (buf .entry))) last (length (now (out .entry)))) ⌝ }
     ensures { λ r. ⌜ now (out .exit) ≡ (fedOf c (now (mem .entry)) (take have (now (buf .entry))) last (length (now (out .entry))) .bytes) ++ drop (r .written) (now (out .entry)) ⌝ }
     ensures { λ _. ⌜ stateOf (now (mem .exit)) ≡ fedOf c (now (mem .entry)) (take have (now (buf .entry))) last (length (now (out .entry))) .standing .state ⌝ }
     ensures { λ r. ⌜ (r .used ≤ have) × (r .written ≤ length (now (out .entry))) ⌝ }
@@ -246,10 +250,12 @@ fn ended_as(outcome: Outcome, sent: usize) -> Ran
 }
 
 // Reads, feeds and writes until the job ends or a read or write fails. From a tape, however it is
-// cut, no read fails; where the sink has room for what the job writes, that is what it then holds.
+// cut, no read fails; where the sink has room for what the job writes, that is what it then holds: the
+// replies to the records of the tape, each by what is kept after those before it (`InputTheorem`).
 fn run(live: bool, tape: &[u8], cuts: &[usize], sink: &mut [u8]) -> Ran
     ensures { λ r. ⌜ r .sent ≤ length (now (sink .entry)) ⌝ }
     ensures { λ r. ⌜ (live ≡ false → Performed (r .outcome) (take (r .sent) (now (sink .exit))) (length (now (sink .entry))) (jobOf jobLimit (now (tape .entry)))) ⌝ }
+    ensures { λ _. ⌜ InputTheorem jobLimit (now (tape .entry)) ⌝ }
 {
     let mut space = io::large_buffer();
     let buf: &mut [u8] = &mut space;
@@ -293,6 +299,13 @@ fn run(live: bool, tape: &[u8], cuts: &[usize], sink: &mut [u8]) -> Ran
 }
 
 fn main() {
+    if !probe::computes_as_proved() {
+        io::write_all(
+            2,
+            b"sim3_job: the floating-point environment is not the proved one, so nothing was read; look at LD_PRELOAD\n",
+        );
+        return;
+    }
     let cuts: [usize; 1] = [0];
     let mut sink: [u8; 1] = [0];
     let ran = run(true, b"", &cuts, &mut sink);

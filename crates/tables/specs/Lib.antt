@@ -1,3 +1,5 @@
 pub mod Tables
+pub mod Patterns
+pub mod Every
 pub mod Rows
 pub mod Found

@@ -1,4 +1,4 @@
--- Written by tools/proofs from Proof.template: edit that one. Digest 6414ea60f5862323.
+-- Written by tools/proofs from Proof.template: edit that one. Digest c3bf077a6193e5dd.
 -- `demands::both_signs` meets its contract, demand 3: by what the eight calls ensure, and what negation, mirroring and transposing ensure of their arguments.
 use borrow.Author.Needs.{needs}
 use mathlib.Core.Path.{_≡_, ap, _∙_}
@@ -8,7 +8,7 @@ use Rattle.closed.specs.Values.{mirrored}
 use Rattle.coeffs.specs.Entries.{scaledAnswer}
 use Rattle.sim3.specs.Tangent.{tangentNeg}
 use Rattle.sim3.specs.Exp.{poseExp}
-use Rattle.blocks.specs.Blocks.{jlAndInverse}
+use Rattle.sides.specs.Blocks.{jlAndInverse}
 use Rattle.demands.proofs.Holds.{demand-3}
 use Rattle.demands.proofs.both_signs.Statement.{statement}
 use Rattle.demands.proofs.both_signs.Tie as tie

@@ -1,4 +1,4 @@
--- Written by tools/widths from crates/demands/proofs/same_flags/Proof.antt: edit that one. Digest ae95ce480c8edd9b.
+-- Written by tools/widths from crates/demands/proofs/same_flags/Proof.antt: edit that one. Digest 850d5914ec7fa604.
 -- `demands_f32::same_flags` meets its contract: by what its two calls ensure, and the square of phi. Assumes nothing.
 use borrow.Author.Needs.{needs}
 use mathlib.Core.Path.{ap, _∙_}
@@ -16,7 +16,7 @@ unfolding asMat3 asSim3Tangent asValues asVec3
 returns c =
     let a = c .before .before .before .before .args in
     let t = c .before .sim3-coeffs-armed-pair .ensures ∙ ap (λ z. armedPairAnswer binary32 ((asSim3Tangent (a .tau)) .sigma) z (asValues (a .v))) (c .before .before .norm-sq .ensures) in
-    flags-scale binary32 (asSim3Tangent (a .tau)) (asValues (a .v)) (asMat3 (a .jl)) (asMat3 (a .jl-inv)) _ _ t (c .block-pair .ensures)
+    flags-scale binary32 (asSim3Tangent (a .tau)) (asValues (a .v)) (asValues (a .w)) (asMat3 (a .jl)) (asMat3 (a .jl-inv)) _ _ t (c .block-pair .ensures)
 
 pub same-flags-spec : {M : Type 1} → statement M
 same-flags-spec =

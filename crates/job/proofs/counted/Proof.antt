@@ -1,7 +1,7 @@
--- Written by tools/proofs from Proof.template: edit that one. Digest 12b790e12c6e8b38.
+-- Written by tools/proofs from Proof.template: edit that one. Digest 3da9b0224d0ccc5d.
 -- `job::counted` meets its contract: by how the record counts. Assumes nothing.
 use borrow.Author.Needs.{needs}
-use Rattle.job.specs.Inner.{fourMore}
+use Rattle.job.specs.Private.{fourMore}
 use Rattle.job.proofs.counted.Statement.{statement}
 use Rattle.job.proofs.counted.Tie as tie
 

@@ -1,9 +1,9 @@
--- Written by tools/proofs from Proof.template: edit that one. Digest 3fefb2fdea161eeb.
+-- Written by tools/proofs from Proof.template: edit that one. Digest e96541ff16db3df9.
 -- `job::stop` meets its contract: by its test. Assumes nothing.
 use borrow.Author.Needs.{needs}
 use mathlib.Core.Path.{_∙_}
 use borrow.Author.Tests.{lt-ltb, le-ltb}
-use Rattle.job.specs.Inner.{stopOf}
+use Rattle.job.specs.Private.{stopOf}
 use Rattle.job.proofs.stop.Statement.{statement}
 use Rattle.job.proofs.stop.Tie as tie
 

@@ -1,4 +1,4 @@
--- Written by tools/proofs from Proof.template: edit that one. Digest 60cd0212f53ab419.
+-- Written by tools/proofs from Proof.template: edit that one. Digest 1bfcaef8374f137c.
 -- `kept::fresh` meets its contract: five zeros are a running join without a pose, and the store is made fresh. Assumes nothing.
 use borrow.Author.Needs.{needs}
 use native.Mathlib.Omega.{arith}
@@ -28,7 +28,7 @@ same-length c =
 returns : tie.Need-returns
 returns c =
     let c1 = c .before .before .before .before .before in
-    made-fresh (c1 .before .args .mem .now) _ (c .before .before .before .before .if1 .taken) (c .before .before .fresh .ensures .0)
+    made-fresh (c1 .before .args .mem .now) _ (c .before .before .before .before .if1 .taken) (c .before .before .fresh .ensures .0) (c .before .before .fresh .ensures .1)
 
 returns-2 : tie.Need-returns-2
 returns-2 c = left-alone (c .before .before .args .mem .now) (c .if1 .left)

@@ -1,4 +1,4 @@
--- Written by tools/proofs from Proof.template: edit that one. Digest 03b0cc5fd4500007.
+-- Written by tools/proofs from Proof.template: edit that one. Digest 69aea2e7d4288aa2.
 -- `marks::reply` meets its contract: by the lent bytes, by the length of the input, by its mark, and by what that asks for. Assumes nothing.
 use borrow.Author.Needs.{needs}
 use native.Mathlib.Omega.{arith}
@@ -8,7 +8,7 @@ use Rattle.outcome.specs.declared.Step.the-variants as step
 use Rattle.outcome.specs.Outcome.{ended, unknown, cut, becameOf, writtenOf}
 use Rattle.marks.specs.Marks.{lookTold}
 use Rattle.marks.specs.declared.Look.the-variants.{Known}
-use Rattle.marks.proofs.Heads.{found-none, found-half, found-unknown, met-unheld, met-still, met-by, entry-told, asked-told}
+use Rattle.marks.proofs.Heads.{found-none, found-half, found-unknown, behind-short, behind-unknown, met-unheld, met-still, met-by, entry-told, asked-told}
 use Rattle.marks.proofs.Rows.{row-unheld, row-short, row-unknown, row-mark, beside}
 use Rattle.marks.proofs.reply.Statement.{statement}
 use Rattle.marks.proofs.reply.Tie as tie
@@ -24,7 +24,8 @@ unfolding becameOf writtenOf
 returns-2 c =
     let c1 = c .before .before .before .before .before in
     let a = c1 .before .before .args in
-    let t = met-still (a .mem .now) (a .s .now) (a .out .now) (c .before .before .before .if1 .left) ended (found-none _ (a .s .now) (c .before .if3 .taken)) step.End refl refl in
+    let t = met-still (a .mem .now) (a .s .now) (a .out .now) (c .before .before .before .if1 .left) ended
+    (found-none _ (a .s .now) (c .before .if3 .taken)) (behind-short _ (a .s .now) (c .before .before .if2 .taken)) step.End refl refl in
     rw (c .tell2 .ensures) (beside t (row-short (a .mem .now) (a .s .now) (c .before .before .before .if1 .left) (c .before .before .if2 .taken)))
 
 returns-3 : tie.Need-returns-3
@@ -33,7 +34,8 @@ returns-3 c =
     let c1 = c .before .before .before .before .before in
     let a = c1 .before .before .args in
     let t = met-still (a .mem .now) (a .s .now) (a .out .now) (c .before .before .before .if1 .left) cut
-    (found-half _ (a .s .now) (omega (arith, c .before .before .if2 .taken, c .before .if3 .left))) step.Cut refl refl in
+    (found-half _ (a .s .now) (omega (arith, c .before .before .if2 .taken, c .before .if3 .left)))
+    (behind-short _ (a .s .now) (c .before .before .if2 .taken)) step.Cut refl refl in
     rw (c .tell3 .ensures) (beside t (row-short (a .mem .now) (a .s .now) (c .before .before .before .if1 .left) (c .before .before .if2 .taken)))
 
 returns-4 : tie.Need-returns-4
@@ -43,7 +45,8 @@ returns-4 c =
     let c2 = c1 .before .before .before .before .before in
     let a = c2 .before .args in
     let none = sym (c .before .before .before .look-up .ensures) ∙ ap lookTold (c .before .enum-told .given .1) in
-    let t = met-still (a .mem .now) (a .s .now) (a .out .now) (c1 .before .before .if1 .left) unknown (found-unknown _ (a .s .now) (omega arith) none) step.Unknown refl refl in
+    let t = met-still (a .mem .now) (a .s .now) (a .out .now) (c1 .before .before .if1 .left) unknown (found-unknown _ (a .s .now) (omega arith) none)
+    (behind-unknown _ (a .s .now) (omega arith) none) step.Unknown refl refl in
     rw (c .tell4 .ensures) (beside t (row-unknown (a .mem .now) (a .s .now) (c1 .before .before .if1 .left) (omega arith) none))
 
 returns-5 : tie.Need-returns-5

@@ -3,7 +3,7 @@ use borrow.Author.Needs.{needs}
 use mathlib.Core.Path.{refl}
 use native.Mathlib.Omega.{arith}
 use lib.ListN.{length-set}
-use Rattle.point_lists.specs.Stores.{putPoint}
+use Rattle.point_lists.specs.Private.{putPoint}
 use Rattle.point_lists.proofs.put_point.Statement.{statement}
 use Rattle.point_lists.proofs.put_point.Tie as tie
 

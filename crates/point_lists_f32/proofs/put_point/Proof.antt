@@ -1,10 +1,10 @@
--- Written by tools/widths from crates/point_lists/proofs/put_point/Proof.antt: edit that one. Digest 60660e5ab10a5c49.
+-- Written by tools/widths from crates/point_lists/proofs/put_point/Proof.antt: edit that one. Digest 2dfcd624b99c25c5.
 -- `point_lists_f32::put_point` meets its contract: three stores, one after another. Assumes nothing.
 use borrow.Author.Needs.{needs}
 use mathlib.Core.Path.{refl}
 use native.Mathlib.Omega.{arith}
 use lib.ListN.{length-set}
-use Rattle.point_lists.specs.Stores.{putPoint}
+use Rattle.point_lists.specs.Private.{putPoint}
 use Rattle.point_lists_f32.proofs.put_point.Statement.{statement}
 use Rattle.point_lists_f32.proofs.put_point.Tie as tie
 use Rattle.linalg_f32.specs.As.{asVec3}

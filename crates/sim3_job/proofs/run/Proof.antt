@@ -1,4 +1,4 @@
--- Written by tools/proofs from Proof.template: edit that one. Digest a513fa6d19bb3470.
+-- Written by tools/proofs from Proof.template: edit that one. Digest 7037a85b2bbcb433.
 -- `sim3_job::run` meets its contract. From a tape, what the sink holds and what the job still writes are together what it writes for the whole tape; and each
 -- turn brings the end nearer, wherever it reads from.
 use borrow.Author.Needs.{needs}
@@ -16,6 +16,7 @@ use Rattle.kept.proofs.Records.{held}
 use Rattle.job.specs.Counts.{countsSound}
 use Rattle.job.specs.Job.{standing, jobLimit}
 use Rattle.job.specs.Feed.{feedOf, goesOn, answerRoom, recordRoom}
+use Rattle.job.proofs.Input.{input}
 use Rattle.sim3_job.proofs.Underway.{Underway, underway-start, underway-feed, underway-done, underway-short, within, tape-read, tape-failed, sink-within, sink-holds, sink-short, handed}
 use Rattle.sim3_job.proofs.Nearer.{toGo, nearer, still-sound, none-sound, asks-more}
 use Rattle.sim3_job.proofs.run.Statement.{statement}
@@ -36,7 +37,7 @@ loop-holds c =
     let c2 = c1 .before .before .before .before .before in
     let a = c2 .before .before .before .args in
     let z = c .no-counts .ensures in
-    let y : stateOf (c .before .before .before .fresh .last .0) ≡ stateNone = c .before .before .before .fresh .ensures in (
+    let y : stateOf (c .before .before .before .fresh .last .0) ≡ stateNone = c .before .before .before .fresh .ensures .1 in (
       omega arith,
       sym (c1 .before .before .before .before .large-buffer .ensures),
       sym (c1 .before .before .large-buffer2 .ensures),
@@ -185,8 +186,10 @@ returns c =
     let l = c2 .loop in
     rw (c .ended-as .ensures) (
       omega (arith, l .inv .6, l .inv .7),
-      λ e. tape-failed (c .before .before .before .before .enum-told .given .1) (a .tape .now) (l .at) (l .have)
-          (l .buf) _ (l .last) (c1 .before .before .before .fill .ensures .1 .1 e),
+      (
+        λ e. tape-failed (c .before .before .before .before .enum-told .given .1) (a .tape .now) (l .at) (l .have) (l .buf) _ (l .last) (c1 .before .before .before .fill .ensures .1 .1 e),
+        input jobLimit (a .tape .now) (λ i. omega (arith, c4 .before .before .before .shared-slice-known .given i)),
+      ),
     )
 
 same-length-2 : tie.Need-same-length-2 Inv-loop μ-loop
@@ -224,14 +227,17 @@ returns-2 c =
     let wrote = rw held₁ at (t .ensures .1 .0) in
     rw (c .ended-as2 .ensures) (
       omega (arith, i .6, i .7),
-      λ e.
-          let r = tape-read (c4 .before .before .n .given .1) jobLimit (a .tape .now) (l .sink) (standing (l .c) (stateOf (l .mem))) (l .buf) buf₁ (l .last)
-          (l .at) (l .have) (l .sent) (f .ensures .1 .1 e) (i .8 e) in
-          let b = handed (F .bytes) (l .out) _ (t .result .written) (ap (λ (x : Fed). x .written) told) wrote in
-          let w = sink-short (c .before .before .before .before .enum-told2 .given .1) _ (l .sink) _ (l .sent) (p .ensures .1 e) in
-          let s = underway-short jobLimit (a .tape .now) (l .sink) (standing (l .c) (stateOf (l .mem))) (take (l .have + n) buf₁) ended next (l .sent) r (i .4) (length (l .out))
-          (i .6) (omega (arith, w .1, ap length b)) in
-          (omega (arith, s .0, i .7), rw (w .0) (s .1)),
+      (
+        λ e.
+            let r = tape-read (c4 .before .before .n .given .1) jobLimit (a .tape .now) (l .sink) (standing (l .c) (stateOf (l .mem))) (l .buf) buf₁ (l .last)
+            (l .at) (l .have) (l .sent) (f .ensures .1 .1 e) (i .8 e) in
+            let b = handed (F .bytes) (l .out) _ (t .result .written) (ap (λ (x : Fed). x .written) told) wrote in
+            let w = sink-short (c .before .before .before .before .enum-told2 .given .1) _ (l .sink) _ (l .sent) (p .ensures .1 e) in
+            let s = underway-short jobLimit (a .tape .now) (l .sink) (standing (l .c) (stateOf (l .mem))) (take (l .have + n) buf₁) ended next (l .sent) r (i .4) (length (l .out))
+            (i .6) (omega (arith, w .1, ap length b)) in
+            (omega (arith, s .0, i .7), rw (w .0) (s .1)),
+        input jobLimit (a .tape .now) (λ i. omega (arith, c8 .before .shared-slice-known .given i)),
+      ),
     )
 
 same-length-3 : tie.Need-same-length-3 Inv-loop μ-loop
@@ -274,14 +280,17 @@ returns-3 c =
     let off : goesOn (t .result .reason) ≡ false = sym (c1 .goes-on .ensures) ∙ not-true _ (c .before .before .before .before .if1 .taken) in
     rw (c .ended-as3 .ensures) (
       omega (arith, sink-within (c1 .before .before .before .before .end .given .1) (length (l .sink)) (p .ensures .0), i .7),
-      λ e.
-          let r = tape-read (c5 .before .before .n .given .1) jobLimit (a .tape .now) (l .sink) (standing (l .c) (stateOf (l .mem))) (l .buf) buf₁ (l .last)
-          (l .at) (l .have) (l .sent) (f .ensures .1 .1 e) (i .8 e) in
-          let b = handed (F .bytes) (l .out) _ (t .result .written) (ap (λ (x : Fed). x .written) told) wrote in
-          let w : take end sink₁ ≡ take (l .sent) (l .sink) ++ F .bytes = sink-holds (c1 .before .before .before .before .end .given .1) _ (l .sink) sink₁
-          (l .sent) (p .ensures .1 e) ∙ ap (λ (x : List ℕ). take (l .sent) (l .sink) ++ x) b in
-          underway-done jobLimit (a .tape .now) (l .sink) (standing (l .c) (stateOf (l .mem))) (take (l .have + n) buf₁) ended next (l .sent) r (i .4)
-          (length (l .out)) sink₁ end (t .result) told off w,
+      (
+        λ e.
+            let r = tape-read (c5 .before .before .n .given .1) jobLimit (a .tape .now) (l .sink) (standing (l .c) (stateOf (l .mem))) (l .buf) buf₁ (l .last)
+            (l .at) (l .have) (l .sent) (f .ensures .1 .1 e) (i .8 e) in
+            let b = handed (F .bytes) (l .out) _ (t .result .written) (ap (λ (x : Fed). x .written) told) wrote in
+            let w : take end sink₁ ≡ take (l .sent) (l .sink) ++ F .bytes = sink-holds (c1 .before .before .before .before .end .given .1) _ (l .sink) sink₁
+            (l .sent) (p .ensures .1 e) ∙ ap (λ (x : List ℕ). take (l .sent) (l .sink) ++ x) b in
+            underway-done jobLimit (a .tape .now) (l .sink) (standing (l .c) (stateOf (l .mem))) (take (l .have + n) buf₁) ended next (l .sent) r (i .4)
+            (length (l .out)) sink₁ end (t .result) told off w,
+        input jobLimit (a .tape .now) (λ i. omega (arith, c9 .before .shared-slice-known .given i)),
+      ),
     )
 
 pub run-spec : {M : Type 1} → statement M

@@ -1,6 +1,6 @@
--- Written by tools/proofs, plain, opening minusEtMt. Digest 9ba354df2b2bc11b.
+-- Written by tools/proofs, plain, opening minusEtMt. Digest ee3a8760e8cba812.
 use borrow.Author.Needs.{needs}
-use Rattle.coeffs.specs.Shared.{minusEtMt}
+use Rattle.coeffs.specs.Private.{minusEtMt}
 use Rattle.coeffs.proofs.sim3.at_minus.Statement.{statement}
 use Rattle.coeffs.proofs.sim3.at_minus.Tie as tie
 

@@ -1,11 +1,11 @@
--- Written by tools/proofs from Proof.template: edit that one. Digest 736cab6f3eff8945.
+-- Written by tools/proofs from Proof.template: edit that one. Digest 709a901e9017b0b0.
 -- `coeffs::sim3::by_series` meets its contract: what the series answers at the arm's terms is answered, and its refusal is handed upward. Assumes nothing.
 use borrow.Author.Needs.{needs}
 use mathlib.Core.Path.{sym, ap, _∙_}
 use mathlib.Core.Bool.{false}
 use lib.Ieee.{binary64}
 use Rattle.series.specs.Series.{seriesTold, seriesAnswer, seriesFull}
-use Rattle.coeffs.specs.Shared.{seriesArm}
+use Rattle.coeffs.specs.Private.{seriesArm}
 use Rattle.coeffs.specs.Entries.{scaledTold}
 use Rattle.coeffs.proofs.Arms.{series-answers, series-refuses}
 use Rattle.coeffs.proofs.sim3.by_series.Statement.{statement}

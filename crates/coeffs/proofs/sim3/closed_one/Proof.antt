@@ -1,6 +1,6 @@
--- Written by tools/proofs, plain, opening closedOne ofBits. Digest 06cfeff0f1e0f825.
+-- Written by tools/proofs, plain, opening closedOne ofBits. Digest 19912780a5ee86a3.
 use borrow.Author.Needs.{needs}
-use Rattle.coeffs.specs.Shared.{closedOne}
+use Rattle.coeffs.specs.Private.{closedOne}
 use lib.Ieee.{ofBits}
 use Rattle.coeffs.proofs.sim3.closed_one.Statement.{statement}
 use Rattle.coeffs.proofs.sim3.closed_one.Tie as tie

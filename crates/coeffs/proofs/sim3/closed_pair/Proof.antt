@@ -1,6 +1,6 @@
--- Written by tools/proofs, plain, opening closedPair ofBits. Digest 5e55cd8c56569db5.
+-- Written by tools/proofs, plain, opening closedPair ofBits. Digest fe4e700efb6e0ebd.
 use borrow.Author.Needs.{needs}
-use Rattle.coeffs.specs.Shared.{closedPair}
+use Rattle.coeffs.specs.Private.{closedPair}
 use lib.Ieee.{ofBits}
 use Rattle.coeffs.proofs.sim3.closed_pair.Statement.{statement}
 use Rattle.coeffs.proofs.sim3.closed_pair.Tie as tie

@@ -1,4 +1,4 @@
--- Written by tools/proofs from Proof.template: edit that one. Digest 1f5e5f21a2878b41.
+-- Written by tools/proofs from Proof.template: edit that one. Digest 290f03fbd32a13c5.
 -- `coeffs::sim3::pair_by_series` meets its contract: what the series at both signs answers at the arm's terms is answered, and its refusal is handed upward. Assumes nothing.
 use borrow.Author.Needs.{needs}
 use mathlib.Core.Path.{sym, ap, _∙_}
@@ -8,7 +8,7 @@ use lib.Ieee.{binary64, neg}
 use Rattle.series.specs.Series.{seriesPairTold, seriesFull}
 use Rattle.series.specs.declared.sim3.CoeffsPair.{CoeffsPair}
 use Rattle.coeffs.specs.declared.sim3.ScaledPair.{ScaledPair}
-use Rattle.coeffs.specs.Shared.{seriesArms}
+use Rattle.coeffs.specs.Private.{seriesArms}
 use Rattle.coeffs.specs.Entries.{pairTold}
 use Rattle.coeffs.proofs.Arms.{series-answers, series-refuses, series-pair-is}
 use Rattle.coeffs.proofs.sim3.pair_by_series.Statement.{statement}

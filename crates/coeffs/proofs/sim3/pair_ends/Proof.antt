@@ -1,6 +1,6 @@
--- Written by tools/proofs, plain, opening pairEnds. Digest 19b0df493e31b678.
+-- Written by tools/proofs, plain, opening pairEnds. Digest 736c7f66b98344ac.
 use borrow.Author.Needs.{needs}
-use Rattle.coeffs.specs.Shared.{pairEnds}
+use Rattle.coeffs.specs.Private.{pairEnds}
 use Rattle.coeffs.proofs.sim3.pair_ends.Statement.{statement}
 use Rattle.coeffs.proofs.sim3.pair_ends.Tie as tie
 

@@ -1,4 +1,4 @@
--- Written by tools/proofs from Proof.template: edit that one. Digest 2babb537af67549b.
+-- Written by tools/proofs from Proof.template: edit that one. Digest 9028bfc138a0fdde.
 -- `coeffs::sim3::sim3_coeffs_armed` meets its contract: the answer is that of the arm at Δ, with that arm told. Assumes nothing.
 use borrow.Author.Needs.{needs}
 use mathlib.Core.Path.{_≡_, sym, ap, _∙_}
@@ -9,7 +9,7 @@ use Rattle.linalg.specs.Answer.{answers, andThen}
 use Rattle.circle.specs.Kernel.{sincABDTold, circleSincABDAnswer}
 use Rattle.closed.specs.Limits.{coeffsDelta}
 use Rattle.closed.specs.Arm.{coeffsArm}
-use Rattle.coeffs.specs.Shared.{seriesArm}
+use Rattle.coeffs.specs.Private.{seriesArm}
 use Rattle.coeffs.specs.Entries.{scaledTold, armedTold}
 use Rattle.closed.proofs.Arm.{ends-series, ends-closed}
 use Rattle.coeffs.proofs.Arms.{by-series, by-closed, closed-refuses, armed-told, armed-refuses, told-at}

@@ -1,4 +1,4 @@
--- Written by tools/proofs from Proof.template: edit that one. Digest 6fff9648f5f756dd.
+-- Written by tools/proofs from Proof.template: edit that one. Digest c19cab045a8268a8.
 -- `coeffs::sim3::sim3_coeffs_armed_pair` meets its contract: the answer is that of the arm at Δ, with that arm told. Assumes nothing.
 use borrow.Author.Needs.{needs}
 use mathlib.Core.Path.{_≡_, sym, ap, _∙_}
@@ -9,7 +9,7 @@ use Rattle.linalg.specs.Answer.{answers, andThen}
 use Rattle.circle.specs.Kernel.{sincABDTold, circleSincABDAnswer}
 use Rattle.closed.specs.Limits.{coeffsDelta}
 use Rattle.closed.specs.Arm.{coeffsArm}
-use Rattle.coeffs.specs.Shared.{seriesArms}
+use Rattle.coeffs.specs.Private.{seriesArms}
 use Rattle.coeffs.specs.Entries.{pairTold, armedPairTold}
 use Rattle.closed.proofs.Arm.{ends-series, ends-closed}
 use Rattle.coeffs.proofs.Even.{pair-by-series, pair-by-closed, pair-closed-refuses, armed-pair-told, armed-pair-refuses, told-both}

@@ -1,4 +1,4 @@
--- Written by tools/proofs from Proof.template: edit that one. Digest 2cacd612725faabf.
+-- Written by tools/proofs from Proof.template: edit that one. Digest 1ab50ae7b4689e4a.
 -- `coeffs::sim3::sim3_coeffs_scaled` meets its contract: the answer is that of the arm at Δ. Assumes nothing.
 use borrow.Author.Needs.{needs}
 use mathlib.Core.Path.{sym, ap, _∙_}
@@ -7,7 +7,7 @@ use lib.Dec.{ltb}
 use lib.Ieee.{binary64}
 use Rattle.circle.specs.Kernel.{sincABDTold, circleSincABDAnswer}
 use Rattle.closed.specs.Limits.{coeffsDelta}
-use Rattle.coeffs.specs.Shared.{seriesArm}
+use Rattle.coeffs.specs.Private.{seriesArm}
 use Rattle.coeffs.specs.Entries.{scaledTold}
 use Rattle.coeffs.proofs.Arms.{by-series, by-closed, closed-refuses}
 use Rattle.coeffs.proofs.sim3.sim3_coeffs_scaled.Statement.{statement}

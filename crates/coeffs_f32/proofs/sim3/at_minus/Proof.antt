@@ -1,6 +1,6 @@
--- Written by tools/widths from crates/coeffs/proofs/sim3/at_minus/Proof.antt: edit that one. Digest 8172ec1d6fce36a9.
+-- Written by tools/widths from crates/coeffs/proofs/sim3/at_minus/Proof.antt: edit that one. Digest a3f3c33df8ddb0b2.
 use borrow.Author.Needs.{needs}
-use Rattle.coeffs.specs.Shared.{minusEtMt}
+use Rattle.coeffs.specs.Private.{minusEtMt}
 use Rattle.coeffs_f32.proofs.sim3.at_minus.Statement.{statement}
 use Rattle.coeffs_f32.proofs.sim3.at_minus.Tie as tie
 use Rattle.linalg_f32.proofs.As.{linalg-singles}

@@ -1,7 +1,8 @@
--- Written by tools/widths from crates/coeffs/src/sim3.rt: edit that one. Digest 9bda9aa86b78c53a.
+-- Written by tools/widths from crates/coeffs/src/sim3.rt: edit that one. Digest 7533413dc10c98a3.
 -- `coeffs_f32::sim3::at_plus` meets its contract: operation by operation, as the definition has it. Assumes nothing.
 use mathlib.Core.Path.{refl}
-use Rattle.closed_f32.specs.As.{asEtMt, asValues}
+use Rattle.closed_f32.specs.As.{asValues}
+use Rattle.coeffs_f32.specs.As.{asEtMt}
 use Rattle.coeffs_f32.proofs.sim3.at_plus.Statement.{statement}
 use Rattle.coeffs_f32.proofs.sim3.at_plus.Tie as tie
 

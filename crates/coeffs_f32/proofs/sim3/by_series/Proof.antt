@@ -1,4 +1,4 @@
--- Written by tools/widths from crates/coeffs/proofs/sim3/by_series/Proof.antt: edit that one. Digest f53d1c13626976f8.
+-- Written by tools/widths from crates/coeffs/proofs/sim3/by_series/Proof.antt: edit that one. Digest 2e3fdea419d49dcf.
 -- `coeffs_f32::sim3::by_series` meets its contract: what the series answers at the arm's terms is answered, and its refusal is handed upward. Assumes nothing.
 use borrow.Author.Needs.{needs}
 use mathlib.Core.Path.{sym, ap, _∙_}
@@ -6,7 +6,7 @@ use mathlib.Core.Bool.{false}
 use lib.Ieee.{binary32}
 use Rattle.series.specs.Series.{seriesAnswer, seriesFull}
 use Rattle.series_f32.specs.Told.{seriesTold}
-use Rattle.coeffs.specs.Shared.{seriesArm}
+use Rattle.coeffs.specs.Private.{seriesArm}
 use Rattle.coeffs_f32.specs.Told.{scaledTold}
 use Rattle.coeffs.proofs.Arms.{series-answers, series-refuses}
 use Rattle.coeffs_f32.proofs.sim3.by_series.Statement.{statement}

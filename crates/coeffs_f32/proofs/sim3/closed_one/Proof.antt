@@ -1,6 +1,6 @@
--- Written by tools/widths from crates/coeffs/proofs/sim3/closed_one/Proof.antt: edit that one. Digest e415050434b0bab4.
+-- Written by tools/widths from crates/coeffs/proofs/sim3/closed_one/Proof.antt: edit that one. Digest 30e18a9f1d4064d3.
 use borrow.Author.Needs.{needs}
-use Rattle.coeffs.specs.Shared.{closedOne}
+use Rattle.coeffs.specs.Private.{closedOne}
 use lib.Ieee.{ofBits}
 use Rattle.coeffs_f32.proofs.sim3.closed_one.Statement.{statement}
 use Rattle.coeffs_f32.proofs.sim3.closed_one.Tie as tie

@@ -1,6 +1,6 @@
--- Written by tools/widths from crates/coeffs/proofs/sim3/closed_pair/Proof.antt: edit that one. Digest 5a5534716fc9da40.
+-- Written by tools/widths from crates/coeffs/proofs/sim3/closed_pair/Proof.antt: edit that one. Digest c6bb0bcbae131d84.
 use borrow.Author.Needs.{needs}
-use Rattle.coeffs.specs.Shared.{closedPair}
+use Rattle.coeffs.specs.Private.{closedPair}
 use lib.Ieee.{ofBits}
 use Rattle.coeffs_f32.proofs.sim3.closed_pair.Statement.{statement}
 use Rattle.coeffs_f32.proofs.sim3.closed_pair.Tie as tie

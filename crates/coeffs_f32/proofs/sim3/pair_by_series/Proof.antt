@@ -1,4 +1,4 @@
--- Written by tools/widths from crates/coeffs/proofs/sim3/pair_by_series/Proof.antt: edit that one. Digest f000911a5b20955f.
+-- Written by tools/widths from crates/coeffs/proofs/sim3/pair_by_series/Proof.antt: edit that one. Digest c889cfce1641c17d.
 -- `coeffs_f32::sim3::pair_by_series` meets its contract: what the series at both signs answers at the arm's terms is answered, and its refusal is handed upward. Assumes nothing.
 use borrow.Author.Needs.{needs}
 use mathlib.Core.Path.{sym, ap, _∙_}
@@ -9,7 +9,7 @@ use Rattle.series.specs.Series.{seriesFull}
 use Rattle.series_f32.specs.Told.{seriesPairTold}
 use Rattle.series.specs.declared.sim3.CoeffsPair.{CoeffsPair}
 use Rattle.coeffs.specs.declared.sim3.ScaledPair.{ScaledPair}
-use Rattle.coeffs.specs.Shared.{seriesArms}
+use Rattle.coeffs.specs.Private.{seriesArms}
 use Rattle.coeffs_f32.specs.Told.{pairTold}
 use Rattle.coeffs.proofs.Arms.{series-answers, series-refuses, series-pair-is}
 use Rattle.coeffs_f32.proofs.sim3.pair_by_series.Statement.{statement}

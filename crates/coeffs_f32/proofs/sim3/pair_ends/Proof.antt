@@ -1,6 +1,6 @@
--- Written by tools/widths from crates/coeffs/proofs/sim3/pair_ends/Proof.antt: edit that one. Digest eaaaf39b346ccc24.
+-- Written by tools/widths from crates/coeffs/proofs/sim3/pair_ends/Proof.antt: edit that one. Digest 05d99797edb2668e.
 use borrow.Author.Needs.{needs}
-use Rattle.coeffs.specs.Shared.{pairEnds}
+use Rattle.coeffs.specs.Private.{pairEnds}
 use Rattle.coeffs_f32.proofs.sim3.pair_ends.Statement.{statement}
 use Rattle.coeffs_f32.proofs.sim3.pair_ends.Tie as tie
 use Rattle.linalg_f32.proofs.As.{linalg-singles}

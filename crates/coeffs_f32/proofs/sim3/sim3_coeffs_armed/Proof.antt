@@ -1,4 +1,4 @@
--- Written by tools/widths from crates/coeffs/proofs/sim3/sim3_coeffs_armed/Proof.antt: edit that one. Digest 3c8d749ca1c28109.
+-- Written by tools/widths from crates/coeffs/proofs/sim3/sim3_coeffs_armed/Proof.antt: edit that one. Digest 83774e01a136f96a.
 -- `coeffs_f32::sim3::sim3_coeffs_armed` meets its contract: the answer is that of the arm at Δ, with that arm told. Assumes nothing.
 use borrow.Author.Needs.{needs}
 use mathlib.Core.Path.{_≡_, sym, ap, _∙_}
@@ -10,7 +10,7 @@ use Rattle.circle.specs.Kernel.{circleSincABDAnswer}
 use Rattle.circle_f32.specs.Told.{sincABDTold}
 use Rattle.closed.specs.Limits.{coeffsDelta}
 use Rattle.closed.specs.Arm.{coeffsArm}
-use Rattle.coeffs.specs.Shared.{seriesArm}
+use Rattle.coeffs.specs.Private.{seriesArm}
 use Rattle.coeffs_f32.specs.Told.{scaledTold, armedTold}
 use Rattle.closed.proofs.Arm.{ends-series, ends-closed}
 use Rattle.coeffs.proofs.Arms.{by-series, by-closed, closed-refuses, armed-told, armed-refuses, told-at}

@@ -1,4 +1,4 @@
--- Written by tools/widths from crates/coeffs/proofs/sim3/sim3_coeffs_armed_pair/Proof.antt: edit that one. Digest 8885e4ef0aac9258.
+-- Written by tools/widths from crates/coeffs/proofs/sim3/sim3_coeffs_armed_pair/Proof.antt: edit that one. Digest ea76b178bd2b0ae5.
 -- `coeffs_f32::sim3::sim3_coeffs_armed_pair` meets its contract: the answer is that of the arm at Δ, with that arm told. Assumes nothing.
 use borrow.Author.Needs.{needs}
 use mathlib.Core.Path.{_≡_, sym, ap, _∙_}
@@ -10,7 +10,7 @@ use Rattle.circle.specs.Kernel.{circleSincABDAnswer}
 use Rattle.circle_f32.specs.Told.{sincABDTold}
 use Rattle.closed.specs.Limits.{coeffsDelta}
 use Rattle.closed.specs.Arm.{coeffsArm}
-use Rattle.coeffs.specs.Shared.{seriesArms}
+use Rattle.coeffs.specs.Private.{seriesArms}
 use Rattle.coeffs_f32.specs.Told.{pairTold, armedPairTold}
 use Rattle.closed.proofs.Arm.{ends-series, ends-closed}
 use Rattle.coeffs.proofs.Even.{pair-by-series, pair-by-closed, pair-closed-refuses, armed-pair-told, armed-pair-refuses, told-both}

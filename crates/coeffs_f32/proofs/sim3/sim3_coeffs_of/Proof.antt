@@ -1,4 +1,4 @@
--- Written by tools/widths from crates/coeffs/proofs/sim3/sim3_coeffs_of/Proof.antt: edit that one. Digest ac6208ec9b9997ca.
+-- Written by tools/widths from crates/coeffs/proofs/sim3/sim3_coeffs_of/Proof.antt: edit that one. Digest a37105ff34b17d78.
 -- `coeffs_f32::sim3::sim3_coeffs_of` meets its contract: |phi|² is not below zero, so the entry answers. Assumes nothing.
 use borrow.Author.Needs.{needs}
 use mathlib.Core.Path.{sym, ap, _∙_}
@@ -12,19 +12,32 @@ use Rattle.linalg_f32.specs.As.{asVec3}
 use Rattle.series_f32.specs.As.{asSim3Coeffs}
 use Rattle.closed_f32.specs.As.{asValues}
 
+no-coeffs-requires : tie.Need-no-coeffs-requires
+unfolding coeffsTold coeffsAnswer asSim3Coeffs asValues asVec3
+no-coeffs-requires c κs =
+    let a = c .before .before .before .before .args in
+    let r = sym (c .before .before .sim3-coeffs .ensures ∙ ap (λ z. coeffsAnswer binary32 (a .sigma) z (asValues (a .v))) (c .before .before .before .norm-sq .ensures)) in
+    angle-refuses binary32 (asVec3 (a .phi)) _ _ (r ∙ ap coeffsTold (c .enum-told .given .1))
+
 returns : tie.Need-returns
 unfolding coeffsTold coeffsAnswer asSim3Coeffs asValues asVec3
 returns c =
-    let a = c .before .before .before .before .before .args in
+    let c1 = c .before .before .before .before .before in
+    let a = c1 .args in
     let r = sym (c .before .before .before .sim3-coeffs .ensures ∙ ap (λ z. coeffsAnswer binary32 (a .sigma) z (asValues (a .v))) (c .before .before .before .before .norm-sq .ensures)) in
     angle-answers binary32 (asVec3 (a .phi)) _ _ (r ∙ ap coeffsTold (c .before .c .given .1))
 
 returns-2 : tie.Need-returns-2
-unfolding coeffsTold coeffsAnswer asSim3Coeffs asValues asVec3
-returns-2 c =
-    let a = c .before .before .before .before .before .args in
-    let r = sym (c .before .before .before .sim3-coeffs .ensures ∙ ap (λ z. coeffsAnswer binary32 (a .sigma) z (asValues (a .v))) (c .before .before .before .before .norm-sq .ensures)) in
-    angle-refuses binary32 (asVec3 (a .phi)) _ _ (r ∙ ap coeffsTold (c .before .enum-told .given .1))
+returns-2 c = absurd (c .no-coeffs .ensures)
 
 pub sim3-coeffs-of-spec : {M : Type 1} → statement M
-sim3-coeffs-of-spec = tie.close (tie.spec (λ c κs. search needs) (λ c κs. search needs) (λ c. search needs) (λ c. search needs) (λ c κs. search needs) returns returns-2)
+sim3-coeffs-of-spec =
+    tie.close
+    (tie.spec
+    (λ c κs. search needs)
+    (λ c κs. search needs)
+    (λ c. search needs)
+    (λ c. search needs)
+    no-coeffs-requires
+    returns
+    returns-2)

@@ -1,4 +1,4 @@
--- Written by tools/widths from crates/coeffs/proofs/sim3/sim3_coeffs_scaled/Proof.antt: edit that one. Digest e7e7dc2d20a87f81.
+-- Written by tools/widths from crates/coeffs/proofs/sim3/sim3_coeffs_scaled/Proof.antt: edit that one. Digest 730df913e8fb7fbd.
 -- `coeffs_f32::sim3::sim3_coeffs_scaled` meets its contract: the answer is that of the arm at Δ. Assumes nothing.
 use borrow.Author.Needs.{needs}
 use mathlib.Core.Path.{sym, ap, _∙_}
@@ -8,7 +8,7 @@ use lib.Ieee.{binary32}
 use Rattle.circle.specs.Kernel.{circleSincABDAnswer}
 use Rattle.circle_f32.specs.Told.{sincABDTold}
 use Rattle.closed.specs.Limits.{coeffsDelta}
-use Rattle.coeffs.specs.Shared.{seriesArm}
+use Rattle.coeffs.specs.Private.{seriesArm}
 use Rattle.coeffs_f32.specs.Told.{scaledTold}
 use Rattle.coeffs.proofs.Arms.{by-series, by-closed, closed-refuses}
 use Rattle.coeffs_f32.proofs.sim3.sim3_coeffs_scaled.Statement.{statement}

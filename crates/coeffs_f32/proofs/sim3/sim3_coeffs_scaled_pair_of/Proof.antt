@@ -1,4 +1,4 @@
--- Written by tools/widths from crates/coeffs/proofs/sim3/sim3_coeffs_scaled_pair_of/Proof.antt: edit that one. Digest 914bc5b2c2aab234.
+-- Written by tools/widths from crates/coeffs/proofs/sim3/sim3_coeffs_scaled_pair_of/Proof.antt: edit that one. Digest 0be3062ebe99f450.
 -- `coeffs_f32::sim3::sim3_coeffs_scaled_pair_of` meets its contract: |phi|² is not below zero, so the entry answers. Assumes nothing.
 use borrow.Author.Needs.{needs}
 use mathlib.Core.Path.{sym, ap, _∙_}
@@ -13,20 +13,23 @@ use Rattle.series_f32.specs.As.{asSim3Coeffs}
 use Rattle.closed_f32.specs.As.{asValues}
 use Rattle.coeffs_f32.specs.As.{asScaled, asScaledPair}
 
+no-pair-requires : tie.Need-no-pair-requires
+unfolding pairTold asScaled asScaledPair asSim3Coeffs asValues asVec3
+no-pair-requires c κs =
+    let a = c .before .before .before .before .args in
+    let r = sym (c .before .before .sim3-coeffs-scaled-pair .ensures ∙ ap (λ z. pairAnswer binary32 (a .sigma) z (asValues (a .v))) (c .before .before .before .norm-sq .ensures)) in
+    angle-pair-refuses binary32 (asVec3 (a .phi)) (a .sigma) (asValues (a .v)) _ (r ∙ ap pairTold (c .enum-told .given .1))
+
 returns : tie.Need-returns
 unfolding pairTold asScaled asScaledPair asSim3Coeffs asValues asVec3
 returns c =
-    let a = c .before .before .before .before .before .args in
+    let c1 = c .before .before .before .before .before in
+    let a = c1 .args in
     let r = sym (c .before .before .before .sim3-coeffs-scaled-pair .ensures ∙ ap (λ z. pairAnswer binary32 (a .sigma) z (asValues (a .v))) (c .before .before .before .before .norm-sq .ensures)) in
     angle-pair-answers binary32 (asVec3 (a .phi)) (a .sigma) (asValues (a .v)) _ (r ∙ ap pairTold (c .before .p .given .1))
 
 returns-2 : tie.Need-returns-2
-unfolding pairTold asScaled asScaledPair asSim3Coeffs asValues asVec3
-returns-2 c =
-    let a = c .before .before .before .before .before .before .args in
-    let n = c .before .before .before .before .before .norm-sq .ensures in
-    let r = sym (c .before .before .before .before .sim3-coeffs-scaled-pair .ensures ∙ ap (λ z. pairAnswer binary32 (a .sigma) z (asValues (a .v))) n) in
-    angle-pair-refuses binary32 (asVec3 (a .phi)) (a .sigma) (asValues (a .v)) _ (r ∙ ap pairTold (c .before .before .enum-told .given .1))
+returns-2 c = absurd (c .no-pair .ensures)
 
 pub sim3-coeffs-scaled-pair-of-spec : {M : Type 1} → statement M
 sim3-coeffs-scaled-pair-of-spec =
@@ -36,7 +39,6 @@ sim3-coeffs-scaled-pair-of-spec =
     (λ c κs. search needs)
     (λ c. search needs)
     (λ c. search needs)
-    (λ c κs. search needs)
-    (λ c κs. search needs)
+    no-pair-requires
     returns
     returns-2)

@@ -1,4 +1,4 @@
--- Written by tools/widths from crates/coeffs/proofs/sim3/sim3_v_of/Proof.antt: edit that one. Digest 93a908e70873eb17.
+-- Written by tools/widths from crates/coeffs/proofs/sim3/sim3_v_of/Proof.antt: edit that one. Digest 01804f4a73f4609b.
 -- `coeffs_f32::sim3::sim3_v_of` meets its contract: |phi|² is not below zero, so the entry answers. Assumes nothing.
 use borrow.Author.Needs.{needs}
 use mathlib.Core.Path.{sym, ap, _∙_}
@@ -12,19 +12,32 @@ use Rattle.linalg_f32.specs.As.{asVec3}
 use Rattle.series_f32.specs.As.{asCoeffs4}
 use Rattle.closed_f32.specs.As.{asValues}
 
-returns : tie.Need-returns
+no-v-requires : tie.Need-no-v-requires
 unfolding vTold vAnswer asCoeffs4 asValues asVec3
-returns c =
-    let a = c .before .before .before .before .before .args in
-    let r = sym (c .before .before .before .sim3-v .ensures ∙ ap (λ z. vAnswer binary32 (a .sigma) z (asValues (a .v))) (c .before .before .before .before .norm-sq .ensures)) in
-    angle-answers binary32 (asVec3 (a .phi)) _ _ (r ∙ ap vTold (c .before .c .given .1))
-
-returns-2 : tie.Need-returns-2
-unfolding vTold vAnswer asCoeffs4 asValues asVec3
-returns-2 c =
+no-v-requires c κs =
     let a = c .before .before .before .before .args in
     let r = sym (c .before .before .sim3-v .ensures ∙ ap (λ z. vAnswer binary32 (a .sigma) z (asValues (a .v))) (c .before .before .before .norm-sq .ensures)) in
     angle-refuses binary32 (asVec3 (a .phi)) _ _ (r ∙ ap vTold (c .enum-told .given .1))
 
+returns : tie.Need-returns
+unfolding vTold vAnswer asCoeffs4 asValues asVec3
+returns c =
+    let c1 = c .before .before .before .before .before in
+    let a = c1 .args in
+    let r = sym (c .before .before .before .sim3-v .ensures ∙ ap (λ z. vAnswer binary32 (a .sigma) z (asValues (a .v))) (c .before .before .before .before .norm-sq .ensures)) in
+    angle-answers binary32 (asVec3 (a .phi)) _ _ (r ∙ ap vTold (c .before .c .given .1))
+
+returns-2 : tie.Need-returns-2
+returns-2 c = absurd (c .no-v .ensures)
+
 pub sim3-v-of-spec : {M : Type 1} → statement M
-sim3-v-of-spec = tie.close (tie.spec (λ c κs. search needs) (λ c κs. search needs) (λ c. search needs) (λ c. search needs) returns returns-2)
+sim3-v-of-spec =
+    tie.close
+    (tie.spec
+    (λ c κs. search needs)
+    (λ c κs. search needs)
+    (λ c. search needs)
+    (λ c. search needs)
+    no-v-requires
+    returns
+    returns-2)

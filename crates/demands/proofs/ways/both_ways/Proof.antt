@@ -1,9 +1,9 @@
--- Written by tools/proofs from Proof.template: edit that one. Digest 5649d61f40fc6110.
+-- Written by tools/proofs from Proof.template: edit that one. Digest fe694fc4867110aa.
 -- `demands::ways::both_ways` meets its contract: the ten answers are the definitions' by what the calls ensure, and so they are turned, as the theorem says.
 use borrow.Author.Needs.{needs}
 use mathlib.Core.Path.{_≡_, _∙_}
 use lib.Ieee.{binary64}
-use Rattle.blocks.specs.Blocks.{jacJl, jlAndInverse}
+use Rattle.sides.specs.Blocks.{jacJl, jlAndInverse}
 use Rattle.sides.specs.Side.{expAndJl}
 use Rattle.sides.specs.Pair.{blockPair}
 use Rattle.frames.specs.Pose.{framedExp}

@@ -1,9 +1,9 @@
--- Written by tools/widths from crates/demands/proofs/ways/both_ways/Proof.antt: edit that one. Digest aef3b9243bf750c0.
+-- Written by tools/widths from crates/demands/proofs/ways/both_ways/Proof.antt: edit that one. Digest 5c91a64cb2272b00.
 -- `demands_f32::ways::both_ways` meets its contract: the ten answers are the definitions' by what the calls ensure, and so they are turned, as the theorem says.
 use borrow.Author.Needs.{needs}
 use mathlib.Core.Path.{_≡_, _∙_}
 use lib.Ieee.{binary32}
-use Rattle.blocks.specs.Blocks.{jacJl, jlAndInverse}
+use Rattle.sides.specs.Blocks.{jacJl, jlAndInverse}
 use Rattle.sides.specs.Side.{expAndJl}
 use Rattle.sides.specs.Pair.{blockPair}
 use Rattle.frames.specs.Pose.{framedExp}
@@ -16,8 +16,7 @@ use Rattle.closed_f32.specs.As.{asValues}
 use Rattle.so3_f32.specs.As.{asQuat}
 use Rattle.sim3_f32.specs.As.{asSim3, asSim3Tangent}
 use Rattle.jacobian_f32.specs.As.{asSim3Jac}
-use Rattle.blocks_f32.specs.As.{asJacAndInverse}
-use Rattle.sides_f32.specs.As.{asBlockPair, asExpAndJl}
+use Rattle.sides_f32.specs.As.{asBlockPair, asExpAndJl, asJacAndInverse}
 use Rattle.frames_f32.specs.As.{asPose}
 use Rattle.demands_f32.specs.As.{asBothWays}
 

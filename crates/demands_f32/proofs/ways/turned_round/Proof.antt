@@ -1,4 +1,4 @@
--- Written by tools/widths from crates/demands/proofs/ways/turned_round/Proof.antt: edit that one. Digest 0d56641c000d9d58.
+-- Written by tools/widths from crates/demands/proofs/ways/turned_round/Proof.antt: edit that one. Digest 7bf0a17a619118c5.
 use borrow.Author.Needs.{needs}
 use Rattle.demands.specs.Turned.{turnedRound}
 use Rattle.demands_f32.proofs.ways.turned_round.Statement.{statement}
@@ -11,7 +11,6 @@ use Rattle.coeffs_f32.proofs.As.{coeffs-singles}
 use Rattle.so3_f32.proofs.As.{so3-singles}
 use Rattle.sim3_f32.proofs.As.{sim3-singles}
 use Rattle.jacobian_f32.proofs.As.{jacobian-singles}
-use Rattle.blocks_f32.proofs.As.{blocks-singles}
 use Rattle.sides_f32.proofs.As.{sides-singles}
 use Rattle.frames_f32.proofs.As.{frames-singles}
 use Rattle.demands_f32.proofs.As.{demands-singles}
@@ -27,7 +26,6 @@ returns c = simp (
   so3-singles,
   sim3-singles,
   jacobian-singles,
-  blocks-singles,
   sides-singles,
   frames-singles,
   demands-singles,

@@ -1,6 +1,6 @@
--- Written by tools/proofs, plain, opening sevenRows. Digest 633d632ee91b6595.
+-- Written by tools/proofs, plain, opening sevenRows. Digest 51a25fbad7f35bae.
 use borrow.Author.Needs.{needs}
-use Rattle.jacobian.specs.DenseRows.{sevenRows}
+use Rattle.jacobian.specs.Private.{sevenRows}
 use Rattle.jacobian.proofs.dense.rows_of.Statement.{statement}
 use Rattle.jacobian.proofs.dense.rows_of.Tie as tie
 

@@ -1,7 +1,7 @@
--- Written by tools/proofs, plain, opening sevenTranspose sevenRows. Digest 065fd2b38457df88.
+-- Written by tools/proofs, plain, opening sevenTranspose sevenRows. Digest 5161e14c07c6a432.
 use borrow.Author.Needs.{needs}
 use Rattle.jacobian.specs.Dense.{sevenTranspose}
-use Rattle.jacobian.specs.DenseRows.{sevenRows}
+use Rattle.jacobian.specs.Private.{sevenRows}
 use Rattle.jacobian.proofs.dense.transpose.Statement.{statement}
 use Rattle.jacobian.proofs.dense.transpose.Tie as tie
 

@@ -1,6 +1,6 @@
--- Written by tools/widths from crates/jacobian/proofs/dense/rows_of/Proof.antt: edit that one. Digest 6d6b5f3bd1f38083.
+-- Written by tools/widths from crates/jacobian/proofs/dense/rows_of/Proof.antt: edit that one. Digest 46f3e0ee3777207b.
 use borrow.Author.Needs.{needs}
-use Rattle.jacobian.specs.DenseRows.{sevenRows}
+use Rattle.jacobian.specs.Private.{sevenRows}
 use Rattle.jacobian_f32.proofs.dense.rows_of.Statement.{statement}
 use Rattle.jacobian_f32.proofs.dense.rows_of.Tie as tie
 use Rattle.linalg_f32.proofs.As.{linalg-singles}

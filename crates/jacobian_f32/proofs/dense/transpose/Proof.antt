@@ -1,7 +1,7 @@
--- Written by tools/widths from crates/jacobian/proofs/dense/transpose/Proof.antt: edit that one. Digest c0927626d77e6226.
+-- Written by tools/widths from crates/jacobian/proofs/dense/transpose/Proof.antt: edit that one. Digest b9beb358c45ff5da.
 use borrow.Author.Needs.{needs}
 use Rattle.jacobian.specs.Dense.{sevenTranspose}
-use Rattle.jacobian.specs.DenseRows.{sevenRows}
+use Rattle.jacobian.specs.Private.{sevenRows}
 use Rattle.jacobian_f32.proofs.dense.transpose.Statement.{statement}
 use Rattle.jacobian_f32.proofs.dense.transpose.Tie as tie
 use Rattle.linalg_f32.proofs.As.{linalg-singles}

@@ -1,4 +1,4 @@
--- Written by tools/proofs from Proof.template: edit that one. Digest 058819a1eb11af3b.
+-- Written by tools/proofs from Proof.template: edit that one. Digest 8e8d4a40d1822a43.
 -- `kept::retakes::sh` meets its contract: lent bytes that are no state, a cut record and an output without room are told; else the record's own bytes are put. Assumes nothing.
 use borrow.Author.Needs.{needs}
 use native.Mathlib.Omega.{arith}
@@ -49,7 +49,7 @@ returns-4 c =
     let a = c2 .before .before .before .before .args in
     let w = c .before .before .before .before .shelve .ensures in
     sh-whole (a .mem .now) (a .s .now) (a .out .now) (c2 .if1 .left) (c1 .before .before .before .before .if2 .left)
-    (c1 .before .before .before .if3 .left) (c .before .before .before .before .shelve .result) _ _ (w .0) (w .1 .0) (w .1 .1)
+    (c1 .before .before .before .if3 .left) (c .before .before .before .before .shelve .result) _ _ (w .0) (w .1 .0) (w .1 .1 .0) (w .1 .1 .1)
 
 pub sh-spec : {M : Type 1} → statement M
 sh-spec =

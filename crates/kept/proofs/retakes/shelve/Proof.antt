@@ -1,4 +1,4 @@
--- Written by tools/proofs from Proof.template: edit that one. Digest 6d4d6f99f03948d0.
+-- Written by tools/proofs from Proof.template: edit that one. Digest 639476396164b9f8.
 -- `kept::retakes::shelve` meets its contract: the shot is read and put, and what became of it told. Assumes nothing.
 use borrow.Author.Needs.{needs}
 use native.Mathlib.Omega.{arith}
@@ -17,7 +17,7 @@ returns c =
     let t = shelf-told (a .store .now) (a .b .now) _ _ _ (c2 .before .before .before .before .pre .1 .0) (c2 .short-at .ensures)
     (c1 .before .before .before .before .short-at2 .ensures) (c1 .before .before .before .framed-at .ensures) in
     let w = rw (c1 .before .put .ensures .0 ∙ t .0) at (c .before .before .answer-put .ensures) in
-    (w .0, (w .1, c1 .before .put .ensures .1 .0 ∙ t .1))
+    (w .0, (w .1, (c1 .before .put .ensures .1 .0 ∙ t .1 .0, c1 .before .put .ensures .1 .1 ∙ t .1 .1)))
 
 pub shelve-spec : {M : Type 1} → statement M
 shelve-spec =

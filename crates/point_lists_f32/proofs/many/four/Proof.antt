@@ -1,9 +1,9 @@
--- Written by tools/proofs from Proof.template: edit that one. Digest 63db1bd988ecd109.
+-- Written by tools/proofs from Proof.template: edit that one. Digest 9694e58b669e201c.
 -- `point_lists_f32::many::four` meets its contract: four triples are read and moved, and then stored. Assumes nothing.
 use borrow.Author.Needs.{needs}
 use mathlib.Core.Path.{_∙_}
 use native.Mathlib.Omega.{arith}
-use Rattle.point_lists_f32.specs.Fours.{putFour}
+use Rattle.point_lists_f32.specs.Private.{putFour}
 use Rattle.point_lists_f32.proofs.many.four.Statement.{statement}
 use Rattle.point_lists_f32.proofs.many.four.Tie as tie
 use Rattle.linalg_f32.specs.As.{asMat3, asVec3}

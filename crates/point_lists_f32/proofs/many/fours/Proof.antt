@@ -1,4 +1,4 @@
--- Written by tools/proofs from Proof.template: edit that one. Digest fe0ca3a3f30cb129.
+-- Written by tools/proofs from Proof.template: edit that one. Digest f362a722a3c7600c.
 -- `point_lists_f32::many::fours` meets its contract: after i points the first i triples are moved and the rest is as it was. Assumes nothing.
 use borrow.Author.Needs.{needs}
 use Prim.Native.Nat.{ℕ, _+_, _*_, _-_, _%_, _≤_}
@@ -8,7 +8,7 @@ use native.Mathlib.Omega.{arith}
 use lib.ListN.{length, drop}
 use lib.Ieee.{binary32}
 use Rattle.point_lists.specs.Points.{pointsMoved, matAct}
-use Rattle.point_lists_f32.specs.Fours.{matTurned}
+use Rattle.point_lists_f32.specs.Private.{matTurned}
 use Rattle.point_lists_f32.proofs.Fours.{four-more}
 use Rattle.point_lists_f32.proofs.many.fours.Statement.{statement}
 use Rattle.point_lists_f32.proofs.many.fours.Tie as tie

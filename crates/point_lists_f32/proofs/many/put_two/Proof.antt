@@ -1,9 +1,9 @@
--- Written by tools/proofs from Proof.template: edit that one. Digest 45414a164b5a6171.
+-- Written by tools/proofs from Proof.template: edit that one. Digest 9c12005cc3223a61.
 -- `point_lists_f32::many::put_two` meets its contract: one store after another. Assumes nothing.
 use borrow.Author.Needs.{needs}
 use mathlib.Core.Path.{_∙_}
 use native.Mathlib.Omega.{arith}
-use Rattle.point_lists_f32.specs.Fours.{putTwo}
+use Rattle.point_lists_f32.specs.Private.{putTwo}
 use Rattle.point_lists_f32.proofs.many.put_two.Statement.{statement}
 use Rattle.point_lists_f32.proofs.many.put_two.Tie as tie
 use Rattle.linalg_f32.specs.As.{asMat3, asVec3}

@@ -1,7 +1,7 @@
--- Written by tools/proofs from Proof.template: edit that one. Digest d545b4407c18d614.
+-- Written by tools/proofs from Proof.template: edit that one. Digest 2b8bb8cd649edc46.
 -- `point_lists_f32::many::turned` meets its contract: by what its calls ensure. Assumes nothing.
 use borrow.Author.Needs.{needs}
-use Rattle.point_lists_f32.specs.Fours.{matTurned}
+use Rattle.point_lists_f32.specs.Private.{matTurned}
 use Rattle.point_lists_f32.proofs.many.turned.Statement.{statement}
 use Rattle.point_lists_f32.proofs.many.turned.Tie as tie
 use Rattle.linalg_f32.specs.As.{asMat3, asVec3}

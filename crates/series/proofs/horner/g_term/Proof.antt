@@ -1,6 +1,6 @@
--- Written by tools/proofs, plain, opening gTerm. Digest 4e5866626c7113f7.
+-- Written by tools/proofs, plain, opening gTerm. Digest 60f6c20ed0d6baee.
 use mathlib.Core.Path.{refl}
-use Rattle.series.specs.Turns.{gTerm}
+use Rattle.series.specs.Private.{gTerm}
 use Rattle.series.proofs.horner.g_term.Statement.{statement}
 use Rattle.series.proofs.horner.g_term.Tie as tie
 

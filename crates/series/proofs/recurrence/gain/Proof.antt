@@ -1,6 +1,6 @@
--- Written by tools/proofs, plain, opening sumsGain. Digest 9753c41e58ac806b.
+-- Written by tools/proofs, plain, opening sumsGain. Digest 7b80dfa4f27e23b0.
 use mathlib.Core.Path.{refl}
-use Rattle.series.specs.Turns.{sumsGain}
+use Rattle.series.specs.Private.{sumsGain}
 use Rattle.series.proofs.recurrence.gain.Statement.{statement}
 use Rattle.series.proofs.recurrence.gain.Tie as tie
 

@@ -1,6 +1,6 @@
--- Written by tools/proofs, plain, opening sumsLast. Digest 0a0b8e97954e001e.
+-- Written by tools/proofs, plain, opening sumsLast. Digest 94968c53c2a7f4d1.
 use mathlib.Core.Path.{refl}
-use Rattle.series.specs.Turns.{sumsLast}
+use Rattle.series.specs.Private.{sumsLast}
 use Rattle.series.proofs.recurrence.last.Statement.{statement}
 use Rattle.series.proofs.recurrence.last.Tie as tie
 

@@ -1,6 +1,6 @@
--- Written by tools/proofs, plain, opening sumsNone ofBits. Digest c19aad78b1dd6984.
+-- Written by tools/proofs, plain, opening sumsNone ofBits. Digest b1119137b4f17db1.
 use mathlib.Core.Path.{refl}
-use Rattle.series.specs.Turns.{sumsNone}
+use Rattle.series.specs.Private.{sumsNone}
 use lib.Ieee.{ofBits}
 use Rattle.series.proofs.recurrence.none.Statement.{statement}
 use Rattle.series.proofs.recurrence.none.Tie as tie

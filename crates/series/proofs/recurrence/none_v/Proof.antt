@@ -1,6 +1,6 @@
--- Written by tools/proofs, plain, opening vNone ofBits. Digest 95ae692f61b3c541.
+-- Written by tools/proofs, plain, opening vNone ofBits. Digest f798fbb6977d7395.
 use mathlib.Core.Path.{refl}
-use Rattle.series.specs.Turns.{vNone}
+use Rattle.series.specs.Private.{vNone}
 use lib.Ieee.{ofBits}
 use Rattle.series.proofs.recurrence.none_v.Statement.{statement}
 use Rattle.series.proofs.recurrence.none_v.Tie as tie

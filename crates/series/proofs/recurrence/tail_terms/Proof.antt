@@ -1,6 +1,6 @@
--- Written by tools/proofs, plain, opening tailTerms. Digest 022e87dad67ccd67.
+-- Written by tools/proofs, plain, opening tailTerms. Digest 84504f883aca3924.
 use borrow.Author.Needs.{needs}
-use Rattle.series.specs.Turns.{tailTerms}
+use Rattle.series.specs.Private.{tailTerms}
 use Rattle.series.proofs.recurrence.tail_terms.Statement.{statement}
 use Rattle.series.proofs.recurrence.tail_terms.Tie as tie
 

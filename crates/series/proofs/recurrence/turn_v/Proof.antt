@@ -1,6 +1,6 @@
--- Written by tools/proofs, plain, opening vTurn. Digest b1f6777fc7fc5299.
+-- Written by tools/proofs, plain, opening vTurn. Digest 8b4eab081c685b95.
 use mathlib.Core.Path.{refl}
-use Rattle.series.specs.Turns.{vTurn}
+use Rattle.series.specs.Private.{vTurn}
 use Rattle.series.proofs.recurrence.turn_v.Statement.{statement}
 use Rattle.series.proofs.recurrence.turn_v.Tie as tie
 

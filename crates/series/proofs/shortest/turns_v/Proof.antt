@@ -1,6 +1,6 @@
 -- `series::shortest::turns_v` meets its contract: turn by turn, as the definition has it. Assumes nothing.
 use borrow.Author.Needs.{needs}
-use Rattle.series.specs.Turns.{vTurns}
+use Rattle.series.specs.Private.{vTurns}
 use Rattle.series.proofs.shortest.turns_v.Statement.{statement}
 use Rattle.series.proofs.shortest.turns_v.Tie as tie
 

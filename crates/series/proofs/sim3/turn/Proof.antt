@@ -1,6 +1,6 @@
--- Written by tools/proofs, plain, opening soloTurn. Digest 25e226bf94ee88e2.
+-- Written by tools/proofs, plain, opening soloTurn. Digest c44ffd9b9636ff78.
 use borrow.Author.Needs.{needs}
-use Rattle.series.specs.Turns.{soloTurn}
+use Rattle.series.specs.Private.{soloTurn}
 use Rattle.series.proofs.sim3.turn.Statement.{statement}
 use Rattle.series.proofs.sim3.turn.Tie as tie
 

@@ -3,7 +3,7 @@ use mathlib.Core.Path.{_≡_}
 use Prim.Native.Nat.{_+_, _-_, _≤_}
 use native.Mathlib.Omega.{arith}
 use lib.Ieee.{binary64}
-use Rattle.series.specs.Turns.{soloTurns}
+use Rattle.series.specs.Private.{soloTurns}
 use Rattle.series.proofs.Solo.{solo-more}
 use Rattle.series.proofs.sim3.turns_at.Statement.{statement}
 use Rattle.series.proofs.sim3.turns_at.Tie as tie

@@ -1,4 +1,4 @@
--- Written by tools/proofs from Proof.template: edit that one. Digest 850802be3a7cd886.
+-- Written by tools/proofs from Proof.template: edit that one. Digest 9a30e56d3d572e42.
 -- `series::small::horner_small` meets its contract: after 15 entries the pass holds all of w0, and after 16 all of v0. Assumes nothing.
 use mathlib.Core.Path.{_≡_, ap, _∙_}
 use native.Mathlib.Omega.{arith}
@@ -7,9 +7,9 @@ use lib.ListN.{getD}
 use borrow.Author.Needs.{needs}
 use lib.Ieee.{binary64}
 use Rattle.series.specs.Pass.{bothStopped}
-use Rattle.series.specs.Small.{passedFrom}
+use Rattle.series.specs.Private.{passedFrom}
 use Rattle.series.specs.declared.sim3.GPair.{GPair}
-use Rattle.series.proofs.Stopped.{both-last, both-shared}
+use Rattle.series.proofs.PartialSums.{both-last, both-shared}
 use Rattle.series.proofs.small.horner_small.Statement.{statement}
 use Rattle.series.proofs.small.horner_small.Tie as tie
 

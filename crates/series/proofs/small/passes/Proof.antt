@@ -1,4 +1,4 @@
--- Written by tools/proofs from Proof.template: edit that one. Digest 4519f025761ea219.
+-- Written by tools/proofs from Proof.template: edit that one. Digest 20f3f3542767f247.
 -- `series::small::passes` meets its contract: each entry carries the partial sums of both signs on. Assumes nothing.
 use mathlib.Core.Path.{_≡_, refl, _∙_}
 use native.Mathlib.Omega.{arith}
@@ -7,8 +7,8 @@ use borrow.Author.Needs.{needs}
 use lib.Dec.{T}
 use lib.Ieee.{binary64, ofBits, fits}
 use Rattle.series.specs.Pass.{gStopped, bothStopped}
-use Rattle.series.specs.Small.{passedFrom}
-use Rattle.series.proofs.Stopped.{both-further}
+use Rattle.series.specs.Private.{passedFrom}
+use Rattle.series.proofs.PartialSums.{both-further}
 use Rattle.series.proofs.small.passes.Statement.{statement}
 use Rattle.series.proofs.small.passes.Tie as tie
 

@@ -1,6 +1,6 @@
--- Written by tools/widths from crates/series/proofs/recurrence/last/Proof.antt: edit that one. Digest 2de23ee02240d74f.
+-- Written by tools/widths from crates/series/proofs/recurrence/last/Proof.antt: edit that one. Digest 19c3a13012642fb2.
 use mathlib.Core.Path.{refl}
-use Rattle.series.specs.Turns.{sumsLast}
+use Rattle.series.specs.Private.{sumsLast}
 use Rattle.series_f32.proofs.recurrence.last.Statement.{statement}
 use Rattle.series_f32.proofs.recurrence.last.Tie as tie
 use Rattle.series_f32.specs.As.{asSums, asTail}

@@ -1,6 +1,6 @@
--- Written by tools/widths from crates/series/proofs/recurrence/none/Proof.antt: edit that one. Digest b352fc72cc99e96f.
+-- Written by tools/widths from crates/series/proofs/recurrence/none/Proof.antt: edit that one. Digest 58caf87636df2a65.
 use mathlib.Core.Path.{refl}
-use Rattle.series.specs.Turns.{sumsNone}
+use Rattle.series.specs.Private.{sumsNone}
 use lib.Ieee.{ofBits}
 use Rattle.series_f32.proofs.recurrence.none.Statement.{statement}
 use Rattle.series_f32.proofs.recurrence.none.Tie as tie

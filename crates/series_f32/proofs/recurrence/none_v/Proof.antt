@@ -1,6 +1,6 @@
--- Written by tools/widths from crates/series/proofs/recurrence/none_v/Proof.antt: edit that one. Digest b8dc4eb92f378c2f.
+-- Written by tools/widths from crates/series/proofs/recurrence/none_v/Proof.antt: edit that one. Digest 5f2cb868cbdcccf3.
 use mathlib.Core.Path.{refl}
-use Rattle.series.specs.Turns.{vNone}
+use Rattle.series.specs.Private.{vNone}
 use lib.Ieee.{ofBits}
 use Rattle.series_f32.proofs.recurrence.none_v.Statement.{statement}
 use Rattle.series_f32.proofs.recurrence.none_v.Tie as tie

@@ -1,6 +1,6 @@
--- Written by tools/widths from crates/series/proofs/recurrence/tail_terms/Proof.antt: edit that one. Digest cb0a1542e2e05a70.
+-- Written by tools/widths from crates/series/proofs/recurrence/tail_terms/Proof.antt: edit that one. Digest 9ae0cdfba88e4887.
 use borrow.Author.Needs.{needs}
-use Rattle.series.specs.Turns.{tailTerms}
+use Rattle.series.specs.Private.{tailTerms}
 use Rattle.series_f32.proofs.recurrence.tail_terms.Statement.{statement}
 use Rattle.series_f32.proofs.recurrence.tail_terms.Tie as tie
 use Rattle.linalg_f32.proofs.As.{linalg-singles}

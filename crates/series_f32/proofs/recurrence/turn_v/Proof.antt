@@ -1,6 +1,6 @@
--- Written by tools/widths from crates/series/proofs/recurrence/turn_v/Proof.antt: edit that one. Digest f8d2798bdbbc0613.
+-- Written by tools/widths from crates/series/proofs/recurrence/turn_v/Proof.antt: edit that one. Digest 3ae54850e0735a77.
 use mathlib.Core.Path.{refl}
-use Rattle.series.specs.Turns.{vTurn}
+use Rattle.series.specs.Private.{vTurn}
 use Rattle.series_f32.proofs.recurrence.turn_v.Statement.{statement}
 use Rattle.series_f32.proofs.recurrence.turn_v.Tie as tie
 use Rattle.series_f32.specs.As.{asTurnsV}

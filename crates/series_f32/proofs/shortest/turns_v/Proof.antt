@@ -1,7 +1,7 @@
--- Written by tools/proofs from Proof.template: edit that one. Digest 5b9f253cbfb998c6.
+-- Written by tools/proofs from Proof.template: edit that one. Digest 713c8210f1eb2d86.
 -- `series_f32::shortest::turns_v` meets its contract: turn by turn, as the definition has it. Assumes nothing.
 use borrow.Author.Needs.{needs}
-use Rattle.series.specs.Turns.{vTurns}
+use Rattle.series.specs.Private.{vTurns}
 use Rattle.series_f32.proofs.As.{series-singles}
 use Rattle.series_f32.proofs.shortest.turns_v.Statement.{statement}
 use Rattle.series_f32.proofs.shortest.turns_v.Tie as tie

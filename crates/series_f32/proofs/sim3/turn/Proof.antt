@@ -1,6 +1,6 @@
--- Written by tools/widths from crates/series/proofs/sim3/turn/Proof.antt: edit that one. Digest 0ad47c434f536081.
+-- Written by tools/widths from crates/series/proofs/sim3/turn/Proof.antt: edit that one. Digest fb7ec63bd4930c0e.
 use borrow.Author.Needs.{needs}
-use Rattle.series.specs.Turns.{soloTurn}
+use Rattle.series.specs.Private.{soloTurn}
 use Rattle.series_f32.proofs.sim3.turn.Statement.{statement}
 use Rattle.series_f32.proofs.sim3.turn.Tie as tie
 use Rattle.linalg_f32.proofs.As.{linalg-singles}

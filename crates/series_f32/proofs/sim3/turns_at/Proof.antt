@@ -1,10 +1,10 @@
--- Written by tools/widths from crates/series/proofs/sim3/turns_at/Proof.antt: edit that one. Digest fc2914a34d5be23d.
+-- Written by tools/widths from crates/series/proofs/sim3/turns_at/Proof.antt: edit that one. Digest 802ac7e960874872.
 -- `series_f32::sim3::turns_at` meets its contract: after j turns the loop holds `soloTurns` at j, and it stops at k + 1. Assumes nothing.
 use mathlib.Core.Path.{_≡_}
 use Prim.Native.Nat.{_+_, _-_, _≤_}
 use native.Mathlib.Omega.{arith}
 use lib.Ieee.{binary32}
-use Rattle.series.specs.Turns.{soloTurns}
+use Rattle.series.specs.Private.{soloTurns}
 use Rattle.series.proofs.Solo.{solo-more}
 use Rattle.series_f32.proofs.sim3.turns_at.Statement.{statement}
 use Rattle.series_f32.proofs.sim3.turns_at.Tie as tie

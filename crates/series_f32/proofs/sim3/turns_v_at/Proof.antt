@@ -1,10 +1,10 @@
--- Written by tools/widths from crates/series/proofs/sim3/turns_v_at/Proof.antt: edit that one. Digest 7c88fbf4d0f59693.
+-- Written by tools/widths from crates/series/proofs/sim3/turns_v_at/Proof.antt: edit that one. Digest ffd2e5d3818b6a9d.
 -- `series_f32::sim3::turns_v_at` meets its contract: the shortest arm's turns are written out; after j turns the loop holds `vTurns` at j, and it stops at k + 1. Assumes nothing.
 use mathlib.Core.Path.{_≡_}
 use Prim.Native.Nat.{_+_, _-_, _≤_}
 use native.Mathlib.Omega.{arith}
 use lib.Ieee.{binary32}
-use Rattle.series.specs.Turns.{vTurns}
+use Rattle.series.specs.Private.{vTurns}
 use Rattle.series.proofs.Solo.{v-more}
 use Rattle.series_f32.proofs.sim3.turns_v_at.Statement.{statement}
 use Rattle.series_f32.proofs.sim3.turns_v_at.Tie as tie

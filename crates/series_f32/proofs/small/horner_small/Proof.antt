@@ -1,4 +1,4 @@
--- Written by tools/proofs from Proof.template: edit that one. Digest 2b43b50362ea85b8.
+-- Written by tools/proofs from Proof.template: edit that one. Digest 97362d89997512e7.
 -- `series_f32::small::horner_small` meets its contract: after 8 entries the pass holds all of w0, and after 9 all of v0. Assumes nothing.
 use mathlib.Core.Path.{_≡_, ap, _∙_}
 use native.Mathlib.Omega.{arith}
@@ -7,9 +7,9 @@ use lib.ListN.{getD}
 use borrow.Author.Needs.{needs}
 use lib.Ieee.{binary32}
 use Rattle.series.specs.Pass.{bothStopped}
-use Rattle.series.specs.Small.{passedFrom}
+use Rattle.series.specs.Private.{passedFrom}
 use Rattle.series.specs.declared.sim3.GPair.{GPair}
-use Rattle.series.proofs.Stopped.{both-last, both-shared}
+use Rattle.series.proofs.PartialSums.{both-last, both-shared}
 use Rattle.series_f32.specs.As.{asGPair, asHorner}
 use Rattle.series_f32.proofs.small.horner_small.Statement.{statement}
 use Rattle.series_f32.proofs.small.horner_small.Tie as tie

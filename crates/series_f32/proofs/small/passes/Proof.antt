@@ -1,4 +1,4 @@
--- Written by tools/proofs from Proof.template: edit that one. Digest b8960bb648f90c2f.
+-- Written by tools/proofs from Proof.template: edit that one. Digest f88b2dfd4d96c220.
 -- `series_f32::small::passes` meets its contract: each entry carries the partial sums of both signs on. Assumes nothing.
 use mathlib.Core.Path.{_≡_, refl, _∙_}
 use native.Mathlib.Omega.{arith}
@@ -7,8 +7,8 @@ use borrow.Author.Needs.{needs}
 use lib.Dec.{T}
 use lib.Ieee.{binary32, ofBits, fits}
 use Rattle.series.specs.Pass.{gStopped, bothStopped}
-use Rattle.series.specs.Small.{passedFrom}
-use Rattle.series.proofs.Stopped.{both-further}
+use Rattle.series.specs.Private.{passedFrom}
+use Rattle.series.proofs.PartialSums.{both-further}
 use Rattle.series_f32.specs.As.{asGPair}
 use Rattle.series_f32.proofs.small.passes.Statement.{statement}
 use Rattle.series_f32.proofs.small.passes.Tie as tie

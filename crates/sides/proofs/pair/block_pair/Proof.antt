@@ -9,19 +9,21 @@ use Rattle.coeffs.specs.Group.{coeffsArmed, coeffsArmedPair}
 use Rattle.closed.specs.Values.{mirrored}
 use Rattle.sim3.specs.Tangent.{tangentNeg}
 use Rattle.sides.specs.Pair.{blockPair}
-use Rattle.blocks.specs.Blocks.{jlAndInverse}
+use Rattle.sides.specs.Blocks.{jlAndInverse}
 use Rattle.sides.proofs.pair.block_pair.Statement.{statement}
 use Rattle.sides.proofs.pair.block_pair.Tie as tie
 
-returns : tie.Need-returns
+no-blocks-requires : tie.Need-no-blocks-requires
 unfolding armedPairTold
-returns c =
-    let told = c .before in
-    let z = told .before .before .before in
+no-blocks-requires c κs =
+    let z = c .before .before .before in
     let a = z .before .before .before .args in
-    let entry = told .before .before .sim3-coeffs-armed-pair .ensures in
+    let entry = c .before .before .sim3-coeffs-armed-pair .ensures in
     let at = ap (λ x. armedPairAnswer binary64 (a .tau .sigma) x (a .v)) (z .norm-sq .ensures) in
-    angle-armed-refuses binary64 (a .tau .phi) (a .tau .sigma) (a .v) _ (sym (entry ∙ at) ∙ ap armedPairTold (told .enum-told .given .1))
+    angle-armed-refuses binary64 (a .tau .phi) (a .tau .sigma) (a .v) _ (sym (entry ∙ at) ∙ ap armedPairTold (c .enum-told .given .1))
+
+returns : tie.Need-returns
+returns c = absurd (c .no-blocks .ensures)
 
 returns-2 : tie.Need-returns-2
 unfolding blockPair jlAndInverse tangentNeg coeffsArmedPair coeffsArmed mirrored armedPairTold
@@ -47,7 +49,7 @@ block-pair-spec =
     (λ c κs. search needs)
     (λ c. search needs)
     (λ c. search needs)
-    (λ c κs. search needs)
+    no-blocks-requires
     returns
     (λ c κs. search needs)
     (λ c κs. search needs)

@@ -1,7 +1,7 @@
--- Written by tools/proofs, plain, opening expAndJl jacJl poseExp coeffsV coeffs4. Digest 03ffe7ab9658cdca.
+-- Written by tools/proofs, plain, opening expAndJl jacJl poseExp coeffsV coeffs4. Digest a6f20d1ead1e2a6f.
 use borrow.Author.Needs.{needs}
 use Rattle.sides.specs.Side.{expAndJl}
-use Rattle.blocks.specs.Blocks.{jacJl}
+use Rattle.sides.specs.Blocks.{jacJl}
 use Rattle.sim3.specs.Exp.{poseExp}
 use Rattle.coeffs.specs.Group.{coeffsV}
 use Rattle.series.specs.Series.{coeffs4}

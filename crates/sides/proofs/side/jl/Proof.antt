@@ -1,6 +1,6 @@
--- Written by tools/proofs, plain, opening jacJl. Digest 364eb82d6de2330c.
+-- Written by tools/proofs, plain, opening jacJl. Digest f98477edf25fe537.
 use borrow.Author.Needs.{needs}
-use Rattle.blocks.specs.Blocks.{jacJl}
+use Rattle.sides.specs.Blocks.{jacJl}
 use Rattle.sides.proofs.side.jl.Statement.{statement}
 use Rattle.sides.proofs.side.jl.Tie as tie
 

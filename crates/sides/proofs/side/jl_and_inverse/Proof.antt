@@ -1,6 +1,6 @@
--- Written by tools/proofs, plain, opening jlAndInverse. Digest 034b798de3667d7b.
+-- Written by tools/proofs, plain, opening jlAndInverse. Digest e013199164589395.
 use borrow.Author.Needs.{needs}
-use Rattle.blocks.specs.Blocks.{jlAndInverse}
+use Rattle.sides.specs.Blocks.{jlAndInverse}
 use Rattle.sides.proofs.side.jl_and_inverse.Statement.{statement}
 use Rattle.sides.proofs.side.jl_and_inverse.Tie as tie
 

@@ -1,4 +1,4 @@
--- Written by tools/widths from crates/sides/proofs/pair/block_pair/Proof.antt: edit that one. Digest aa98ec80549926a6.
+-- Written by tools/widths from crates/sides/proofs/pair/block_pair/Proof.antt: edit that one. Digest fbbac1145f4a898a.
 -- `sides_f32::pair::block_pair` meets its contract: |phi|² is not below zero, so the entry answers, and the sides are what their calls ensure. Assumes nothing.
 use borrow.Author.Needs.{needs}
 use mathlib.Core.Path.{sym, ap, _∙_}
@@ -11,7 +11,7 @@ use Rattle.coeffs.specs.Group.{coeffsArmed, coeffsArmedPair}
 use Rattle.closed.specs.Values.{mirrored}
 use Rattle.sim3.specs.Tangent.{tangentNeg}
 use Rattle.sides.specs.Pair.{blockPair}
-use Rattle.blocks.specs.Blocks.{jlAndInverse}
+use Rattle.sides.specs.Blocks.{jlAndInverse}
 use Rattle.sides_f32.proofs.pair.block_pair.Statement.{statement}
 use Rattle.sides_f32.proofs.pair.block_pair.Tie as tie
 use Rattle.linalg_f32.specs.As.{asMat3, asVec3}
@@ -29,18 +29,19 @@ use Rattle.coeffs_f32.proofs.As.{coeffs-singles}
 use Rattle.so3_f32.proofs.As.{so3-singles}
 use Rattle.sim3_f32.proofs.As.{sim3-singles}
 use Rattle.jacobian_f32.proofs.As.{jacobian-singles}
-use Rattle.blocks_f32.proofs.As.{blocks-singles}
 use Rattle.sides_f32.proofs.As.{sides-singles}
 
-returns : tie.Need-returns
+no-blocks-requires : tie.Need-no-blocks-requires
 unfolding armedPairTold asArmed asArmedPair asBlockPair asMat3 asScaled asSim3Coeffs asSim3Jac asSim3Tangent asValues asVec3
-returns c =
-    let told = c .before in
-    let z = told .before .before .before in
+no-blocks-requires c κs =
+    let z = c .before .before .before in
     let a = z .before .before .before .args in
-    let entry = told .before .before .sim3-coeffs-armed-pair .ensures in
+    let entry = c .before .before .sim3-coeffs-armed-pair .ensures in
     let at = ap (λ x. armedPairAnswer binary32 ((asSim3Tangent (a .tau)) .sigma) x (asValues (a .v))) (z .norm-sq .ensures) in
-    angle-armed-refuses binary32 ((asSim3Tangent (a .tau)) .phi) ((asSim3Tangent (a .tau)) .sigma) (asValues (a .v)) _ (sym (entry ∙ at) ∙ ap armedPairTold (told .enum-told .given .1))
+    angle-armed-refuses binary32 ((asSim3Tangent (a .tau)) .phi) ((asSim3Tangent (a .tau)) .sigma) (asValues (a .v)) _ (sym (entry ∙ at) ∙ ap armedPairTold (c .enum-told .given .1))
+
+returns : tie.Need-returns
+returns c = absurd (c .no-blocks .ensures)
 
 returns-2 : tie.Need-returns-2
 unfolding blockPair jlAndInverse tangentNeg coeffsArmedPair coeffsArmed mirrored armedPairTold asSim3Tangent asValues
@@ -65,7 +66,6 @@ returns-2 c =
       so3-singles,
       sim3-singles,
       jacobian-singles,
-      blocks-singles,
       sides-singles,
       norm-sq-even,
       other,
@@ -86,7 +86,7 @@ block-pair-spec =
     (λ c κs. search needs)
     (λ c. search needs)
     (λ c. search needs)
-    (λ c κs. search needs)
+    no-blocks-requires
     returns
     (λ c κs. search needs)
     (λ c κs. search needs)

@@ -1,4 +1,4 @@
--- Written by tools/widths from crates/sides/proofs/side/act_jacobians_left/Proof.antt: edit that one. Digest 49ba8be60f39013c.
+-- Written by tools/widths from crates/sides/proofs/side/act_jacobians_left/Proof.antt: edit that one. Digest ac0c5c6b7f62bfde.
 use borrow.Author.Needs.{needs}
 use Rattle.sides.specs.Side.{actJacobiansLeft}
 use Rattle.sides_f32.proofs.side.act_jacobians_left.Statement.{statement}
@@ -11,7 +11,6 @@ use Rattle.coeffs_f32.proofs.As.{coeffs-singles}
 use Rattle.so3_f32.proofs.As.{so3-singles}
 use Rattle.sim3_f32.proofs.As.{sim3-singles}
 use Rattle.jacobian_f32.proofs.As.{jacobian-singles}
-use Rattle.blocks_f32.proofs.As.{blocks-singles}
 use Rattle.sides_f32.proofs.As.{sides-singles}
 
 returns : tie.Need-returns
@@ -27,7 +26,6 @@ returns c =
       so3-singles,
       sim3-singles,
       jacobian-singles,
-      blocks-singles,
       sides-singles,
       c .scale .ensures,
       c .before .to-matrix .ensures,

@@ -1,4 +1,4 @@
--- Written by tools/widths from crates/sides/proofs/side/act_jacobians_right/Proof.antt: edit that one. Digest 55e82eb5487400d7.
+-- Written by tools/widths from crates/sides/proofs/side/act_jacobians_right/Proof.antt: edit that one. Digest 66ac071a907ae26f.
 use borrow.Author.Needs.{needs}
 use Rattle.sides.specs.Side.{actJacobiansRight}
 use Rattle.sides_f32.proofs.side.act_jacobians_right.Statement.{statement}
@@ -11,7 +11,6 @@ use Rattle.coeffs_f32.proofs.As.{coeffs-singles}
 use Rattle.so3_f32.proofs.As.{so3-singles}
 use Rattle.sim3_f32.proofs.As.{sim3-singles}
 use Rattle.jacobian_f32.proofs.As.{jacobian-singles}
-use Rattle.blocks_f32.proofs.As.{blocks-singles}
 use Rattle.sides_f32.proofs.As.{sides-singles}
 
 returns : tie.Need-returns
@@ -26,7 +25,6 @@ returns c =
       so3-singles,
       sim3-singles,
       jacobian-singles,
-      blocks-singles,
       sides-singles,
       c .mul-vec .ensures,
       c .before .neg .ensures,

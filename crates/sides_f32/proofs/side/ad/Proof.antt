@@ -1,4 +1,4 @@
--- Written by tools/widths from crates/sides/proofs/side/ad/Proof.antt: edit that one. Digest 1374d9a9400d1fb0.
+-- Written by tools/widths from crates/sides/proofs/side/ad/Proof.antt: edit that one. Digest 6135cb489c18ecdf.
 use borrow.Author.Needs.{needs}
 use Rattle.sides.specs.Side.{tangentAd}
 use lib.Ieee.{ofBits}
@@ -12,7 +12,6 @@ use Rattle.coeffs_f32.proofs.As.{coeffs-singles}
 use Rattle.so3_f32.proofs.As.{so3-singles}
 use Rattle.sim3_f32.proofs.As.{sim3-singles}
 use Rattle.jacobian_f32.proofs.As.{jacobian-singles}
-use Rattle.blocks_f32.proofs.As.{blocks-singles}
 use Rattle.sides_f32.proofs.As.{sides-singles}
 
 returns : tie.Need-returns
@@ -28,7 +27,6 @@ returns c =
       so3-singles,
       sim3-singles,
       jacobian-singles,
-      blocks-singles,
       sides-singles,
       c .neg .ensures,
       c .before .add .ensures,

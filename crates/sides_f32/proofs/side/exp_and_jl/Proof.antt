@@ -1,7 +1,7 @@
--- Written by tools/widths from crates/sides/proofs/side/exp_and_jl/Proof.antt: edit that one. Digest 992e6e0801db67b7.
+-- Written by tools/widths from crates/sides/proofs/side/exp_and_jl/Proof.antt: edit that one. Digest a832a560e03ab5f7.
 use borrow.Author.Needs.{needs}
 use Rattle.sides.specs.Side.{expAndJl}
-use Rattle.blocks.specs.Blocks.{jacJl}
+use Rattle.sides.specs.Blocks.{jacJl}
 use Rattle.sim3.specs.Exp.{poseExp}
 use Rattle.coeffs.specs.Group.{coeffsV}
 use Rattle.series.specs.Series.{coeffs4}
@@ -15,7 +15,6 @@ use Rattle.coeffs_f32.proofs.As.{coeffs-singles}
 use Rattle.so3_f32.proofs.As.{so3-singles}
 use Rattle.sim3_f32.proofs.As.{sim3-singles}
 use Rattle.jacobian_f32.proofs.As.{jacobian-singles}
-use Rattle.blocks_f32.proofs.As.{blocks-singles}
 use Rattle.sides_f32.proofs.As.{sides-singles}
 
 returns : tie.Need-returns
@@ -29,7 +28,6 @@ returns c = simp (
   so3-singles,
   sim3-singles,
   jacobian-singles,
-  blocks-singles,
   sides-singles,
   c .jl-blocks-with .ensures,
   c .before .v-apply .ensures,

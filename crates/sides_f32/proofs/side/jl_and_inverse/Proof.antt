@@ -1,6 +1,6 @@
--- Written by tools/widths from crates/sides/proofs/side/jl_and_inverse/Proof.antt: edit that one. Digest 22de8a71f415a5a7.
+-- Written by tools/widths from crates/sides/proofs/side/jl_and_inverse/Proof.antt: edit that one. Digest 44ac65e7c13ef78c.
 use borrow.Author.Needs.{needs}
-use Rattle.blocks.specs.Blocks.{jlAndInverse}
+use Rattle.sides.specs.Blocks.{jlAndInverse}
 use Rattle.sides_f32.proofs.side.jl_and_inverse.Statement.{statement}
 use Rattle.sides_f32.proofs.side.jl_and_inverse.Tie as tie
 use Rattle.linalg_f32.proofs.As.{linalg-singles}
@@ -11,7 +11,6 @@ use Rattle.coeffs_f32.proofs.As.{coeffs-singles}
 use Rattle.so3_f32.proofs.As.{so3-singles}
 use Rattle.sim3_f32.proofs.As.{sim3-singles}
 use Rattle.jacobian_f32.proofs.As.{jacobian-singles}
-use Rattle.blocks_f32.proofs.As.{blocks-singles}
 use Rattle.sides_f32.proofs.As.{sides-singles}
 
 returns : tie.Need-returns
@@ -25,7 +24,6 @@ returns c = simp (
   so3-singles,
   sim3-singles,
   jacobian-singles,
-  blocks-singles,
   sides-singles,
   c .jl-and-inverse-from .ensures,
   c .before .sim3-coeffs-scaled-of .ensures,

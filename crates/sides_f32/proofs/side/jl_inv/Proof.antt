@@ -1,4 +1,4 @@
--- Written by tools/widths from crates/sides/proofs/side/jl_inv/Proof.antt: edit that one. Digest 54433a5f356c6286.
+-- Written by tools/widths from crates/sides/proofs/side/jl_inv/Proof.antt: edit that one. Digest 90f06eafbe96be51.
 use borrow.Author.Needs.{needs}
 use Rattle.sides.specs.Side.{jacJlInv}
 use Rattle.sides_f32.proofs.side.jl_inv.Statement.{statement}
@@ -11,24 +11,11 @@ use Rattle.coeffs_f32.proofs.As.{coeffs-singles}
 use Rattle.so3_f32.proofs.As.{so3-singles}
 use Rattle.sim3_f32.proofs.As.{sim3-singles}
 use Rattle.jacobian_f32.proofs.As.{jacobian-singles}
-use Rattle.blocks_f32.proofs.As.{blocks-singles}
 use Rattle.sides_f32.proofs.As.{sides-singles}
 
 returns : tie.Need-returns
 unfolding jacJlInv
-returns c = simp (
-  linalg-singles,
-  circle-singles,
-  series-singles,
-  closed-singles,
-  coeffs-singles,
-  so3-singles,
-  sim3-singles,
-  jacobian-singles,
-  blocks-singles,
-  sides-singles,
-  c .before .jl-and-inverse .ensures,
-)
+returns c = simp (linalg-singles, circle-singles, series-singles, closed-singles, coeffs-singles, so3-singles, sim3-singles, jacobian-singles, sides-singles, c .before .jl-and-inverse .ensures)
 
 pub jl-inv-spec : {M : Type 1} → statement M
 jl-inv-spec = tie.close (tie.spec (λ c κs. search needs) returns)

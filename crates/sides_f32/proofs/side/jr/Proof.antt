@@ -1,4 +1,4 @@
--- Written by tools/widths from crates/sides/proofs/side/jr/Proof.antt: edit that one. Digest ee77bc47c3fd87e0.
+-- Written by tools/widths from crates/sides/proofs/side/jr/Proof.antt: edit that one. Digest 066cd9efab5de28f.
 use borrow.Author.Needs.{needs}
 use Rattle.sides.specs.Side.{jacJr}
 use Rattle.sides_f32.proofs.side.jr.Statement.{statement}
@@ -11,25 +11,11 @@ use Rattle.coeffs_f32.proofs.As.{coeffs-singles}
 use Rattle.so3_f32.proofs.As.{so3-singles}
 use Rattle.sim3_f32.proofs.As.{sim3-singles}
 use Rattle.jacobian_f32.proofs.As.{jacobian-singles}
-use Rattle.blocks_f32.proofs.As.{blocks-singles}
 use Rattle.sides_f32.proofs.As.{sides-singles}
 
 returns : tie.Need-returns
 unfolding jacJr
-returns c = simp (
-  linalg-singles,
-  circle-singles,
-  series-singles,
-  closed-singles,
-  coeffs-singles,
-  so3-singles,
-  sim3-singles,
-  jacobian-singles,
-  blocks-singles,
-  sides-singles,
-  c .jl .ensures,
-  c .before .neg .ensures,
-)
+returns c = simp (linalg-singles, circle-singles, series-singles, closed-singles, coeffs-singles, so3-singles, sim3-singles, jacobian-singles, sides-singles, c .jl .ensures, c .before .neg .ensures)
 
 pub jr-spec : {M : Type 1} → statement M
 jr-spec = tie.close (tie.spec (λ c κs. search needs) (λ c κs. search needs) returns)

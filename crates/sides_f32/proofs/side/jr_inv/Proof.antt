@@ -1,4 +1,4 @@
--- Written by tools/widths from crates/sides/proofs/side/jr_inv/Proof.antt: edit that one. Digest 2e78f396b78b40db.
+-- Written by tools/widths from crates/sides/proofs/side/jr_inv/Proof.antt: edit that one. Digest 1a40be9c55850565.
 use borrow.Author.Needs.{needs}
 use Rattle.sides.specs.Side.{jacJrInv}
 use Rattle.sides_f32.proofs.side.jr_inv.Statement.{statement}
@@ -11,7 +11,6 @@ use Rattle.coeffs_f32.proofs.As.{coeffs-singles}
 use Rattle.so3_f32.proofs.As.{so3-singles}
 use Rattle.sim3_f32.proofs.As.{sim3-singles}
 use Rattle.jacobian_f32.proofs.As.{jacobian-singles}
-use Rattle.blocks_f32.proofs.As.{blocks-singles}
 use Rattle.sides_f32.proofs.As.{sides-singles}
 
 returns : tie.Need-returns
@@ -25,7 +24,6 @@ returns c = simp (
   so3-singles,
   sim3-singles,
   jacobian-singles,
-  blocks-singles,
   sides-singles,
   c .jl-inv .ensures,
   c .before .neg .ensures,

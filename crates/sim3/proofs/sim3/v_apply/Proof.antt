@@ -4,6 +4,7 @@ use borrow.Author.Tests.{not-true, not-false}
 use mathlib.Core.Path.{_≡_, sym, _∙_}
 use mathlib.Core.Bool.{true, false}
 use lib.Ieee.{binary64, lt}
+use Rattle.linalg.specs.Vector.{vecNormSq}
 use Rattle.tables.specs.Tables.{bRow}
 use Rattle.circle.specs.Limits.{rowLimit}
 use Rattle.sim3.specs.Exp.{vApply}
@@ -15,14 +16,18 @@ returns : tie.Need-returns
 unfolding vApply
 returns c =
     let i = c .before in
-    let near : lt (i .before .before .norm-sq .result) (rowLimit binary64 bRow) ≡ true = not-false _ (sym (i .before .b-takes-exact-arm .ensures) ∙ not-true _ (i .if1 .taken)) in
-    simp (c .poly-apply .ensures, near, ← i .before .before .norm-sq .ensures)
+    let a = i .before .before .before .args in
+    let near : lt (vecNormSq binary64 (a .phi)) (rowLimit binary64 bRow) ≡ true = not-false _
+    (sym (i .before .b-takes-exact-arm-of .ensures) ∙ not-true _ (i .if1 .taken)) in
+    simp (c .poly-apply .ensures, near)
 
 returns-2 : tie.Need-returns-2
 unfolding vApply coeffsDelta
 returns-2 c =
     let i = c .before .before .before .before .before .before .before .before .before in
-    let far : lt (i .before .before .norm-sq .result) (rowLimit binary64 bRow) ≡ false = not-true _ (sym (i .before .b-takes-exact-arm .ensures) ∙ not-false _ (i .if1 .left)) in
+    let a = i .before .before .before .args in
+    let far : lt (vecNormSq binary64 (a .phi)) (rowLimit binary64 bRow) ≡ false = not-true _
+    (sym (i .before .b-takes-exact-arm-of .ensures) ∙ not-false _ (i .if1 .left)) in
     simp (
       c .add2 .ensures,
       c .before .add .ensures,
@@ -32,7 +37,7 @@ returns-2 c =
       c .before .before .before .before .before .scale .ensures,
       c .before .before .before .before .before .before .before .dot .ensures,
       far,
-      ← i .before .before .norm-sq .ensures,
+      i .before .before .norm-sq .ensures,
     )
 
 pub v-apply-spec : {M : Type 1} → statement M

@@ -1,24 +1,24 @@
--- Written by tools/proofs from Proof.template: edit that one. Digest 19889ae7d8dfe1f7.
+-- Written by tools/proofs from Proof.template: edit that one. Digest 5140355f74bdcb01.
 -- `sim3_c_doubles::shelf::sim3_sheets_put` meets its contract: the lists are read, the shot is handed to the store, and its answer is written or the refusal handed on. Assumes nothing.
 use borrow.Author.Needs.{needs}
 use borrow.Author.Tests.{eq-eqb, ne-eqb}
 use mathlib.Core.Path.{refl}
 use Rattle.from_lists.specs.Lists.{framedReadTold}
 use Rattle.to_lists.specs.Written.{status, written}
-use Rattle.sim3_c_doubles.specs.Shelf.{putCall, keptAfter}
+use Rattle.sim3_c_doubles.specs.Shelf.{putCall, storeAfter, keptAfter}
 use Rattle.sim3_c_doubles.proofs.shelf.sim3_sheets_put.Statement.{statement}
 use Rattle.sim3_c_doubles.proofs.shelf.sim3_sheets_put.Tie as tie
 
 returns : tie.Need-returns
-unfolding status written putCall keptAfter framedReadTold
-returns c = rw (← (c .before .before .framed-from .ensures), c .enum-told .given .1) (refl, (refl, (refl, λ _. refl)))
+unfolding status written putCall storeAfter keptAfter framedReadTold
+returns c = rw (← (c .before .before .framed-from .ensures), c .enum-told .given .1) (refl, (refl, (refl, refl)))
 
 returns-2 : tie.Need-returns-2
-unfolding status written putCall keptAfter framedReadTold
-returns-2 c = rw (← (c .before .before .before .before .framed-from .ensures), c .before .before .a .given .1, ne-eqb _ _ (c .if1 .taken)) (refl, (refl, (refl, λ _. refl)))
+unfolding status written putCall storeAfter keptAfter framedReadTold
+returns-2 c = rw (← (c .before .before .before .before .framed-from .ensures), c .before .before .a .given .1, ne-eqb _ _ (c .if1 .taken)) (refl, (refl, (refl, refl)))
 
 returns-3 : tie.Need-returns-3
-unfolding putCall keptAfter framedReadTold
+unfolding putCall storeAfter keptAfter framedReadTold
 returns-3 c =
     let c1 = c .before .before .before .before .before in
     let c2 = c1 .before .before .before .before .before in

@@ -1,4 +1,4 @@
--- Written by tools/proofs from Proof.template: edit that one. Digest d4f5c171d8925ae2.
+-- Written by tools/proofs from Proof.template: edit that one. Digest 0f0f66477baa308e.
 -- `sim3_c_doubles::shelf::sim3_sheets_start` meets its contract: bytes of the number that is due become an empty store, and any other are left as they were. Assumes nothing.
 use borrow.Author.Needs.{needs}
 use borrow.Author.Tests.{eq-eqb, ne-eqb}
@@ -11,7 +11,7 @@ use Rattle.sim3_c_doubles.proofs.shelf.sim3_sheets_start.Tie as tie
 
 returns : tie.Need-returns
 unfolding status written freshCall holds
-returns c = rw (ne-eqb _ _ (c .if1 .taken)) (refl, (refl, λ _. refl))
+returns c = rw (ne-eqb _ _ (c .if1 .taken)) (refl, (refl, refl))
 
 returns-2 : tie.Need-returns-2
 unfolding status written freshCall holds

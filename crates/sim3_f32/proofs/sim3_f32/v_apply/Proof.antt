@@ -1,16 +1,18 @@
--- Written by tools/widths from crates/sim3/proofs/sim3/v_apply/Proof.antt: edit that one. Digest 0ef0e17b86b33b74.
+-- Written by tools/widths from crates/sim3/proofs/sim3/v_apply/Proof.antt: edit that one. Digest e15ac532b9798274.
 -- `sim3_f32::sim3::v_apply` meets its contract: by what its calls ensure and its tests say. Assumes nothing.
 use borrow.Author.Needs.{needs}
 use borrow.Author.Tests.{not-true, not-false}
 use mathlib.Core.Path.{_≡_, sym, _∙_}
 use mathlib.Core.Bool.{true, false}
 use lib.Ieee.{binary32, lt}
+use Rattle.linalg.specs.Vector.{vecNormSq}
 use Rattle.tables.specs.Tables.{bRow}
 use Rattle.circle.specs.Limits.{rowLimit}
 use Rattle.sim3.specs.Exp.{vApply}
 use Rattle.closed.specs.Limits.{coeffsDelta}
 use Rattle.sim3_f32.proofs.sim3_f32.v_apply.Statement.{statement}
 use Rattle.sim3_f32.proofs.sim3_f32.v_apply.Tie as tie
+use Rattle.linalg_f32.specs.As.{asVec3}
 use Rattle.linalg_f32.proofs.As.{linalg-singles}
 use Rattle.circle_f32.proofs.As.{circle-singles}
 use Rattle.series_f32.proofs.As.{series-singles}
@@ -23,14 +25,18 @@ returns : tie.Need-returns
 unfolding vApply
 returns c =
     let i = c .before in
-    let near : lt (i .before .before .norm-sq .result) (rowLimit binary32 bRow) ≡ true = not-false _ (sym (i .before .b-takes-exact-arm .ensures) ∙ not-true _ (i .if1 .taken)) in
-    simp (linalg-singles, circle-singles, series-singles, closed-singles, coeffs-singles, so3-singles, sim3-singles, c .poly-apply .ensures, near, ← i .before .before .norm-sq .ensures)
+    let a = i .before .before .before .args in
+    let near : lt (vecNormSq binary32 (asVec3 (a .phi))) (rowLimit binary32 bRow) ≡ true = not-false _
+    (sym (i .before .b-takes-exact-arm-of .ensures) ∙ not-true _ (i .if1 .taken)) in
+    simp (linalg-singles, circle-singles, series-singles, closed-singles, coeffs-singles, so3-singles, sim3-singles, c .poly-apply .ensures, near)
 
 returns-2 : tie.Need-returns-2
 unfolding vApply coeffsDelta
 returns-2 c =
     let i = c .before .before .before .before .before .before .before .before .before in
-    let far : lt (i .before .before .norm-sq .result) (rowLimit binary32 bRow) ≡ false = not-true _ (sym (i .before .b-takes-exact-arm .ensures) ∙ not-false _ (i .if1 .left)) in
+    let a = i .before .before .before .args in
+    let far : lt (vecNormSq binary32 (asVec3 (a .phi))) (rowLimit binary32 bRow) ≡ false = not-true _
+    (sym (i .before .b-takes-exact-arm-of .ensures) ∙ not-false _ (i .if1 .left)) in
     simp (
       linalg-singles,
       circle-singles,
@@ -47,7 +53,7 @@ returns-2 c =
       c .before .before .before .before .before .scale .ensures,
       c .before .before .before .before .before .before .before .dot .ensures,
       far,
-      ← i .before .before .norm-sq .ensures,
+      i .before .before .norm-sq .ensures,
     )
 
 pub v-apply-spec : {M : Type 1} → statement M

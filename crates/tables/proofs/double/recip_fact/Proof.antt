@@ -2,7 +2,7 @@
 use mathlib.Core.Path.{refl, sym}
 use lib.Ieee.{binary64}
 use Rattle.tables.specs.Found.{recipTold}
-use Rattle.tables.proofs.Patterns.{patterns}
+use Rattle.tables.specs.Patterns.{patterns}
 use Rattle.tables.proofs.Every.{recip-is, recip-past, none-below}
 use Rattle.tables.proofs.double.recip_fact.Statement.{statement}
 use Rattle.tables.proofs.double.recip_fact.Tie as tie

@@ -2,7 +2,7 @@
 use borrow.Author.Needs.{needs}
 use lib.Ieee.{binary64, ofBits, neg}
 use Rattle.tables.specs.Tables.{cosHalfRow, kRow, aRow, bRow, dRow}
-use Rattle.tables.proofs.Patterns.{patterns}
+use Rattle.tables.specs.Patterns.{patterns}
 use Rattle.ieee.proofs.Table.{floats}
 use Rattle.tables.proofs.Every.{table-is}
 use Rattle.tables.proofs.double.table.Statement.{statement}

@@ -1,9 +1,9 @@
--- Written by tools/proofs from Proof.like: edit that one. Digest f8694332301ced4f.
+-- Written by tools/proofs from Proof.like: edit that one. Digest f9ef05173342941b.
 -- `tables::single::recip_fact` meets its contract: each constant has the pattern that passes the test, and past the table there is none. Assumes nothing.
 use mathlib.Core.Path.{refl, sym}
 use lib.Ieee.{binary32}
 use Rattle.tables.specs.Found.{recipSingleTold}
-use Rattle.tables.proofs.Patterns.{patterns}
+use Rattle.tables.specs.Patterns.{patterns}
 use Rattle.tables.proofs.Every.{recip-is, recip-past, none-below}
 use Rattle.tables.proofs.single.recip_fact.Statement.{statement}
 use Rattle.tables.proofs.single.recip_fact.Tie as tie

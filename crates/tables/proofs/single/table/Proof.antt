@@ -1,9 +1,9 @@
--- Written by tools/proofs from Proof.like: edit that one. Digest 786bc5b8a4a89ff5.
+-- Written by tools/proofs from Proof.like: edit that one. Digest f67e618c0a19de98.
 -- `tables::single::table` meets its contract: each row has the patterns that pass the test. Assumes nothing.
 use borrow.Author.Needs.{needs}
 use lib.Ieee.{binary32, ofBits, neg}
 use Rattle.tables.specs.Tables.{cosHalfRow, kRow, aRow, bRow, dRow}
-use Rattle.tables.proofs.Patterns.{patterns}
+use Rattle.tables.specs.Patterns.{patterns}
 use Rattle.ieee.proofs.Table.{floats}
 use Rattle.tables.proofs.Every.{table-is}
 use Rattle.tables.proofs.single.table.Statement.{statement}

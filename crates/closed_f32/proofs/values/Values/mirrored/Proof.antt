@@ -1,11 +1,10 @@
--- Written by tools/widths from crates/closed/proofs/values/Values/mirrored/Proof.antt: edit that one. Digest 4e5cd63830a14315.
+-- Written by tools/widths from crates/closed/proofs/values/Values/mirrored/Proof.antt: edit that one. Digest e55b952c34607d80.
 -- `closed_f32::values::Values::mirrored` meets its contract: by what its calls ensure. Assumes nothing.
 use borrow.Author.Needs.{needs}
 use Rattle.closed.specs.Values.{mirrored}
 use Rattle.closed_f32.proofs.values.Values.mirrored.Statement.{statement}
 use Rattle.closed_f32.proofs.values.Values.mirrored.Tie as tie
 use Rattle.linalg_f32.proofs.As.{linalg-singles}
-use Rattle.circle_f32.proofs.As.{circle-singles}
 use Rattle.series_f32.proofs.As.{series-singles}
 use Rattle.closed_f32.proofs.As.{closed-singles}
 
@@ -13,7 +12,6 @@ returns : tie.Need-returns
 unfolding mirrored
 returns c = simp (
   linalg-singles,
-  circle-singles,
   series-singles,
   closed-singles,
   c .pick4 .ensures,

@@ -1,0 +1,2 @@
+-- That the documented numbers have the product that is due.
+pub mod Documented

@@ -1,0 +1,21 @@
+-- Written by tools/widths from crates/series/proofs/pair/series_pair_at/Proof.antt: edit that one. Digest 3579ffe146c7d224.
+-- `series_f32::pair::series_pair_at` meets its contract: what it computes is `pairFull`, and by the pair theorem that is the series at each sign. Assumes nothing.
+use borrow.Author.Needs.{needs}
+use lib.Ieee.{binary32}
+use Rattle.series.specs.Series.{gSeriesPair}
+use Rattle.series.specs.Private.{pairFull}
+use Rattle.series.proofs.Pairs.{pair-is}
+use Rattle.series_f32.proofs.pair.series_pair_at.Statement.{statement}
+use Rattle.series_f32.proofs.pair.series_pair_at.Tie as tie
+use Rattle.linalg_f32.proofs.As.{linalg-singles}
+use Rattle.series_f32.proofs.As.{series-singles}
+
+returns : tie.Need-returns
+unfolding pairFull gSeriesPair
+returns c =
+    let a = c .before .before .before .before .before .before .args in
+    rw (← pair-is binary32 (a .sigma) (a .z) (a .k))
+    (simp (linalg-singles, series-singles, c .coeffs2 .ensures, c .before .coeffs .ensures, c .before .before .sums-pair-at .ensures, c .before .before .before .before .before .horner-at .ensures))
+
+pub series-pair-at-spec : {M : Type 1} → statement M
+series-pair-at-spec = tie.close (tie.spec (λ c κs. search needs) (λ c κs. search needs) (λ c κs. search needs) (λ c κs. search needs) returns)

@@ -1,0 +1,40 @@
+-- Written by tools/widths from crates/series/proofs/pair/sums_pair_at/Proof.antt: edit that one. Digest 220703e228b8b1be.
+use borrow.Author.Needs.{needs}
+use Rattle.series.specs.Private.{pairSums}
+use Rattle.series_f32.proofs.pair.sums_pair_at.Statement.{statement}
+use Rattle.series_f32.proofs.pair.sums_pair_at.Tie as tie
+use Rattle.linalg_f32.proofs.As.{linalg-singles}
+use Rattle.series_f32.proofs.As.{series-singles}
+
+returns : tie.Need-returns
+unfolding pairSums
+returns c =
+    let c1 = c .before .before .before .before .before in
+    simp (
+      linalg-singles,
+      series-singles,
+      c .last-mirrored .ensures,
+      c .before .last .ensures,
+      c .before .before .tail-terms .ensures,
+      c .before .before .before .recip3 .ensures,
+      c .before .before .before .before .recip2 .ensures,
+      c1 .recip .ensures,
+      c1 .before .turns-at .ensures,
+    )
+
+pub sums-pair-at-spec : {M : Type 1} → statement M
+sums-pair-at-spec =
+    tie.close
+    (tie.spec
+    (λ c κs. search needs)
+    (λ c. search needs)
+    (λ c κs. search needs)
+    (λ c. search needs)
+    (λ c κs. search needs)
+    (λ c. search needs)
+    (λ c κs. search needs)
+    (λ c κs. search needs)
+    (λ c κs. search needs)
+    (λ c. search needs)
+    (λ c κs. search needs)
+    returns)
