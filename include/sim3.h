@@ -1,21 +1,30 @@
-/* sim3.h: the proved Sim(3) engine for C and C++ (x86-64). bindings/install puts it and its library where `pkg-config --cflags --libs sim3` finds them; in the
- * source tree bindings/build makes target/bindings/libsim3.a.
+/* sim3.h: the proved Sim(3) engine for C and C++ (x86-64, SSE2). The proofs are about IEEE 754 as every process starts
+ * with it: rounding to nearest, nothing flushed to zero, no exception that traps. The thread of a call must have that:
+ * bits 6 to 15 of its register MXCSR are 0x1f80. Else the answers have other bits. A shared library linked with
+ * -ffast-math changes it when it is loaded. sim3_environment_differs tells it; sim3_environment_enter and _leave set it
+ * for some calls and put back what was there (below, the environment).
  *
- * Lists. Every list is a pointer and the count of its numbers. A pointer is never null, points to that many numbers of its type, and a list that is written
- * overlaps no other list of the call. That is all that is asked of a caller: every count and every number is taken, NaN and infinities included.
+ * bindings/install puts this header and its library where `pkg-config --cflags --libs sim3` finds them; in the source
+ * tree bindings/build makes target/bindings/libsim3.a.
  *
- * Answers. A call returns 0 and has written all of `out` and `out_frames` (sim3_root: of its three lists; what works in place: the lists that are not const), or the
- * number of a refusal and has written nothing:
+ * Lists. Every list is a pointer and the count of its numbers. A pointer is never null, points to that many numbers of
+ * its type, and a list that is written overlaps no other list of the call. This and the environment are all that is asked
+ * of a caller: every count and every number is taken, NaN and infinities included.
+ *
+ * Answers. A call, but for those of the environment, returns 0 and has written all of `out` and `out_frames` (sim3_root: of
+ * its three lists; what works in place: the lists that are not const), or the number of a refusal and has written nothing:
  *     1  z is below zero                        (sim3_scaled_pair, sim3_coeffs_armed, sim3_armed_pair, sim3_root, sim3_nearest_arm)
  *     2  e is +0 or -0                          (sim3_block_inverse)
  *     5  a list of points has a wrong length    (sim3_act_many, sim3_act_each: a multiple of 3, at most 65,535 numbers, `out` as long as `pts`)
+ *        or a list of tangents has              (sim3_sort_tangents: a multiple of 7, at most 7,168 numbers)
  *     8  z is a NaN or +infinity                (sim3_root; sim3_nearest_arm: or sigma is a NaN or an infinity)
  *     9  the frames do not meet                 (sim3_mul, sim3_mul_inv, sim3_inv_mul, sim3_running_push)
  *    10  the take is the one that is kept      (sim3_sheets_put)
  *    11  the sheet would be the 513th           (sim3_sheets_put)
  *    12  nothing was ever kept of the sheet     (sim3_sheets_get)
  *   100  another list has a wrong length; the right one stands in brackets below. This number is the boundary's own: in Rattle no such list can be made
- * A wrong length of an input is refused before the numbers are looked at, and of what is written after.
+ * Where several apply: first 100 for the lists that are read, those that are read and written among them; then the function's own refusal; last 100 for the lists
+ * that are written alone. sim3_sheets_put alone has every length first, that of `out` too, and then 10 or 11. 5 looks at `pts` and `out` together, after x.
  *
  * Orders.
  *     pose     [8]   quaternion w x y z, translation x y z, sigma
@@ -51,9 +60,9 @@ extern "C" {
 /* The version of this header, written by tools/version from the file VERSION; docs/ABI.md says what a change of it means. sim3_version gives that of the library
  * which is linked. */
 #define SIM3_VERSION_MAJOR 1
-#define SIM3_VERSION_MINOR 0
+#define SIM3_VERSION_MINOR 1
 #define SIM3_VERSION_PATCH 0
-#define SIM3_VERSION "1.0.0"
+#define SIM3_VERSION "1.1.0"
 
 const char *sim3_version(void);
 
@@ -70,6 +79,31 @@ enum {
     SIM3_NEVER_KEPT = 12,
     SIM3_LIST_LENGTH = 100
 };
+
+/* ---- the environment: how the processor rounds in this thread
+ *
+ * A thread begins with the environment of the one that starts it. A shared library linked with -ffast-math or -Ofast sets
+ * flushing when it is loaded, in the thread that loads it; fesetround, feenableexcept and _mm_setcsr set the thread that
+ * calls them. Where it is not the proved one, calls answer other bits, or end in SIGFPE where an exception traps. No call
+ * looks at it. Calls raise flags of MXCSR, inexact nearly always, and neither read nor clear them. */
+
+/* 0 where this thread has the proved environment, else the bits of MXCSR that differ: 0x8000 where denormal results are
+ * flushed to zero, 0x0040 where denormal numbers are read as zero, 0x6000 of the rounding, 0x1f80 of the exceptions that
+ * trap. Changes nothing and cannot trap. */
+uint32_t sim3_environment_differs(void);
+
+/* Sets the proved environment in this thread and gives all of MXCSR as it was, flags too; sim3_environment_leave, with what
+ * was given, puts that back. Pairs of the two nest. They are for the calls between them: a compiler may move sums of the
+ * caller's own across them. In C++ sim3_environment.hpp has both as a class. */
+uint32_t sim3_environment_enter(void);
+void sim3_environment_leave(uint32_t was);
+
+/* Asks the arithmetic itself. 1 where (probe[0] * probe[1]) * probe[2], each product rounded once, is
+ * 0x1.4000000000001p-49, else 0; SIM3_LIST_LENGTH where there are not three numbers. For 4.75, 4.9406564584124654e-324
+ * (0x1p-1074) and 8.9884656743115815e+307 (0x1.0000000000001p+1023) it is proved to be 1; by trial it is 0 for them in each
+ * of the 15 other settings of flushing and rounding. Raises the flags of denormal, underflow and inexact, and traps where
+ * one of these does. probe [3]. */
+uint32_t sim3_environment(const double *probe, size_t probe_n);
 
 /* ---- poses */
 
@@ -119,7 +153,8 @@ uint32_t sim3_running_push(double *pose, size_t pose_n, uint16_t *state, size_t 
 /* From here on after every nth product, 0 for never. The count goes on, also while n is 0, and the pose stays as it is. state [5]. */
 uint32_t sim3_running_every(uint16_t *state, size_t state_n, uint16_t n);
 
-/* ---- retaken sheets: for each of up to 512 sheets the pose of the highest take is kept, in bytes of the caller's. Any bytes of that many are a store. */
+/* ---- retaken sheets: for each of up to 512 sheets the pose of the highest take is kept, in bytes of the caller's. Any bytes of that many are a store, of
+ * which one can tell by sim3_sheets_get what is kept in it: of 512 sheets at most. */
 enum { SIM3_SHEETS_SIZE = 167938 };
 
 /* Nothing is kept yet. store [SIM3_SHEETS_SIZE]. */
@@ -127,11 +162,13 @@ uint32_t sim3_sheets_start(uint8_t *store, size_t store_n);
 
 /* A shot of a sheet. store [SIM3_SHEETS_SIZE], x [8], x_frames [2]; out [2]: 1 where the sheet is new, 2 where the shot replaces one of a lower take, 3 where it is
  * older and not kept; and the take that stood before, 0 with a new sheet. Refusal 10 where the take is the one that is kept, 11 where the sheet would be the
- * 513th; then nothing changes. */
+ * 513th: where 512 others are kept, and nowhere else, whatever bytes the store holds. Then no byte of the store changes. A wrong length of any of the four lists,
+ * `out` too, is refused by 100 before 10 and 11 are looked for, so that no shot is kept whose answer has no room. */
 uint32_t sim3_sheets_put(uint8_t *store, size_t store_n, uint16_t sheet, uint16_t take, const double *x, size_t x_n, const uint16_t *x_frames,
                          size_t x_frames_n, uint16_t *out, size_t out_n);
 
-/* What is kept of a sheet. store [SIM3_SHEETS_SIZE]; take [1], out [8], out_frames [2]. Refusal 12 where nothing was ever kept of it. */
+/* What is kept of a sheet. store [SIM3_SHEETS_SIZE]; take [1], out [8], out_frames [2]. Refusal 12 where nothing was ever kept of it: after the length of the store,
+ * before the others. */
 uint32_t sim3_sheets_get(const uint8_t *store, size_t store_n, uint16_t sheet, uint16_t *take, size_t take_n, double *out, size_t out_n, uint16_t *out_frames,
                          size_t out_frames_n);
 
@@ -195,7 +232,9 @@ uint32_t sim3_root(double z, uint64_t *whole, size_t whole_n, int64_t *exponent,
 uint32_t sim3_nearest_arm(double sigma, double z, uint64_t *out, size_t out_n);
 
 /* ---- tangents in a fixed order. Each number goes by IEEE 754's totalOrder: NaNs with the sign, -infinity, .., -0, +0, .., +infinity, NaNs without; the first
- * difference from phi to sigma decides. A number is its 64-bit pattern here, the bytes of a double as they are, so that NaNs with different bits differ. */
+ * difference from phi to sigma decides. A number is its 64-bit pattern here, the bytes of a double as they are, so that NaNs with different bits differ. Doubles
+ * are copied to an array of uint64_t by memcpy, and back; in C they may stand in a union with one. A double * is not cast: neither language lets an array of doubles
+ * be read or written through a pointer to uint64_t. */
 
 /* The tangent a against b. a [7], b [7]; out [1]: -1 where a stands before b, 0 where all bits are the same, 1 where a stands after b. */
 uint32_t sim3_compare_tangents(const uint64_t *a, size_t a_n, const uint64_t *b, size_t b_n, int64_t *out, size_t out_n);
@@ -204,7 +243,7 @@ uint32_t sim3_compare_tangents(const uint64_t *a, size_t a_n, const uint64_t *b,
  * multiple of seven. */
 uint32_t sim3_sort_tangents(uint64_t *list, size_t list_n);
 
-/* ---- the same at f32: each function above but sim3_root, sim3_renormalize_all and those of the running join, of sheets and of tangents in order, on singles, with the ending _f32. Arguments, orders, counts, refusals and the numbers of the arms are
+/* ---- the same at f32: each function above but those of the environment, sim3_root, sim3_renormalize_all and those of the running join, of sheets and of tangents in order, on singles, with the ending _f32. Arguments, orders, counts, refusals and the numbers of the arms are
  * as above; the arms' series have 4, 7, 9 and 11 terms. The answers are those of the engine at binary32, and not the doubles' rounded; where a number is a NaN,
  * so are those that are computed from it. The function values are the caller's here too; sim3_host_f32.h computes them in double and rounds each once. */
 

@@ -10,6 +10,10 @@ pub mod single;
 #[link(name = "sim3", kind = "static")]
 extern "C" {
     fn sim3_version() -> *const std::ffi::c_char;
+    fn sim3_environment_differs() -> u32;
+    fn sim3_environment_enter() -> u32;
+    fn sim3_environment_leave(was: u32);
+    fn sim3_environment(probe: *const f64, probe_n: usize) -> u32;
     fn sim3_exp(
         tau: *const f64,
         tau_n: usize,
@@ -244,11 +248,33 @@ extern "C" {
 // null, that each points to as many numbers as its count says, and that what is written overlaps no other
 // list. A pointer and a count here are one slice's own, which is never null and aligned, even when it is
 // empty; and what is written is borrowed mutably, so no other slice overlaps it. All else, every count and
-// every number, they are proved to take.
+// every number, they are proved to take. Before each call `expect` looks at the floating-point environment, in
+// debug builds.
 
 pub fn version() -> &'static std::ffi::CStr {
     // SAFETY: it gives a text that ends in a zero and stays as long as the library is loaded.
     unsafe { std::ffi::CStr::from_ptr(sim3_version()) }
+}
+
+pub fn environment_differs() -> u32 {
+    // SAFETY: it reads a register of this thread.
+    unsafe { sim3_environment_differs() }
+}
+
+pub fn environment_enter() -> u32 {
+    // SAFETY: it sets that register to what every process starts with, and what this language counts on.
+    unsafe { sim3_environment_enter() }
+}
+
+// Puts back what environment_enter gave; the guard, which calls it, holds nothing else.
+pub fn environment_leave(was: u32) {
+    // SAFETY: the register held that value before, so it is none that the processor refuses.
+    unsafe { sim3_environment_leave(was) }
+}
+
+pub fn environment(probe: &[f64]) -> u32 {
+    // SAFETY: LISTS.
+    unsafe { sim3_environment(probe.as_ptr(), probe.len()) }
 }
 
 pub fn exp(
@@ -258,6 +284,7 @@ pub fn exp(
     out: &mut [f64],
     out_frames: &mut [u16],
 ) -> u32 {
+    crate::environment::expect();
     // SAFETY: LISTS.
     unsafe {
         sim3_exp(
@@ -284,6 +311,7 @@ pub fn mul(
     out: &mut [f64],
     out_frames: &mut [u16],
 ) -> u32 {
+    crate::environment::expect();
     // SAFETY: LISTS.
     unsafe {
         sim3_mul(
@@ -311,6 +339,7 @@ pub fn inverse(
     out: &mut [f64],
     out_frames: &mut [u16],
 ) -> u32 {
+    crate::environment::expect();
     // SAFETY: LISTS.
     unsafe {
         sim3_inverse(
@@ -336,6 +365,7 @@ pub fn mul_inv(
     out: &mut [f64],
     out_frames: &mut [u16],
 ) -> u32 {
+    crate::environment::expect();
     // SAFETY: LISTS.
     unsafe {
         sim3_mul_inv(
@@ -365,6 +395,7 @@ pub fn inv_mul(
     out: &mut [f64],
     out_frames: &mut [u16],
 ) -> u32 {
+    crate::environment::expect();
     // SAFETY: LISTS.
     unsafe {
         sim3_inv_mul(
@@ -386,11 +417,13 @@ pub fn inv_mul(
 }
 
 pub fn renormalize(x: &mut [f64]) -> u32 {
+    crate::environment::expect();
     // SAFETY: LISTS.
     unsafe { sim3_renormalize(x.as_mut_ptr(), x.len()) }
 }
 
 pub fn act_many(x: &[f64], up: f64, pts: &[f64], out: &mut [f64]) -> u32 {
+    crate::environment::expect();
     // SAFETY: LISTS.
     unsafe {
         sim3_act_many(x.as_ptr(), x.len(), up, pts.as_ptr(), pts.len(), out.as_mut_ptr(), out.len())
@@ -398,6 +431,7 @@ pub fn act_many(x: &[f64], up: f64, pts: &[f64], out: &mut [f64]) -> u32 {
 }
 
 pub fn act_each(x: &[f64], up: f64, pts: &[f64], out: &mut [f64]) -> u32 {
+    crate::environment::expect();
     // SAFETY: LISTS.
     unsafe {
         sim3_act_each(x.as_ptr(), x.len(), up, pts.as_ptr(), pts.len(), out.as_mut_ptr(), out.len())
@@ -405,6 +439,7 @@ pub fn act_each(x: &[f64], up: f64, pts: &[f64], out: &mut [f64]) -> u32 {
 }
 
 pub fn scaled_pair(sigma: f64, z: f64, values: &[f64], out: &mut [f64]) -> u32 {
+    crate::environment::expect();
     // SAFETY: LISTS.
     unsafe {
         sim3_scaled_pair(sigma, z, values.as_ptr(), values.len(), out.as_mut_ptr(), out.len())
@@ -412,6 +447,7 @@ pub fn scaled_pair(sigma: f64, z: f64, values: &[f64], out: &mut [f64]) -> u32 {
 }
 
 pub fn coeffs_armed(sigma: f64, z: f64, values: &[f64], out: &mut [f64]) -> u32 {
+    crate::environment::expect();
     // SAFETY: LISTS.
     unsafe {
         sim3_coeffs_armed(sigma, z, values.as_ptr(), values.len(), out.as_mut_ptr(), out.len())
@@ -419,11 +455,13 @@ pub fn coeffs_armed(sigma: f64, z: f64, values: &[f64], out: &mut [f64]) -> u32 
 }
 
 pub fn armed_pair(sigma: f64, z: f64, values: &[f64], out: &mut [f64]) -> u32 {
+    crate::environment::expect();
     // SAFETY: LISTS.
     unsafe { sim3_armed_pair(sigma, z, values.as_ptr(), values.len(), out.as_mut_ptr(), out.len()) }
 }
 
 pub fn block_pair(tau: &[f64], values: &[f64], jl: &[f64], jl_inv: &[f64], out: &mut [f64]) -> u32 {
+    crate::environment::expect();
     // SAFETY: LISTS.
     unsafe {
         sim3_block_pair(
@@ -442,16 +480,19 @@ pub fn block_pair(tau: &[f64], values: &[f64], jl: &[f64], jl_inv: &[f64], out: 
 }
 
 pub fn block_inverse(j: &[f64], out: &mut [f64]) -> u32 {
+    crate::environment::expect();
     // SAFETY: LISTS.
     unsafe { sim3_block_inverse(j.as_ptr(), j.len(), out.as_mut_ptr(), out.len()) }
 }
 
 pub fn adjoint(x: &[f64], up: f64, out: &mut [f64]) -> u32 {
+    crate::environment::expect();
     // SAFETY: LISTS.
     unsafe { sim3_adjoint(x.as_ptr(), x.len(), up, out.as_mut_ptr(), out.len()) }
 }
 
 pub fn act_jacobians_right(x: &[f64], up: f64, p: &[f64], out: &mut [f64]) -> u32 {
+    crate::environment::expect();
     // SAFETY: LISTS.
     unsafe {
         sim3_act_jacobians_right(
@@ -467,6 +508,7 @@ pub fn act_jacobians_right(x: &[f64], up: f64, p: &[f64], out: &mut [f64]) -> u3
 }
 
 pub fn act_jacobians_left(x: &[f64], up: f64, p: &[f64], out: &mut [f64]) -> u32 {
+    crate::environment::expect();
     // SAFETY: LISTS.
     unsafe {
         sim3_act_jacobians_left(
@@ -482,26 +524,31 @@ pub fn act_jacobians_left(x: &[f64], up: f64, p: &[f64], out: &mut [f64]) -> u32
 }
 
 pub fn compose_jacobians_right(y: &[f64], down: f64, out: &mut [f64]) -> u32 {
+    crate::environment::expect();
     // SAFETY: LISTS.
     unsafe { sim3_compose_jacobians_right(y.as_ptr(), y.len(), down, out.as_mut_ptr(), out.len()) }
 }
 
 pub fn compose_jacobians_left(x: &[f64], up: f64, out: &mut [f64]) -> u32 {
+    crate::environment::expect();
     // SAFETY: LISTS.
     unsafe { sim3_compose_jacobians_left(x.as_ptr(), x.len(), up, out.as_mut_ptr(), out.len()) }
 }
 
 pub fn inverse_jacobian_right(x: &[f64], up: f64, out: &mut [f64]) -> u32 {
+    crate::environment::expect();
     // SAFETY: LISTS.
     unsafe { sim3_inverse_jacobian_right(x.as_ptr(), x.len(), up, out.as_mut_ptr(), out.len()) }
 }
 
 pub fn inverse_jacobian_left(x: &[f64], down: f64, out: &mut [f64]) -> u32 {
+    crate::environment::expect();
     // SAFETY: LISTS.
     unsafe { sim3_inverse_jacobian_left(x.as_ptr(), x.len(), down, out.as_mut_ptr(), out.len()) }
 }
 
 pub fn root(z: f64, whole: &mut [u64], exponent: &mut [i64], nearest: &mut [f64]) -> u32 {
+    crate::environment::expect();
     // SAFETY: LISTS.
     unsafe {
         sim3_root(
@@ -517,6 +564,7 @@ pub fn root(z: f64, whole: &mut [u64], exponent: &mut [i64], nearest: &mut [f64]
 }
 
 pub fn nearest_arm(sigma: f64, z: f64, out: &mut [u64]) -> u32 {
+    crate::environment::expect();
     // SAFETY: LISTS.
     unsafe { sim3_nearest_arm(sigma, z, out.as_mut_ptr(), out.len()) }
 }
@@ -524,6 +572,7 @@ pub fn nearest_arm(sigma: f64, z: f64, out: &mut [u64]) -> u32 {
 // The bytes of an f64 are those of a u64, its pattern: the two functions below hand them over as they
 // are. Both types have the same size and place in memory, and every pattern is a value of each.
 pub fn compare_tangents(a: &[f64; 7], b: &[f64; 7], out: &mut [i64]) -> u32 {
+    crate::environment::expect();
     // SAFETY: LISTS, and patterns as above.
     unsafe {
         sim3_compare_tangents(
@@ -538,6 +587,7 @@ pub fn compare_tangents(a: &[f64; 7], b: &[f64; 7], out: &mut [i64]) -> u32 {
 }
 
 pub fn sort_tangents(list: &mut [crate::Tangent]) -> u32 {
+    crate::environment::expect();
     // A tangent is its seven numbers (repr(transparent)) and those of a slice stand in a row, so there are
     // seven times as many numbers.
     // SAFETY: LISTS, and patterns as above.
@@ -545,6 +595,7 @@ pub fn sort_tangents(list: &mut [crate::Tangent]) -> u32 {
 }
 
 pub fn running_start(pose: &mut [f64], state: &mut [u16]) -> u32 {
+    crate::environment::expect();
     // SAFETY: LISTS.
     unsafe { sim3_running_start(pose.as_mut_ptr(), pose.len(), state.as_mut_ptr(), state.len()) }
 }
@@ -556,6 +607,7 @@ pub fn running_push(
     x_frames: &[u16],
     up: f64,
 ) -> u32 {
+    crate::environment::expect();
     // SAFETY: LISTS.
     unsafe {
         sim3_running_push(
@@ -573,16 +625,19 @@ pub fn running_push(
 }
 
 pub fn running_every(state: &mut [u16], n: u16) -> u32 {
+    crate::environment::expect();
     // SAFETY: LISTS.
     unsafe { sim3_running_every(state.as_mut_ptr(), state.len(), n) }
 }
 
 pub fn renormalize_all(poses: &mut [f64]) -> u32 {
+    crate::environment::expect();
     // SAFETY: LISTS.
     unsafe { sim3_renormalize_all(poses.as_mut_ptr(), poses.len()) }
 }
 
 pub fn sheets_start(store: &mut [u8]) -> u32 {
+    crate::environment::expect();
     // SAFETY: LISTS.
     unsafe { sim3_sheets_start(store.as_mut_ptr(), store.len()) }
 }
@@ -595,6 +650,7 @@ pub fn sheets_put(
     x_frames: &[u16],
     out: &mut [u16],
 ) -> u32 {
+    crate::environment::expect();
     // SAFETY: LISTS.
     unsafe {
         sim3_sheets_put(
@@ -619,6 +675,7 @@ pub fn sheets_get(
     out: &mut [f64],
     out_frames: &mut [u16],
 ) -> u32 {
+    crate::environment::expect();
     // SAFETY: LISTS.
     unsafe {
         sim3_sheets_get(

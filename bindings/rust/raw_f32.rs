@@ -1,4 +1,4 @@
-// Written by tools/widths from bindings/rust/raw.rs: edit that one. Digest 916d195a0ed2bd91.
+// Written by tools/widths from bindings/rust/raw.rs: edit that one. Digest e47c84b76616931c.
 //! The C functions of include/sim3.h at one width, each called through a function over slices. This is the
 //! one module with unsafe code, at both widths: every other one forbids it. The declarations are trusted;
 //! tests/bindings compares them with the header.
@@ -184,7 +184,8 @@ extern "C" {
 // null, that each points to as many numbers as its count says, and that what is written overlaps no other
 // list. A pointer and a count here are one slice's own, which is never null and aligned, even when it is
 // empty; and what is written is borrowed mutably, so no other slice overlaps it. All else, every count and
-// every number, they are proved to take.
+// every number, they are proved to take. Before each call `expect` looks at the floating-point environment, in
+// debug builds.
 
 pub fn exp(
     tau: &[f32],
@@ -193,6 +194,7 @@ pub fn exp(
     out: &mut [f32],
     out_frames: &mut [u16],
 ) -> u32 {
+    crate::environment::expect();
     // SAFETY: LISTS.
     unsafe {
         sim3_exp_f32(
@@ -219,6 +221,7 @@ pub fn mul(
     out: &mut [f32],
     out_frames: &mut [u16],
 ) -> u32 {
+    crate::environment::expect();
     // SAFETY: LISTS.
     unsafe {
         sim3_mul_f32(
@@ -246,6 +249,7 @@ pub fn inverse(
     out: &mut [f32],
     out_frames: &mut [u16],
 ) -> u32 {
+    crate::environment::expect();
     // SAFETY: LISTS.
     unsafe {
         sim3_inverse_f32(
@@ -271,6 +275,7 @@ pub fn mul_inv(
     out: &mut [f32],
     out_frames: &mut [u16],
 ) -> u32 {
+    crate::environment::expect();
     // SAFETY: LISTS.
     unsafe {
         sim3_mul_inv_f32(
@@ -300,6 +305,7 @@ pub fn inv_mul(
     out: &mut [f32],
     out_frames: &mut [u16],
 ) -> u32 {
+    crate::environment::expect();
     // SAFETY: LISTS.
     unsafe {
         sim3_inv_mul_f32(
@@ -321,11 +327,13 @@ pub fn inv_mul(
 }
 
 pub fn renormalize(x: &mut [f32]) -> u32 {
+    crate::environment::expect();
     // SAFETY: LISTS.
     unsafe { sim3_renormalize_f32(x.as_mut_ptr(), x.len()) }
 }
 
 pub fn act_many(x: &[f32], up: f32, pts: &[f32], out: &mut [f32]) -> u32 {
+    crate::environment::expect();
     // SAFETY: LISTS.
     unsafe {
         sim3_act_many_f32(x.as_ptr(), x.len(), up, pts.as_ptr(), pts.len(), out.as_mut_ptr(), out.len())
@@ -333,6 +341,7 @@ pub fn act_many(x: &[f32], up: f32, pts: &[f32], out: &mut [f32]) -> u32 {
 }
 
 pub fn act_each(x: &[f32], up: f32, pts: &[f32], out: &mut [f32]) -> u32 {
+    crate::environment::expect();
     // SAFETY: LISTS.
     unsafe {
         sim3_act_each_f32(x.as_ptr(), x.len(), up, pts.as_ptr(), pts.len(), out.as_mut_ptr(), out.len())
@@ -340,6 +349,7 @@ pub fn act_each(x: &[f32], up: f32, pts: &[f32], out: &mut [f32]) -> u32 {
 }
 
 pub fn scaled_pair(sigma: f32, z: f32, values: &[f32], out: &mut [f32]) -> u32 {
+    crate::environment::expect();
     // SAFETY: LISTS.
     unsafe {
         sim3_scaled_pair_f32(sigma, z, values.as_ptr(), values.len(), out.as_mut_ptr(), out.len())
@@ -347,6 +357,7 @@ pub fn scaled_pair(sigma: f32, z: f32, values: &[f32], out: &mut [f32]) -> u32 {
 }
 
 pub fn coeffs_armed(sigma: f32, z: f32, values: &[f32], out: &mut [f32]) -> u32 {
+    crate::environment::expect();
     // SAFETY: LISTS.
     unsafe {
         sim3_coeffs_armed_f32(sigma, z, values.as_ptr(), values.len(), out.as_mut_ptr(), out.len())
@@ -354,11 +365,13 @@ pub fn coeffs_armed(sigma: f32, z: f32, values: &[f32], out: &mut [f32]) -> u32 
 }
 
 pub fn armed_pair(sigma: f32, z: f32, values: &[f32], out: &mut [f32]) -> u32 {
+    crate::environment::expect();
     // SAFETY: LISTS.
     unsafe { sim3_armed_pair_f32(sigma, z, values.as_ptr(), values.len(), out.as_mut_ptr(), out.len()) }
 }
 
 pub fn block_pair(tau: &[f32], values: &[f32], jl: &[f32], jl_inv: &[f32], out: &mut [f32]) -> u32 {
+    crate::environment::expect();
     // SAFETY: LISTS.
     unsafe {
         sim3_block_pair_f32(
@@ -377,16 +390,19 @@ pub fn block_pair(tau: &[f32], values: &[f32], jl: &[f32], jl_inv: &[f32], out: 
 }
 
 pub fn block_inverse(j: &[f32], out: &mut [f32]) -> u32 {
+    crate::environment::expect();
     // SAFETY: LISTS.
     unsafe { sim3_block_inverse_f32(j.as_ptr(), j.len(), out.as_mut_ptr(), out.len()) }
 }
 
 pub fn adjoint(x: &[f32], up: f32, out: &mut [f32]) -> u32 {
+    crate::environment::expect();
     // SAFETY: LISTS.
     unsafe { sim3_adjoint_f32(x.as_ptr(), x.len(), up, out.as_mut_ptr(), out.len()) }
 }
 
 pub fn act_jacobians_right(x: &[f32], up: f32, p: &[f32], out: &mut [f32]) -> u32 {
+    crate::environment::expect();
     // SAFETY: LISTS.
     unsafe {
         sim3_act_jacobians_right_f32(
@@ -402,6 +418,7 @@ pub fn act_jacobians_right(x: &[f32], up: f32, p: &[f32], out: &mut [f32]) -> u3
 }
 
 pub fn act_jacobians_left(x: &[f32], up: f32, p: &[f32], out: &mut [f32]) -> u32 {
+    crate::environment::expect();
     // SAFETY: LISTS.
     unsafe {
         sim3_act_jacobians_left_f32(
@@ -417,26 +434,31 @@ pub fn act_jacobians_left(x: &[f32], up: f32, p: &[f32], out: &mut [f32]) -> u32
 }
 
 pub fn compose_jacobians_right(y: &[f32], down: f32, out: &mut [f32]) -> u32 {
+    crate::environment::expect();
     // SAFETY: LISTS.
     unsafe { sim3_compose_jacobians_right_f32(y.as_ptr(), y.len(), down, out.as_mut_ptr(), out.len()) }
 }
 
 pub fn compose_jacobians_left(x: &[f32], up: f32, out: &mut [f32]) -> u32 {
+    crate::environment::expect();
     // SAFETY: LISTS.
     unsafe { sim3_compose_jacobians_left_f32(x.as_ptr(), x.len(), up, out.as_mut_ptr(), out.len()) }
 }
 
 pub fn inverse_jacobian_right(x: &[f32], up: f32, out: &mut [f32]) -> u32 {
+    crate::environment::expect();
     // SAFETY: LISTS.
     unsafe { sim3_inverse_jacobian_right_f32(x.as_ptr(), x.len(), up, out.as_mut_ptr(), out.len()) }
 }
 
 pub fn inverse_jacobian_left(x: &[f32], down: f32, out: &mut [f32]) -> u32 {
+    crate::environment::expect();
     // SAFETY: LISTS.
     unsafe { sim3_inverse_jacobian_left_f32(x.as_ptr(), x.len(), down, out.as_mut_ptr(), out.len()) }
 }
 
 pub fn nearest_arm(sigma: f32, z: f32, out: &mut [u64]) -> u32 {
+    crate::environment::expect();
     // SAFETY: LISTS.
     unsafe { sim3_nearest_arm_f32(sigma, z, out.as_mut_ptr(), out.len()) }
 }

@@ -16,7 +16,8 @@
 //! [`host`] computes them. Every number is taken, NaN and infinities too. A [`Pose`] holds its two frames
 //! beside its numbers: poses are joined only where the frames meet, and the action and the Jacobians read
 //! none. What can be refused answers a [`Refusal`], which is a [`std::error::Error`]. The same functions
-//! over singles stand in [`mod@f32`].
+//! over singles stand in [`mod@f32`]. The thread of a call rounds to nearest, flushes nothing to zero and has
+//! no exception that traps: [`environment`] asks and sets it.
 //!
 //! The build script finds the library libsim3.a: where `bindings/install` put this crate and it, in the
 //! source tree by `bindings/build`, by the environment variable SIM3_LIB_DIR, or by pkg-config. Without
@@ -30,6 +31,7 @@
 
 #![deny(unsafe_code)] // and every module but `raw` forbids it
 
+pub mod environment;
 mod functions;
 mod functions_f32;
 pub mod host;

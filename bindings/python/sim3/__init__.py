@@ -14,13 +14,23 @@ The host's values (values, up, down, ds, jl, jl_inv) may be left out: sim3.host 
 Every number is taken, NaN and infinities too. What is not answered raises Refusal, whose `number` is
 1, 2, 5, 8, 9, 10, 11, 12 or 100; what holds no numbers raises TypeError.
 
+Every call first asks how this thread rounds: what is proved is IEEE 754 with rounding to nearest, nothing flushed to
+zero and no traps. In another environment, which a library linked with -ffast-math sets when it is loaded, it raises
+OtherEnvironment, and writes nothing; `with sim3.environment():` is a block that computes as it is proved.
+
 sim3.f32 has the same functions over singles.
+
+Every function of the engine also takes arrays of numpy of n things, (n, 7), (n, 8), .., at once, and answers (n, ..) arrays:
+sim3.arrays says how.
 
 The shared library that this package loads at the first call stands beside it where pip installed it; in the
 source tree bindings/build makes it.
 """
 from . import f32, host, raw
+from .arrays import NearRows, Poses, block_matrix
 from .engine import Engine
+from .guard import environment
+from .mxcsr import OtherEnvironment
 from .poses import Pose
 from .raw import LibraryMissing
 from .near import Near
@@ -32,8 +42,9 @@ from .tangents import compare_tangents, sort_tangents
 from .version import __version__
 from .widths import DOUBLE
 
-__all__ = ["LibraryMissing", "Near", "Pose", "Refusal", "Root", "Running", "Sheets", "Shelved", "__version__", "f32", "host", "nearest_arm", "nearest_root", "renormalize_all", "root", "version",
-           *raw.FUNCTIONS, *raw.PATTERNS]
+__all__ = ["LibraryMissing", "Near", "NearRows", "OtherEnvironment", "Pose", "Poses", "Refusal", "Root", "Running",
+           "Sheets", "Shelved", "__version__", "act", "block_matrix", "environment", "f32", "host", "nearest_arm",
+           "nearest_root", "renormalize_all", "root", "version", *raw.FUNCTIONS, *raw.PATTERNS]
 
 
 def version() -> str:
@@ -64,3 +75,4 @@ compose_jacobians_left = ENGINE.compose_jacobians_left
 inverse_jacobian_right = ENGINE.inverse_jacobian_right
 inverse_jacobian_left = ENGINE.inverse_jacobian_left
 nearest_arm = ENGINE.nearest_arm
+act = ENGINE.act

@@ -12,7 +12,7 @@ from . import host_f32 as host, raw
 from .engine import Engine
 from .widths import SINGLE
 
-__all__ = ["host", "nearest_arm", *raw.FUNCTIONS]
+__all__ = ["act", "host", "nearest_arm", *raw.FUNCTIONS]
 
 # Each function of the table, by the method of its name; they stand one by one for type checkers.
 ENGINE = Engine(SINGLE, host)
@@ -37,3 +37,4 @@ compose_jacobians_left = ENGINE.compose_jacobians_left
 inverse_jacobian_right = ENGINE.inverse_jacobian_right
 inverse_jacobian_left = ENGINE.inverse_jacobian_left
 nearest_arm = ENGINE.nearest_arm
+act = ENGINE.act

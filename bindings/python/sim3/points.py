@@ -4,7 +4,7 @@ import array
 import ctypes
 import sys
 
-from . import raw
+from . import arrays, raw
 from .numbers import lent, over
 from .refusals import MOST_NUMBERS, explained, out_length, points_length
 
@@ -72,8 +72,24 @@ def apart(given, out):
     return type(given).from_buffer_copy(given) if first < end and begin < last else given
 
 
+def moved_at_once(name, x, up, pts):
+    """The answer for doubles by the short way, where everything is as that wants it; else None."""
+    numpy, move_at_once = sys.modules.get("numpy"), arrays.mover()
+    if move_at_once is None:
+        return None
+    if numpy is not None and type(pts) is numpy.ndarray:
+        answer = numpy.empty(pts.shape, dtype="d")
+    elif type(pts) is array.array and pts.typecode == "d":
+        answer = array.array("d", pts)
+    else:
+        return None
+    return answer if move_at_once(name == "act_each", x, up, pts, answer) else None
+
+
 def move(name, x, up, pts, out, width):
     """Every point moved by the C function of this name, in pieces; x is the pose's ctypes array."""
+    if raw.differs():
+        raise raw.other_environment(name, width)
     given = read(f"{width.package}.{name}: pts", pts, width)
     count = len(given)
     if count % 3:

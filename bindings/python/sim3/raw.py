@@ -8,6 +8,7 @@ import os
 import pathlib
 from typing import NamedTuple, Tuple
 
+from . import mxcsr
 from .widths import DOUBLE, WIDTHS
 
 NUMBER, POINTS, FRAMES = "number", "points", "frames"
@@ -94,6 +95,18 @@ RUNNING = {
 }
 SHEETS_SIZE = 167_938  # bytes of a store
 
+# So do those of the floating-point environment: what each gives, and its arguments as above.
+ENVIRONMENT = {
+    "environment": (ctypes.c_uint32, (("probe", ctypes.c_double, READ),)),
+    "environment_differs": (ctypes.c_uint32, ()),
+    "environment_enter": (ctypes.c_uint32, ()),
+    "environment_leave": (None, (("was", ctypes.c_uint32, NUMBER),)),
+}
+
+# What a function of a class is called in Python.
+METHODS = {"running_start": "Running", "running_push": "Running.push", "running_every": "Running.every",
+           "sheets_start": "Sheets", "sheets_put": "Sheets.put", "sheets_get": "Sheets.get"}
+
 
 class LibraryMissing(OSError):
     """The shared library is not there or is none of this engine; the text says what to do."""
@@ -144,6 +157,7 @@ def library():
                  for width in WIDTHS for name, made in FUNCTIONS.items()}
         found.update((name, declared_lists(loaded["sim3_" + name], made)) for name, made in PATTERNS.items())
         found.update((name, declared_running(loaded["sim3_" + name], made)) for name, made in RUNNING.items())
+        found.update((name, declared_environment(path, name)) for name in ENVIRONMENT)
         found.update(("nearest_arm" + width.ending, declared_near(loaded["sim3_nearest_arm" + width.ending], width)) for width in WIDTHS)
         return {**found, "root": declared_root(loaded["sim3_root"]), "version": declared_version(loaded["sim3_version"])}
     except (OSError, AttributeError) as error:
@@ -204,9 +218,33 @@ def declared_running(symbol, made):
     return symbol
 
 
+def declared_environment(path, name):
+    """A C function of the environment, loaded so that it keeps Python's lock: to let go of that costs more than the call."""
+    gives, made = ENVIRONMENT[name]
+    symbol = declared_running(ctypes.PyDLL(str(path.resolve()))["sim3_" + name], made)
+    symbol.restype = gives
+    return symbol
+
+
+def differs():
+    """0 where this thread computes as the proofs say, else the bits of MXCSR that differ. At the first call the C function itself
+    takes this name."""
+    global differs
+    differs = library()["environment_differs"]
+    return differs()
+
+
+def other_environment(name, width=DOUBLE):
+    """The exception of a function that is called in another environment."""
+    return mxcsr.other_environment(f"{width.package}.{METHODS.get(name, name)}", differs())
+
+
 def call(name, *arguments, width=DOUBLE):
     """What a C function returns: 0, or the number of a refusal. A list is a ctypes array of its type,
-    and one that is written must share no bytes with another."""
+    and one that is written must share no bytes with another. OtherEnvironment where this thread does not
+    compute as the proofs say."""
+    if differs():
+        raise other_environment(name, width)
     words = []
     for argument in arguments:
         words += (argument, len(argument)) if isinstance(argument, ctypes.Array) else (argument,)

@@ -5,7 +5,7 @@ from typing import Optional
 
 from . import host, raw
 from .numbers import lent, number, over
-from .poses import Pose, expected, frames, short
+from .poses import Pose, expected, frames, short, trusted
 from .refusals import explained, refusal, wrong_length
 from .widths import DOUBLE
 
@@ -30,6 +30,8 @@ class Running:
         if len(numbers) != POSE:
             raise wrong_length("Running.push", "x", "pose", len(numbers), DOUBLE)
         given = frames("sim3.Running.push: x.", x.from_, x.to)
+        if raw.differs():
+            raise raw.other_environment("running_push")
         up = host.up(self._numbers) if up is None else number("sim3.Running.push: up", up)
         refused = raw.call("running_push", self._numbers, self._state, numbers, given, up)
         if refused == 9:
@@ -54,7 +56,7 @@ class Running:
                f"{since:,}{' or more' if since == 65_535 else ''} since then>"
 
     def _held(self):
-        return Pose(array.array("d", self._numbers), self._state[FROM], self._state[TO])
+        return trusted(array.array("d", self._numbers), self._state[FROM], self._state[TO])
 
     @staticmethod
     def _asked(name, *arguments):
@@ -76,4 +78,4 @@ def renormalize_all(poses):
     refused = raw.call("renormalize_all", over(numbers, len(numbers)))
     if refused:
         raise explained(refused, "renormalize_all", {})
-    return [Pose(numbers[POSE * i:POSE * (i + 1)], x.from_, x.to) for i, x in enumerate(poses)]
+    return [trusted(numbers[POSE * i:POSE * (i + 1)], x.from_, x.to) for i, x in enumerate(poses)]

@@ -5,7 +5,7 @@ from typing import NamedTuple, Tuple
 
 from . import raw
 from .numbers import lent
-from .poses import Pose, expected, frames, short
+from .poses import Pose, expected, frames, short, trusted
 from .refusals import explained, refusal, wrong_length
 
 POSE = raw.KINDS["pose"][0]
@@ -56,4 +56,4 @@ class Sheets:
             raise refusal(12, "Sheets.get", f"nothing was ever kept of sheet {sheet}; look which sheets were put")
         if refused:
             raise explained(refused, "Sheets.get", {})
-        return take[0], Pose(array.array("d", numbers), *found)
+        return take[0], trusted(array.array("d", numbers), *found)

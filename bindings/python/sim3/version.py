@@ -1,2 +1,2 @@
 """The version of this package; tools/version writes it."""
-__version__ = "1.0.0"
+__version__ = "1.1.0"

@@ -11,6 +11,15 @@ fn the_library_has_the_version_of_the_crate() {
 }
 
 #[test]
+fn the_environment_is_the_proved_one() {
+    assert_eq!(sim3::environment::ask(), Ok(()));
+    let proved = sim3::environment::enter();
+    assert!(sim3::environment::probe());
+    drop(proved);
+    assert_eq!(sim3::environment::ask(), Ok(()));
+}
+
+#[test]
 fn lists_have_names_for_their_parts() {
     assert_eq!((TAU.phi(), TAU.rho(), TAU.sigma()), ([0.1, -0.2, 0.3], [1.0, 2.0, 3.0], 0.5));
     let values = host::tangent_values(&TAU);
