@@ -8,19 +8,22 @@ from .answer import add_program, program
 from .arms import arms
 from .diff import diff
 from .floats import DOUBLE, SINGLE
-from .layout import ANSWER, JOB
+from .html import PageReport, write_page
+from .layout import ANSWER, JOB, MOST_RECORDS
 from .make import MAY_MISS, groups_text, make
+from .merge import merge
 from .near import near
 from .order import diff_by_tangent, sort
 from .sheets import sheets
 from .show import show
-from .terminal import Failure, say
+from .split import HEAD, split
+from .terminal import INSTALLED, Failure, say, worded
 from .totals import totals
 
 ABOUT = """\
 Job files of the Sim(3) engine: make them from text, show them as text, compare their answers, see
 which arm gave each coefficient set, which shots lie beside another arm, which takes are kept, and how
-many records of each mark several answers have.
+many records of each mark several answers have; cut a large job into parts, and merge their answers.
 docs/JOB-FORMAT.md has the bytes of every record, and so has `jobs format`. `jobs run` finds the job
 program from any folder.
 
@@ -34,6 +37,8 @@ example:
   tools/jobs sort jobs.bin > sorted-jobs.bin
   tools/jobs sheets jobs.bin answers.bin
   tools/jobs totals answers.bin more-answers.bin
+  tools/jobs split jobs.bin parts
+  tools/jobs merge parts > answers.bin
 """
 
 MAKE = """\
@@ -89,8 +94,12 @@ has alone is named. Records of other marks are compared in the order in which th
 
 Exit status: 0 equal and whole, 1 different or not whole, 2 not to be read.
 
+With --html the same also goes to a page that a browser shows from the disk, every difference with both
+values, the distance and, with --job, the record's inputs.
+
 example:
   tools/jobs diff --limit 20 last-answers.bin answers.bin
+  tools/jobs diff --html diff.html --job jobs.bin last-answers.bin answers.bin
   tools/jobs diff --by-tangent last-jobs.bin last-answers.bin jobs.bin answers.bin
 """
 
@@ -169,6 +178,36 @@ example:
 """
 
 
+SPLIT = """\
+Cuts a job of any size into parts that the job program answers one by one, on the cores of one machine or
+on many machines, in any order; `jobs merge` puts the answers together. FOLDER, which is new or empty,
+then holds the parts, NAME.in, and the file index. Records of marks without state stand in parts of at
+most N records, in their order; all of CH and RN, however many, in one part, all of SH and SQ in another. An unknown
+mark and a cut record end the job, as in one run. A part begins with two IN records of its own, by which
+its answers say of which job and which part they are.
+
+Exit status: 0, or 2 where the job cannot be read or cut.
+
+example:
+  tools/jobs split --records 250000 jobs.bin parts
+  parallel 'sim3-job < {} > {.}.out' ::: parts/*.in
+  tools/jobs merge parts > answers.bin
+"""
+
+
+MERGE = """\
+Puts the answers to the parts of a job together: for each part NAME.in of FOLDER, which `jobs split` made,
+its answers are NAME.out. To standard output go the bytes that one run of the job program without a limit
+would have written. Every part is read through first; answers that are missing, cut, of another job, or of
+another part are named with what to do, and then nothing is written.
+
+Exit status: 0, or 1 where a part's answers are not taken, or 2 where FOLDER has no index.
+
+example:
+  tools/jobs merge parts > answers.bin
+"""
+
+
 def forms_text():
     """Each mark with its groups, those that may be left out in brackets."""
     lines = []
@@ -201,6 +240,13 @@ def limit(word):
     return int(word)
 
 
+def part_size(word):
+    most = MOST_RECORDS - HEAD
+    if not re.fullmatch(r"[0-9]+", word) or not 1 <= int(word) <= most:
+        raise argparse.ArgumentTypeError(f"{word!r} is no count of records; expected a whole number from 1 to {most:,}")
+    return int(word)
+
+
 def steps(word):
     if not re.fullmatch(r"[0-9]+", word) or not int(word):
         raise argparse.ArgumentTypeError(f"{word!r} is no count of steps; expected a whole number from 1")
@@ -208,7 +254,7 @@ def steps(word):
 
 
 def add_command(commands, name, about, summary):
-    return commands.add_parser(name, help=summary, description=about,
+    return commands.add_parser(name, help=summary, description=worded(about),
                                formatter_class=argparse.RawDescriptionHelpFormatter)
 
 
@@ -233,8 +279,18 @@ def add_searches(commands):
     one.add_argument("files", nargs="+", metavar="FILE", help="answer files; - for standard input")
 
 
+def add_parts(commands):
+    """The commands that take a job apart and put its answers together."""
+    one = add_command(commands, "split", SPLIT, "cut a job into parts for several cores or machines")
+    one.add_argument("--records", type=part_size, default=MOST_RECORDS - HEAD, metavar="N", help="at most N records a part; %(default)s if not given")
+    one.add_argument("job", metavar="JOBS", help="the job file; - for standard input")
+    one.add_argument("folder", metavar="FOLDER", help="the folder of the parts, which is made")
+    one = add_command(commands, "merge", MERGE, "put the answers of a job's parts together")
+    one.add_argument("folder", metavar="FOLDER", help="the folder of the parts and their answers")
+
+
 def parser():
-    top = argparse.ArgumentParser(prog="jobs", description=ABOUT,
+    top = argparse.ArgumentParser(prog="sim3-jobs" if INSTALLED else "jobs", description=worded(ABOUT),
                                   formatter_class=argparse.RawDescriptionHelpFormatter)
     commands = top.add_subparsers(dest="command", metavar="COMMAND", required=True)
     one = add_command(commands, "make", MAKE.format(forms=forms_text(), singles=singles_text()), "text to a job file")
@@ -253,6 +309,8 @@ def parser():
     one.add_argument("file", nargs="?", metavar="FILE", help="the file; standard input if not given")
     one = add_command(commands, "diff", DIFF, "compare two answer files")
     one.add_argument("--limit", type=limit, metavar="N", help="print at most N differences")
+    one.add_argument("--html", metavar="FILE", help="the differences as a page for a browser too")
+    one.add_argument("--job", metavar="JOBS", help="the job that both answers are to, whose inputs the page then shows")
     one.add_argument("--by-tangent", action="store_true",
                      help="match the shots of two jobs: JOBS ANSWERS JOBS ANSWERS")
     one.add_argument("old", metavar="OLD", help="the older answers; with --by-tangent the older job")
@@ -260,14 +318,20 @@ def parser():
     one.add_argument("more", nargs="*", metavar="FILE",
                      help="with --by-tangent the newer job and its answers")
     add_searches(commands)
+    add_parts(commands)
     return top
 
 
-def run_diff(files, by_tangent, most):
+def run_diff(files, by_tangent, most, page, job):
     """Two answer files, or two jobs each with its answers."""
+    if (page or job) and by_tangent or job and not page:
+        raise Failure("jobs: --html goes with OLD NEW alone, and --job with --html; expected neither with --by-tangent")
     if len(files) != (4 if by_tangent else 2):
         expected = "JOBS ANSWERS JOBS ANSWERS with --by-tangent" if by_tangent else "OLD NEW"
         raise Failure(f"jobs: diff got {len(files)} files; expected {expected}")
+    if page:
+        report = PageReport(most)
+        return diff(*files, most, report, lambda names, said: write_page(page, names, said, report, job))
     return diff_by_tangent(files, most) if by_tangent else diff(*files, most)
 
 
@@ -285,7 +349,7 @@ def run(arguments):
                     arguments.unusable, arguments.counts)
     if arguments.command == "diff":
         files = [arguments.old, arguments.new, *arguments.more]
-        return run_diff(files, arguments.by_tangent, arguments.limit)
+        return run_diff(files, arguments.by_tangent, arguments.limit, arguments.html, arguments.job)
     if arguments.command == "near":
         return near(arguments.file, arguments.within)
     if arguments.command == "sort":
@@ -294,6 +358,10 @@ def run(arguments):
         return sheets(arguments.job, arguments.answers, arguments.csv)
     if arguments.command == "totals":
         return totals(arguments.files, arguments.csv, arguments.all)
+    if arguments.command == "split":
+        return split(arguments.job, arguments.folder, arguments.records)
+    if arguments.command == "merge":
+        return merge(arguments.folder)
     return arms(arguments.job, arguments.answers, arguments.svg)
 
 

@@ -5,6 +5,7 @@ from .records import counts_text, guess, load, older, scan, walk
 from .terminal import Failure, Lines, Progress, count
 
 EQUAL, DIFFERENT, UNREADABLE = 0, 1, 2
+NOT_PRINTED = " not printed"
 MOST_SPANS = 12  # of records that are not usable, in a line
 
 
@@ -98,7 +99,7 @@ class Report:
     def summary(self):
         """What was counted, one line for each thing."""
         if self.limit is not None and self.differences > self.limit:
-            yield count(self.differences - self.limit, "more difference") + " not printed"
+            yield count(self.differences - self.limit, "more difference") + NOT_PRINTED
         if self.nan_bits:
             yield "equal but for the bits of a NaN: " + count(self.nan_bits, "record")
         if self.records:
@@ -190,26 +191,40 @@ def say_unusable(names, scans, out):
                     f"record{'s' if len(numbers) > 1 else ''} {spans(numbers, MOST_SPANS, 'jobs show --unusable')}")
 
 
-def diff(old_path, new_path, limit):
-    """The command: 0 equal and whole, 1 different or not whole, 2 not to be read."""
+def diff(old_path, new_path, limit, report=None, finish=None):
+    """The command: 0 equal and whole, 1 different or not whole, 2 not to be read. `finish` is given what is said at the end."""
     if old_path == new_path == "-":
         raise Failure("jobs: OLD and NEW are both standard input; expected two files")
     names = (f"OLD {old_path}", f"NEW {new_path}")
     old, new = load(old_path), load(new_path)
     scans = [scan(data, ANSWER, "reading") for data in (old, new)]
-    report = Report(limit)
+    report = report or Report(limit)
     for name, data, found in zip(names, (old, new), scans):
         say_damages(name, data, found, report.out)
     compare(old, new, min(found.records for found in scans), report)
     compare_ends(names, old, new, scans, report)
     whole = not any(found.damages for found in scans)
-    report.out.add(*report.summary())
-    say_unusable(names, scans, report.out)
+    said = Said()
+    said.add(*report.summary())
+    say_unusable(names, scans, said)
     if whole and not report.differences:
-        report.out.add(f"equal: {ending(scans[0])}")
+        said.add(f"equal: {ending(scans[0])}")
     else:
-        report.out.add(*(f"{name}: {ending(found)}" for name, found in zip(names, scans)))
+        said.add(*(f"{name}: {ending(found)}" for name, found in zip(names, scans)))
+    report.out.add(*said.lines)
     report.out.flush()
+    if finish:
+        finish(names, said.lines)
     if any(map(unreadable, scans)):
         return UNREADABLE
     return EQUAL if whole and not report.differences else DIFFERENT
+
+
+class Said:
+    """Lines that are kept."""
+
+    def __init__(self):
+        self.lines = []
+
+    def add(self, *lines):
+        self.lines += lines

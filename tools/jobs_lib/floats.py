@@ -132,7 +132,9 @@ class Single(Width):
 
     LAST_BITS, MIDWAY = 0x1FFFFFFF, 0x10000000
     LEAST_NORMAL, LARGEST = 2.0 ** -126, 2.0 ** 128 - 2.0 ** 104
-    SURE_DIGITS = 6  # decimals of so many digits have singles of their own
+    THREE, THREE_BITS = struct.Struct("<3f"), struct.Struct("<3I")
+    FRACTION = (1 << 23) - 1  # the bits behind the point
+    SHORTER = [f"%.{digits}g" for digits in range(8, 0, -1)]
 
     def at_once(self, numbers):
         return self.all_bits(numbers) if all(map(self.is_sure, numbers)) else None
@@ -164,13 +166,36 @@ class Single(Width):
     def decimal(self, bits):
         """A single's shortest decimal is shorter than that of the same number as a double."""
         x = self.from_bits(bits)
-        if x in INFINITIES:
+        if x == 0 or x in INFINITIES:
             return repr(x)
-        for digits in range(self.SURE_DIGITS if abs(x) >= self.LEAST_NORMAL else 1, 10):
-            near = float(f"{x:.{digits}g}")
-            if bits == (self.to_bits(near) if self.is_sure(near) else self.read(repr(near))):
+        low, high = self.between(bits & self.magnitude)
+        if bits & self.FRACTION:
+            return self.shortened(x, bits, low, high)
+        for digits in range(1, 10):  # a power of two has less room below than above, so a longer decimal may not do where a shorter one does
+            near = float("%.*g" % (digits, x))
+            if self.is_between(abs(near), low, high, bits, near):
                 return repr(near)
         raise AssertionError(f"nine digits do not read back as {bits:08x}")
+
+    def shortened(self, x, bits, low, high):
+        """The decimal of nine digits, which always does, or the shortest that does: with each digit less it lies further away."""
+        best = float("%.9g" % x)
+        for form in self.SHORTER:
+            near = float(form % x)
+            if not (low < near < high or -high < near < -low or self.is_between(abs(near), low, high, bits, near)):
+                return repr(best)
+            best = near
+        return repr(best)
+
+    def is_between(self, near, low, high, bits, number):
+        """Whether a decimal, whose nearest double is `number`, reads back as these bits. Decimals are rounded to doubles in their order, so only where that double is
+        a bound must the decimal itself be looked at."""
+        return low < near < high or near in (low, high) and bits == self.read(repr(number))
+
+    def between(self, magnitude):
+        """The doubles midway between a positive single and those beside it, both exact; behind the largest stands 2^128."""
+        below, here, above = self.THREE.unpack(self.THREE_BITS.pack(magnitude - 1, magnitude, magnitude + 1))
+        return (below + here) / 2, (here + min(above, 2.0 ** 128)) / 2
 
 
 DOUBLE = Width("double", "d", "Q", 0x7FF8000000000000, 0x7FF0000000000000)

@@ -1,13 +1,20 @@
 """`jobs show`: a job file or an answer file as text, one record a line."""
+import multiprocessing
+import os
 import struct
+import sys
 from math import isfinite
 
 from .floats import DOUBLE
 from .layout import ANSWER, END, FOUR, JOB, MOST_RECORDS
 from .records import guess, hexadecimal, load, name_of, older, scan, walk
+from .split import Walker
 from .terminal import Failure, Lines, Progress, count, say
 
 MOST_RAW = 32  # bytes that are shown of what begins with no mark
+MANY = 50_000  # records from which the work is shared among the processors
+STRETCH = 1 << 19  # bytes of a file that are one piece of such work
+GIVEN = ()  # what begin_texts was given
 MOST_NAMED = 6  # numbers of a record that is not usable, in its line
 
 
@@ -106,6 +113,45 @@ def print_records(data, table, wanted, lines_of):
     out.flush()
 
 
+def print_all(data, table, records, lines_of):
+    """All records: of a large file so many at once as there are processors, each in a process of its own."""
+    cores = len(os.sched_getaffinity(0))
+    if records < MANY or cores == 1:
+        return print_records(data, table, range(1, records + 1), lines_of)
+    progress, done = Progress("show", records, step=1), 0
+    with multiprocessing.get_context("fork").Pool(cores, begin_texts, (data, table, lines_of)) as pool:
+        for text, some in pool.imap(text_between, stretches(data, table)):
+            sys.stdout.write(text)
+            done += some
+            progress(done)
+        sys.stdout.flush()
+    progress.end()
+
+
+def stretches(data, table):
+    """Where a file's records can be parted: the first byte of some of them, and the byte behind the last of those."""
+    for window in Walker(table, STRETCH).windows(data, 0, len(data)):
+        yield window.places[0], window.places[-1]
+
+
+def begin_texts(*given):
+    """What a process that makes texts needs: the file, its table, and what makes the lines of a record."""
+    global GIVEN
+    GIVEN = given
+
+
+def text_between(places):
+    """The lines of the records between two bytes, as one text, and how many records they are."""
+    data, table, lines_of = GIVEN
+    at, end = places
+    lines, records = [], 0
+    while at < end:
+        layout = table[data[at:at + 2]]
+        lines += lines_of(data, at, layout)
+        at, records = at + layout.size, records + 1
+    return "\n".join(lines) + "\n", records
+
+
 def print_end(data, table, found, lines_of):
     """ZZ, and the bytes that are no record."""
     out, end = Lines(), found.end
@@ -142,7 +188,7 @@ def show(path, table, wanted, as_bytes, unusable=False, every_count=False):
     if unusable:
         print_unusable(data, found)
     elif wanted is None:
-        print_records(data, read_as, range(1, found.records + 1), lines_of)
+        print_all(data, read_as, found.records, lines_of)
         print_end(data, read_as, found, lines_of if as_bytes or every_count else end_line)
     elif wanted.stop - 1 > found.records:
         raise Failure(f"jobs: no record {wanted.stop - 1:,} in {name}; it has {found.records:,}")

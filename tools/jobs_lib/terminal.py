@@ -1,12 +1,21 @@
 """Messages, progress and output that may stop."""
+import pathlib
 import sys
 import time
+
+TOP = pathlib.Path(__file__).resolve().parents[2]
+INSTALLED = not (TOP / "crates.txt").exists()  # where the tool and the program have names of their own
+
+
+def worded(text):
+    """A text in which the tool and the program have the names by which they are called here."""
+    return text.replace("tools/jobs", "sim3-jobs").replace("./sim3-job", "sim3-job") if INSTALLED else text
 
 
 def say(message):
     """A message to the user, behind whatever standard output already has."""
     sys.stdout.flush()
-    sys.stderr.write(message + "\n")
+    sys.stderr.write(worded(message) + "\n")
 
 
 def count(number, what):

@@ -4,7 +4,7 @@ import re
 from .places import named, searched, way
 
 # What a plain proof may open of the toolchain's library.
-KIT = dict.fromkeys(("ofBits", "toBits", "neg", "add", "sub", "mul", "div", "lt", "le", "round"), "lib.Ieee")
+KIT = dict.fromkeys(("ofBits", "toBits", "neg", "add", "sub", "mul", "div", "eq", "lt", "le", "round"), "lib.Ieee")
 WIDTH = 160
 
 
@@ -12,7 +12,7 @@ def homes(top):
     """Where each definition of specs/ stands: its crate and module."""
     found = {}
     for path in sorted(top.glob("crates/*/specs/*.antt")):
-        for name in re.findall(r"^(?:abbrev |unfoldable )?pub (\S+) :", path.read_text(encoding="utf-8"), re.M):
+        for name in re.findall(r"^ *(?:abbrev |unfoldable )?pub (\S+) :", path.read_text(encoding="utf-8"), re.M):
             found.setdefault(name, []).append((path.parts[-3], path.stem))
     return found
 

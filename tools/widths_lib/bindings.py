@@ -6,7 +6,7 @@ from .words import twin, width
 # What stands in bindings/rust for both widths: the C functions, and the safe functions over them.
 FILES = {"bindings/rust/raw.rs": "bindings/rust/raw_f32.rs", "bindings/rust/functions.rs": "bindings/rust/functions_f32.rs"}
 # The C functions that are about doubles alone: their declarations, and the functions over them with the lines of comment on top.
-NAMES = "version|root|compare_tangents|sort_tangents|running_start|running_push|running_every|renormalize_all|" \
+NAMES = "version|environment|environment_differs|environment_enter|environment_leave|root|compare_tangents|sort_tangents|running_start|running_push|running_every|renormalize_all|" \
         "sheets_start|sheets_put|sheets_get"
 ALONE = rf"(?ms)^    fn sim3_(?:{NAMES})\(.*?;\n|^(?://[^\n]*\n)*pub fn (?:{NAMES})\(.*?^\}}\n\n?"
 # What the module of the declarations at f64 has for both: the module at f32, and the library.

@@ -93,8 +93,10 @@ class Sources:
 
     def read_specs(self, crate, module, text):
         """What each definition gives, and those that tell what a type of the code says which has no record of its own in the definitions."""
-        for keep, name, first, rest in re.findall(r"(?m)^(abbrev|unfoldable) pub (\w+) : (\S+)(.*)$", text):
+        for section, keep, name, first, rest in re.findall(r"(?m)^( *)(abbrev|unfoldable) pub (\w+) : (\S+)(.*)$", text):
             self.gives[name] = f"{first}{rest}".split("→")[-1].strip()
+            if section:  # in a `module _ (f : Format)`: its first argument is the format
+                continue
             taken = self.types.get(first.split(".")[-1])
             if taken and taken.crate == crate and not self.floating(taken.name) and (taken.kind == "enum" or self.mixed(taken.name)):
                 body = text[re.search(rf"(?m)^{keep} pub {name} :.*\n", text).end() :].split("\n\n")[0]

@@ -69,7 +69,7 @@ def importable(sources, crate):
         for name, body in re.findall(r"(?ms)^pub (?:data|record) (\w+)(.*?)\n\n", text + "\n\n"):
             yield f"Rattle.{crate}.specs.{module_name}", [name, *re.findall(r"(?m)^  (\w+) :", body)]
     for module_name, text in texts.items():
-        yield f"Rattle.{crate}.specs.{module_name}", re.findall(r"(?m)^(?:abbrev|unfoldable) pub (\w+) :", text)
+        yield f"Rattle.{crate}.specs.{module_name}", re.findall(r"(?m)^ *(?:abbrev|unfoldable) pub (\w+) :", text)
 
 
 def told_file(sources, crate):
