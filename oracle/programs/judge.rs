@@ -2,6 +2,7 @@
 //!
 //! Reads standard input, writes standard output. Whole records are answered as they arrive; what
 //! is kept is one buffer of input, with at most one cut record at its front, and one of output.
+//! A number as its argument stands in the place of the limit of records.
 
 use helicoid::judge::counts::Counts;
 use helicoid::judge::marks as double;
@@ -9,7 +10,7 @@ use helicoid::judge::state::State;
 use helicoid_f32::judge::marks as single;
 use std::io::{self, Read, Write};
 
-/// After so many records nothing more is read.
+/// After so many records nothing more is read, unless the argument says another number.
 const MOST_RECORDS: u32 = 1_000_000;
 
 const BUFFER: usize = 1 << 16;
@@ -25,11 +26,11 @@ struct Job {
 }
 
 /// Answers the whole records at the front of `bytes`. Says how many bytes they were, and whether
-/// the program stops here.
-fn feed(bytes: &[u8], out: &mut Vec<u8>, job: &mut Job) -> (usize, bool) {
+/// the program stops here, as it does after `most` records.
+fn feed(bytes: &[u8], out: &mut Vec<u8>, job: &mut Job, most: u32) -> (usize, bool) {
     let Job { counts, state } = job;
     let mut at = 0;
-    while counts.begun < MOST_RECORDS {
+    while counts.begun < most {
         let Some((letters, rest)) = bytes[at..].split_first_chunk::<2>() else {
             return (at, false);
         };
@@ -58,13 +59,13 @@ fn feed(bytes: &[u8], out: &mut Vec<u8>, job: &mut Job) -> (usize, bool) {
     (at, true)
 }
 
-fn run(input: &mut impl Read, output: &mut impl Write) -> io::Result<()> {
+fn run(input: &mut impl Read, output: &mut impl Write, most: u32) -> io::Result<()> {
     let mut buffer = vec![0; BUFFER];
     let mut out = Vec::with_capacity(8 * BUFFER);
     let mut job = Job::default();
     let mut held = 0;
     loop {
-        let (used, stop) = feed(&buffer[..held], &mut out, &mut job);
+        let (used, stop) = feed(&buffer[..held], &mut out, &mut job, most);
         if stop {
             break;
         }
@@ -91,8 +92,9 @@ fn run(input: &mut impl Read, output: &mut impl Write) -> io::Result<()> {
 }
 
 fn main() -> io::Result<()> {
+    let most = std::env::args().nth(1).and_then(|word| word.parse().ok());
     // The handle below the standard buffers: `run` has its own.
     let input = std::os::fd::AsFd::as_fd(&io::stdin()).try_clone_to_owned()?;
     let output = std::os::fd::AsFd::as_fd(&io::stdout()).try_clone_to_owned()?;
-    run(&mut std::fs::File::from(input), &mut std::fs::File::from(output))
+    run(&mut std::fs::File::from(input), &mut std::fs::File::from(output), most.unwrap_or(MOST_RECORDS))
 }

@@ -13,20 +13,21 @@ TYPES = {"const double *": "in", "double *": "out", "size_t": "count", "double":
          "const uint16_t *": "frames in", "uint16_t *": "frames out", "*const u16": "frames in", "*mut u16": "frames out",
          "uint64_t *": "whole out", "int64_t *": "signed out", "*mut u64": "whole out", "*mut i64": "signed out",
          "const uint64_t *": "whole in", "*const u64": "whole in", "uint16_t": "short", "u16": "short",
-         "uint8_t *": "bytes out", "const uint8_t *": "bytes in", "*mut u8": "bytes out", "*const u8": "bytes in"}
+         "uint8_t *": "bytes out", "const uint8_t *": "bytes in", "*mut u8": "bytes out", "*const u8": "bytes in", "uint32_t": "word", "u32": "word"}
 RUNNING = {(ctypes.c_double, raw.WRITTEN): "out", (ctypes.c_double, raw.READ): "in", (ctypes.c_double, raw.NUMBER): "number",
            (ctypes.c_uint16, raw.WRITTEN): "frames out", (ctypes.c_uint16, raw.READ): "frames in", (ctypes.c_uint16, raw.NUMBER): "short",
-           (ctypes.c_uint8, raw.WRITTEN): "bytes out", (ctypes.c_uint8, raw.READ): "bytes in"}
+           (ctypes.c_uint8, raw.WRITTEN): "bytes out", (ctypes.c_uint8, raw.READ): "bytes in", (ctypes.c_uint32, raw.NUMBER): "word"}
 WRITTEN = {ctypes.c_uint64: "whole out", ctypes.c_int64: "signed out", ctypes.c_double: "out"}
+NOTHING = ("", "gives nothing")
 
 
 def of_header():
-    """Each function of the header: its arguments as (name, type)."""
+    """Each function of the header: its arguments as (name, type), and in front of them `gives nothing` where it does."""
     text = (ROOT / "include/sim3.h").read_text()
     found = {}
-    for name, arguments in re.findall(r"^uint32_t sim3_(\w+)\(([^)]*)\);", text, re.M):
-        words = [re.fullmatch(r"(.*?)(\w+)", " ".join(a.split())).groups() for a in arguments.split(",")]
-        found[name] = [(argument, TYPES[kind.strip()]) for kind, argument in words]
+    for gives, name, arguments in re.findall(r"^(uint32_t|void) sim3_(\w+)\(([^)]*)\);", text, re.M):
+        words = [re.fullmatch(r"(.*?)(\w+)", " ".join(a.split())).groups() for a in arguments.split(",") if a != "void"]
+        found[name] = [NOTHING] * (gives == "void") + [(argument, TYPES[kind.strip()]) for kind, argument in words]
     return found
 
 
@@ -34,9 +35,9 @@ def of_rust():
     found = {}
     for file in ("raw.rs", "raw_f32.rs"):
         text = (ROOT / "bindings/rust" / file).read_text()
-        for name, arguments in re.findall(r"^ +fn sim3_(\w+)\(([^)]*)\) -> u32;", text, re.M):
+        for name, arguments, gives in re.findall(r"^ +fn sim3_(\w+)\(([^)]*)\)( -> u32)?;", text, re.M):
             words = [a.split(":") for a in arguments.split(",") if a.strip()]
-            found[name] = [(argument.strip(), TYPES[kind.strip()]) for argument, kind in words]
+            found[name] = [NOTHING] * (not gives) + [(argument.strip(), TYPES[kind.strip()]) for argument, kind in words]
     return found
 
 
@@ -70,8 +71,9 @@ def of_python():
         found[name] = []
         for i, (argument, kind) in enumerate(made, 1):
             found[name] += [(argument, WRITTEN[kind] if i == len(made) else "whole in"), (argument + "_n", "count")]
-    for name, made in raw.RUNNING.items():
-        found[name] = []
+    apart = {**{name: (ctypes.c_uint32, made) for name, made in raw.RUNNING.items()}, **raw.ENVIRONMENT}
+    for name, (gives, made) in apart.items():
+        found[name] = [NOTHING] * (gives is None)
         for argument, kind, use in made:
             found[name] += [(argument, RUNNING[kind, use]), *([] if use == raw.NUMBER else [(argument + "_n", "count")])]
     return found

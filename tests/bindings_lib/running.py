@@ -212,7 +212,7 @@ def in_words():
     running.every(7)
     assert "every 7 products" in repr(running) and "Pose(" in repr(running), repr(running)
     for wrong, kind, part in ((lambda: running.push([1.0] * 8), TypeError, "expected a sim3.Pose"), (lambda: running.every(-1), OverflowError, "n is -1"),
-                              (lambda: running.every(1.5), TypeError, "n is float"), (lambda: running.push(sim3.Pose([1.0], 1, 3)), sim3.Refusal, "refusal 100: x has 1 number"),
+                              (lambda: running.every(1.5), TypeError, "n is float"), (lambda: running.push(sim3.Pose([1.0], 1, 3)), sim3.Refusal, "refusal 100: numbers has 1 number"),
                               (lambda: sim3.renormalize_all([[1.0] * 8]), TypeError, "poses[0]"), (lambda: sim3.compare_tangents([1.0], [1.0] * 7), sim3.Refusal, "refusal 100")):
         try:
             answer = wrong()

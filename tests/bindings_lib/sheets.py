@@ -11,6 +11,10 @@ from sim3 import raw
 
 SHOTS, GETS = 3_000, 1_500
 
+# A store's bytes: two for each sheet number, 512 slots, and how many of these are in use.
+SLOT, SLOTS = 2 + 2 + 8 * 8 + 2 * 2, 2 * 65_536
+TAIL = SLOTS + 512 * SLOT
+
 
 class Model:
     """What is kept, by sheet: the take, and the pose's numbers and frames."""
@@ -42,9 +46,10 @@ class Model:
 class Bytes:
     """A store by the bare calls."""
 
-    def __init__(self):
-        self.store = (ctypes.c_uint8 * raw.SHEETS_SIZE)(*random.Random("dirty").randbytes(raw.SHEETS_SIZE))
-        same(raw.call("sheets_start", self.store), 0, "sim3_sheets_start")
+    def __init__(self, start=None):
+        self.store = (ctypes.c_uint8 * raw.SHEETS_SIZE)(*(start or random.Random("dirty").randbytes(raw.SHEETS_SIZE)))
+        if start is None:
+            same(raw.call("sheets_start", self.store), 0, "sim3_sheets_start")
 
     def put(self, sheet, take, numbers, frames):
         out, before = frame_list((7, 7)), bytes(self.store)
@@ -107,6 +112,51 @@ def in_python():
     same(numbers, {0, 10, 11, 12}, "the refusals that were seen")
 
 
+def kept_in(store):
+    """What is kept in any bytes: of a sheet the shot in the slot that is named for it, if that slot is in use and holds the sheet's number."""
+    used, = struct.unpack_from("<H", store, TAIL)
+    held = [struct.unpack_from("<2H8d2H", store, SLOTS + SLOT * slot) for slot in range(512)]
+    named = [slot % 512 for slot in struct.unpack_from("<65536H", store)]
+    return {sheet: (held[slot][1], held[slot][2:10], held[slot][10:]) for sheet, slot in enumerate(named) if slot < used and held[slot][0] == sheet}
+
+
+def plain(kept):
+    return {sheet: (take, bits(packed(numbers)), frames) for sheet, (take, numbers, frames) in kept.items()}
+
+
+def full(but=0):
+    """A store in which 512 sheets were kept; then in so many slots another number is written, so that they are no sheet's."""
+    store = Bytes()
+    for sheet in range(512):
+        store.put(100 * sheet, 1, [1.0] * 8, (1, 1))
+    found = bytearray(store.store)
+    for slot in range(but):
+        struct.pack_into("<H", found, SLOTS + SLOT * 7 * slot, 50_001)
+    return bytes(found)
+
+
+def any_bytes():
+    """Whatever bytes are lent: what is kept is read from them, a further sheet is refused where 512 are kept and nowhere else, and a refusal leaves every byte."""
+    draw, numbers = random.Random("any bytes"), set()
+    used = lambda n: struct.pack("<H", n)
+    starts = [bytes([255]) * raw.SHEETS_SIZE, bytes(TAIL) + used(512), full(), full(1), full(40)]
+    starts += [draw.randbytes(TAIL) + used(n) for n in (0, 300, 511, 512, 513, 65_535)]
+    for number, start in enumerate(starts):
+        model, store = Model(), Bytes(start)
+        model.kept = kept_in(start)
+        names = draw.sample(range(65_536), 600) + list(model.kept)
+        for at in range(1_200):
+            sheet = names[at] if at < 600 else draw.choice(names)
+            shot = sheet, draw.choice((0, 1, 2, 65_535)), drawn(draw), (draw.randrange(65_536), draw.randrange(65_536))
+            due = model.put(*shot)
+            numbers.add(due[0])
+            same(store.put(*shot), due, f"start {number}, shot {at}")
+            same(store.get(sheet), model.get(sheet), f"start {number}, sheet {sheet} after shot {at}")
+        same(plain(kept_in(bytes(store.store))), plain(model.kept), f"start {number}: what is kept")
+        same(len(model.kept), 512, f"start {number}: how many are kept")
+    same(numbers, {0, 10, 11}, "the refusals that were seen")
+
+
 def lengths():
     """Every other length is refused by 100, and nothing is written."""
     right = {"store": raw.SHEETS_SIZE, "x": 8, "x_frames": 2, "take": 1, "out_frames": 2}
@@ -146,4 +196,4 @@ def in_rust():
     same(at, len(told), "bytes of sheets.rs")
 
 
-TESTS = [in_python, lengths, in_rust]
+TESTS = [in_python, any_bytes, lengths, in_rust]

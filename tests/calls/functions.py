@@ -1,5 +1,5 @@
-"""The functions that tests/calls drives: judge-lib's table (oracle/README.md) with the port's function for each id, six that the job's marks reach, and those
-of poses with their frames.
+"""The functions that tests/calls drives: judge-lib's table (oracle/README.md) with the port's function for each id, six that the job's marks reach, those
+of poses with their frames, and the stopped pass over the reciprocals.
 
 A row is: id, name, what goes in, what comes out, the call and, where it can refuse, the variant of its answer that holds the result.
 In: NAME:KIND, in the order of the record. Out: KIND, or KIND:EXPRESSION where the result r has several parts.
@@ -30,6 +30,7 @@ ACT_OUT = "mat:r.rot mat:r.trans vec:r.scale mat:r.point"
 TWO_OUT = "block:r.first block:r.second"
 POSE_OUT = "pose:r.sim3 byte:r.from byte:r.to"
 FRAMES = "from:frame to:frame"
+HORNER_OUT = " ".join(f"num:r.{arm}.{sum}.{sign}" for arm in ("series", "series_alone", "closed", "closed_alone") for sum in ("v0", "w0") for sign in ("pos", "neg"))
 TWO_FRAMES = FRAMES + " other_from:frame other_to:frame"
 POSE, OTHER, JOINED = "framed(p, from, to)", "framed(o, other_from, other_to)", "frames::PoseAnswer::Pose"
 
@@ -75,7 +76,7 @@ ROWS = [
     (52, "sinc_value", "z:num v:values", "num", f"{CIRCLE}sinc_value(z, {HALVES})", CIRCLE + "SincAnswer::Number"),
     (60, "series, full", SERIES_IN, "coeffs", SERIES + "series(sigma, z, k)", SERIES + "SeriesAnswer::Coeffs"),
     (61, "series, v alone", SERIES_IN, "coeffs4", SERIES + "series_v(sigma, z, k)", SERIES + "SeriesVAnswer::Coeffs"),
-    (62, "series, full pair", SERIES_IN, "coeffs:r.pos coeffs:r.neg", "series_pair::pair::series_pair(sigma, z, k)", SERIES + "SeriesPairAnswer::Coeffs"),
+    (62, "series, full pair", SERIES_IN, "coeffs:r.pos coeffs:r.neg", "series::pair::series_pair(sigma, z, k)", SERIES + "SeriesPairAnswer::Coeffs"),
     (63, "sim3_coeffs", COEFFS_IN, "coeffs", COEFFS + "sim3_coeffs(sigma, z, v)", COEFFS + "CoeffsAnswer::Coeffs"),
     (64, "sim3_v", COEFFS_IN, "coeffs4", COEFFS + "sim3_v(sigma, z, v)", COEFFS + "VAnswer::Coeffs"),
     (65, "sim3_v_scaled", COEFFS_IN, "num:r.c.v0 num:r.c.v1 num:r.c.v2 flag:r.scaled", COEFFS + "sim3_v_scaled(sigma, z, v)", COEFFS + "VScaledAnswer::Coeffs"),
@@ -142,6 +143,10 @@ ROWS = [
     (217, "Pose rplus", "p:pose up:num tau:tangent v:values " + FRAMES, POSE_OUT, POSE + ".rplus(up, tau, v)"),
     (218, "Pose lplus", "p:pose tau:tangent v:values " + FRAMES, POSE_OUT, POSE + ".lplus(tau, v)"),
     (219, "Pose renormalized", "p:pose " + FRAMES, POSE_OUT, POSE + ".renormalized()"),
+    (220, "Pose exp_and_jl", TANGENT_JL + " " + FRAMES, "pose:r.x.sim3 block:r.jl byte:r.x.from byte:r.x.to",
+     "framed_jacobian::exp_and_jl(tau, v, jl, frame(from), frame(to))"),
+    # Of the port alone; stopped.py has its answers.
+    (221, "pass stopped", "sigma:num k:count stop:count", HORNER_OUT, "series::stopped::pass_stopped(sigma, k, stop)", "series::stopped::StoppedAnswer::Sums"),
 ]
 
 

@@ -14,7 +14,7 @@ WIDTHS = {width.name: width for width in (DOUBLE, SINGLE)}
 
 # The crates that the wrappers call, and those below them. `tables` has both widths.
 ONCE = "tables"
-TWICE = "ieee linalg circle series series_pair closed coeffs so3 sim3 point_lists jacobian blocks sides frames"
+TWICE = "ieee linalg circle series closed coeffs so3 sim3 point_lists jacobian sides frames framed_jacobian"
 
 
 def used(width, crates=TWICE):

@@ -1,8 +1,10 @@
 """Python: pip without network, and the installed package from another folder."""
 import functools
 import importlib.util
+import os
 import shutil
 import sys
+import sysconfig
 
 from .common import DUE, ROOT, Skipped, folder, ran, same, tool
 
@@ -26,7 +28,8 @@ def python(*words, cwd="/"):
 def whole():
     """The package is all there, with its library and the mark of its hints, and nothing of it names the source tree but pip's own note of where it was from."""
     held = {path.name for path in (installed() / "sim3").iterdir()}
-    same(held - {path.name for path in (ROOT / "bindings/python/sim3").iterdir()}, {"libsim3.so"}, "what the package has beside its sources")
+    loops = {"rows" + sysconfig.get_config_var("EXT_SUFFIX")} if os.path.exists(os.path.join(sysconfig.get_path("include"), "Python.h")) else set()
+    same(held - {path.name for path in (ROOT / "bindings/python/sim3").iterdir()}, {"libsim3.so"} | loops, "what the package has beside its sources")
     same({path.name for path in (ROOT / "bindings/python/sim3").iterdir() if path.name != "__pycache__"} - held, set(), "what it has not")
     assert "py.typed" in held, held
     for path in installed().rglob("*"):
@@ -46,4 +49,12 @@ def example():
     assert DUE in python("join.py", cwd=work)
 
 
-TESTS = [whole, from_any_folder, example]
+def arrays():
+    """The installed loops over arrays, where numpy is there."""
+    if not importlib.util.find_spec("numpy"):
+        raise Skipped("numpy is not installed")
+    told = python("-c", "import numpy, sim3; x = sim3.exp(numpy.zeros((3, 7)), 1, 2); print(x.numbers.shape, x.frames.tolist(), x.refused.tolist())", cwd=folder("arrays"))
+    same(told, "(3, 8) [[1, 2], [1, 2], [1, 2]] [0, 0, 0]\n", "what the installed package answers")
+
+
+TESTS = [whole, from_any_folder, example, arrays]

@@ -10,6 +10,12 @@ from .common import ROOT, folder, ran, same, tool
 NOW = (ROOT / "VERSION").read_text().strip()
 NEXT = "97.5.31"
 
+# What ./sim3-job notes of a program that was proved, for the sources of a copy.
+STAMP = """
+sum=$(find -L crates.txt crates -type f -exec sha256sum {} + | LC_ALL=C sort | sha256sum)
+printf '%s\\n' "$sum" "$(rt version 2>/dev/null)" "$(sha256sum <target/bin/sim3_job)" >target/sim3-job.stamp
+"""
+
 
 def tool_of(top, word):
     """The tool of a tree, with a word."""
@@ -19,13 +25,16 @@ def tool_of(top, word):
 def copied():
     """A tree of what the libraries are made from, with the archives as they are, so that nothing is proved."""
     top = folder("bumped")
-    for part in ("VERSION", "NOTICE", "include", "bindings", "examples", "tools"):
+    for part in ("VERSION", "NOTICE", "include", "bindings", "examples", "tools", "share", "install", "sim3-job"):
         shutil.copytree(ROOT / part, top / part, ignore=shutil.ignore_patterns("__pycache__", "target", "Cargo.lock"), symlinks=True) \
             if (ROOT / part).is_dir() else shutil.copy(ROOT / part, top / part)
     shutil.copytree(ROOT / "target/staticlib", top / "target/staticlib", copy_function=shutil.copy2)
     (top / "crates").mkdir()
     (top / "crates.txt").touch()
     os.utime(top / "crates.txt", (0, 0))
+    (top / "target/bin").mkdir()
+    shutil.copy2(ROOT / "target/bin/sim3_job", top / "target/bin")
+    ran(["bash", "-c", STAMP], top)
     return top
 
 
@@ -37,6 +46,7 @@ def shown(top, prefix):
         "header": re.search(r'SIM3_VERSION "(.*)"', header)[1],
         "numbers of the header": ".".join(re.findall(r"SIM3_VERSION_(?:MAJOR|MINOR|PATCH) (\d+)", header)),
         "shared library": next((prefix / "lib").glob("libsim3.so.*.*.*")).name.split(".so.")[1],
+        "CMake": re.search(r"PACKAGE_VERSION (\S+)\)", (prefix / "lib/cmake/sim3/sim3-config-version.cmake").read_text())[1],
         "pkg-config": re.search("Version: (.*)", (prefix / "lib/pkgconfig/sim3.pc").read_text())[1],
         "Cargo.toml": re.search(r'^version = "(.*)"', (prefix / "share/sim3/rust/Cargo.toml").read_text(), re.M)[1],
         "wheel": wheel.strip().splitlines()[-1].split("-")[1],

@@ -45,7 +45,7 @@ def help_says_what_the_page_says():
     script = subprocess.run([ROOT / "sim3-job", "--help"], stdout=subprocess.PIPE, text=True, check=True).stdout
     holds(script, f"{TOOL}", f"{PAGE}")
     statuses = re.findall(r"^  (\S+(?: \+ n)?) {2,}(.*)$", script, re.M)
-    same([status for status, _ in statuses], ["0", "1", "2", "128 + n", "141"], "the exit statuses of sim3-job --help")
+    same([status for status, _ in statuses], ["0", "1", "2", "3", "128 + n", "141"], "the exit statuses of sim3-job --help")
     holds(" ".join(whole.split()), *(f"{status}: {text}" for status, text in statuses))
 
 
