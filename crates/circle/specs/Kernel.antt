@@ -1,10 +1,12 @@
--- The circle functions at a squared angle z, with its root, the sine sh and cosine ch of half the root and the sine s of the root handed in.
+-- The circle functions at a squared angle z, with its root, the sine sh and cosine ch of half the root and the sine s of
+-- the root handed in.
 use mathlib.Core.List.{List, [], _∷_}
 use mathlib.Core.Bool.{Bool, cond}
 use Prim.Native.Nat.{ℕ}
 use lib.ListN.{take}
-use lib.Ieee.{Float, Format, add, sub, mul, div, lt}
+use lib.Ieee.{Float, Format, lt}
 use Rattle.ieee.specs.Numbers.{f0, f1, f2, half}
+use Rattle.ieee.specs.Infix.{Operations, operations}
 use Rattle.linalg.specs.Answer.{Answer, answers, refuses, unlessBelowZero}
 use Rattle.tables.specs.Tables.{Row, cosHalfRow, kRow, aRow, bRow, dRow, rowTable}
 use Rattle.circle.specs.Limits.{rowTerms, rowLimit, shortTerms, expShortLimit, fiveShortLimit}
@@ -37,73 +39,78 @@ unfoldable pub sincTold : SincAnswer → Answer Float
 sincTold (sinc.Number x) = answers x
 sincTold (sinc.Refused n) = refuses n
 
--- ---- series
--- t₀ ⊕ z ⊗ (t₁ ⊕ z ⊗ ..); the innermost sum is the last term itself, and not that term plus z ⊗ 0
-unfoldable pub hornerSum : Format → Float → List Float → Float
-hornerSum f z [] = f0
-hornerSum f z (t ∷ []) = t
-hornerSum f z (t ∷ u ∷ ts) = add f t (mul f z (hornerSum f z (u ∷ ts)))
+module _ (f : Format) where
+  infixl 60 _⊕_ _⊖_
+  infixl 70 _⊗_ _⊘_
+  open Operations (operations f) using (_⊕_, _⊖_, _⊗_, _⊘_)
 
--- the first n terms of a row
-unfoldable pub rowSeries : Format → Row → ℕ → Float → Float
-rowSeries f row n z = hornerSum f z (take n (rowTable f row))
+  -- ---- series
+  -- t₀ ⊕ z ⊗ (t₁ ⊕ z ⊗ ..); the innermost sum is the last term itself, and not that term plus z ⊗ 0
+  unfoldable pub hornerSum : Float → List Float → Float
+  hornerSum z [] = f0
+  hornerSum z (t ∷ []) = t
+  hornerSum z (t ∷ u ∷ ts) = t ⊕ z ⊗ hornerSum z (u ∷ ts)
 
-unfoldable pub rowShort : Format → Row → Float → Float
-rowShort f row z = rowSeries f row (shortTerms f) z
+  -- the first n terms of a row
+  unfoldable pub rowSeries : Row → ℕ → Float → Float
+  rowSeries row n z = hornerSum z (take n (rowTable f row))
 
-unfoldable pub rowWhole : Format → Row → Float → Float
-rowWhole f row z = rowSeries f row (rowTerms f row) z
+  unfoldable pub rowShort : Row → Float → Float
+  rowShort row z = rowSeries row (shortTerms f) z
 
--- ---- exact forms; k is sh ⊘ root, and cosine-half is ch
-unfoldable pub exactA : Format → Float → Float → Float
-exactA f z sh = div f (mul f (mul f f2 sh) sh) z
+  unfoldable pub rowWhole : Row → Float → Float
+  rowWhole row z = rowSeries row (rowTerms f row) z
 
-unfoldable pub exactB : Format → Float → Float → Float → Float
-exactB f z root s = div f (sub f f1 (div f s root)) z
+  -- ---- exact forms; k is sh ⊘ root, and cosine-half is ch
+  unfoldable pub exactA : Float → Float → Float
+  exactA z sh = f2 ⊗ sh ⊗ sh ⊘ z
 
-unfoldable pub exactD : Format → Float → Float → Float
-exactD f z a = div f (sub f half a) z
+  unfoldable pub exactB : Float → Float → Float → Float
+  exactB z root s = (f1 ⊖ s ⊘ root) ⊘ z
 
--- ---- a member of a group
--- by its own limit: the whole series below it, else the exact form, which a NaN takes too
-unfoldable pub rowOwn : Format → Row → Float → Float → Float
-rowOwn f row z exact = cond (lt z (rowLimit f row)) (rowWhole f row z) exact
+  unfoldable pub exactD : Float → Float → Float
+  exactD z a = (half ⊖ a) ⊘ z
 
--- the short series where the group takes it, else by its own limit
-unfoldable pub rowMember : Format → Bool → Row → Float → Float → Float
-rowMember f short row z exact = cond short (rowShort f row z) (rowOwn f row z exact)
+  -- ---- a member of a group
+  -- by its own limit: the whole series below it, else the exact form, which a NaN takes too
+  unfoldable pub rowOwn : Row → Float → Float → Float
+  rowOwn row z exact = cond (lt z (rowLimit f row)) (rowWhole row z) exact
 
--- ---- the groups: all members are on the short series together, below the group's limit
-unfoldable pub circleExp : Format → Float → Float → Float → Float → ExpCoeffs
-circleExp f z root sh ch =
-    let short = lt z (expShortLimit f) in
-    record { k = rowMember f short kRow z (div f sh root); «cos_half» = rowMember f short cosHalfRow z ch }
+  -- the short series where the group takes it, else by its own limit
+  unfoldable pub rowMember : Bool → Row → Float → Float → Float
+  rowMember short row z exact = cond short (rowShort row z) (rowOwn row z exact)
 
--- sin x / x from k and cosine-half
-unfoldable pub sincFrom : Format → Float → Float → Float
-sincFrom f k ch = mul f (mul f f2 k) ch
+  -- ---- the groups: all members are on the short series together, below the group's limit
+  unfoldable pub circleExp : Float → Float → Float → Float → ExpCoeffs
+  circleExp z root sh ch =
+      let short = lt z (expShortLimit f) in
+      record { k = rowMember short kRow z (sh ⊘ root); «cos_half» = rowMember short cosHalfRow z ch }
 
-unfoldable pub circleSinc : Format → Float → Float → Float → Float → Float
-circleSinc f z root sh ch =
-    let c = circleExp f z root sh ch in
-    sincFrom f (c .k) (c .«cos_half»)
+  -- sin x / x from k and cosine-half
+  unfoldable pub sincFrom : Float → Float → Float
+  sincFrom k ch = f2 ⊗ k ⊗ ch
 
-unfoldable pub circleSincABD : Format → Float → Float → Float → Float → Float → SincABD
-circleSincABD f z root sh ch s =
-    let short = lt z (fiveShortLimit f) in
-    let a = exactA f z sh in
-    record {
-      sinc = sincFrom f (rowMember f short kRow z (div f sh root)) (rowMember f short cosHalfRow z ch);
-      a = rowMember f short aRow z a;
-      b = rowMember f short bRow z (exactB f z root s);
-      d = rowMember f short dRow z (exactD f z a);
-    }
+  unfoldable pub circleSinc : Float → Float → Float → Float → Float
+  circleSinc z root sh ch =
+      let c = circleExp z root sh ch in
+      sincFrom c.k c.«cos_half»
 
--- sinc and a of these, which do not read s
-unfoldable pub circleSincA : Format → Float → Float → Float → Float → SincA
-circleSincA f z root sh ch =
-    let c = circleSincABD f z root sh ch f0 in
-    record { sinc = c .sinc; a = c .a }
+  unfoldable pub circleSincABD : Float → Float → Float → Float → Float → SincABD
+  circleSincABD z root sh ch s =
+      let short = lt z (fiveShortLimit f) in
+      let a = exactA z sh in
+      record {
+        sinc = sincFrom (rowMember short kRow z (sh ⊘ root)) (rowMember short cosHalfRow z ch);
+        a = rowMember short aRow z a;
+        b = rowMember short bRow z (exactB z root s);
+        d = rowMember short dRow z (exactD z a);
+      }
+
+  -- sinc and a of these, which do not read s
+  unfoldable pub circleSincA : Float → Float → Float → Float → SincA
+  circleSincA z root sh ch =
+      let c = circleSincABD z root sh ch f0 in
+      record { sinc = c.sinc; a = c.a }
 
 -- ---- the entries
 abbrev pub notBelowZero : {A : Type 0} → Float → A → Answer A

@@ -21,9 +21,9 @@ pub struct ExpCoeffs {
     pub cos_half: f64,
 }
 
-// (1 - cos x)/x^2, (x - sin x)/x^3, sin x/x, (x^2/2 - 1 + cos x)/x^4. a and b stand together because
-// the compiler forms and stores them as one vector: read as halves of other vectors, which another
-// order brings about, they would have to wait for the store.
+// (1 - cos x)/x^2, (x - sin x)/x^3, sin x/x, (x^2/2 - 1 + cos x)/x^4. PERF (D122): a and b stand together
+// because the compiler forms and stores them as one vector: read as halves of other vectors, which
+// another order brings about, they would have to wait for the store.
 pub struct SincABD {
     pub a: f64,
     pub b: f64,

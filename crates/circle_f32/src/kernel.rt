@@ -1,4 +1,4 @@
-// Written by tools/widths from crates/circle/src/kernel.rt: edit that one. Digest b0a5cd642c302a3b.
+// Written by tools/widths from crates/circle/src/kernel.rt: edit that one. Digest 5683afc6c6ff1d8e.
 // The exact arms, the series arms and the two groups, at a squared angle z = x^2. Its root x, the sine
 // and cosine of x/2 and the sine of x are handed in. A NaN is below no limit, so it takes the exact
 // arms.
@@ -25,9 +25,9 @@ pub struct ExpCoeffs {
     pub cos_half: f32,
 }
 
-// (1 - cos x)/x^2, (x - sin x)/x^3, sin x/x, (x^2/2 - 1 + cos x)/x^4. a and b stand together because
-// the compiler forms and stores them as one vector: read as halves of other vectors, which another
-// order brings about, they would have to wait for the store.
+// (1 - cos x)/x^2, (x - sin x)/x^3, sin x/x, (x^2/2 - 1 + cos x)/x^4. PERF (D122): a and b stand together
+// because the compiler forms and stores them as one vector: read as halves of other vectors, which
+// another order brings about, they would have to wait for the store.
 pub struct SincABD {
     pub a: f32,
     pub b: f32,

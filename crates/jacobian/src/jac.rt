@@ -60,8 +60,8 @@ impl Sim3Jac {
     }
 
     // (A^-1, -C^-1 B A^-1, C^-1, -C^-1 f / e, 1 / e), by the adjugates of A and C; refusal 2 where e
-    // is a zero. A zero determinant is divided by. C^-1 is formed first and before the test of e: the
-    // compiler then packs the products better.
+    // is a zero. A zero determinant is divided by. PERF (D122): C^-1 is formed first and before the test
+    // of e, since the compiler then packs the products better.
     pub fn inverse(self) -> JacAnswer
         ensures { λ r. ⌜ jacTold r ≡ jacInverseAnswer binary64 self ⌝ }
     {

@@ -1,4 +1,4 @@
-// Written by tools/widths from crates/jacobian/src/jac.rt: edit that one. Digest 9b6f0e29ff4cf7a6.
+// Written by tools/widths from crates/jacobian/src/jac.rt: edit that one. Digest 632d43055d17fd17.
 // A Sim(3) Jacobian: the matrix with the rows (a, 0, 0), (b, c, f), (0, 0, e).
 ghost use mathlib.Core.Path.{_≡_};
 ghost use lib.Ieee.{binary32};
@@ -65,8 +65,8 @@ impl Sim3Jac {
     }
 
     // (A^-1, -C^-1 B A^-1, C^-1, -C^-1 f / e, 1 / e), by the adjugates of A and C; refusal 2 where e
-    // is a zero. A zero determinant is divided by. C^-1 is formed first and before the test of e: the
-    // compiler then packs the products better.
+    // is a zero. A zero determinant is divided by. PERF (D122): C^-1 is formed first and before the test
+    // of e, since the compiler then packs the products better.
     pub fn inverse(self) -> JacAnswer
         ensures { λ r. ⌜ jacTold r ≡ jacInverseAnswer binary32 (asSim3Jac self) ⌝ }
     {

@@ -48,9 +48,9 @@ fn mat_act(m: Mat3, t: Vec3, p: Vec3) -> Vec3
     m.mul_vec(p).add(t)
 }
 
-// The first e points, moved into their places. Reads from what is left of pts: the compiler then
-// loads two points as three vectors, where an index into the whole list makes it load number by
-// number.
+// The first e points, moved into their places. PERF (D122): it reads from what is left of pts, so that
+// the compiler loads two points as three vectors, where an index into the whole list makes it load
+// number by number.
 pub(crate) fn leading(m: Mat3, t: Vec3, pts: &[f64], out: &mut [f64], e: usize)
     requires { ⌜ (e * 3 ≤ length (now pts)) × (length (now out) ≡ length (now pts)) ⌝ }
     ensures { λ _. ⌜ now (out .exit) ≡ pointsMoved (matAct binary64 m t) (now (pts .entry)) e ++ drop (e * 3) (now (out .entry)) ⌝ }

@@ -9,8 +9,9 @@ use crate::leading;
 use linalg::matrix::Mat3;
 use linalg::vector::Vec3;
 
-// The last point of an odd count first, then the others. Their count is even, so the compiler, which
-// moves two points a turn, has none to do after its loop: the loop alone has the registers.
+// The last point of an odd count first, then the others. PERF (D122): their count is even, so the
+// compiler, which moves two points a turn, has none to do after its loop: the loop alone has the
+// registers.
 pub(crate) fn many(m: Mat3, t: Vec3, pts: &[f64], out: &mut [f64], n: usize)
     requires { ⌜ (n * 3 ≡ length (now pts)) × (n * 3 ≡ length (now out)) ⌝ }
     ensures { λ _. ⌜ now (out .exit) ≡ pointsMoved (matAct binary64 m t) (now (pts .entry)) n ⌝ }

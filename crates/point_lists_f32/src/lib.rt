@@ -1,4 +1,4 @@
-// Written by tools/widths from crates/point_lists/src/lib.rt: edit that one. Digest adefe7f4e7b22273.
+// Written by tools/widths from crates/point_lists/src/lib.rt: edit that one. Digest c8bc66538439bcd1.
 // The action of a pose on a list of points, three numbers each, into another list. Two entries:
 // act_many has the bits of the Rust's act_many, which forms the matrix s R once; act_each moves each
 // point as Sim3::act and the mark AC do. The two differ in the last bits.
@@ -52,9 +52,9 @@ fn mat_act(m: Mat3, t: Vec3, p: Vec3) -> Vec3
     m.mul_vec(p).add(t)
 }
 
-// The first e points, moved into their places. Reads from what is left of pts: the compiler then
-// loads two points as three vectors, where an index into the whole list makes it load number by
-// number.
+// The first e points, moved into their places. PERF (D122): it reads from what is left of pts, so that
+// the compiler loads two points as three vectors, where an index into the whole list makes it load
+// number by number.
 pub(crate) fn leading(m: Mat3, t: Vec3, pts: &[f32], out: &mut [f32], e: usize)
     requires { ⌜ (e * 3 ≤ length (now pts)) × (length (now out) ≡ length (now pts)) ⌝ }
     ensures { λ _. ⌜ now (out .exit) ≡ pointsMoved (matAct binary32 (asMat3 m) (asVec3 t)) (now (pts .entry)) e ++ drop (e * 3) (now (out .entry)) ⌝ }

@@ -41,8 +41,9 @@ fn turned(m: Mat3) -> Mat3
     }
 }
 
-// mat_act by a turned matrix, the same bits. Products that are subtracted cannot change places: the
-// compiler then puts x of four numbers of the output together, y and z, and stores them as they are.
+// mat_act by a turned matrix, the same bits. PERF (D122): products that are subtracted cannot change
+// places, so the compiler puts x of four numbers of the output together, y and z, and stores them as
+// they are.
 fn less_act(m: Mat3, t: Vec3, p: Vec3) -> Vec3
     ensures { λ r. ⌜ asVec3 r ≡ matAct binary32 (matTurned (asMat3 m)) (asVec3 t) (asVec3 p) ⌝ }
 {

@@ -72,9 +72,9 @@ fn turns_at(sigma: f64, z: f64, k: usize) -> TurnsPair
     turns_below(sigma, z, k + 1)
 }
 
-// The levels below n, which is even: an even and an odd one at each turn. This is called from two
-// places, so that it is compiled as a function of its own, which stores its answer: it is from these
-// stores that the compiler sees which numbers of a turn to compute in twos.
+// The levels below n, which is even: an even and an odd one at each turn. PERF (D122): this is called
+// from two places, so that it is compiled as a function of its own, which stores its answer: it is from
+// these stores that the compiler sees which numbers of a turn to compute in twos.
 fn turns_below(sigma: f64, z: f64, n: usize) -> TurnsPair
     requires { ⌜ (n ≤ 28) × (n % 2 ≡ 0) ⌝ }
     ensures { λ r. ⌜ r ≡ pairTurns binary64 sigma z n ⌝ }

@@ -2,7 +2,7 @@
 ghost use mathlib.Core.Path.{_≡_};
 ghost use lib.Ieee.{binary64};
 ghost use Rattle.series.specs.Private.{vTurns};
-use crate::reciprocal::recip;
+use crate::reciprocal::table_entry;
 use crate::recurrence::TurnsV;
 use crate::recurrence::none_v;
 use crate::recurrence::turn_v;
@@ -14,11 +14,11 @@ pub const TERMS: usize = 6;
 pub fn turns_v(sigma: f64, z: f64) -> TurnsV
     ensures { λ r. ⌜ r ≡ vTurns binary64 sigma z 7 ⌝ }
 {
-    let a = turn_v(sigma, z, recip(1), none_v());
-    let b = turn_v(sigma, z, recip(2), a);
-    let c = turn_v(sigma, z, recip(3), b);
-    let d = turn_v(sigma, z, recip(4), c);
-    let e = turn_v(sigma, z, recip(5), d);
-    let f = turn_v(sigma, z, recip(6), e);
-    turn_v(sigma, z, recip(7), f)
+    let a = turn_v(sigma, z, table_entry(1), none_v());
+    let b = turn_v(sigma, z, table_entry(2), a);
+    let c = turn_v(sigma, z, table_entry(3), b);
+    let d = turn_v(sigma, z, table_entry(4), c);
+    let e = turn_v(sigma, z, table_entry(5), d);
+    let f = turn_v(sigma, z, table_entry(6), e);
+    turn_v(sigma, z, table_entry(7), f)
 }

@@ -13,7 +13,7 @@ ghost use Rattle.series.specs.Private.{gTerm, passed, passTold};
 use crate::horner::entries_read;
 use crate::horner::g_series;
 use crate::horner::g_term;
-use crate::reciprocal::recip;
+use crate::reciprocal::table_entry;
 use crate::sim3::GPair;
 use crate::sim3::Horner;
 
@@ -26,7 +26,7 @@ pub const W0_TERMS: usize = 15;
 pub fn g1(sigma: f64) -> f64
     ensures { λ r. ⌜ r ≡ gSeries binary64 sigma 1 (w0Terms binary64 + 1) ⌝ }
 {
-    recip(1) + sigma * g2(sigma)
+    table_entry(1) + sigma * g2(sigma)
 }
 
 // w0 of the closed arm at small sigma: 15 terms.
@@ -61,12 +61,12 @@ fn next(sigma: f64, minus: f64, n: usize, g: GPair) -> GPair
     requires { ⌜ n ≤ 32 ⌝ }
     ensures { λ r. ⌜ r ≡ gTerm binary64 sigma minus (recipFact binary64 n) g ⌝ }
 {
-    g_term(sigma, minus, recip(n), g)
+    g_term(sigma, minus, table_entry(n), g)
 }
 
-// The pass for both signs: stopped after any of its entries it holds what each sign alone has then. It
-// is written out, and `minus` is -sigma but +0 for a zero, which no sum sees: so the compiler works
-// both signs as one vector, with constant reciprocals.
+// The pass for both signs: stopped after any of its entries it holds what each sign alone has then.
+// PERF (D122): it is written out, and `minus` is -sigma but +0 for a zero, which no sum sees, so that
+// the compiler works both signs as one vector, with constant reciprocals.
 fn passes(sigma: f64) -> Pass
     ensures { λ r. ⌜ passTold r ≡ passed binary64 sigma ⌝ }
 {

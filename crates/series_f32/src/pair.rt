@@ -1,4 +1,4 @@
-// Written by tools/widths from crates/series/src/pair.rt: edit that one. Digest 944efa370b941387.
+// Written by tools/widths from crates/series/src/pair.rt: edit that one. Digest 959096febb99e5a2.
 // The series at sigma and at -sigma, each to the bit, from one recurrence. The levels at -sigma are
 // those at sigma with the sign of their parity, up to the sign of a zero, which no sum keeps: so
 // where a sum at sigma adds a term, the one at -sigma adds or subtracts it.
@@ -75,9 +75,9 @@ fn turns_at(sigma: f32, z: f32, k: usize) -> TurnsPair
     turns_below(sigma, z, k + 1)
 }
 
-// The levels below n, which is even: an even and an odd one at each turn. This is called from two
-// places, so that it is compiled as a function of its own, which stores its answer: it is from these
-// stores that the compiler sees which numbers of a turn to compute in twos.
+// The levels below n, which is even: an even and an odd one at each turn. PERF (D122): this is called
+// from two places, so that it is compiled as a function of its own, which stores its answer: it is from
+// these stores that the compiler sees which numbers of a turn to compute in twos.
 fn turns_below(sigma: f32, z: f32, n: usize) -> TurnsPair
     requires { ⌜ (n ≤ 28) × (n % 2 ≡ 0) ⌝ }
     ensures { λ r. ⌜ asTurnsPair r ≡ pairTurns binary32 sigma z n ⌝ }

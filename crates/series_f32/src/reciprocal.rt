@@ -1,4 +1,4 @@
-// Written by tools/widths from crates/series/src/reciprocal.rt: edit that one. Digest 148a1ad7e8850497.
+// Written by tools/widths from crates/series/src/reciprocal.rt: edit that one. Digest 1e78ca8a3d0a9c19.
 // The reciprocals that the series read: none of them is past the end of the table.
 ghost use mathlib.Core.Path.{_≡_};
 ghost use Prim.Native.Nat.{_≤_};
@@ -16,7 +16,7 @@ fn never() -> f32
 }
 
 // 1/n!, for an index that the table has.
-pub fn recip(n: usize) -> f32
+pub fn table_entry(n: usize) -> f32
     requires { ⌜ n ≤ 32 ⌝ }
     ensures { λ r. ⌜ r ≡ recipFact binary32 n ⌝ }
 {
@@ -24,4 +24,14 @@ pub fn recip(n: usize) -> f32
         Recip::Number(r) => r,
         Recip::None => never(),
     }
+}
+
+// PERF (D123): 1/n! for an index that a loop counts. The compiler follows the range of an argument over
+// all calls of a function, and gives up after ten that widen it: this one is not called with the fixed
+// indices of `small` and `shortest`, so its index is seen to be in the table and the loops test nothing.
+pub fn recip(n: usize) -> f32
+    requires { ⌜ n ≤ 32 ⌝ }
+    ensures { λ r. ⌜ r ≡ recipFact binary32 n ⌝ }
+{
+    table_entry(n)
 }

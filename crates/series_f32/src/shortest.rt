@@ -3,7 +3,7 @@ ghost use mathlib.Core.Path.{_≡_};
 ghost use lib.Ieee.{binary32};
 ghost use Rattle.series.specs.Private.{vTurns};
 ghost use Rattle.series_f32.specs.As.{asTurnsV};
-use crate::reciprocal::recip;
+use crate::reciprocal::table_entry;
 use crate::recurrence::TurnsV;
 use crate::recurrence::none_v;
 use crate::recurrence::turn_v;
@@ -15,9 +15,9 @@ pub const TERMS: usize = 4;
 pub fn turns_v(sigma: f32, z: f32) -> TurnsV
     ensures { λ r. ⌜ asTurnsV r ≡ vTurns binary32 sigma z 5 ⌝ }
 {
-    let a = turn_v(sigma, z, recip(1), none_v());
-    let b = turn_v(sigma, z, recip(2), a);
-    let c = turn_v(sigma, z, recip(3), b);
-    let d = turn_v(sigma, z, recip(4), c);
-    turn_v(sigma, z, recip(5), d)
+    let a = turn_v(sigma, z, table_entry(1), none_v());
+    let b = turn_v(sigma, z, table_entry(2), a);
+    let c = turn_v(sigma, z, table_entry(3), b);
+    let d = turn_v(sigma, z, table_entry(4), c);
+    turn_v(sigma, z, table_entry(5), d)
 }

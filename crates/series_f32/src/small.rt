@@ -15,7 +15,7 @@ ghost use Rattle.series_f32.specs.Private.{passTold};
 use crate::horner::entries_read;
 use crate::horner::g_series;
 use crate::horner::g_term;
-use crate::reciprocal::recip;
+use crate::reciprocal::table_entry;
 use crate::sim3::GPair;
 use crate::sim3::Horner;
 
@@ -28,7 +28,7 @@ pub const W0_TERMS: usize = 8;
 pub fn g1(sigma: f32) -> f32
     ensures { λ r. ⌜ r ≡ gSeries binary32 sigma 1 (w0Terms binary32 + 1) ⌝ }
 {
-    recip(1) + sigma * g2(sigma)
+    table_entry(1) + sigma * g2(sigma)
 }
 
 // w0 of the closed arm at small sigma: 8 terms.
@@ -56,12 +56,12 @@ fn next(sigma: f32, minus: f32, n: usize, g: GPair) -> GPair
     requires { ⌜ n ≤ 32 ⌝ }
     ensures { λ r. ⌜ asGPair r ≡ gTerm binary32 sigma minus (recipFact binary32 n) (asGPair g) ⌝ }
 {
-    g_term(sigma, minus, recip(n), g)
+    g_term(sigma, minus, table_entry(n), g)
 }
 
-// The pass for both signs: stopped after any of its entries it holds what each sign alone has then. It
-// is written out, and `minus` is -sigma but +0 for a zero, which no sum sees: so the compiler works
-// both signs as one vector, with constant reciprocals.
+// The pass for both signs: stopped after any of its entries it holds what each sign alone has then.
+// PERF (D122): it is written out, and `minus` is -sigma but +0 for a zero, which no sum sees, so that
+// the compiler works both signs as one vector, with constant reciprocals.
 fn passes(sigma: f32) -> Pass
     ensures { λ r. ⌜ passTold r ≡ passed binary32 sigma ⌝ }
 {

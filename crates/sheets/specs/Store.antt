@@ -78,6 +78,10 @@ freeFrom m (suc n) i = cond (ownAt m i) (freeFrom m n (i + 1)) i
 unfoldable pub freeSlot : List ℕ → ℕ
 freeSlot m = freeFrom m most 0
 
+-- the slot for a sheet that has none: the next, or where all are in use the first that is no sheet's own
+unfoldable pub nextSlot : List ℕ → ℕ
+nextSlot m = cond (ltb (usedOf m) most) (usedOf m) (freeSlot m)
+
 unfoldable pub ownBelow : List ℕ → ℕ → ℕ
 ownBelow m zero = 0
 ownBelow m (suc i) = ownBelow m i + cond (ownAt m i) 1 0
@@ -137,12 +141,14 @@ retakeBytes m i n x =
     let t = wordAt 2 m (slots + slotWidth * i + 2) in
     cond (eqb (x .take) t) m (cond (ltb t (x .take)) (sets m (slots + slotWidth * i) (slotBytes n x)) m)
 
--- where all slots are in use and the sheet has none: the first that is no sheet's own becomes its own
-unfoldable pub reuseTold : List ℕ → Lent (Answer Shelved)
-reuseTold m = cond (ltb (freeSlot m) most) (lent (shelved 1 0)) (lent (refuses noRoom))
+-- where the sheet has no slot: what is told of a shot, and the bytes then
+unfoldable pub addTold : List ℕ → Lent (Answer Shelved)
+addTold m = cond (ltb (nextSlot m) most) (lent (shelved 1 0)) (lent (refuses noRoom))
 
-unfoldable pub reuseBytes : List ℕ → ℕ → Shot → List ℕ
-reuseBytes m n x = cond (ltb (freeSlot m) most) (assignOf m n (freeSlot m) x) m
+unfoldable pub addBytes : List ℕ → ℕ → Shot → List ℕ
+addBytes m n x =
+    cond (ltb (usedOf m) most) (addOf m n (usedOf m) x)
+    (cond (ltb (freeSlot m) most) (assignOf m n (freeSlot m) x) m)
 
 -- ---- all lent bytes behind a call; those that are no store are left as they were
 -- a shot x of the sheet n: into its sheet's slot where that holds a lower take; where its sheet has none, into the next
@@ -150,8 +156,7 @@ reuseBytes m n x = cond (ltb (freeSlot m) most) (assignOf m n (freeSlot m) x) m
 unfoldable pub putBytes : List ℕ → ℕ → Shot → List ℕ
 putBytes m n x =
     cond (holds m)
-    (cond (heldAt m n (slotOf m n)) (retakeBytes m (slotOf m n) n x)
-    (cond (ltb (usedOf m) most) (addOf m n (usedOf m) x) (reuseBytes m n x)))
+    (cond (heldAt m n (slotOf m n)) (retakeBytes m (slotOf m n) n x) (addBytes m n x))
     m
 
 -- made fresh: no slot is in use

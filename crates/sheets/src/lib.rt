@@ -10,8 +10,9 @@ ghost use Prim.Native.Nat.{_+_, _*_, _≤_, _<_};
 ghost use lib.ListN.{length};
 ghost use lib.Seq.{sets};
 ghost use Rattle.sheets.specs.Sheets.{noSheets, most};
-ghost use Rattle.sheets.specs.Store.{slotWidth, slots, size, usedOf, slotOf, shotIn, slotBytes, heldAt, freeSlot, assignOf, addOf, sheetsOf, holds};
-ghost use Rattle.sheets.specs.Store.{putTold, putAnswer, putSheets, getTold, getAnswer, retakeTold, retakeBytes, reuseTold, reuseBytes, putBytes, freshBytes};
+ghost use Rattle.sheets.specs.Store.{slotWidth, slots, size, usedOf, slotOf, shotIn, slotBytes, heldAt};
+ghost use Rattle.sheets.specs.Store.{freeSlot, nextSlot, assignOf, addTold, addBytes, sheetsOf, holds};
+ghost use Rattle.sheets.specs.Store.{putTold, putAnswer, putSheets, getTold, getAnswer, retakeTold, retakeBytes, putBytes, freshBytes};
 use crate::bytes::framed_at;
 use crate::bytes::put_framed;
 use crate::bytes::put_short;
@@ -113,16 +114,6 @@ fn assign(store: &mut [u8], sheet: u16, slot: u16, shot: Shot)
     put_slot(store, slot as usize, sheet, shot);
 }
 
-// Of a sheet of which none is kept: the next slot.
-fn add(store: &mut [u8], sheet: u16, used: u16, shot: Shot)
-    requires { ⌜ length (now store) ≡ size ⌝ }
-    requires { ⌜ used < most ⌝ }
-    ensures { λ _. ⌜ now (store .exit) ≡ addOf (now (store .entry)) sheet used shot ⌝ }
-{
-    assign(store, sheet, used, shot);
-    put_short(store, TAIL, used + 1);
-}
-
 // Where all slots are in use, the first that is no sheet's own; their number where each is.
 fn free_slot(store: &[u8]) -> u16
     requires { ⌜ length (now store) ≡ size ⌝ }
@@ -141,20 +132,37 @@ fn free_slot(store: &[u8]) -> u16
     slot
 }
 
-// Of a sheet of which none is kept, where all slots are in use: one that is no sheet's own. Where there
-// is none, 512 sheets are kept.
-fn reuse(store: &mut [u8], sheet: u16, shot: Shot) -> PutAnswer
+// The slot for a sheet of which none is kept: the next, or where all are in use one that is no sheet's
+// own; their number where there is none.
+fn next_slot(store: &[u8], used: u16) -> u16
     requires { ⌜ length (now store) ≡ size ⌝ }
-    requires { ⌜ most ≤ usedOf (now store) ⌝ }
-    ensures { λ r. ⌜ putTold r ≡ reuseTold (now (store .entry)) ⌝ }
-    ensures { λ _. ⌜ now (store .exit) ≡ reuseBytes (now (store .entry)) sheet shot ⌝ }
+    requires { ⌜ used ≡ usedOf (now store) ⌝ }
+    ensures { λ r. ⌜ r ≡ nextSlot (now (store .entry)) ⌝ }
 {
-    let slot = free_slot(store);
-    if slot < MOST {
-        assign(store, sheet, slot, shot);
+    if used < MOST {
+        return used;
+    }
+    free_slot(store)
+}
+
+// Of a sheet of which none is kept: a slot becomes its own. Where there is none, 512 sheets are kept.
+// PERF (D122): one place that writes a slot for a new sheet, whichever slot it is.
+fn add(store: &mut [u8], sheet: u16, shot: Shot) -> PutAnswer
+    requires { ⌜ length (now store) ≡ size ⌝ }
+    ensures { λ r. ⌜ putTold r ≡ addTold (now (store .entry)) ⌝ }
+    ensures { λ _. ⌜ now (store .exit) ≡ addBytes (now (store .entry)) sheet shot ⌝ }
+{
+    let used = short_at(store, TAIL);
+    let slot = next_slot(store, used);
+    if MOST <= slot {
+        return PutAnswer::Refused(11);
+    }
+    assign(store, sheet, slot, shot);
+    if used < MOST {
+        put_short(store, TAIL, used + 1);
         return PutAnswer::New;
     }
-    PutAnswer::Refused(11)
+    PutAnswer::New
 }
 
 // Of a sheet of which that slot holds one: the higher take stays.
@@ -200,12 +208,7 @@ pub fn put(store: &mut [u8], sheet: u16, shot: Shot) -> PutAnswer
     if held(store, sheet, slot) {
         return retake(store, sheet, slot, shot);
     }
-    let used = short_at(store, TAIL);
-    if used < MOST {
-        add(store, sheet, used, shot);
-        return PutAnswer::New;
-    }
-    reuse(store, sheet, shot)
+    add(store, sheet, shot)
 }
 
 // The shot that is kept of a sheet.

@@ -96,9 +96,9 @@ impl Sim3 {
         rp.scale(up).add(self.t)
     }
 
-    // XY = (R_X R_Y, s_X R_X t_Y + t_X, sigma_X + sigma_Y); up is e^sigma of X. The operations of
-    // Quat::mul and of act, written out in an order in which the compiler keeps every number in a
-    // register: p.x and p.z times q, then t, then the sums of the quaternion.
+    // XY = (R_X R_Y, s_X R_X t_Y + t_X, sigma_X + sigma_Y); up is e^sigma of X. PERF (D111): the
+    // operations of Quat::mul and of act are written out in an order in which the compiler keeps every
+    // number in a register: p.x and p.z times q, then t, then the sums of the quaternion.
     pub fn mul(self, o: Sim3, up: f64) -> Sim3
         ensures { λ r. ⌜ r ≡ poseMul binary64 self o up ⌝ }
     {

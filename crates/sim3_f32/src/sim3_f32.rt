@@ -1,4 +1,4 @@
-// Written by tools/widths from crates/sim3/src/sim3.rt: edit that one. Digest 62a00fb5a1dc5dac.
+// Written by tools/widths from crates/sim3/src/sim3.rt: edit that one. Digest 2eaf68f1c20b9457.
 // A pose of Sim(3), X p = e^sigma R p + t, by its numbers alone. Exponentials of log scales are handed
 // in.
 ghost use mathlib.Core.Path.{_≡_};
@@ -102,9 +102,9 @@ impl Sim3 {
         rp.scale(up).add(self.t)
     }
 
-    // XY = (R_X R_Y, s_X R_X t_Y + t_X, sigma_X + sigma_Y); up is e^sigma of X. The operations of
-    // Quat::mul and of act, written out in an order in which the compiler keeps every number in a
-    // register: p.x and p.z times q, then t, then the sums of the quaternion.
+    // XY = (R_X R_Y, s_X R_X t_Y + t_X, sigma_X + sigma_Y); up is e^sigma of X. PERF (D111): the
+    // operations of Quat::mul and of act are written out in an order in which the compiler keeps every
+    // number in a register: p.x and p.z times q, then t, then the sums of the quaternion.
     pub fn mul(self, o: Sim3, up: f32) -> Sim3
         ensures { λ r. ⌜ asSim3 r ≡ poseMul binary32 (asSim3 self) (asSim3 o) up ⌝ }
     {

@@ -1,11 +1,10 @@
--- Written by tools/proofs from Proof.template: edit that one. Digest 0790a98ef61799cf.
--- `sheets::put` meets its contract: by the length of the bytes, by whether the slot is the sheet's, and by whether a slot is not in use yet. Assumes nothing.
+-- Written by tools/proofs from Proof.template: edit that one. Digest c018fe2b28cebfe9.
+-- `sheets::put` meets its contract: by the length of the bytes, and by whether the slot is the sheet's. Assumes nothing.
 use borrow.Author.Needs.{needs}
 use native.Mathlib.Omega.{arith}
 use mathlib.Core.Path.{sym, _∙_}
-use Rattle.sheets.specs.Store.{usedOf}
 use Rattle.sheets.proofs.Framed.{Fit}
-use Rattle.sheets.proofs.Told.{put-storeless, put-new, put-reuse, put-again}
+use Rattle.sheets.proofs.Told.{put-storeless, put-added, put-again}
 use Rattle.sheets.proofs.put.Statement.{statement}
 use Rattle.sheets.proofs.put.Tie as tie
 
@@ -37,31 +36,13 @@ returns-2 c =
     (sym (c1 .held .ensures) ∙ c .before .before .before .before .if2 .taken) (c .before .before .retake .result) _ (c .before .before .retake .ensures .0) (c .before .before .retake .ensures .1)
 
 returns-3 : tie.Need-returns-3
-unfolding usedOf
 returns-3 c =
     let c1 = c .before .before .before .before .before in
     let c2 = c1 .before .before .before .before .before in
-    let a = c2 .before .before .before .before .args in
-    put-new (a .store .now) (a .sheet) (a .shot) (c2 .slot-of .result) (search needs) (c2 .slot-of .ensures .0) (c2 .before .before .if1 .left) (search needs) (fit (c2))
-    (sym (c1 .before .before .before .held .ensures) ∙ c1 .before .before .if2 .left) (c1 .short-at .result) (c1 .short-at .ensures)
-    (c .before .before .before .before .if3 .taken) _ (c .before .before .add .ensures)
-
-reuse-requires : tie.Need-reuse-requires
-unfolding usedOf
-reuse-requires c κs =
-    let c1 = c .before .before .before .before .before in
-    (c1 .before .before .before .before .if1 .left, rw (← (c .before .before .short-at .ensures)) (c .before .if3 .left))
-
-returns-4 : tie.Need-returns-4
-unfolding usedOf
-returns-4 c =
-    let c1 = c .before .before .before .before .before in
-    let c2 = c1 .before .before .before .before .before in
-    let a = c2 .before .before .before .before .args in
-    put-reuse (a .store .now) (a .sheet) (a .shot) (c2 .slot-of .result) (search needs) (c2 .slot-of .ensures .0) (c2 .before .before .if1 .left) (search needs) (fit (c2))
-    (sym (c1 .before .before .before .held .ensures) ∙ c1 .before .before .if2 .left) (c1 .short-at .result) (c1 .short-at .ensures)
-    (c .before .before .before .before .if3 .left) (c .before .before .reuse .result) _ (c .before .before .reuse .ensures .0)
-    (c .before .before .reuse .ensures .1)
+    let a = c2 .before .args in
+    put-added (a .store .now) (a .sheet) (a .shot) (c1 .before .before .slot-of .result) (search needs) (c1 .before .before .slot-of .ensures .0)
+    (c1 .before .before .before .before .if1 .left) (search needs) (fit (c1 .before .before))
+    (sym (c1 .held .ensures) ∙ c .before .before .before .before .if2 .left) (c .before .before .add .result) _ (c .before .before .add .ensures .0) (c .before .before .add .ensures .1)
 
 pub put-spec : {M : Type 1} → statement M
 put-spec =
@@ -74,9 +55,5 @@ put-spec =
     (λ c. search needs)
     returns-2
     (λ c κs. search needs)
-    (λ c κs. search needs)
     (λ c. search needs)
-    returns-3
-    reuse-requires
-    (λ c. search needs)
-    returns-4)
+    returns-3)

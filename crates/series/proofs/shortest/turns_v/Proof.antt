@@ -9,20 +9,20 @@ unfolding vTurns
 returns c =
     simp (
       c .turn-v7 .ensures,
-      c .before .recip7 .ensures,
+      c .before .table-entry7 .ensures,
       c .before .before .turn-v6 .ensures,
-      c .before .before .before .recip6 .ensures,
+      c .before .before .before .table-entry6 .ensures,
       c .before .before .before .before .turn-v5 .ensures,
-      c .before .before .before .before .before .recip5 .ensures,
+      c .before .before .before .before .before .table-entry5 .ensures,
       c .before .before .before .before .before .before .turn-v4 .ensures,
-      c .before .before .before .before .before .before .before .recip4 .ensures,
+      c .before .before .before .before .before .before .before .table-entry4 .ensures,
       c .before .before .before .before .before .before .before .before .turn-v3 .ensures,
-      c .before .before .before .before .before .before .before .before .before .recip3 .ensures,
+      c .before .before .before .before .before .before .before .before .before .table-entry3 .ensures,
       c .before .before .before .before .before .before .before .before .before .before .turn-v2 .ensures,
-      c .before .before .before .before .before .before .before .before .before .before .before .recip2 .ensures,
+      c .before .before .before .before .before .before .before .before .before .before .before .table-entry2 .ensures,
       c .before .before .before .before .before .before .before .before .before .before .before .before .turn-v .ensures,
       c .before .before .before .before .before .before .before .before .before .before .before .before .before .none-v .ensures,
-      c .before .before .before .before .before .before .before .before .before .before .before .before .before .before .recip .ensures,
+      c .before .before .before .before .before .before .before .before .before .before .before .before .before .before .table-entry .ensures,
     )
 
 pub turns-v-spec : {M : Type 1} → statement M

@@ -6,7 +6,7 @@ use Rattle.series.proofs.small.g1.Tie as tie
 
 returns : tie.Need-returns
 unfolding gSeries
-returns c = simp (c .g2 .ensures, c .before .recip .ensures)
+returns c = simp (c .g2 .ensures, c .before .table-entry .ensures)
 
 pub g1-spec : {M : Type 1} → statement M
 g1-spec = tie.close (tie.spec (λ c κs. search needs) (λ c κs. search needs) returns)

@@ -14,16 +14,16 @@ returns c =
     simp (
       series-singles,
       c .turn-v5 .ensures,
-      c .before .recip5 .ensures,
+      c .before .table-entry5 .ensures,
       c .before .before .turn-v4 .ensures,
-      c .before .before .before .recip4 .ensures,
+      c .before .before .before .table-entry4 .ensures,
       c .before .before .before .before .turn-v3 .ensures,
-      c1 .recip3 .ensures,
+      c1 .table-entry3 .ensures,
       c1 .before .turn-v2 .ensures,
-      c1 .before .before .recip2 .ensures,
+      c1 .before .before .table-entry2 .ensures,
       c1 .before .before .before .turn-v .ensures,
       c1 .before .before .before .before .none-v .ensures,
-      c2 .recip .ensures,
+      c2 .table-entry .ensures,
     )
 
 pub turns-v-spec : {M : Type 1} → statement M
