@@ -1,4 +1,4 @@
-"""The examples run and find their answers right, and the README's snippets are theirs."""
+"""The examples run and find their answers right, and the snippets of README and docs/LIBRARY.md are theirs."""
 import pathlib
 import re
 import subprocess
@@ -67,8 +67,9 @@ def lines_of(text):
 
 
 def snippets():
-    """Each block of C, Python or Rust in the README stands in the example of its language, line by line."""
-    found = re.findall(r"^```(c|cpp|python|rust)\n(.*?)^```", (ROOT / "README.md").read_text(), re.M | re.S)
+    """Each block of C, C++, Python or Rust in README and docs/LIBRARY.md stands in the example of its language."""
+    pages = "\n".join((ROOT / page).read_text() for page in ("README.md", "docs/LIBRARY.md"))
+    found = re.findall(r"^```(c|cpp|python|rust)\n(.*?)^```", pages, re.M | re.S)
     assert {language for language, _ in found} == set(SOURCES), f"snippets of {[language for language, _ in found]}"
     for language, text in found:
         wanted, there = lines_of(text), lines_of((ROOT / SOURCES[language]).read_text())

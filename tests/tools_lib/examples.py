@@ -12,6 +12,7 @@ from jobs_lib.floats import SINGLE
 from jobs_lib.layout import JOB
 
 PAGE = ROOT / "docs" / "JOB-FORMAT.md"
+GUIDE = ROOT / "docs" / "JOBS.md"
 FORMAT = ROOT / "examples" / "format"
 RENEW = "(tests/tools --renew writes it anew)"
 
@@ -35,7 +36,7 @@ def help_has_examples():
 
 
 def help_says_what_the_page_says():
-    """The bytes by `jobs format`, and the exit statuses by the script's help, are the page's."""
+    """The bytes by `jobs format` are the page's, and the exit statuses by the script's help the guide's."""
     told, whole = jobs("format")[0].decode(), PAGE.read_text()
     for name, part in page.page_parts("").items():
         holds(told, part.rstrip())
@@ -46,7 +47,7 @@ def help_says_what_the_page_says():
     holds(script, f"{TOOL}", f"{PAGE}")
     statuses = re.findall(r"^  (\S+(?: \+ n)?) {2,}(.*)$", script, re.M)
     same([status for status, _ in statuses], ["0", "1", "2", "3", "128 + n", "141"], "the exit statuses of sim3-job --help")
-    holds(" ".join(whole.split()), *(f"{status}: {text}" for status, text in statuses))
+    holds(" ".join(GUIDE.read_text().split()), *(f"{status}: {text}" for status, text in statuses))
 
 
 @with_program
