@@ -1,16 +1,30 @@
 """`jobs split` and `jobs merge`: a job in parts gives one run's bytes; every wrong part is told; nothing is written then."""
+import contextlib
 import json
 import os
 import pathlib
 import random
 import shutil
 import subprocess
+import sys
 
-from .common import PROGRAM, ROOT, WORK, END, file, holds, jobs, program, records, same, with_program
-from jobs_lib.layout import JOB, JOIN, SHEETS
+from .common import END, PROGRAM, ROOT, WORK, file, holds, jobs, program, records, same, with_library, with_program
+from jobs_lib import bulk, split
+from jobs_lib.layout import ANSWER, JOB, JOIN, SHEETS
 from jobs_lib.records import walk
 
 STATELESS = [mark for mark in JOB if mark not in JOIN + SHEETS]
+ENDS = (b"", b"Q", b"QQ and more", b"CH\0\0", b"MU" + bytes(100), b"SQ\1")  # what may stand behind the last whole record
+
+
+@contextlib.contextmanager
+def plainly():
+    """A block in which bulk.c is not there."""
+    before, bulk.functions = bulk.functions, lambda: None
+    try:
+        yield
+    finally:
+        bulk.functions = before
 
 
 def folder(name):
@@ -41,6 +55,57 @@ def in_parts(name, data, most):
     return jobs("merge", parts)[0]
 
 
+def held(parts):
+    """The files of a folder."""
+    return {path.name: path.read_bytes() for path in parts.iterdir()}
+
+
+def cut_by(way, data, at, end, most):
+    """All that `cut` gives where each group takes so many records in all: the byte behind it, the order, the pieces."""
+    order, pieces, left = b"", [b"", b"", b""], list(most)
+    while True:
+        some = way.cut(data, at, end, left)
+        if not some.order:
+            return at, order, pieces
+        same(len(some.order), sum(some.records), "the records of a cut")
+        at, order = some.at, order + some.order
+        pieces = [before + bytes(piece) for before, piece in zip(pieces, some.pieces)]
+        left = [count - taken for count, taken in zip(left, some.records)]
+
+
+def woven_by(way, order, pieces):
+    """All that `weave` gives of three groups' answers, and where it stopped in each."""
+    sources, out = [bulk.Source(piece, 0, len(piece)) for piece in pieces], b""
+    while order:
+        some, done = way.weave(order, sources)
+        if not done:
+            break
+        out, order = out + bytes(some), order[done:]
+    return out, len(order), [source.at for source in sources]
+
+
+@with_library
+def compiled_and_plain():
+    """bulk.c gives what its Python gives: from any byte to any byte, with any room, with bytes that are no record."""
+    same(bulk.functions() is not None, True, f"{bulk.PATH} is there (bindings/build makes it)")
+    source = random.Random(14)
+    for seed in range(60):
+        table = (JOB, ANSWER)[seed % 2]
+        data = (shuffled(seed, 700) if table is JOB else records(ANSWER, seed, 700, list(ANSWER))) + ENDS[seed % len(ENDS)]
+        end = source.choice([len(data), source.randrange(len(data))])
+        at = source.choice([0, 0, min(end, source.randrange(300))])
+        group_of = {mark: split.GROUPS.get(mark, 0) for mark in table}
+        most = [source.choice([0, 1, 5, 400, 10_000]) for _ in range(3)] if seed % 3 else [10_000] * 3
+        plain, compiled = bulk.Plain(table, group_of), bulk.Compiled(table, group_of)
+        same(compiled.count(data, at, end), plain.count(data, at, end), f"count {seed}")
+        found = cut_by(plain, data, at, end, most)
+        same(cut_by(compiled, data, at, end, most) == found, True, f"cut {seed}")
+        same(woven_by(compiled, *found[1:]) == woven_by(plain, *found[1:]), True, f"weave {seed}")
+        same(woven_by(plain, *found[1:])[0] == data[at:found[0]], True, f"what cut took apart, woven together, {seed}")
+        shorter = [piece[:source.randrange(len(piece) + 1)] for piece in found[2]]
+        same(woven_by(compiled, found[1], shorter) == woven_by(plain, found[1], shorter), True, f"weave of cut answers {seed}")
+
+
 @with_program
 def stored_runs_in_parts():
     """Every stored run, whose answers are the Rust's, in small parts: unknown marks, cut records, all that has state."""
@@ -56,9 +121,22 @@ def one_run():
     for seed, count, marks, most in ((1, 5000, None, 1700), (2, 5000, None, 999_998), (3, 3000, STATELESS, 7), (4, 900, list(JOIN), 900), (5, 900, list(SHEETS), 900),
                                      (6, 400, None, 400), (7, 1, [b"AC"], 1), (8, 0, None, 5)):
         data = shuffled(seed, count, marks)
-        for tail in (b"", b"Q", b"QQ and more", b"CH\0\0", b"MU" + bytes(100), b"SQ\1"):
+        for tail in ENDS:
             due = program(data + tail)
             same(in_parts("one", data + tail, most) == due, True, f"{count} records in parts of {most}, with {tail[:4]} behind them")
+
+
+@with_program
+def without_the_library():
+    """The same where bulk.c is not there: the same parts, and the same answers."""
+    for seed, most in ((16, 300), (17, 2000)):
+        data = shuffled(seed, 1500) + ENDS[seed % len(ENDS)]
+        parts = folder("with")
+        jobs("split", "--records", most, file("with.bin", data), parts)
+        due = held(parts)
+        with plainly():
+            same(in_parts("with", data, most) == program(data), True, f"the answers to parts of {most}")
+        same({name: held(parts)[name] for name in due} == due, True, f"the parts of {most}")
 
 
 @with_program
@@ -77,7 +155,10 @@ def boundaries():
     same([part["records"] for part in told["parts"] if part["group"] == "f"][:-1], [500] * (sum(p["group"] == "f" for p in told["parts"]) - 1), "records of each part")
     again = folder("again")
     jobs("split", "--records", 500, file("bounds.bin", data), again)
-    same({path.name: path.read_bytes() for path in again.iterdir()} == {path.name: path.read_bytes() for path in parts.iterdir()}, True, "a second split")
+    same(held(again) == held(parts), True, "a second split")
+    other = folder("of another size")
+    jobs("split", "--records", 600, file("bounds.bin", data), other)
+    same((parts / "join.in").read_bytes()[:156] == (other / "join.in").read_bytes()[:156], False, "that heads say the size of the parts")
 
 
 @with_program
@@ -107,7 +188,6 @@ def wrong_parts():
 
 def without_a_record(data):
     """Answers that lack one record in the middle."""
-    from jobs_lib.layout import ANSWER
     places = [(at, layout.size) for at, layout in walk(data, ANSWER)]
     at, size = places[len(places) // 2]
     return data[:at] + data[at + size:]
@@ -127,7 +207,8 @@ def what_is_refused():
         holds(jobs("split", f"--records={word}", job, folder("none"), status=2)[1], "is no count of records; expected a whole number from 1 to 999,998")
     jobs("split", "--records", 20, job, folder("index"))
     path = pathlib.Path(WORK.name, "parts of index", "index")
-    for data in (path.read_bytes()[:-1], path.read_bytes()[:40], b"{}\n", b""):
+    whole = path.read_bytes()
+    for data in (whole[:-1], whole[:40], b"{}\n", b"", whole[:-1] + b"q", whole[:-1] + (b"k" if whole[-1:] == b"f" else b"f")):
         path.write_bytes(data)
         holds(jobs("merge", path.parent, status=2)[1], "no index of `jobs split`, or is cut; split the job again")
 
@@ -155,4 +236,34 @@ def by_parallel():
     same(len(program(data)) > 20 * END.size, True, "that there are answers")
 
 
-TESTS = [stored_runs_in_parts, one_run, boundaries, wrong_parts, what_is_refused, without_answers, by_parallel]
+@with_program
+def many_parts():
+    """More parts than a process may have files open."""
+    data, parts = shuffled(15, 400, STATELESS), folder("many")
+    jobs("split", "--records", 2, file("many.bin", data), parts)
+    answered(parts)
+    words = ["sh", "-c", 'ulimit -n 24; exec "$0" -B "$1" merge "$2"', sys.executable, str(ROOT / "tools" / "jobs"), str(parts)]
+    done = subprocess.run(words, stdout=subprocess.PIPE, stderr=subprocess.PIPE)
+    same((done.returncode, done.stderr), (0, b""), "a merge of 200 parts with 24 files open")
+    same(done.stdout == program(data), True, "its answers")
+
+
+def nothing_to_write_to():
+    """A folder that cannot be written is named, with what to do."""
+    parts = folder("full disk")
+    parts.mkdir()
+    with full_disk():
+        holds(jobs("split", file("few.bin", shuffled(12, 40)), parts, status=2)[1], "cannot be written: No space left", "split the job again")
+
+
+@contextlib.contextmanager
+def full_disk():
+    """A block in which every part is written to a full disk."""
+    split.open = lambda path, mode: open("/dev/full", mode)
+    try:
+        yield
+    finally:
+        del split.open
+
+
+TESTS = [compiled_and_plain, many_parts, nothing_to_write_to, stored_runs_in_parts, one_run, without_the_library, boundaries, wrong_parts, what_is_refused, without_answers, by_parallel]

@@ -33,22 +33,6 @@ example:
 """
 
 
-def add_program(commands, add_command):
-    """The two commands' arguments."""
-    one = add_command(commands, "run", RUN.format(script=SCRIPT), "answer a job file by the job program")
-    one.add_argument("job", nargs="?", metavar="JOBS", help="the job file; standard input if not given")
-    one = add_command(commands, "format", FORMAT, "the bytes of every record")
-    one.add_argument("marks", nargs="*", metavar="MARK", help="these marks alone")
-
-
-def program(arguments):
-    """The commands: the exit status."""
-    if arguments.command == "run":
-        return run(arguments.job)
-    print(format_text(arguments.marks))
-    return 0
-
-
 def run(path):
     """Becomes ./sim3-job with the file as its standard input; so the exit status is that script's."""
     if path is not None:

@@ -8,7 +8,7 @@ from math import isfinite
 from .floats import DOUBLE
 from .layout import ANSWER, END, FOUR, JOB, MOST_RECORDS
 from .records import guess, hexadecimal, load, name_of, older, scan, walk
-from .split import Walker
+from .bulk import bulk
 from .terminal import Failure, Lines, Progress, count, say
 
 MOST_RAW = 32  # bytes that are shown of what begins with no mark
@@ -130,8 +130,13 @@ def print_all(data, table, records, lines_of):
 
 def stretches(data, table):
     """Where a file's records can be parted: the first byte of some of them, and the byte behind the last of those."""
-    for window in Walker(table, STRETCH).windows(data, 0, len(data)):
-        yield window.places[0], window.places[-1]
+    at, records = 0, bulk(table)
+    while True:
+        end, _ = records.count(data, at, min(at + STRETCH, len(data)))
+        if end == at:
+            return
+        yield at, end
+        at = end
 
 
 def begin_texts(*given):
