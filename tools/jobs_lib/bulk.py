@@ -1,6 +1,6 @@
-"""What is done for every record of a large file: counting records, sorting them to groups, and putting answers of several
-groups into one order. By a small library in C, bulk.c, where bindings/build or an install has made it, and else in
-Python: the same functions with the same answers."""
+"""What is done for every record of a large file: counting records, sorting them to groups, putting answers of several
+groups into one order, and finding the decimals of singles. By a small library in C, bulk.c, where bindings/build or an
+install has made it, and else in Python: the same functions with the same answers."""
 import contextlib
 import ctypes
 import functools
@@ -11,9 +11,11 @@ from .terminal import INSTALLED, TOP
 PATH = (TOP.parents[1] / "lib" / "sim3" if INSTALLED else TOP / "target" / "bindings") / "libsim3_bulk.so"
 ROOM, RECORDS = 1 << 20, 1 << 16  # the bytes of records, and the records, that are copied at once
 ADDRESS, SIZE = ctypes.c_void_p, ctypes.c_size_t
-FUNCTIONS = {"count": [ADDRESS, SIZE, SIZE, ADDRESS, ADDRESS],
+FUNCTIONS = {"count": [ADDRESS, SIZE, SIZE, ADDRESS, ADDRESS, ADDRESS],
+             "unusable": [ADDRESS, SIZE, SIZE, ADDRESS, ADDRESS, ADDRESS, ADDRESS],
              "cut": [ADDRESS, SIZE, SIZE, ADDRESS, ADDRESS, ADDRESS, SIZE, ADDRESS, SIZE],
-             "weave": [ADDRESS, SIZE, ADDRESS, ADDRESS, ADDRESS, SIZE, ADDRESS]}
+             "weave": [ADDRESS, SIZE, ADDRESS, ADDRESS, ADDRESS, SIZE, ADDRESS],
+             "shortest": [ADDRESS, SIZE, ADDRESS]}
 
 
 class Cut(NamedTuple):
@@ -37,7 +39,7 @@ class Plain:
     """The functions in Python, for the records of a table; `group_of` has the number of each mark's group."""
 
     def __init__(self, table, group_of=None):
-        self.sizes, self.group_of = {mark: layout.size for mark, layout in table.items()}, group_of
+        self.table, self.sizes, self.group_of = table, {mark: layout.size for mark, layout in table.items()}, group_of
 
     def whole(self, data, at, end):
         """The mark and the size of the whole record at byte `at`; the size is 0 where there is none."""
@@ -54,6 +56,17 @@ class Plain:
             at += size
             mark, size = self.whole(data, at, end)
         return at, counts
+
+    def unusable(self, data, at, end):
+        """Which of the whole answers between two bytes hold a NaN or an infinity, counted from 0."""
+        found, number = [], 0
+        mark, size = self.whole(data, at, end)
+        while size:
+            if not self.table[mark].usable(data, at):
+                found.append(number)
+            at, number = at + size, number + 1
+            mark, size = self.whole(data, at, end)
+        return found
 
     def cut(self, data, at, end, most):
         """Copies records from byte `at` on to their groups, up to the first whose group takes no more (`most` of each),
@@ -89,6 +102,12 @@ class Buffer(ctypes.Structure):
     _fields_ = [("address", ADDRESS), ("owner", ctypes.py_object), ("size", ctypes.c_ssize_t), ("rest", ADDRESS * 7)]
 
 
+class Numbers(ctypes.Structure):
+    """bulk.c's numbers."""
+
+    _fields_ = [(name, ctypes.c_uint16) for name in ("first", "count", "width")]
+
+
 class Group(ctypes.Structure):
     """bulk.c's group."""
 
@@ -118,19 +137,41 @@ class Compiled:
     MARKS, GROUPS = 1 << 16, 3
 
     def __init__(self, table, group_of=None):
-        self.marks, self.functions = {mark: int.from_bytes(mark, "little") for mark in table}, functions()
-        self.sizes, self.group_of = (ctypes.c_uint16 * self.MARKS)(), (ctypes.c_uint8 * self.MARKS)()
-        for mark, number in self.marks.items():
-            self.sizes[number] = table[mark].size
+        self.table, self.functions = table, functions()
+        self.least = min(layout.size for layout in table.values())
+        self.sizes = (ctypes.c_uint16 * self.MARKS)()
+        self.places, self.group_of = ((ctypes.c_uint8 * self.MARKS)() for _ in range(2))
+        for place, (mark, layout) in enumerate(table.items()):
+            number = int.from_bytes(mark, "little")
+            self.sizes[number], self.places[number] = layout.size, place
             self.group_of[number] = group_of[mark] if group_of else 0
-        self.rooms = [(ctypes.c_uint8 * ROOM)() for _ in range(self.GROUPS)]
-        self.order = (ctypes.c_uint8 * RECORDS)()
+
+    @functools.cached_property
+    def numbers(self):
+        """Where the numbers of each mark's answer stand."""
+        return (Numbers * len(self.table))(*(layout.floats for layout in self.table.values()))
+
+    @functools.cached_property
+    def rooms(self):
+        """The bytes that each group's records are copied to."""
+        return [(ctypes.c_uint8 * ROOM)() for _ in range(self.GROUPS)]
+
+    @functools.cached_property
+    def order(self):
+        """The groups of the records that are copied."""
+        return (ctypes.c_uint8 * RECORDS)()
 
     def count(self, data, at, end):
-        counts = (ctypes.c_uint64 * self.MARKS)()
+        counts = (ctypes.c_uint64 * len(self.table))()
         with addresses(data) as (address,):
-            at = self.functions["count"](address, at, end, self.sizes, counts)
-        return at, {mark: counts[number] for mark, number in self.marks.items()}
+            at = self.functions["count"](address, at, end, self.sizes, self.places, counts)
+        return at, dict(zip(self.table, counts))
+
+    def unusable(self, data, at, end):
+        found = (ctypes.c_uint32 * ((end - at) // self.least))()
+        with addresses(data) as (address,):
+            count = self.functions["unusable"](address, at, end, self.sizes, self.places, self.numbers, found)
+        return found[:count]
 
     def cut(self, data, at, end, most):
         groups = (Group * self.GROUPS)(*((ctypes.addressof(room), 0, 0, count) for room, count in zip(self.rooms, most)))
@@ -166,3 +207,14 @@ def functions():
 def bulk(table, group_of=None):
     """The functions for a table's records, by bulk.c where it is there."""
     return (Compiled if functions() else Plain)(table, group_of)
+
+
+def shortest(data, at, count):
+    """The doubles nearest to the shortest decimals of so many singles from byte `at` on, a NaN for each NaN; None where
+    bulk.c is not there, and floats.py has to find the decimals."""
+    found = functions()
+    if not found:
+        return None
+    near = (ctypes.c_double * count)()
+    found["shortest"]((ctypes.c_float * count).from_buffer_copy(data, at), count, near)
+    return near[:]

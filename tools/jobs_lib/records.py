@@ -1,15 +1,18 @@
 """Job and answer files as bytes: reading them, walking their records, saying what is damaged."""
+import collections
 import mmap
 import os
 import stat
 import sys
 from typing import NamedTuple
 
+from .bulk import bulk
 from .layout import ANSWER, COUNTED, END, FOUR, JOB, OLDER_ANSWER, OLDER_END, OLDER_JOB
 from .terminal import Failure, Progress, count
 
 STDIN = "(standard input)"
 ZZ = END.mark.encode()
+WINDOW = 1 << 21  # bytes that are looked through between two looks at the clock
 GUESS = 1000  # records that are enough to tell a job file from an answer file
 
 
@@ -117,20 +120,26 @@ def end_damages(data, at, marks, unusable):
     return found
 
 
+def scanned(data, table, what):
+    """The records of a whole file by mark, which answers are not usable, and the byte behind the last record."""
+    marks, unusable, done, end, records = collections.Counter(), [], 0, 0, bulk(table)
+    progress = Progress(what, 0, step=1)
+    while True:
+        at = end
+        end, counts = records.count(data, at, min(len(data), at + WINDOW))
+        if end == at:
+            progress.end()
+            return {mark.decode(): number for mark, number in marks.items() if number}, unusable, end
+        if table is ANSWER:
+            unusable += (done + 1 + number for number in records.unusable(data, at, end))
+        marks.update(counts)
+        done += sum(counts.values())
+        progress(done)
+
+
 def scan(data, table, what):
     """Walks a whole file."""
-    marks, unusable, done, end = {}, [], 0, 0
-    progress = Progress(what, 0)
-    for at, layout in walk(data, table):
-        mark = layout.mark
-        marks[mark] = marks.get(mark, 0) + 1
-        end = at + layout.size
-        done += 1
-        if table is ANSWER and not layout.usable(data, at):
-            unusable.append(done)
-        if not done % Progress.STEP:
-            progress(done)
-    progress.end()
+    marks, unusable, end = scanned(data, table, what)
     if table is JOB:
         damages = [torn(data, end, JOB)] if end < len(data) else []
         return Scan(marks, unusable, end, damages, None)

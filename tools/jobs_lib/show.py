@@ -5,10 +5,10 @@ import struct
 import sys
 from math import isfinite
 
-from .floats import DOUBLE
+from .bulk import bulk, shortest
+from .floats import DOUBLE, SINGLE
 from .layout import ANSWER, END, FOUR, JOB, MOST_RECORDS
 from .records import guess, hexadecimal, load, name_of, older, scan, walk
-from .bulk import bulk
 from .terminal import Failure, Lines, Progress, count, say
 
 MOST_RAW = 32  # bytes that are shown of what begins with no mark
@@ -24,7 +24,14 @@ def template(layout):
     return f"{layout.mark} " + "; ".join(groups)
 
 
+def places(layout):
+    """Where the singles of a record stand, counted in singles; None for its other numbers."""
+    return [struct.calcsize("<" + layout.codes[:i]) // SINGLE.size if code == SINGLE.code else None
+            for i, code in enumerate(layout.codes)]
+
+
 TEMPLATES = {layout: template(layout) for layout in (*JOB.values(), *ANSWER.values(), END)}
+PLACES = {layout: places(layout) for layout in TEMPLATES if layout.width is SINGLE}
 
 
 def remark(layout, numbers):
@@ -49,13 +56,23 @@ def end_line(data, at, layout):
     return [f"{layout.mark} " + "; ".join(shown)]
 
 
+def decimals(data, at, layout):
+    """The numbers of a record of singles, each as its shortest decimal, or as the double that has the same."""
+    near = shortest(data, at + 2, (layout.size - 2) // SINGLE.size)
+    if near is None:
+        return texts(layout, layout.bits.unpack_from(data, at + 2))
+    numbers = layout.numbers.unpack_from(data, at + 2)
+    return tuple(number if place is None else near[place] for place, number in zip(PLACES[layout], numbers))
+
+
 def one_line(data, at, layout):
     """A record as a line, which `make` reads if it is a job's."""
     numbers = layout.numbers.unpack_from(data, at + 2)
-    line = TEMPLATES[layout] % numbers  # str is the shortest decimal of a double
+    # str is the shortest decimal of a double
+    line = TEMPLATES[layout] % (numbers if layout.width is DOUBLE else decimals(data, at, layout))
     nans = line.count("nan")
-    if layout.width is not DOUBLE or nans and layout.bits.unpack_from(data, at + 2).count(DOUBLE.nan) != nans:
-        line = TEMPLATES[layout] % texts(layout, layout.bits.unpack_from(data, at + 2))  # singles; a NaN with bits of its own
+    if nans and layout.bits.unpack_from(data, at + 2).count(layout.width.nan) != nans:  # a NaN with bits of its own
+        line = TEMPLATES[layout] % texts(layout, layout.bits.unpack_from(data, at + 2))
     said = remark(layout, numbers)
     return [f"{line}  # {said}" if said else line]
 
@@ -119,9 +136,10 @@ def print_all(data, table, records, lines_of):
     if records < MANY or cores == 1:
         return print_records(data, table, range(1, records + 1), lines_of)
     progress, done = Progress("show", records, step=1), 0
+    sys.stdout.flush()
     with multiprocessing.get_context("fork").Pool(cores, begin_texts, (data, table, lines_of)) as pool:
         for text, some in pool.imap(text_between, stretches(data, table)):
-            sys.stdout.write(text)
+            sys.stdout.buffer.write(text)
             done += some
             progress(done)
         sys.stdout.flush()
@@ -146,7 +164,7 @@ def begin_texts(*given):
 
 
 def text_between(places):
-    """The lines of the records between two bytes, as one text, and how many records they are."""
+    """The lines of the records between two bytes, as one text in bytes, and how many records they are."""
     data, table, lines_of = GIVEN
     at, end = places
     lines, records = [], 0
@@ -154,7 +172,7 @@ def text_between(places):
         layout = table[data[at:at + 2]]
         lines += lines_of(data, at, layout)
         at, records = at + layout.size, records + 1
-    return "\n".join(lines) + "\n", records
+    return ("\n".join(lines) + "\n").encode(), records
 
 
 def print_end(data, table, found, lines_of):
