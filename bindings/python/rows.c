@@ -30,13 +30,23 @@ typedef uint32_t row_function(const list *in, const list *out, size_t row);
 #define ROW(name) row_##name##_f32
 #include "rows_of_width.h"
 
-/* What a list is made of: numbers of the width, that may be left out where the letter is large; frames; whole numbers of 64 bits. */
+/* What a list is made of: numbers of the width, that may be left out where the letter is large; frames; whole numbers
+ * of 64 bits, and such with a sign. */
 typedef struct {
-    char kind; /* r, R, h, q */
+    char kind; /* r, R, h, q, i */
     int count;
 } form;
 
-enum { MOST_IN = 5, MOST_OUT = 2 };
+enum { MOST_IN = 5, MOST_OUT = 3 };
+
+/* What there is in doubles alone. */
+#define AT(lists, i, type) ((type *)(lists[i].at + row * lists[i].step))
+static uint32_t row_root(const list *in, const list *out, size_t row) {
+    return sim3_root(*AT(in, 0, double), AT(out, 0, uint64_t), 2, AT(out, 1, int64_t), 1, AT(out, 2, double), 1);
+}
+static uint32_t row_compare_tangents(const list *in, const list *out, size_t row) {
+    return sim3_compare_tangents(AT(in, 0, uint64_t), 7, AT(in, 1, uint64_t), 7, AT(out, 0, int64_t), 1);
+}
 
 typedef struct {
     const char *name;
@@ -67,14 +77,16 @@ static const function functions[] = {
     {BOTH(inverse_jacobian_right), {{'r', 8}, {'R', 1}}, {{'r', 31}}},
     {BOTH(inverse_jacobian_left), {{'r', 8}, {'R', 1}}, {{'r', 31}}},
     {BOTH(nearest_arm), {{'r', 1}, {'r', 1}}, {{'q', 3}}},
+    {"root", {row_root, NULL}, {{'r', 1}}, {{'q', 2}, {'i', 1}, {'r', 1}}},
+    {"compare_tangents", {row_compare_tangents, NULL}, {{'q', 7}, {'q', 7}}, {{'i', 1}}},
 };
 
 /* The size of a number of a kind, and its letter in a buffer's format. */
-static size_t size_of(char kind, int single) { return kind == 'h' ? 2 : kind == 'q' ? 8 : single ? 4 : 8; }
+static size_t size_of(char kind, int single) { return kind == 'h' ? 2 : kind == 'q' || kind == 'i' || !single ? 8 : 4; }
 static int has_format(const char *format, char kind, int single) {
     if (!format) return 0;
     if (*format == '<' || *format == '=' || *format == '@') format++;
-    const char *due = kind == 'h' ? "H" : kind == 'q' ? "QL" : single ? "f" : "d";
+    const char *due = kind == 'h' ? "H" : kind == 'q' ? "QL" : kind == 'i' ? "ql" : single ? "f" : "d";
     return *format && strchr(due, *format) && !format[1];
 }
 
@@ -94,7 +106,7 @@ static int lent(PyObject *from, form due, int single, Py_ssize_t rows, int writt
     return -1;
 }
 
-/* A row that was refused: no numbers, no frames, no counts. */
+/* A row that was refused: no numbers, no frames, no whole numbers. */
 static void blank(const form *forms, const list *out, int single, size_t row) {
     for (int i = 0; i < MOST_OUT && forms[i].kind; i++) {
         char *at = out[i].at + row * out[i].step;
@@ -115,9 +127,9 @@ static void over_rows(const function *asked, int single, const list *in, const l
     }
 }
 
-static const function *found(const char *name) {
+static const function *found(const char *name, int single) {
     for (size_t i = 0; i < sizeof functions / sizeof *functions; i++)
-        if (!strcmp(functions[i].name, name)) return &functions[i];
+        if (!strcmp(functions[i].name, name) && functions[i].rows[single]) return &functions[i];
     PyErr_Format(PyExc_KeyError, "%s", name);
     return NULL;
 }
@@ -153,7 +165,7 @@ static PyObject *run(PyObject *self, PyObject *arguments) {
     list in[MOST_IN], out[MOST_OUT];
     (void)self;
     if (!PyArg_ParseTuple(arguments, "spnOOO", &name, &single, &rows, &inputs, &outs, &numbers)) return NULL;
-    const function *asked = found(name);
+    const function *asked = found(name, single);
     if (!asked || PyObject_GetBuffer(numbers, &refused, PyBUF_C_CONTIGUOUS | PyBUF_WRITABLE)) return NULL;
     if (refused.len != rows * 4)
         PyErr_SetString(PyExc_ValueError, "sim3.rows: refused has another length");

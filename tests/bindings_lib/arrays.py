@@ -1,10 +1,13 @@
 """n at a time: every row of an array call has the bits of the single call, at both widths; refusals by row; shapes; the compiled loops' table against raw's."""
+import array
 import importlib.util
 import random
 import re
+import struct
 
 from .common import ROOT, Skipped, bits, same  # which finds the package
 import sim3
+from order_lib import samples
 from sim3 import arrays, f32, raw
 from sim3.widths import DOUBLE, SINGLE, WIDTHS
 
@@ -134,6 +137,65 @@ def nearest_arms():
             same(tuple(int(part[i]) for part in found), due, f"{width.package}.nearest_arm({sigma[i]}, {z[i]})")
 
 
+def roots():
+    """root and nearest_root of each number, with what is refused."""
+    numpy = numpy_here()
+    source = random.Random(80)
+    z = numpy.array([*ODD, 2.0 ** -1074, 2.0 ** 1023, *(source.uniform(0, 10) for _ in range(N)), *(-source.random() for _ in range(5))])
+    found, nearest = sim3.root(z), sim3.nearest_root(z)
+    same([part.dtype.str for part in found], ["<u8", "<u8", "<i8", "<f8", "<u4"], "the types of the roots")
+    for i, x in enumerate(z.tolist()):
+        answer, number = refusal_of(sim3.root, x)
+        same(int(found.refused[i]), number, f"refusal of root({x})")
+        same(bits(nearest[i].tobytes()), bits(struct.pack("<d", sim3.nearest_root(x))), f"nearest_root({x})")
+        if number:
+            same((*map(int, (part[i] for part in found[:3])), bool(numpy.isnan(found.nearest[i]))), (0, 0, 0, True), f"root({x})")
+        else:
+            same(tuple(part[i].item() for part in found[:4]), tuple(answer), f"root({x})")
+    assert {0, 1, 8} == set(found.refused.tolist()), "some of each refusal"
+    same(sim3.root(z[:0]).nearest.shape, (0,), "the roots of nothing")
+    fails(TypeError, "z is an array of complex128", sim3.root, z.astype("complex"))
+
+
+def compared_one(x, y):
+    """The single call, of patterns."""
+    return sim3.compare_tangents(array.array("Q", x.tolist()), array.array("Q", y.tolist()))
+
+
+def orders():
+    """Tangents in order: each pair, one against all, a list, and several lists; numbers and patterns."""
+    numpy = numpy_here()
+    words = numpy.array(list(samples.pairs("arrays", N)), dtype="Q")
+    a, b = words[:, 0], words[:, 1]
+    for one, other in ((a, b), (a.copy().view("d"), b.copy().view("d"))):
+        found = sim3.compare_tangents(one, other)
+        same((found.dtype.str, found.shape), ("<i8", (len(a),)), "what the order is given in")
+        same(found.tolist(), [compared_one(x, y) for x, y in zip(a, b)], "the order of each pair")
+    same(sim3.compare_tangents(a, b[0]).tolist(), [compared_one(x, b[0]) for x in a], "all against one")
+    same(sim3.compare_tangents(a[0], b).tolist(), [compared_one(a[0], y) for y in b], "one against all")
+    lists = numpy.stack([a, b, a[::-1]])
+    due = [list(sim3.sort_tangents(array.array("Q", one.ravel().tolist()))) for one in lists]
+    same(sim3.sort_tangents(lists).reshape(3, -1).tolist(), due, "each of three lists")
+    same(sim3.sort_tangents(a).ravel().tolist(), due[0], "one list")
+    doubles = a.copy().view("d")
+    same(sim3.sort_tangents(doubles).view("Q").ravel().tolist(), due[0], "one list of numbers")
+    same(doubles.view("Q").tolist(), a.tolist(), "the list that was handed in")
+    fails(sim3.Refusal, "a has 6 numbers; expected 7", sim3.compare_tangents, a[:, :6], b)
+    fails(sim3.Refusal, "b has 3 rows where a has", sim3.compare_tangents, a, b[:3])
+    fails(sim3.Refusal, "tangents has 6 numbers; expected 7", sim3.sort_tangents, a[:, :6])
+    fails(sim3.Refusal, "refusal 5: tangents has 7,175 numbers", sim3.sort_tangents, numpy.zeros((1025, 7)))
+
+
+def renormalized():
+    """renormalize_all of Poses has the bits of renormalize."""
+    numpy = numpy_here()
+    source = random.Random(90)
+    poses = sim3.Poses(rows(numpy, source, "pose", DOUBLE), frames(numpy, source))
+    found, due = sim3.renormalize_all(poses), sim3.renormalize(poses)
+    for part, other in zip(found, due):
+        same(bits_of(numpy, part, DOUBLE), bits_of(numpy, other, DOUBLE), "renormalize_all of arrays")
+
+
 def whole_matrices():
     """A block's 7 by 7 matrix: (a 0 0), (b c f), (0 0 e), its parts column by column."""
     numpy = numpy_here()
@@ -198,6 +260,9 @@ def table_of_loops():
     found = {name: re.findall(r"\{'(.)', (\d+)\}", rest) for name, rest in re.findall(r"\{BOTH\((\w+)\), (.*)\},\n", text)}
     near = found.pop("nearest_arm")
     same(near, [("r", "1"), ("r", "1"), ("q", "3")], "the forms of nearest_arm")
+    alone = {name: re.findall(r"\{'(.)', (\d+)\}", rest) for name, rest in re.findall(r'\{"(\w+)", \{\w+, NULL\}, (.*)\},\n', text)}
+    same(alone, {"root": [("r", "1"), ("q", "2"), ("i", "1"), ("r", "1")], "compare_tangents": [("q", "7"), ("q", "7"), ("i", "1")]},
+         "the forms of what there is in doubles alone")
     same(set(found), set(raw.FUNCTIONS), "the functions of rows.c")
     host = ("up", "down", "ds", "values", "jl", "jl_inv")
     for name, made in raw.FUNCTIONS.items():
@@ -219,4 +284,4 @@ def without_loops():
         arrays.loops.cache_clear()
 
 
-TESTS = [every_function, values_handed_in, nearest_arms, whole_matrices, wrong_shapes, any_arrays, table_of_loops, without_loops]
+TESTS = [every_function, values_handed_in, nearest_arms, roots, orders, renormalized, whole_matrices, wrong_shapes, any_arrays, table_of_loops, without_loops]

@@ -20,14 +20,14 @@ OtherEnvironment, and writes nothing; `with sim3.environment():` is a block that
 
 sim3.f32 has the same functions over singles.
 
-Every function of the engine also takes arrays of numpy of n things, (n, 7), (n, 8), .., at once, and answers (n, ..) arrays:
-sim3.arrays says how.
+Every function but those of Running and Sheets also takes arrays of numpy of n things, (n, 7), (n, 8), .., at once, and
+answers (n, ..) arrays: sim3.arrays says how.
 
 The shared library that this package loads at the first call stands beside it where pip installed it; in the
 source tree bindings/build makes it.
 """
 from . import f32, host, raw
-from .arrays import NearRows, Poses, block_matrix
+from .arrays import NearRows, Poses, RootRows, block_matrix
 from .engine import Engine
 from .guard import environment
 from .mxcsr import OtherEnvironment
@@ -42,8 +42,8 @@ from .tangents import compare_tangents, sort_tangents
 from .version import __version__
 from .widths import DOUBLE
 
-__all__ = ["LibraryMissing", "Near", "NearRows", "OtherEnvironment", "Pose", "Poses", "Refusal", "Root", "Running",
-           "Sheets", "Shelved", "__version__", "act", "block_matrix", "environment", "f32", "host", "nearest_arm",
+__all__ = ["LibraryMissing", "Near", "NearRows", "OtherEnvironment", "Pose", "Poses", "Refusal", "Root", "RootRows",
+           "Running", "Sheets", "Shelved", "__version__", "act", "block_matrix", "environment", "f32", "host", "nearest_arm",
            "nearest_root", "renormalize_all", "root", "version", *raw.FUNCTIONS, *raw.PATTERNS]
 
 

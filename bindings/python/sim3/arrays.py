@@ -10,8 +10,9 @@ Where one argument has rows, every other has as many, or is a single thing, whic
 row (sigma, z, up, down, ds, frames of exp) are arrays of the shape (n,). Poses are Poses, or (n, 8) where no frame is read.
 Answers have the shape (n, ..) of the single answer. Nothing is raised for what a row holds: where a function may refuse,
 its answer has one thing more, `refused`, an array (n,) of uint32 with 0 for each row that was answered, else the number
-of the refusal; such a row holds NaNs, and frames or counts of 0. Poses have their own field for it. Refusal 100 is raised,
-and nothing computed, where two arguments have different numbers of rows, or rows of a wrong length.
+of the refusal; such a row holds NaNs, and frames or whole numbers of 0. Poses have their own field for it. Refusal 100 is
+raised, and nothing computed, where two arguments have different numbers of rows, or rows of a wrong length. sort_tangents
+sorts a list (n, 7), or each of m lists (m, n, 7).
 """
 import functools
 import importlib.util
@@ -22,10 +23,10 @@ import sysconfig
 from typing import Any, NamedTuple
 
 from . import raw
-from .numbers import lent
+from .numbers import lent, patterns
 from .poses import EXPECTED, MOST_FRAME, Pose
 from .refusals import LIST_LENGTH, refusal, wrong_length
-from .widths import SINGLE
+from .widths import DOUBLE, SINGLE
 
 ROWS = "rows" + (sysconfig.get_config_var("EXT_SUFFIX") or ".so")  # the module of loops
 NAMED = {"act": "act_each"}  # the C function of one that has another name
@@ -44,6 +45,16 @@ class Poses(NamedTuple):
     numbers: Any
     frames: Any
     refused: Any = None
+
+
+class RootRows(NamedTuple):
+    """root of n: what Root has of each, arrays (n,), and the number of each row's refusal."""
+
+    root: Any
+    remainder: Any
+    exponent: Any
+    nearest: Any
+    refused: Any
 
 
 class NearRows(NamedTuple):
@@ -88,6 +99,12 @@ def numpy_now():
     return sys.modules.get("numpy")
 
 
+def is_rows(x, *depths):
+    """Whether x is an array of numpy with one of these numbers of dimensions."""
+    numpy = numpy_now()
+    return numpy is not None and isinstance(x, numpy.ndarray) and x.ndim in depths
+
+
 def also_rows(single):
     """A method of the engine that takes arrays of numpy too."""
     takes = tuple(inspect.signature(single).parameters)[1:]
@@ -119,8 +136,8 @@ def depth_of(function, argument):
 class Asked:
     """One call over arrays: the buffers that its arguments are, and how many rows they have."""
 
-    def __init__(self, engine, name):
-        self.engine, self.width, self.name, self.numpy = engine, engine.width, name, numpy_now()
+    def __init__(self, name, engine=None, width=DOUBLE):
+        self.engine, self.width, self.name, self.numpy = engine, engine.width if engine else width, name, numpy_now()
         self.rows, self.first = None, None
         self.inputs = []
 
@@ -160,6 +177,25 @@ class Asked:
             return self.numpy.ascontiguousarray(x.astype(self.width.code, casting="same_kind", copy=False))
         except TypeError:
             raise TypeError(f"{self.width.package}.{self.name}: {argument} is an array of {x.dtype}; expected one of {self.width.word}s") from None
+
+    def take_patterns(self, argument, x):
+        """Tangents (n, 7) by their bit patterns, or one for all rows: doubles, or patterns themselves."""
+        if not is_rows(x, 2):
+            words, _ = patterns(f"{self.width.package}.{self.name}: {argument}", x)
+            self.inputs.append(words)
+            found = len(words)
+        else:
+            self.count_rows(argument, len(x))
+            self.inputs.append(self.as_patterns(argument, x))
+            found = x.shape[1]
+        if found != KINDS["tangent"]:
+            raise wrong_length(self.name, argument, "tangent", found)
+
+    def as_patterns(self, argument, x):
+        """An array of numbers as their bit patterns, which it may hold already."""
+        if x.dtype.kind == "u" and x.dtype.itemsize == 8:
+            return self.numpy.ascontiguousarray(x, dtype="Q")
+        return self.of_width(argument, x).view("Q")
 
     def take_frames(self, argument, x):
         """Frames (n, 2)."""
@@ -208,7 +244,7 @@ def asked(engine, single, takes, given, named):
         raise raw.other_environment(single.__name__, engine.width)
     words = inspect.signature(single).bind(engine, *given, **named).arguments
     name = NAMED.get(single.__name__, single.__name__)
-    call = Asked(engine, name)
+    call = Asked(name, engine)
     if words.get("out") is not None:
         raise TypeError(f"{engine.width.package}.{single.__name__}: out goes with one pose for all points; expected none with a pose for each")
     if name == "exp":
@@ -274,6 +310,51 @@ def of_lists(call):
         at += size
     found += [refused] if call.name in REFUSING else []
     return found[0] if len(found) == 1 else tuple(found)
+
+
+def roots(z):
+    """The root of each number of an array (n,), with what is left."""
+    see_environment("root")
+    call = Asked("root")
+    call.take("z", raw.NUMBER, z)
+    whole, exponent, nearest = call.room(2, "Q"), call.room(1, "q"), call.room(1)
+    refused = call.run(whole, exponent, nearest)
+    return RootRows(whole[:, 0], whole[:, 1], exponent[:, 0], nearest[:, 0], refused)
+
+
+def nearest_roots(z):
+    """The double of each root; what root refuses has the root that IEEE 754 gives it."""
+    found, numpy = roots(z), numpy_now()
+    return numpy.where(found.refused == 0, found.nearest, numpy.where(found.refused == 8, z, numpy.nan))
+
+
+def compared_tangents(a, b):
+    """The order of each tangent of a and of b: (n,), -1, 0 or 1."""
+    see_environment("compare_tangents")
+    call = Asked("compare_tangents")
+    call.take_patterns("a", a)
+    call.take_patterns("b", b)
+    out = call.room(1, "q")
+    call.run(out)
+    return out[:, 0]
+
+
+def sorted_tangents(tangents, sort):
+    """The tangents (n, 7) of a list in order, or of each of m lists (m, n, 7), by a function that sorts a list of patterns
+    in its place."""
+    see_environment("sort_tangents")
+    if tangents.shape[-1] != KINDS["tangent"]:
+        raise wrong_length("sort_tangents", "tangents", "tangent", tangents.shape[-1])
+    words = Asked("sort_tangents").as_patterns("tangents", tangents).copy()
+    for one in words.reshape(-1, *words.shape[-2:]):
+        sort(one.reshape(-1))
+    return words if tangents.dtype.kind == "u" else words.view("d")
+
+
+def see_environment(name):
+    """OtherEnvironment where this thread does not compute as the proofs say."""
+    if raw.differs():
+        raise raw.other_environment(name)
 
 
 def block_matrix(j):

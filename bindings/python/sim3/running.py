@@ -4,6 +4,8 @@ import ctypes
 from typing import Optional
 
 from . import host, raw
+from .arrays import Poses
+from .engine import Engine
 from .numbers import lent, number, over
 from .poses import Pose, expected, frames, short, trusted
 from .refusals import explained, refusal, wrong_length
@@ -67,7 +69,9 @@ class Running:
 
 def renormalize_all(poses):
     """The Poses of a list, each after one Newton step that brings its quaternion nearer to length 1, with its
-    own frames. The list and its poses stay as they are."""
+    own frames. The list and its poses stay as they are. A sim3.Poses of arrays is answered by one, as renormalize does."""
+    if isinstance(poses, Poses):
+        return Engine(DOUBLE, host).renormalize(poses)
     poses = [expected(f"sim3.renormalize_all: poses[{i}]", x) for i, x in enumerate(poses)]
     numbers = array.array("d")
     for i, x in enumerate(poses):
