@@ -183,13 +183,21 @@ static PyObject *run(PyObject *self, PyObject *arguments) {
     Py_RETURN_NONE;
 }
 
-/* Eight numbers of a pose: a buffer of a width's numbers, or the first field of a Pose. */
+/* Eight numbers of a list or a tuple. */
+static int listed_numbers(PyObject *x, double numbers[8]) {
+    if (PySequence_Fast_GET_SIZE(x) != 8) return 0;
+    for (Py_ssize_t i = 0; i < 8; i++) {
+        numbers[i] = PyFloat_AsDouble(PySequence_Fast_GET_ITEM(x, i));
+        if (numbers[i] == -1 && PyErr_Occurred()) return 0;
+    }
+    return 1;
+}
+
+/* Eight numbers of a pose: a buffer of doubles, a list or a tuple, or such a one as the first field of a Pose. */
 static int pose_numbers(PyObject *x, double numbers[8]) {
     Py_buffer view;
-    if (PyTuple_Check(x)) {
-        if (PyTuple_GET_SIZE(x) != 3) return 0;
-        x = PyTuple_GET_ITEM(x, 0);
-    }
+    if (PyTuple_Check(x) && PyTuple_GET_SIZE(x) == 3) x = PyTuple_GET_ITEM(x, 0);
+    if (PyList_CheckExact(x) || PyTuple_CheckExact(x)) return listed_numbers(x, numbers);
     if (!PyObject_CheckBuffer(x) || PyObject_GetBuffer(x, &view, PyBUF_FORMAT | PyBUF_C_CONTIGUOUS)) return 0;
     const int good = view.len == 8 * sizeof(double) && has_format(view.format, 'r', 0);
     if (good) memcpy(numbers, view.buf, 8 * sizeof(double));

@@ -189,7 +189,7 @@ class Engine:
 
     def act(self, x: PoseOrNumbers, p: Numbers, up: Optional[float] = None) -> Buffer:
         """A point moved, with the bits of act_each; of poses (n, 8) and points (n, 3) each point by its own pose."""
-        return self.act_each(x, p, up)
+        return self.move("act_each", x, p, up, None)
 
     # ---- both signs, both sides, from one evaluation
 

@@ -9,6 +9,7 @@ from .numbers import lent, over
 from .refusals import MOST_NUMBERS, explained, out_length, points_length
 
 PIECE = MOST_NUMBERS  # numbers of 21,845 points
+PLAIN = (array.array, list, tuple)  # lists of numbers that go to C by way of an array
 
 
 def view_of(x, width):
@@ -79,7 +80,11 @@ def moved_at_once(name, x, up, pts):
         return None
     if numpy is not None and type(pts) is numpy.ndarray:
         answer = numpy.empty(pts.shape, dtype="d")
-    elif type(pts) is array.array and pts.typecode == "d":
+    elif type(pts) in PLAIN:
+        try:
+            pts = pts if type(pts) is array.array and pts.typecode == "d" else array.array("d", pts)
+        except (TypeError, OverflowError):
+            return None  # `move` says which of them is no number
         answer = array.array("d", pts)
     else:
         return None
