@@ -1,6 +1,7 @@
-/* sim3.rows: the functions of sim3.h over all rows of arrays, and the action on a list of points with few layers; for the Python package, whose arrays.py and
- * points.py say what is handed in. It is trusted, as all C here: loops over the proved single functions, and a look at the size and the type of every buffer.
- * bindings/python/backend.py compiles it. The library itself is not in it: the package loads that first. */
+/* sim3.rows: the functions of sim3.h over all rows of arrays, and the action on a list of points with few layers; for
+ * the Python package, whose arrays.py and points.py say what is handed in. It is trusted, as all C here: loops over the
+ * proved single functions, and a look at the size and the type of every buffer. bindings/python/backend.py compiles it.
+ * The library itself is not in it: the package loads that first. */
 #define PY_SSIZE_T_CLEAN
 #include <Python.h>
 
@@ -120,7 +121,8 @@ static void blank(const form *forms, const list *out, int single, size_t row) {
     }
 }
 
-static void over_rows(const function *asked, int single, const list *in, const list *out, Py_ssize_t rows, uint32_t *refused) {
+static void over_rows(const function *asked, int single, const list *in, const list *out, Py_ssize_t rows,
+                      uint32_t *refused) {
     for (size_t row = 0; row < (size_t)rows; row++) {
         refused[row] = asked->rows[single](in, out, row);
         if (refused[row]) blank(asked->out, out, single, row);
@@ -135,7 +137,8 @@ static const function *found(const char *name, int single) {
 }
 
 /* The buffers of a tuple as lists; how many were taken stands in `taken`. */
-static int all_lent(PyObject *from, const form *forms, int most, int single, Py_ssize_t rows, int written, Py_buffer *views, list *made, int *taken) {
+static int all_lent(PyObject *from, const form *forms, int most, int single, Py_ssize_t rows, int written,
+                    Py_buffer *views, list *made, int *taken) {
     int due = 0;
     while (due < most && forms[due].kind) due++;
     if (!PyTuple_Check(from) || PyTuple_GET_SIZE(from) != due) {
@@ -205,8 +208,8 @@ static int pose_numbers(PyObject *x, double numbers[8]) {
     return good;
 }
 
-/* move(each, x, up, pts, out): a list of points in doubles, moved into out, a buffer as long that shares no bytes with it. True; False, with nothing written, where
- * anything is not as the shortest way wants it, and points.py has to look. */
+/* move(each, x, up, pts, out): a list of points in doubles, moved into out, a buffer as long that shares no bytes with
+ * it. True; False, with nothing written, where anything is not as the shortest way wants it: points.py then looks. */
 static PyObject *move(PyObject *self, PyObject *const *words, Py_ssize_t count) {
     double x[8], up;
     Py_buffer pts, out;
@@ -219,7 +222,8 @@ static PyObject *move(PyObject *self, PyObject *const *words, Py_ssize_t count) 
     if (!PyObject_GetBuffer(words[4], &out, PyBUF_FORMAT | PyBUF_C_CONTIGUOUS | PyBUF_WRITABLE)) {
         const size_t numbers = (size_t)pts.len / sizeof(double);
         const int shaped = pts.ndim == 1 || (pts.ndim > 1 && pts.shape[pts.ndim - 1] == 3);
-        if (shaped && pts.len == out.len && has_format(pts.format, 'r', 0) && has_format(out.format, 'r', 0) && !((size_t)pts.buf % 8) && !((size_t)out.buf % 8))
+        if (shaped && pts.len == out.len && has_format(pts.format, 'r', 0) && has_format(out.format, 'r', 0) &&
+            !((size_t)pts.buf % 8) && !((size_t)out.buf % 8))
             good = !(words[0] == Py_True ? sim3_act_each : sim3_act_many)(x, 8, up, pts.buf, numbers, out.buf, numbers);
         PyBuffer_Release(&out);
     }
@@ -231,11 +235,13 @@ other:
 
 static PyMethodDef methods[] = {
     {"run", run, METH_VARARGS, "run(name, single, rows, inputs, outs, refused): a function over all rows"},
-    {"move", (PyCFunction)(void (*)(void))move, METH_FASTCALL, "move(each, x, up, pts, out): whether a list of points was moved"},
+    {"move", (PyCFunction)(void (*)(void))move, METH_FASTCALL,
+     "move(each, x, up, pts, out): whether a list of points was moved"},
     {NULL, NULL, 0, NULL},
 };
 
-static struct PyModuleDef module = {PyModuleDef_HEAD_INIT, "rows", "Loops over the functions of sim3.h.", -1, methods, NULL, NULL, NULL, NULL};
+static struct PyModuleDef module = {
+    PyModuleDef_HEAD_INIT, "rows", "Loops over the functions of sim3.h.", -1, methods, NULL, NULL, NULL, NULL};
 
 PyMODINIT_FUNC PyInit_rows(void);
 PyMODINIT_FUNC PyInit_rows(void) { return PyModule_Create(&module); }

@@ -54,7 +54,8 @@ def of_mark(mark):
     if not found:
         marks = dict.fromkeys(layout.mark for _, table in tables for layout in table)
         raise Failure(f"jobs: {mark!r} is no mark; expected one of {' '.join(marks)}")
-    return "\n".join((page.short_text if layout.width is SINGLE else page.layout_text)(direction, layout) for direction, layout in found)
+    return "\n".join((page.short_text if layout.width is SINGLE else page.layout_text)(direction, layout)
+                     for direction, layout in found)
 
 
 def format_text(marks):

@@ -112,7 +112,7 @@ static int quickly(const single *s, int digits, double *near) {
     return s->low < *near && *near < s->high ? 1 : *near < s->low || *near > s->high ? 0 : -1;
 }
 
-/* Whether the decimal of so many digits that is nearest to x reads back as x; its nearest double stands in `near` then. */
+/* Whether the decimal of so many digits that is nearest to x reads back as x; its nearest double stands in `near`. */
 static int reads_back(const single *s, int digits, double *near) {
     char text[32];
     double found;

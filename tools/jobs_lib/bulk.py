@@ -174,7 +174,8 @@ class Compiled:
         return found[:count]
 
     def cut(self, data, at, end, most):
-        groups = (Group * self.GROUPS)(*((ctypes.addressof(room), 0, 0, count) for room, count in zip(self.rooms, most)))
+        groups = (Group * self.GROUPS)(*((ctypes.addressof(room), 0, 0, count)
+                                         for room, count in zip(self.rooms, most)))
         with addresses(data) as (address,):
             at = self.functions["cut"](address, at, end, self.sizes, self.group_of, groups, ROOM, self.order, RECORDS)
         records = [group.records for group in groups]
@@ -185,7 +186,8 @@ class Compiled:
         written = SIZE()
         with addresses(order, *(source.data for source in sources)) as (asked, *found):
             groups = (Answers * self.GROUPS)(*((data, some.at, some.end) for data, some in zip(found, sources)))
-            done = self.functions["weave"](asked, len(order), groups, self.sizes, self.rooms[0], ROOM, ctypes.byref(written))
+            done = self.functions["weave"](asked, len(order), groups, self.sizes, self.rooms[0], ROOM,
+                                           ctypes.byref(written))
         for source, group in zip(sources, groups):
             source.at = group.at
         return memoryview(self.rooms[0])[:written.value], done

@@ -55,8 +55,9 @@ example:
 SHOW = """\
 A job file or an answer file as text, one record a line: numbers as the shortest decimals that read
 back exactly, refusals with their meaning, and the counts of ZZ, of those by mark the ones that are not
-0 (--counts: every one). `jobs make` turns the lines of a job file into the same bytes again. Which of the two a file is is guessed unless it is said. With
---unusable only the answers that hold a NaN or an infinity are listed, by their numbers in the file.
+0 (--counts: every one). `jobs make` turns the lines of a job file into the same bytes again. Which of
+the two a file is is guessed unless it is said. With --unusable only the answers that hold a NaN or an
+infinity are listed, by their numbers in the file.
 
 Exit status: 0, or 1 where the file is damaged or cut (the byte is named), or 2 if it cannot be read.
 
@@ -169,9 +170,9 @@ SPLIT = """\
 Cuts a job of any size into parts that the job program answers one by one, on the cores of one machine or
 on many machines, in any order; `jobs merge` puts the answers together. FOLDER, which is new or empty,
 then holds the parts, NAME.in, and the file index. Records of marks without state stand in parts of at
-most N records, in their order; all of CH and RN, however many, in one part, all of SH and SQ in another. An unknown
-mark and a cut record end the job, as in one run. A part begins with two IN records of its own, by which
-its answers say of which job and which part they are.
+most N records, in their order; all of CH and RN in one part, all of SH and SQ in another, up to 999,998
+of each. An unknown mark and a cut record end the job, as in one run. A part begins with two IN records of
+its own, by which its answers say of which job and which part they are.
 
 Exit status: 0, or 2 where the job cannot be read or cut.
 
@@ -196,7 +197,8 @@ example:
 
 
 def make_about():
-    """The help of `make`, with each mark's groups, those that may be left out in brackets, and the marks in small letters."""
+    """The help of `make`, with each mark's groups, those that may be left out in brackets, and the marks in small
+    letters."""
     from .floats import DOUBLE, SINGLE
     from .layout import JOB
     from .make import MAY_MISS, groups_text
@@ -289,7 +291,8 @@ def add_show(one):
     one.add_argument("--hex", action="store_true", help="the bytes too, one number a line")
     one.add_argument("--record", type=record_range, metavar="N[-M]", help="these records alone")
     one.add_argument("--counts", action="store_true", help="every count of ZZ by mark, those that are 0 too")
-    one.add_argument("--unusable", action="store_true", help="which answers hold a NaN or an infinity, and in which numbers")
+    one.add_argument("--unusable", action="store_true",
+                     help="which answers hold a NaN or an infinity, and in which numbers")
     one.add_argument("file", nargs="?", metavar="FILE", help="the file; standard input if not given")
 
 
@@ -343,7 +346,8 @@ def run_arms(asked):
 
 
 def add_near(one):
-    one.add_argument("--within", type=steps, default=1000, metavar="N", help="at most N steps from it; 1,000 if not given")
+    one.add_argument("--within", type=steps, default=1000, metavar="N",
+                     help="at most N steps from it; 1,000 if not given")
     one.add_argument("file", nargs="?", metavar="FILE", help="the job; standard input if not given")
 
 
@@ -407,7 +411,8 @@ def run_merge(asked):
 
 
 class Command(NamedTuple):
-    """A line about it, its help or what makes that, what adds its arguments, and what does it, which gives the status."""
+    """A line about it, its help or what makes that, what adds its arguments, and what does it, which gives the
+    status."""
 
     summary: str
     about: Any

@@ -26,7 +26,8 @@ class Named(NamedTuple):
 
 
 class Index(NamedTuple):
-    """What `jobs split` wrote: the job's sum, its records, its parts, and each record's group where there are several."""
+    """What `jobs split` wrote: the job's sum, its records, its parts, and each record's group where there are
+    several."""
 
     sum: tuple
     records: int

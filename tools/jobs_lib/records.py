@@ -97,7 +97,8 @@ def misfits(counts, counted, marks):
         yield f"ZZ's counts by mark add up to {sum(by_mark):,}, where {counts[0]:,} are begun"
     for mark, number in zip(COUNTED, by_mark):
         if number < marks.get(mark, 0):
-            yield f"ZZ counts {number:,} {mark}, where {count(marks[mark], 'record')} of them {'is' if marks[mark] == 1 else 'are'} answered"
+            yield (f"ZZ counts {number:,} {mark}, where {count(marks[mark], 'record')} of them "
+                   f"{'is' if marks[mark] == 1 else 'are'} answered")
     if by_mark[-1] > 1:
         yield f"ZZ counts {by_mark[-1]:,} unknown and half marks, where a job ends at the first"
 
@@ -110,7 +111,8 @@ def end_damages(data, at, marks, unusable):
         found = [torn(data, at, ANSWER)] if left else []
         return found if found and found[0].unreadable else [*found, missing]
     if left < END.size:
-        four = "; it has its first four counts alone, as before records were counted by mark: run the job again" if left == OLDER_END.size else ""
+        four = ("; it has its first four counts alone, as before records were counted by mark: run the job again"
+                if left == OLDER_END.size else "")
         return [Damage(at, f"ZZ is short, {left} of {END.size} bytes: the answer is not whole{four}", False)]
     begun, refused = sum(marks.values()), marks.get("NO", 0)
     counted = (begun, begun - refused - unusable, refused, unusable)

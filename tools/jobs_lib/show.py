@@ -52,7 +52,8 @@ def texts(layout, bits):
 def end_line(data, at, layout):
     """ZZ as a line: its four counts, and of those by mark the ones that are not 0."""
     numbers = layout.numbers.unpack_from(data, at + 2)
-    shown = (f"{name} {number}" for i, (name, number) in enumerate(zip(layout.fields, numbers)) if number or i < len(FOUR))
+    shown = (f"{name} {number}"
+             for i, (name, number) in enumerate(zip(layout.fields, numbers)) if number or i < len(FOUR))
     return [f"{layout.mark} " + "; ".join(shown)]
 
 

@@ -1,7 +1,8 @@
-"""`jobs split`: a job of any size cut at record boundaries into parts that the program answers one by one, and an index by
-which `jobs merge` puts their answers together.
+"""`jobs split`: a job of any size cut at record boundaries into parts that the program answers one by one, and an index
+by which `jobs merge` puts their answers together.
 
-Every part begins with two IN records of its own, the head, whose frames hold 48 bits of the job's sum and the part's number.
+Every part begins with two IN records of its own, the head, whose frames hold 48 bits of the job's sum and the part's
+number.
 The program answers IN with the same frames exchanged, so a part's answers say of which job and which part they are.
 """
 import json
@@ -52,7 +53,8 @@ def head(job, number):
 
 
 def told_head(data):
-    """What the answers to a head say: the job's three frames and the part's number; None where they are no such answers."""
+    """What the answers to a head say: the job's three frames and the part's number; None where they are no such
+    answers."""
     layout, found = ANSWER[IN.encode()], []
     for i in range(HEAD):
         at = i * layout.size
@@ -128,7 +130,8 @@ class Cutter:
     def write_index(self, name, size):
         """The index: a line of JSON, and behind it a letter for each record unless all are of one group."""
         parts = [{"name": part.name, "records": part.records, "group": chr(LETTERS[part.group])} for part in self.parts]
-        told = {"format": FORMAT, "job": name, "bytes": size, "sum": self.job, "records": len(self.order), "parts": parts}
+        told = {"format": FORMAT, "job": name, "bytes": size, "sum": self.job, "records": len(self.order),
+                "parts": parts}
         with open(os.path.join(self.folder, INDEX), "wb") as file:
             file.write(json.dumps(told).encode() + b"\n")
             file.write(self.order.translate(TO_LETTERS) if len(self.open) - self.open.count(None) > 1 else b"")
@@ -155,7 +158,8 @@ def cut(data, cutter):
         at = some.at
         progress(len(cutter.order))
         if len(cutter.order) >= MOST_COUNT:
-            raise Failure(f"jobs: more than {MOST_COUNT:,} records, which ZZ's counts of 32 bits do not hold; begin a new "
+            raise Failure(f"jobs: more than {MOST_COUNT:,} records, which ZZ's counts of 32 bits do not hold; begin a "
+                          "new "
                           "job before that")
     progress.end()
     if at == len(data):

@@ -8,8 +8,9 @@
 A list is any sequence of numbers, array('d') or another buffer of doubles, in the orders that
 include/sim3.h states: pose 8, tangent 7, ten values, matrix 9 (column by column), block 31. Answers
 are array('d'). Points are x y z of each, flat or a buffer of the shape (n, 3), as many as there are; those of
-a numpy array come back as one of the same shape, and `out=` names a buffer to be written. A pose is a Pose: its numbers and its frames, from_ and to. Poses are joined only where
-the frames meet. What reads no frame, the action and the Jacobians, also takes the eight numbers alone.
+a numpy array come back as one of the same shape, and `out=` names a buffer to be written. A pose is a Pose: its numbers
+and its frames, from_ and to. Poses are joined only where the frames meet. What reads no frame, the action and the
+Jacobians, also takes the eight numbers alone.
 The host's values (values, up, down, ds, jl, jl_inv) may be left out: sim3.host then computes them.
 Every number is taken, NaN and infinities too. What is not answered raises Refusal, whose `number` is
 1, 2, 5, 8, 9, 10, 11, 12 or 100; what holds no numbers raises TypeError.
@@ -43,7 +44,8 @@ from .version import __version__
 from .widths import DOUBLE
 
 __all__ = ["LibraryMissing", "Near", "NearRows", "OtherEnvironment", "Pose", "Poses", "Refusal", "Root", "RootRows",
-           "Running", "Sheets", "Shelved", "__version__", "act", "block_matrix", "environment", "f32", "host", "nearest_arm",
+           "Running", "Sheets", "Shelved", "__version__", "act", "block_matrix", "environment", "f32", "host",
+           "nearest_arm",
            "nearest_root", "renormalize_all", "root", "version", *raw.FUNCTIONS, *raw.PATTERNS]
 
 

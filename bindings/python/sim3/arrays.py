@@ -1,5 +1,6 @@
-"""n at a time: the functions over arrays of numpy, whose rows are what a single call takes. The loop over the rows stands
-in C (bindings/python/rows.c), over the same functions of include/sim3.h; every row has the bits of the single call.
+"""n at a time: the functions over arrays of numpy, whose rows are what a single call takes. The loop over the rows
+stands in C (bindings/python/rows.c), over the same functions of include/sim3.h; every row has the bits of the single
+call.
 
     taus = numpy.zeros((1000, 7))
     x = sim3.exp(taus, from_=3, to=7)            # Poses: numbers (1000, 8), frames (1000, 2), refused (1000,)
@@ -7,12 +8,13 @@ in C (bindings/python/rows.c), over the same functions of include/sim3.h; every 
     sim3.block_matrix(left)                                           # (1000, 7, 7)
 
 Where one argument has rows, every other has as many, or is a single thing, which then serves all rows. Numbers for each
-row (sigma, z, up, down, ds, frames of exp) are arrays of the shape (n,). Poses are Poses, or (n, 8) where no frame is read.
-Answers have the shape (n, ..) of the single answer. Nothing is raised for what a row holds: where a function may refuse,
-its answer has one thing more, `refused`, an array (n,) of uint32 with 0 for each row that was answered, else the number
-of the refusal; such a row holds NaNs, and frames or whole numbers of 0. Poses have their own field for it. Refusal 100 is
-raised, and nothing computed, where two arguments have different numbers of rows, or rows of a wrong length. sort_tangents
-sorts a list (n, 7), or each of m lists (m, n, 7).
+row (sigma, z, up, down, ds, frames of exp) are arrays of the shape (n,). Poses are Poses, or (n, 8) where no frame is
+read.
+Answers have the shape (n, ..) of the single answer. Nothing is raised for what a row holds: where a function may
+refuse, its answer has one thing more, `refused`, an array (n,) of uint32 with 0 for each row that was answered, else
+the number of the refusal; such a row holds NaNs, and frames or whole numbers of 0. Poses have their own field for it.
+Refusal 100 is raised, and nothing computed, where two arguments have different numbers of rows, or rows of a wrong
+length. sort_tangents sorts a list (n, 7), or each of m lists (m, n, 7).
 """
 import functools
 import importlib.util
@@ -33,9 +35,9 @@ NAMED = {"act": "act_each"}  # the C function of one that has another name
 REFUSING = {"mul", "mul_inv", "inv_mul", "scaled_pair", "coeffs_armed", "armed_pair", "block_inverse", "nearest_arm"}
 KINDS = {**{kind: count for kind, (count, _) in raw.KINDS.items()}, raw.NUMBER: 1, raw.POINTS: 3}
 # The whole of a block at its place in the 7 by 7 matrix, by rows: its number in the list of 31, or -1 for a zero.
-PLACES = [[3 * column + row if row < 3 and column < 3 else 9 + 3 * column + row - 3 if row in (3, 4, 5) and column < 3 else
-           18 + 3 * (column - 3) + row - 3 if row in (3, 4, 5) and column in (3, 4, 5) else 27 + row - 3 if row in (3, 4, 5) else
-           30 if row == column == 6 else -1 for column in range(7)] for row in range(7)]
+PLACES = [*([row, 3 + row, 6 + row, -1, -1, -1, -1] for row in range(3)),
+          *([9 + row, 12 + row, 15 + row, 18 + row, 21 + row, 24 + row, 27 + row] for row in range(3)),
+          [-1, -1, -1, -1, -1, -1, 30]]
 
 
 class Poses(NamedTuple):
@@ -81,8 +83,10 @@ def loops():
                 spec.loader.exec_module(module)
                 return module
             except ImportError as error:
-                raise raw.LibraryMissing(f"sim3: {path} does not fit the library: {error}; remove it and run bindings/build") from None
-    raise raw.LibraryMissing(f"sim3: no {places[0].name}, which has the loops over arrays; bindings/build makes it where the headers of Python "
+                raise raw.LibraryMissing(f"sim3: {path} does not fit the library: {error}; remove it and run "
+                                         "bindings/build") from None
+    raise raw.LibraryMissing(f"sim3: no {places[0].name}, which has the loops over arrays; bindings/build makes it "
+                             "where the headers of Python "
                              "are installed (python3-dev)")
 
 
@@ -119,7 +123,8 @@ def also_rows(single):
             for x, depth in zip(given, in_order):
                 if type(x) is Poses or isinstance(x, kind) and len(x.shape) == depth:
                     return asked(self, single, takes, given, named)
-            if named and any(type(x) is Poses or isinstance(x, kind) and len(x.shape) == depths.get(name) for name, x in named.items()):
+            if named and any(type(x) is Poses or isinstance(x, kind) and len(x.shape) == depths.get(name)
+                             for name, x in named.items()):
                 return asked(self, single, takes, given, named)
         return single(self, *given, **named)
     return either
@@ -154,7 +159,8 @@ class Asked:
         size, depth = KINDS[kind], 1 if kind == raw.NUMBER else 2
         if isinstance(x, self.numpy.ndarray) and len(x.shape) == depth:
             if depth == 2 and x.shape[1] != size:
-                raise wrong_length(self.name, argument, "vector" if kind == raw.POINTS else kind, x.shape[1], self.width)
+                raise wrong_length(self.name, argument, "vector" if kind == raw.POINTS else kind, x.shape[1],
+                                   self.width)
             self.count_rows(argument, len(x))
             self.inputs.append(self.of_width(argument, x))
         elif kind == raw.NUMBER:
@@ -176,7 +182,8 @@ class Asked:
         try:
             return self.numpy.ascontiguousarray(x.astype(self.width.code, casting="same_kind", copy=False))
         except TypeError:
-            raise TypeError(f"{self.width.package}.{self.name}: {argument} is an array of {x.dtype}; expected one of {self.width.word}s") from None
+            raise TypeError(f"{self.width.package}.{self.name}: {argument} is an array of {x.dtype}; expected one of "
+                            f"{self.width.word}s") from None
 
     def take_patterns(self, argument, x):
         """Tangents (n, 7) by their bit patterns, or one for all rows: doubles, or patterns themselves."""
@@ -201,10 +208,12 @@ class Asked:
         """Frames (n, 2)."""
         found = self.numpy.asarray(x)
         if found.ndim != 2 or found.shape[1] != 2 or found.dtype.kind not in "ui":
-            raise TypeError(f"{self.width.package}.{self.name}: {argument} is of {found.dtype} and has the shape {found.shape}; expected (n, 2), "
+            raise TypeError(f"{self.width.package}.{self.name}: {argument} is of {found.dtype} and has the shape "
+                            f"{found.shape}; expected (n, 2), "
                             f"from and to of each, {EXPECTED}")
         if found.size and not 0 <= int(found.min()) <= int(found.max()) <= MOST_FRAME:
-            raise OverflowError(f"{self.width.package}.{self.name}: {argument} holds {int(found.min()):,} to {int(found.max()):,}; expected frames, {EXPECTED}")
+            raise OverflowError(f"{self.width.package}.{self.name}: {argument} holds {int(found.min()):,} to "
+                                f"{int(found.max()):,}; expected frames, {EXPECTED}")
         self.count_rows(argument, len(found))
         self.inputs.append(self.numpy.ascontiguousarray(found.astype("H", copy=False)))
 
@@ -217,7 +226,8 @@ class Asked:
             numbers, _, frames = self.engine.read_pose(self.name, argument, x)
             self.inputs += [numbers, self.numpy.frombuffer(frames, dtype="H")]
         else:
-            raise TypeError(f"{self.width.package}.{self.name}: {argument} is {type(x).__name__}; expected a sim3.Poses, whose fields are numbers (n, 8) "
+            raise TypeError(f"{self.width.package}.{self.name}: {argument} is {type(x).__name__}; expected a "
+                            "sim3.Poses, whose fields are numbers (n, 8) "
                             "and frames (n, 2), or a sim3.Pose for all rows")
 
     def take_given(self, argument, kind, x):
@@ -246,7 +256,8 @@ def asked(engine, single, takes, given, named):
     name = NAMED.get(single.__name__, single.__name__)
     call = Asked(name, engine)
     if words.get("out") is not None:
-        raise TypeError(f"{engine.width.package}.{single.__name__}: out goes with one pose for all points; expected none with a pose for each")
+        raise TypeError(f"{engine.width.package}.{single.__name__}: out goes with one pose for all points; expected "
+                        "none with a pose for each")
     if name == "exp":
         return of_exp(call, words)
     if name == "nearest_arm":
@@ -266,7 +277,8 @@ def of_exp(call, words):
     frames = [numpy.asarray(words[side]) for side in ("from_", "to")]
     for side, x in zip(("from_", "to"), frames):
         if x.ndim and len(x) != rows or x.ndim > 1 or x.dtype.kind not in "ui":
-            raise TypeError(f"{call.width.package}.exp: {side} is of {x.dtype} and has the shape {x.shape}; expected a frame for all rows, or ({rows},) of them")
+            raise TypeError(f"{call.width.package}.exp: {side} is of {x.dtype} and has the shape {x.shape}; expected "
+                            f"a frame for all rows, or ({rows},) of them")
     call.take_frames("from_ and to", numpy.stack([numpy.broadcast_to(x, (rows,)) for x in frames], axis=1))
     return posed(call)
 
@@ -340,8 +352,8 @@ def compared_tangents(a, b):
 
 
 def sorted_tangents(tangents, sort):
-    """The tangents (n, 7) of a list in order, or of each of m lists (m, n, 7), by a function that sorts a list of patterns
-    in its place."""
+    """The tangents (n, 7) of a list in order, or of each of m lists (m, n, 7), by a function that sorts a list of
+    patterns in its place."""
     see_environment("sort_tangents")
     if tangents.shape[-1] != KINDS["tangent"]:
         raise wrong_length("sort_tangents", "tangents", "tangent", tangents.shape[-1])

@@ -57,7 +57,8 @@ def lent(where, x, width=DOUBLE):
         copy = of_sequence(where, x, width)
         return over(copy, len(copy), width)
     what = type(x).__name__ + ("" if view is None else f", a buffer of format {view.format!r}")
-    raise TypeError(f"{where} is {what}; expected a list, a tuple, array({width.code!r}) or another buffer of {width.word}s")
+    raise TypeError(f"{where} is {what}; expected a list, a tuple, array({width.code!r}) or another buffer of "
+                    f"{width.word}s")
 
 
 def patterns(where, x):

@@ -51,7 +51,8 @@ def written(name, out, count, width):
     """The caller's list as a ctypes array over its own bytes."""
     where, view = f"{width.package}.{name}: out", view_of(out, width)
     if view is None:
-        raise TypeError(f"{where} is {type(out).__name__}; expected array({width.code!r}) or another buffer of {width.word}s that can be written")
+        raise TypeError(f"{where} is {type(out).__name__}; expected array({width.code!r}) or another buffer of "
+                        f"{width.word}s that can be written")
     rows(where, view)
     if view.readonly or not view.c_contiguous:
         raise TypeError(f"{where} is a buffer {'that cannot be written' if view.readonly else 'with gaps'}; "

@@ -37,7 +37,8 @@ class Running:
         up = host.up(self._numbers) if up is None else number("sim3.Running.push: up", up)
         refused = raw.call("running_push", self._numbers, self._state, numbers, given, up)
         if refused == 9:
-            raise refusal(9, "Running.push", f"the running pose starts from frame {self._state[FROM]}, and x goes to frame "
+            raise refusal(9, "Running.push",
+                          f"the running pose starts from frame {self._state[FROM]}, and x goes to frame "
                           f"{x.to}; running X wants one frame there, so hand in a pose that goes to it")
         if refused:
             raise explained(refused, "Running.push", {})
@@ -54,7 +55,8 @@ class Running:
 
     def __repr__(self):
         every, since = self._state[EVERY], self._state[SINCE]
-        return f"<sim3.Running: {self.pose() or 'no pose yet'}, renormalised {f'after every {every} products' if every else 'never'}, " \
+        often = f"after every {every} products" if every else "never"
+        return f"<sim3.Running: {self.pose() or 'no pose yet'}, renormalised {often}, " \
                f"{since:,}{' or more' if since == 65_535 else ''} since then>"
 
     def _held(self):
@@ -69,7 +71,8 @@ class Running:
 
 def renormalize_all(poses):
     """The Poses of a list, each after one Newton step that brings its quaternion nearer to length 1, with its
-    own frames. The list and its poses stay as they are. A sim3.Poses of arrays is answered by one, as renormalize does."""
+    own frames. The list and its poses stay as they are. A sim3.Poses of arrays is answered by one, as renormalize
+    does."""
     if isinstance(poses, Poses):
         return Engine(DOUBLE, host).renormalize(poses)
     poses = [expected(f"sim3.renormalize_all: poses[{i}]", x) for i, x in enumerate(poses)]

@@ -46,8 +46,9 @@ def sort(words):
 
 def sort_tangents(tangents: Numbers) -> Buffer:
     """The tangents of a flat list, seven numbers each, smallest first: array('d'), or array('Q') where
-    patterns were handed in; of an array (n, 7), and of each list of an array (m, n, 7), one of the same shape. `tangents`
-    stays as it is. Refusal 5 where it is no multiple of seven or longer than 7,168 numbers (1,024 tangents)."""
+    patterns were handed in; of an array (n, 7), and of each list of an array (m, n, 7), one of the same shape.
+    `tangents` stays as it is. Refusal 5 where it is no multiple of seven or longer than 7,168 numbers (1,024
+    tangents)."""
     if arrays.is_rows(tangents, 2, 3):
         return arrays.sorted_tangents(tangents, sort)
     words, of_patterns = patterns("sim3.sort_tangents: tangents", tangents)
