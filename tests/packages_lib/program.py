@@ -83,6 +83,14 @@ def tool_at_work():
          "what was written besides")
 
 
+def library_of_the_tool():
+    """The installed tool finds the library by which large files go faster."""
+    modules = prefix() / "share/sim3/tools"
+    told = as_nobody(f"python3 -B -c \"import sys; sys.path.insert(0, '{modules}'); from jobs_lib import bulk; "
+                     "print(bulk.functions() is not None, bulk.PATH)\"")[0].decode().split()
+    same(told, ["True", str(prefix() / "lib/sim3/libsim3_bulk.so")], "the library of the installed tool")
+
+
 def nothing_written():
     """Using an install leaves it as it is."""
     before = tree(prefix())
@@ -149,4 +157,4 @@ def destdir():
     same([str(path) for path in (work / "root/usr/local").rglob("*")], [], "what an uninstall leaves")
 
 
-TESTS = [out_of_reach, answers, tool_at_work, nothing_written, manual_pages, completion, cmake, destdir]
+TESTS = [out_of_reach, answers, tool_at_work, library_of_the_tool, nothing_written, manual_pages, completion, cmake, destdir]
