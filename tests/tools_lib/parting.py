@@ -6,13 +6,11 @@ import os
 import pathlib
 import random
 import shutil
-import struct
 import subprocess
 import sys
 
 from .common import END, PROGRAM, ROOT, WORK, file, holds, jobs, program, records, same, with_library, with_program
 from jobs_lib import bulk, split
-from jobs_lib.floats import SINGLE
 from jobs_lib.layout import ANSWER, JOB, JOIN, SHEETS
 from jobs_lib.records import walk
 
@@ -266,20 +264,6 @@ def by_parallel():
     same(len(program(data)) > 20 * END.size, True, "that there are answers")
 
 
-@with_library
-def decimals_of_singles():
-    """bulk.c finds the shortest decimal of every single that floats.py finds, by the double that has the same."""
-    source = random.Random(18)
-    some = [*(source.getrandbits(32) for _ in range(3000)), *(SINGLE.to_bits(source.gauss(0, 10)) for _ in range(3000)),
-            *(e << 23 | last for e in range(256) for last in (0, 1, 2, 0x400000, 0x7FFFFF)), *range(300),
-            *(SINGLE.to_bits(round(source.uniform(0, 1000), digits)) for digits in range(7) for _ in range(300)),
-            *(SINGLE.to_bits(times * 10.0 ** power) for power in range(-46, 40) for times in (1, -2, 5, 9.9999999))]
-    some = [bits for bits in some if not SINGLE.is_nan(bits)]
-    near = bulk.shortest(struct.pack(f"<{len(some)}I", *some), 0, len(some))
-    for bits, found in zip(some, near):
-        same(repr(found), SINGLE.decimal(bits), f"the decimal of {bits:08x}")
-
-
 @with_program
 def many_parts():
     """More parts than a process may have files open."""
@@ -312,5 +296,5 @@ def full_disk():
         del split.open
 
 
-TESTS = [compiled_and_plain, decimals_of_singles, many_parts, nothing_to_write_to, stored_runs_in_parts, one_run,
+TESTS = [compiled_and_plain, many_parts, nothing_to_write_to, stored_runs_in_parts, one_run,
          without_the_library, boundaries, wrong_parts, what_is_refused, without_answers, by_parallel]

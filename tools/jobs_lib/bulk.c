@@ -144,8 +144,96 @@ static double shortest(float of) {
     return copysign(near, of);
 }
 
-/* The doubles nearest to the shortest decimals of singles, a NaN for each NaN: how many they are. */
-size_t sim3_bulk_shortest(const float *singles, size_t count, double *near) {
-    for (size_t i = 0; i < count; i++) near[i] = shortest(singles[i]);
-    return count;
+/* The powers of ten from LEAST on, each as the 128 bits that a power of two brings it to, rounded up: high, low. */
+enum { LEAST = -292 };
+typedef struct {
+    uint64_t high, low;
+} power;
+
+/* p times c without its last 128 bits; the last bit is set where some of those are, but for what p was rounded by. */
+static uint64_t to_odd(power p, uint64_t c) {
+    const unsigned __int128 high = (unsigned __int128)p.high * c + (uint64_t)((unsigned __int128)p.low * c >> 64);
+    return (uint64_t)(high >> 64) | ((uint64_t)high > 1);
+}
+
+/* The shortest decimal that reads back as the finite double x > 0, and of those the nearest: R. Giulietti's Schubfach.
+ * The digits as a whole number; in `exponent` the power of ten to which they stand. */
+static uint64_t decimal(double x, const power *powers, int *exponent) {
+    uint64_t bits;
+    memcpy(&bits, &x, sizeof bits);
+    const uint64_t fraction = bits & ((1ull << 52) - 1), biased = bits >> 52;
+    const uint64_t c = fraction | (uint64_t)(biased > 0) << 52;
+    const int q = (biased ? (int)biased : 1) - 1075, closer = fraction == 0 && biased > 1, odd = c & 1;
+    const int k = (q * 1262611 - (closer ? 524031 : 0)) >> 22, h = q + ((-k * 1741647) >> 19) + 1;
+    const power p = powers[-k - LEAST];
+    const uint64_t low = to_odd(p, (4 * c - 2 + closer) << h) + odd, high = to_odd(p, (4 * c + 2) << h) - odd;
+    const uint64_t four = to_odd(p, 4 * c << h), s = four / 4, tens = s / 10;
+    const int below = low <= 40 * tens, above = 40 * tens + 40 <= high;
+    *exponent = s >= 10 && below != above ? k + 1 : k;
+    if (*exponent > k) return tens + above;
+    if ((low <= 4 * s) != (4 * s + 4 <= high)) return s + (4 * s + 4 <= high);
+    return s + (four > 4 * s + 2 || (four == 4 * s + 2 && s % 2));
+}
+
+/* Digits with their point, or as a power of ten, as Python writes them; behind the text. */
+static char *pointed(char *out, const char *digits, int count, int point) {
+    if (point <= -4 || point > 16) {
+        *out++ = *digits;
+        if (count > 1) *out++ = '.';
+        memcpy(out, digits + 1, (size_t)count - 1);
+        return out + count - 1 + sprintf(out + count - 1, "e%c%02d", point > 0 ? '+' : '-', abs(point - 1));
+    }
+    for (int i = point < 1 ? point - 1 : 0; i < count || i < point + 1; i++) {
+        if (i == point) *out++ = '.';
+        *out++ = i < 0 || i >= count ? '0' : digits[i];
+    }
+    return out;
+}
+
+/* A double in Python's words; behind the text. */
+static char *worded(char *out, double x, const power *powers) {
+    char digits[20], *first = digits + sizeof digits;
+    int exponent = 0;
+    if (isnan(x)) return out + sprintf(out, "nan");
+    if (signbit(x)) *out++ = '-';
+    if (isinf(x)) return out + sprintf(out, "inf");
+    uint64_t whole = x == 0 ? 0 : decimal(fabs(x), powers, &exponent);
+    for (; whole > 0 && whole % 10 == 0; whole /= 10) exponent++;
+    do *--first = (char)('0' + whole % 10);
+    while (whole /= 10);
+    const int count = (int)(digits + sizeof digits - first);
+    return pointed(out, first, count, count + exponent);
+}
+
+/* A number of a record by its letter: d a double, f a single, H, B and I whole numbers; behind the text, and in `at`
+ * behind the number. A NaN that is not the one of answers shows its bits. */
+static char *number(char *out, const uint8_t **at, char code, const power *powers) {
+    uint64_t bits = 0;
+    double x;
+    float y;
+    const size_t size = code == 'd' ? 8 : code == 'H' ? 2 : code == 'B' ? 1 : 4;
+    memcpy(&bits, *at, size);
+    *at += size;
+    if (code == 'd') {
+        memcpy(&x, &bits, sizeof x);
+        if (isnan(x) && bits != 0x7FF8000000000000) return out + sprintf(out, "nan:%016llx", (unsigned long long)bits);
+        return worded(out, x, powers);
+    }
+    if (code == 'f') {
+        const uint32_t half = (uint32_t)bits;
+        memcpy(&y, &half, sizeof y);
+        if (isnan(y) && half != 0x7FC00000) return out + sprintf(out, "nan:%08lx", (unsigned long)half);
+        return worded(out, shortest(y), powers);
+    }
+    return out + sprintf(out, "%lu", (unsigned long)bits);
+}
+
+/* The numbers of a record, whose letters are these, as texts with a blank behind each: how many bytes. */
+size_t sim3_bulk_text(const uint8_t *numbers, const char *codes, const power *powers, char *out) {
+    char *const first = out;
+    for (; *codes; codes++) {
+        out = number(out, &numbers, *codes, powers);
+        *out++ = ' ';
+    }
+    return (size_t)(out - first);
 }

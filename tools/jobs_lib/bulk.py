@@ -1,5 +1,5 @@
 """What is done for every record of a large file: counting records, sorting them to groups, putting answers of several
-groups into one order, and finding the decimals of singles. By a small library in C, bulk.c, where bindings/build or an
+groups into one order, and writing its numbers. By a small library in C, bulk.c, where bindings/build or an
 install has made it, and else in Python: the same functions with the same answers."""
 import contextlib
 import ctypes
@@ -15,7 +15,9 @@ FUNCTIONS = {"count": [ADDRESS, SIZE, SIZE, ADDRESS, ADDRESS, ADDRESS],
              "unusable": [ADDRESS, SIZE, SIZE, ADDRESS, ADDRESS, ADDRESS, ADDRESS],
              "cut": [ADDRESS, SIZE, SIZE, ADDRESS, ADDRESS, ADDRESS, SIZE, ADDRESS, SIZE],
              "weave": [ADDRESS, SIZE, ADDRESS, ADDRESS, ADDRESS, SIZE, ADDRESS],
-             "shortest": [ADDRESS, SIZE, ADDRESS]}
+             "text": [ADDRESS, ADDRESS, ADDRESS, ADDRESS]}
+LEAST_POWER, MOST_POWER = -292, 324  # of ten, for every finite double
+TEXT = ctypes.create_string_buffer(1 << 14)  # room for the numbers of any record
 
 
 class Cut(NamedTuple):
@@ -211,12 +213,26 @@ def bulk(table, group_of=None):
     return (Compiled if functions() else Plain)(table, group_of)
 
 
-def shortest(data, at, count):
-    """The doubles nearest to the shortest decimals of so many singles from byte `at` on, a NaN for each NaN; None where
-    bulk.c is not there, and floats.py has to find the decimals."""
+@functools.lru_cache(maxsize=None)
+def powers():
+    """The powers of ten that bulk.c finds decimals by: each brought to 128 bits by a power of two, and rounded up."""
+    found = []
+    for exponent in range(LEAST_POWER, MOST_POWER + 1):
+        above, below = 10 ** max(exponent, 0), 10 ** max(-exponent, 0)
+        shift = 128 - above.bit_length() + below.bit_length()
+        for bits in (shift, shift - 1):
+            whole = -(-(above << max(bits, 0)) // (below << max(-bits, 0)))
+            if whole.bit_length() == 128:
+                break
+        found += divmod(whole, 1 << 64)
+    return (ctypes.c_uint64 * len(found))(*found)
+
+
+def texts(data, at, layout):
+    """The numbers of the record at byte `at` as texts, each the shortest decimal that reads back; None where bulk.c is
+    not there, and floats.py has to find them."""
     found = functions()
     if not found:
         return None
-    near = (ctypes.c_double * count)()
-    found["shortest"]((ctypes.c_float * count).from_buffer_copy(data, at), count, near)
-    return near[:]
+    size = found["text"](data[at + 2:at + layout.size], layout.codes.encode(), powers(), TEXT)
+    return tuple(TEXT[:size].decode().split())

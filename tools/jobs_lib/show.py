@@ -5,8 +5,8 @@ import struct
 import sys
 from math import isfinite
 
-from .bulk import bulk, shortest
-from .floats import DOUBLE, SINGLE
+from . import bulk
+from .floats import DOUBLE
 from .layout import ANSWER, END, FOUR, JOB, MOST_RECORDS
 from .records import guess, hexadecimal, load, name_of, older, scan, walk
 from .terminal import Failure, Lines, Progress, count, say
@@ -24,14 +24,7 @@ def template(layout):
     return f"{layout.mark} " + "; ".join(groups)
 
 
-def places(layout):
-    """Where the singles of a record stand, counted in singles; None for its other numbers."""
-    return [struct.calcsize("<" + layout.codes[:i]) // SINGLE.size if code == SINGLE.code else None
-            for i, code in enumerate(layout.codes)]
-
-
 TEMPLATES = {layout: template(layout) for layout in (*JOB.values(), *ANSWER.values(), END)}
-PLACES = {layout: places(layout) for layout in TEMPLATES if layout.width is SINGLE}
 
 
 def remark(layout, numbers):
@@ -57,24 +50,21 @@ def end_line(data, at, layout):
     return [f"{layout.mark} " + "; ".join(shown)]
 
 
-def decimals(data, at, layout):
-    """The numbers of a record of singles, each as its shortest decimal, or as the double that has the same."""
-    near = shortest(data, at + 2, (layout.size - 2) // SINGLE.size)
-    if near is None:
-        return texts(layout, layout.bits.unpack_from(data, at + 2))
-    numbers = layout.numbers.unpack_from(data, at + 2)
-    return tuple(number if place is None else near[place] for place, number in zip(PLACES[layout], numbers))
+def plain_line(data, at, layout):
+    """A record's numbers in its line, without bulk.c: str is the shortest decimal of a double."""
+    bits = layout.bits.unpack_from(data, at + 2)
+    if layout.width is DOUBLE:
+        line = TEMPLATES[layout] % layout.numbers.unpack_from(data, at + 2)
+        if line.count("nan") == bits.count(DOUBLE.nan):
+            return line
+    return TEMPLATES[layout] % texts(layout, bits)  # singles; a NaN with bits of its own
 
 
 def one_line(data, at, layout):
     """A record as a line, which `make` reads if it is a job's."""
-    numbers = layout.numbers.unpack_from(data, at + 2)
-    # str is the shortest decimal of a double
-    line = TEMPLATES[layout] % (numbers if layout.width is DOUBLE else decimals(data, at, layout))
-    nans = line.count("nan")
-    if nans and layout.bits.unpack_from(data, at + 2).count(layout.width.nan) != nans:  # a NaN with bits of its own
-        line = TEMPLATES[layout] % texts(layout, layout.bits.unpack_from(data, at + 2))
-    said = remark(layout, numbers)
+    shown = bulk.texts(data, at, layout)
+    line = TEMPLATES[layout] % shown if shown else plain_line(data, at, layout)
+    said = remark(layout, layout.numbers.unpack_from(data, at + 2)) if layout.named else ""
     return [f"{line}  # {said}" if said else line]
 
 
@@ -149,7 +139,7 @@ def print_all(data, table, records, lines_of):
 
 def stretches(data, table):
     """Where a file's records can be parted: the first byte of some of them, and the byte behind the last of those."""
-    at, records = 0, bulk(table)
+    at, records = 0, bulk.bulk(table)
     while True:
         end, _ = records.count(data, at, min(at + STRETCH, len(data)))
         if end == at:
