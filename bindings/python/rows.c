@@ -49,6 +49,18 @@ static uint32_t row_compare_tangents(const list *in, const list *out, size_t row
     return sim3_compare_tangents(AT(in, 0, uint64_t), 7, AT(in, 1, uint64_t), 7, AT(out, 0, int64_t), 1);
 }
 
+/* The running join: its numbers and its state are the last two lists, one for all rows, and are written. */
+static uint32_t row_push(const list *in, const list *out, size_t row) {
+    double *const running = (double *)in[3].at;
+    uint16_t *const state = (uint16_t *)in[4].at;
+    const double up = in[2].at ? *AT(in, 2, double) : sim3_host_up(running);
+    const uint32_t refused = sim3_running_push(running, 8, state, 5, AT(in, 0, double), 8, AT(in, 1, uint16_t), 2, up);
+    if (refused) return refused;
+    memcpy(AT(out, 0, double), running, 8 * sizeof(double));
+    memcpy(AT(out, 1, uint16_t), state, 2 * sizeof(uint16_t)); /* from and to stand first */
+    return 0;
+}
+
 typedef struct {
     const char *name;
     row_function *rows[2]; /* of doubles, of singles */
@@ -80,6 +92,7 @@ static const function functions[] = {
     {BOTH(nearest_arm), {{'r', 1}, {'r', 1}}, {{'q', 3}}},
     {"root", {row_root, NULL}, {{'r', 1}}, {{'q', 2}, {'i', 1}, {'r', 1}}},
     {"compare_tangents", {row_compare_tangents, NULL}, {{'q', 7}, {'q', 7}}, {{'i', 1}}},
+    {"Running.push", {row_push, NULL}, {{'r', 8}, {'h', 2}, {'R', 1}, {'r', 8}, {'h', 5}}, {{'r', 8}, {'h', 2}}},
 };
 
 /* The size of a number of a kind, and its letter in a buffer's format. */

@@ -205,6 +205,30 @@ def orders():
     fails(sim3.Refusal, "refusal 5: tangents has 7,175 numbers", sim3.sort_tangents, numpy.zeros((1025, 7)))
 
 
+def joined():
+    """Running.push of Poses joins each row in turn: the answers, the refusals and the state of single calls."""
+    numpy, source = numpy_here(), random.Random(85)
+    numbers, ends = rows(numpy, source, "pose", DOUBLE, odd=False), frames(numpy, source)
+    ups = rows(numpy, source, raw.NUMBER, DOUBLE)
+    for up, every in ((None, 0), (None, 2), (ups, 3), (1.5, 1)):
+        one, all_, refusals = sim3.Running(), sim3.Running(), 0
+        one.every(every)
+        all_.every(every)
+        found = all_.push(sim3.Poses(numbers, ends), up)
+        for i in range(N):
+            given = sim3.Pose(list(numbers[i]), int(ends[i, 0]), int(ends[i, 1]))
+            answer, number = refusal_of(one.push, given, float(up[i]) if up is ups else up)
+            same(int(found.refused[i]), number, f"Running.push, row {i}: its refusal")
+            refusals += bool(number)
+            if answer is not None:
+                due = numbers_of(numpy, (answer.numbers, (answer.from_, answer.to)), DOUBLE)
+                same(numbers_of(numpy, (found.numbers[i], found.frames[i]), DOUBLE), due, f"Running.push, row {i}")
+        same(repr(all_), repr(one), "the running join afterwards")
+        assert 10 < refusals < N - 10, f"{refusals} rows refused; expected some of each"
+    fails(sim3.Refusal, "Running.push: refusal 100: x has 7 numbers", all_.push, sim3.Poses(numbers[:, :7], ends))
+    same(sim3.Running().push(sim3.Poses(numbers[:0], ends[:0])).numbers.shape, (0, 8), "no rows")
+
+
 def renormalized():
     """renormalize_all of Poses has the bits of renormalize."""
     numpy = numpy_here()
@@ -284,9 +308,10 @@ def table_of_loops():
     near = found.pop("nearest_arm")
     same(near, [("r", "1"), ("r", "1"), ("q", "3")], "the forms of nearest_arm")
     alone = {name: re.findall(r"\{'(.)', (\d+)\}", rest)
-             for name, rest in re.findall(r'\{"(\w+)", \{\w+, NULL\}, (.*)\},\n', text)}
+             for name, rest in re.findall(r'\{"([\w.]+)", \{\w+, NULL\}, (.*)\},\n', text)}
     same(alone, {"root": [("r", "1"), ("q", "2"), ("i", "1"), ("r", "1")],
-                 "compare_tangents": [("q", "7"), ("q", "7"), ("i", "1")]},
+                 "compare_tangents": [("q", "7"), ("q", "7"), ("i", "1")],
+                 "Running.push": [("r", "8"), ("h", "2"), ("R", "1"), ("r", "8"), ("h", "5"), ("r", "8"), ("h", "2")]},
          "the forms of what there is in doubles alone")
     same(set(found), set(raw.FUNCTIONS), "the functions of rows.c")
     host = ("up", "down", "ds", "values", "jl", "jl_inv")
@@ -311,5 +336,5 @@ def without_loops():
         arrays.loops.cache_clear()
 
 
-TESTS = [every_function, values_handed_in, nearest_arms, roots, orders, renormalized, whole_matrices, wrong_shapes,
+TESTS = [every_function, values_handed_in, nearest_arms, roots, orders, joined, renormalized, whole_matrices, wrong_shapes,
          any_arrays, table_of_loops, without_loops]

@@ -21,8 +21,8 @@ OtherEnvironment, and writes nothing; `with sim3.environment():` is a block that
 
 sim3.f32 has the same functions over singles.
 
-Every function but those of Running and Sheets also takes arrays of numpy of n things, (n, 7), (n, 8), .., at once, and
-answers (n, ..) arrays: sim3.arrays says how.
+Every function but those of Sheets also takes arrays of numpy of n things, (n, 7), (n, 8), .., at once, and answers
+(n, ..) arrays: sim3.arrays says how.
 
 The shared library that this package loads at the first call stands beside it where pip installed it; in the
 source tree bindings/build makes it.

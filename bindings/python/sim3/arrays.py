@@ -25,7 +25,7 @@ import sysconfig
 from typing import Any, NamedTuple
 
 from . import raw
-from .numbers import lent, patterns
+from .numbers import lent, number, patterns
 from .poses import EXPECTED, MOST_FRAME, Pose
 from .refusals import LIST_LENGTH, refusal, wrong_length
 from .widths import DOUBLE, SINGLE
@@ -164,7 +164,8 @@ class Asked:
             self.count_rows(argument, len(x))
             self.inputs.append(self.of_width(argument, x))
         elif kind == raw.NUMBER:
-            self.inputs.append(self.numpy.array([self.engine.number(self.name, argument, x)], dtype=self.width.code))
+            found = number(f"{self.width.package}.{self.name}: {argument}", x, self.width)
+            self.inputs.append(self.numpy.array([found], dtype=self.width.code))
         else:
             self.inputs.append(self.numpy.array(self.one(argument, kind, x), dtype=self.width.code))
 
@@ -322,6 +323,18 @@ def of_lists(call):
         at += size
     found += [refused] if call.name in REFUSING else []
     return found[0] if len(found) == 1 else tuple(found)
+
+
+def pushed(x, up, numbers, state):
+    """Poses joined one after another to a running pose, whose numbers and state are written: the running pose after
+    each. A pose that is refused changes nothing."""
+    see_environment("running_push")
+    call = Asked("Running.push")
+    call.take("x", "pose", call.numpy.asarray(x.numbers))
+    call.take_frames("x.frames", x.frames)
+    call.take_given("up", raw.NUMBER, up)
+    call.inputs += [numbers, state]
+    return posed(call)
 
 
 def roots(z):

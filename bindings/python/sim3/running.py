@@ -4,7 +4,7 @@ import ctypes
 from typing import Optional
 
 from . import host, raw
-from .arrays import Poses
+from .arrays import Poses, pushed
 from .engine import Engine
 from .numbers import lent, number, over
 from .poses import Pose, expected, frames, short, trusted
@@ -26,7 +26,10 @@ class Running:
     def push(self, x, up=None) -> Pose:
         """Joins a Pose, and gives the running pose as it then is. up is e^sigma of the running pose, and
         unused at the first; left out, sim3.host computes it. Refusal 9 where the running pose does not start
-        from the frame to which x goes; then nothing changes."""
+        from the frame to which x goes; then nothing changes. Of a sim3.Poses of arrays each row is joined in turn, and
+        the answer is one with the running pose after each."""
+        if isinstance(x, Poses):
+            return pushed(x, up, self._numbers, self._state)
         x = expected("sim3.Running.push: x", x)
         numbers = lent("sim3.Running.push: x", x.numbers)
         if len(numbers) != POSE:
