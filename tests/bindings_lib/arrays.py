@@ -336,5 +336,6 @@ def without_loops():
         arrays.loops.cache_clear()
 
 
-TESTS = [every_function, values_handed_in, nearest_arms, roots, orders, joined, renormalized, whole_matrices, wrong_shapes,
+TESTS = [every_function, values_handed_in, nearest_arms, roots, orders, joined, renormalized, whole_matrices,
+         wrong_shapes,
          any_arrays, table_of_loops, without_loops]

@@ -9,7 +9,7 @@ import shutil
 import subprocess
 import sys
 
-from .common import END, PROGRAM, ROOT, WORK, file, holds, jobs, program, records, same, with_library, with_program
+from .common import END, PROGRAM, ROOT, WORK, file, holds, jobs, program, records, same, with_bulk, with_program
 from jobs_lib import bulk, split
 from jobs_lib.layout import ANSWER, JOB, JOIN, SHEETS
 from jobs_lib.records import walk
@@ -86,10 +86,9 @@ def woven_by(way, order, pieces):
     return out, len(order), [source.at for source in sources]
 
 
-@with_library
+@with_bulk
 def compiled_and_plain():
     """bulk.c gives what its Python gives: from any byte to any byte, with any room, with bytes that are no record."""
-    same(bulk.functions() is not None, True, f"{bulk.PATH} is there (bindings/build makes it)")
     source = random.Random(14)
     for seed in range(60):
         table = (JOB, ANSWER)[seed % 2]

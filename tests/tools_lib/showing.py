@@ -5,7 +5,7 @@ import random
 import struct
 
 from .common import (EX_SIZE, ROOT, SINGLES, answers, end, ended, file, holds, jobs, not_finite, places_not_finite,
-                     records, same, with_library)
+                     records, same, with_bulk)
 from jobs_lib import bulk
 from jobs_lib.floats import DOUBLE
 from jobs_lib.layout import ANSWER, DOUBLES, END, JOB, OLDER_ANSWER, OLDER_JOB
@@ -366,10 +366,9 @@ def patterns(source, width):
     return some + list(range(200)) + [width.to_bits(float(1 << n) + 1) for n in range(64)]
 
 
-@with_library
+@with_bulk
 def texts_by_the_library():
     """bulk.c writes every number as floats.py does: of all records, and of patterns that are easily wrong."""
-    same(bulk.functions() is not None, True, f"{bulk.PATH} is there (bindings/build makes it)")
     for table in (JOB, ANSWER):
         data = records(table, 21, 30 * len(table), list(table))
         for at, layout in walk(data, table):

@@ -4,11 +4,13 @@ install has made it, and else in Python: the same functions with the same answer
 import contextlib
 import ctypes
 import functools
+import pathlib
 from typing import NamedTuple
 
 from .terminal import INSTALLED, TOP
 
 PATH = (TOP.parents[1] / "lib" / "sim3" if INSTALLED else TOP / "target" / "bindings") / "libsim3_bulk.so"
+SOURCE = pathlib.Path(__file__).with_name("bulk.c")  # in the source tree; an install has the library alone
 ROOM, RECORDS = 1 << 20, 1 << 16  # the bytes of records, and the records, that are copied at once
 ADDRESS, SIZE = ctypes.c_void_p, ctypes.c_size_t
 FUNCTIONS = {"count": [ADDRESS, SIZE, SIZE, ADDRESS, ADDRESS, ADDRESS],
@@ -197,8 +199,10 @@ class Compiled:
 
 @functools.lru_cache(maxsize=None)
 def functions():
-    """The functions of bulk.c by their names, or None where it is not there."""
+    """The functions of bulk.c by their names, or None where it is not there, or was made before bulk.c was changed."""
     try:
+        if SOURCE.exists() and PATH.stat().st_mtime < SOURCE.stat().st_mtime:
+            return None
         library = ctypes.CDLL(str(PATH))
         found = {name: library["sim3_bulk_" + name] for name in FUNCTIONS}
     except (OSError, AttributeError):
