@@ -1,11 +1,13 @@
-// sim3.hpp: the proved Sim(3) engine for C++17, over sim3.h and the same library; nothing more is linked. Both widths: Pose is of doubles, PoseF of floats, and so
-// Tangent, Values, Block; the functions take either. sim3.h says what each computes; the host's values may be left out, sim3_host.h then computes them.
+// sim3.hpp: the proved Sim(3) engine for C++17, over sim3.h and the same library; nothing more is linked. Both widths:
+// Pose is of doubles, PoseF of floats, and so Tangent, Values, Block; the functions take either. sim3.h says what each
+// computes; the host's values may be left out, sim3_host.h then computes them.
 //
-// A function answers, or throws sim3::Refusal, whose number is sim3.h's. With a sim3::Status as the last argument of what can be refused nothing is thrown: it then
-// holds the number, 0 where the call was answered, and a refused answer is empty, or all zeros and the pose that moves nothing.
+// A function answers, or throws sim3::Refusal, whose number is sim3.h's. With a sim3::Status as the last argument of
+// what can be refused nothing is thrown: it then holds the number, 0 where the call was answered, and a refused answer
+// is empty, or all zeros and the pose that moves nothing.
 //
-// Where <Eigen/Core> and <Eigen/Geometry> are included first, quaternion(), translation() and matrix() of a pose and matrix() of a block are there as Eigen's, and
-// poses and tangents are made from them.
+// Where <Eigen/Core> and <Eigen/Geometry> are included first, quaternion(), translation() and matrix() of a pose and
+// matrix() of a block are there as Eigen's, and poses and tangents are made from them.
 #ifndef SIM3_HPP
 #define SIM3_HPP
 
@@ -30,7 +32,9 @@ namespace sim3 {
 class Refusal : public std::runtime_error {
 public:
     explicit Refusal(std::uint32_t number, const char *function)
-        : std::runtime_error("sim3::" + std::string(function) + ": refusal " + std::to_string(number) + ": " + sim3_refusal_text(number)), number_(number) {}
+        : std::runtime_error("sim3::" + std::string(function) + ": refusal " + std::to_string(number) + ": " +
+                             sim3_refusal_text(number)),
+          number_(number) {}
     std::uint32_t number() const noexcept { return number_; }
 
 private:
@@ -55,28 +59,37 @@ template <class T> struct BasicTangent {
         Eigen::Map<Eigen::Matrix<T, 7, 1>>(made.numbers.data()) = vector;
         return made;
     }
-    Eigen::Map<const Eigen::Matrix<T, 7, 1>> vector() const { return Eigen::Map<const Eigen::Matrix<T, 7, 1>>(numbers.data()); }
+    Eigen::Map<const Eigen::Matrix<T, 7, 1>> vector() const {
+        return Eigen::Map<const Eigen::Matrix<T, 7, 1>>(numbers.data());
+    }
 #endif
 };
 
-/// A pose: quaternion w x y z, translation x y z, sigma; it maps points of the frame `from` to points of the frame `to`.
+/// A pose: quaternion w x y z, translation x y z, sigma; it maps points of the frame `from` to points of the frame
+/// `to`.
 template <class T> struct BasicPose {
     std::array<T, 8> numbers{T(1)};
     std::uint16_t from = 0, to = 0;
     const T *data() const noexcept { return numbers.data(); }
     std::array<std::uint16_t, 2> frames() const noexcept { return {from, to}; }
 #ifdef EIGEN_CORE_H
-    Eigen::Map<const Eigen::Matrix<T, 3, 1>> translation() const { return Eigen::Map<const Eigen::Matrix<T, 3, 1>>(numbers.data() + 4); }
+    Eigen::Map<const Eigen::Matrix<T, 3, 1>> translation() const {
+        return Eigen::Map<const Eigen::Matrix<T, 3, 1>>(numbers.data() + 4);
+    }
 #endif
 #ifdef EIGEN_GEOMETRY_MODULE_H
-    Eigen::Quaternion<T> quaternion() const { return Eigen::Quaternion<T>(numbers[0], numbers[1], numbers[2], numbers[3]); }
-    static BasicPose from_parts(const Eigen::Quaternion<T> &q, const Eigen::Matrix<T, 3, 1> &t, T sigma, std::uint16_t from, std::uint16_t to) {
+    Eigen::Quaternion<T> quaternion() const {
+        return Eigen::Quaternion<T>(numbers[0], numbers[1], numbers[2], numbers[3]);
+    }
+    static BasicPose from_parts(const Eigen::Quaternion<T> &q, const Eigen::Matrix<T, 3, 1> &t, T sigma,
+                                std::uint16_t from, std::uint16_t to) {
         return BasicPose{{q.w(), q.x(), q.y(), q.z(), t.x(), t.y(), t.z(), sigma}, from, to};
     }
     /// The matrix that maps (p, 1): s R and t, by Eigen's product and the host's e^sigma.
     Eigen::Matrix<T, 4, 4> matrix() const {
         Eigen::Matrix<T, 4, 4> made = Eigen::Matrix<T, 4, 4>::Identity();
-        made.template topLeftCorner<3, 3>() = static_cast<T>(std::exp(static_cast<double>(numbers[7]))) * quaternion().toRotationMatrix();
+        made.template topLeftCorner<3, 3>() =
+            static_cast<T>(std::exp(static_cast<double>(numbers[7]))) * quaternion().toRotationMatrix();
         made.template topRightCorner<3, 1>() = translation();
         return made;
     }
@@ -94,14 +107,23 @@ template <class T> struct BasicBlock {
         return column < 6 ? numbers[9 + 3 * column + (row - 3)] : numbers[27 + (row - 3)];
     }
 #ifdef EIGEN_CORE_H
-    Eigen::Map<const Eigen::Matrix<T, 3, 3>> a() const { return Eigen::Map<const Eigen::Matrix<T, 3, 3>>(numbers.data()); }
-    Eigen::Map<const Eigen::Matrix<T, 3, 3>> b() const { return Eigen::Map<const Eigen::Matrix<T, 3, 3>>(numbers.data() + 9); }
-    Eigen::Map<const Eigen::Matrix<T, 3, 3>> c() const { return Eigen::Map<const Eigen::Matrix<T, 3, 3>>(numbers.data() + 18); }
-    Eigen::Map<const Eigen::Matrix<T, 3, 1>> f() const { return Eigen::Map<const Eigen::Matrix<T, 3, 1>>(numbers.data() + 27); }
+    Eigen::Map<const Eigen::Matrix<T, 3, 3>> a() const {
+        return Eigen::Map<const Eigen::Matrix<T, 3, 3>>(numbers.data());
+    }
+    Eigen::Map<const Eigen::Matrix<T, 3, 3>> b() const {
+        return Eigen::Map<const Eigen::Matrix<T, 3, 3>>(numbers.data() + 9);
+    }
+    Eigen::Map<const Eigen::Matrix<T, 3, 3>> c() const {
+        return Eigen::Map<const Eigen::Matrix<T, 3, 3>>(numbers.data() + 18);
+    }
+    Eigen::Map<const Eigen::Matrix<T, 3, 1>> f() const {
+        return Eigen::Map<const Eigen::Matrix<T, 3, 1>>(numbers.data() + 27);
+    }
     Eigen::Matrix<T, 7, 7> matrix() const {
         Eigen::Matrix<T, 7, 7> made;
         for (int row = 0; row < 7; row++)
-            for (int column = 0; column < 7; column++) made(row, column) = (*this)(static_cast<std::size_t>(row), static_cast<std::size_t>(column));
+            for (int column = 0; column < 7; column++)
+                made(row, column) = (*this)(static_cast<std::size_t>(row), static_cast<std::size_t>(column));
         return made;
     }
 #endif
@@ -116,13 +138,12 @@ template <class T> struct BasicValues {
 /// The nine coefficients and the flag.
 template <class T> using BasicCoefficients = std::array<T, 10>;
 
-/// The rule that formed coefficients: the arm, 1 to 5, and 1 where v0 and w0 of the closed arm come from series, else 0.
+/// The rule that formed coefficients: the arm, 1 to 5, and 1 where v0 and w0 of the closed arm come from series, else
+/// 0.
 template <class T> using BasicArm = std::array<T, 2>;
 
 /// J_l(tau), its inverse, J_r(tau), its inverse.
-template <class T> struct BasicBlockPair {
-    BasicBlock<T> left, left_inv, right, right_inv;
-};
+template <class T> struct BasicBlockPair { BasicBlock<T> left, left_inv, right, right_inv; };
 
 /// Of X p: by phi, by rho, by sigma, and by p; matrices column by column.
 template <class T> struct BasicActJacobians {
@@ -171,10 +192,14 @@ template <class T> struct Width;
         static constexpr auto nearest_arm = sim3_nearest_arm##ending;                                                  \
         static type up(const BasicPose<type> &x) { return sim3_host_up##ending(x.data()); }                            \
         static type down(const BasicPose<type> &x) { return sim3_host_down##ending(x.data()); }                        \
-        static type ds(const BasicPose<type> &x, const BasicPose<type> &y) { return sim3_host_ds##ending(x.data(), y.data()); } \
+        static type ds(const BasicPose<type> &x, const BasicPose<type> &y) {                                           \
+            return sim3_host_ds##ending(x.data(), y.data());                                                           \
+        }                                                                                                              \
         static void tangent_values(const type *tau, type *out) { sim3_host_tangent_values##ending(tau, out); }         \
         static void values(type sigma, type z, type *out) { sim3_host_values##ending(sigma, z, out); }                 \
-        static void rotation_jacobians(const type *phi, type *jl, type *jl_inv) { sim3_host_rotation_jacobians##ending(phi, jl, jl_inv); } \
+        static void rotation_jacobians(const type *phi, type *jl, type *jl_inv) {                                      \
+            sim3_host_rotation_jacobians##ending(phi, jl, jl_inv);                                                     \
+        }                                                                                                              \
     };
 SIM3_WIDTH(double, )
 SIM3_WIDTH(float, _f32)
@@ -187,8 +212,10 @@ inline void settle(std::uint32_t number, const char *function, Status *status) {
 #ifndef NDEBUG
     ask_environment(); // an answer of another environment is not given
 #endif
-    if (status) status->number = number;
-    else if (number != SIM3_OK) throw Refusal(number, function);
+    if (status)
+        status->number = number;
+    else if (number != SIM3_OK)
+        throw Refusal(number, function);
 }
 
 /// The parts of a list, copied one behind another.
@@ -198,16 +225,22 @@ template <class T, std::size_t N> std::array<T, N> part(const T *&at) {
     return made;
 }
 
-template <class T, class F, class U> BasicPose<T> joined(F function, const char *name, Status *status, const BasicPose<T> &x, const BasicPose<T> &y, U value) {
+template <class T, class F, class U>
+BasicPose<T> joined(F function, const char *name, Status *status, const BasicPose<T> &x, const BasicPose<T> &y,
+                    U value) {
     BasicPose<T> made;
     const auto of_x = x.frames(), of_y = y.frames();
     std::array<std::uint16_t, 2> frames{};
-    settle(function(x.data(), 8, of_x.data(), 2, y.data(), 8, of_y.data(), 2, value, made.numbers.data(), 8, frames.data(), 2), name, status);
+    settle(function(x.data(), 8, of_x.data(), 2, y.data(), 8, of_y.data(), 2, value, made.numbers.data(), 8,
+                    frames.data(), 2),
+           name, status);
     made.from = frames[0], made.to = frames[1];
     return made;
 }
 
-template <class T, class F> std::vector<T> moved(F function, const char *name, Status *status, const BasicPose<T> &x, const T *points, std::size_t count) {
+template <class T, class F>
+std::vector<T> moved(F function, const char *name, Status *status, const BasicPose<T> &x, const T *points,
+                     std::size_t count) {
     constexpr std::size_t most = 65535; // numbers at one call
     std::vector<T> made(count);
     const T up = Width<T>::up(x);
@@ -229,7 +262,8 @@ template <class T, class F> BasicBlock<T> block_of(F function, const BasicPose<T
     return made;
 }
 
-template <class T, class F> std::pair<BasicBlock<T>, BasicBlock<T>> blocks_of(F function, const BasicPose<T> &x, T value, const char *name) {
+template <class T, class F>
+std::pair<BasicBlock<T>, BasicBlock<T>> blocks_of(F function, const BasicPose<T> &x, T value, const char *name) {
     std::array<T, 62> out{};
     settle(function(x.data(), 8, value, out.data(), 62), name, nullptr);
     const T *at = out.data();
@@ -237,12 +271,14 @@ template <class T, class F> std::pair<BasicBlock<T>, BasicBlock<T>> blocks_of(F 
     return {first, BasicBlock<T>{part<T, 31>(at)}};
 }
 
-template <class T, class F> BasicActJacobians<T> act_jacobians(F function, const BasicPose<T> &x, const std::array<T, 3> &p, const char *name) {
+template <class T, class F>
+BasicActJacobians<T> act_jacobians(F function, const BasicPose<T> &x, const std::array<T, 3> &p, const char *name) {
     std::array<T, 30> out{};
     settle(function(x.data(), 8, Width<T>::up(x), p.data(), 3, out.data(), 30), name, nullptr);
     const T *at = out.data();
     BasicActJacobians<T> made;
-    made.by_phi = part<T, 9>(at), made.by_rho = part<T, 9>(at), made.by_sigma = part<T, 3>(at), made.by_point = part<T, 9>(at);
+    made.by_phi = part<T, 9>(at), made.by_rho = part<T, 9>(at), made.by_sigma = part<T, 3>(at),
+    made.by_point = part<T, 9>(at);
     return made;
 }
 
@@ -261,15 +297,20 @@ template <class T> BasicValues<T> values(T sigma, T z) {
 }
 
 /// Exp(tau), with these frames.
-template <class T> BasicPose<T> exp(const BasicTangent<T> &tau, std::uint16_t from, std::uint16_t to, const BasicValues<T> &values) {
+template <class T>
+BasicPose<T> exp(const BasicTangent<T> &tau, std::uint16_t from, std::uint16_t to, const BasicValues<T> &values) {
     BasicPose<T> made;
     const std::array<std::uint16_t, 2> given{from, to};
     std::array<std::uint16_t, 2> frames{};
-    detail::settle(Width<T>::exp(tau.data(), 7, values.data(), 10, given.data(), 2, made.numbers.data(), 8, frames.data(), 2), "exp", nullptr);
+    detail::settle(
+        Width<T>::exp(tau.data(), 7, values.data(), 10, given.data(), 2, made.numbers.data(), 8, frames.data(), 2),
+        "exp", nullptr);
     made.from = frames[0], made.to = frames[1];
     return made;
 }
-template <class T> BasicPose<T> exp(const BasicTangent<T> &tau, std::uint16_t from, std::uint16_t to) { return exp(tau, from, to, values(tau)); }
+template <class T> BasicPose<T> exp(const BasicTangent<T> &tau, std::uint16_t from, std::uint16_t to) {
+    return exp(tau, from, to, values(tau));
+}
 
 /// X Y, from where Y starts to where X goes; refusal 9 where X does not start where Y goes.
 template <class T> BasicPose<T> mul(const BasicPose<T> &x, const BasicPose<T> &y, Status *status = nullptr) {
@@ -292,7 +333,9 @@ template <class T> BasicPose<T> inverse(const BasicPose<T> &x) {
     BasicPose<T> made;
     const auto given = x.frames();
     std::array<std::uint16_t, 2> frames{};
-    detail::settle(Width<T>::inverse(x.data(), 8, given.data(), 2, Width<T>::down(x), made.numbers.data(), 8, frames.data(), 2), "inverse", nullptr);
+    detail::settle(
+        Width<T>::inverse(x.data(), 8, given.data(), 2, Width<T>::down(x), made.numbers.data(), 8, frames.data(), 2),
+        "inverse", nullptr);
     made.from = frames[0], made.to = frames[1];
     return made;
 }
@@ -303,17 +346,20 @@ template <class T> BasicPose<T> renormalize(BasicPose<T> x) {
     return x;
 }
 
-/// A list of points, x y z of each: any container or span with data() and size(), of any length that is a multiple of 3. act_many forms the matrix s R once;
-/// act_each moves each point by itself.
-template <class T, class Points> std::vector<T> act_many(const BasicPose<T> &x, const Points &points, Status *status = nullptr) {
+/// A list of points, x y z of each: any container or span with data() and size(), of any length that is a multiple
+/// of 3. act_many forms the matrix s R once; act_each moves each point by itself.
+template <class T, class Points>
+std::vector<T> act_many(const BasicPose<T> &x, const Points &points, Status *status = nullptr) {
     return detail::moved<T>(Width<T>::act_many, "act_many", status, x, points.data(), points.size());
 }
-template <class T, class Points> std::vector<T> act_each(const BasicPose<T> &x, const Points &points, Status *status = nullptr) {
+template <class T, class Points>
+std::vector<T> act_each(const BasicPose<T> &x, const Points &points, Status *status = nullptr) {
     return detail::moved<T>(Width<T>::act_each, "act_each", status, x, points.data(), points.size());
 }
 
 /// The coefficients at sigma and at -sigma; refusal 1 where z is below zero.
-template <class T> std::pair<BasicCoefficients<T>, BasicCoefficients<T>> scaled_pair(T sigma, T z, Status *status = nullptr) {
+template <class T>
+std::pair<BasicCoefficients<T>, BasicCoefficients<T>> scaled_pair(T sigma, T z, Status *status = nullptr) {
     std::array<T, 20> out{};
     detail::settle(Width<T>::scaled_pair(sigma, z, values(sigma, z).data(), 10, out.data(), 20), "scaled_pair", status);
     const T *at = out.data();
@@ -324,7 +370,8 @@ template <class T> std::pair<BasicCoefficients<T>, BasicCoefficients<T>> scaled_
 /// The arm and the coefficients at sigma; refusal 1 where z is below zero.
 template <class T> std::pair<BasicArm<T>, BasicCoefficients<T>> coeffs_armed(T sigma, T z, Status *status = nullptr) {
     std::array<T, 12> out{};
-    detail::settle(Width<T>::coeffs_armed(sigma, z, values(sigma, z).data(), 10, out.data(), 12), "coeffs_armed", status);
+    detail::settle(Width<T>::coeffs_armed(sigma, z, values(sigma, z).data(), 10, out.data(), 12), "coeffs_armed",
+                   status);
     const T *at = out.data();
     BasicArm<T> arm = detail::part<T, 2>(at);
     return {arm, detail::part<T, 10>(at)};
@@ -350,10 +397,13 @@ template <class T> BasicBlockPair<T> block_pair(const BasicTangent<T> &tau) {
     std::array<T, 9> jl{}, jl_inv{};
     std::array<T, 124> out{};
     Width<T>::rotation_jacobians(tau.data(), jl.data(), jl_inv.data());
-    detail::settle(Width<T>::block_pair(tau.data(), 7, values(tau).data(), 10, jl.data(), 9, jl_inv.data(), 9, out.data(), 124), "block_pair", nullptr);
+    detail::settle(
+        Width<T>::block_pair(tau.data(), 7, values(tau).data(), 10, jl.data(), 9, jl_inv.data(), 9, out.data(), 124),
+        "block_pair", nullptr);
     const T *at = out.data();
     BasicBlockPair<T> made;
-    for (BasicBlock<T> *block : {&made.left, &made.left_inv, &made.right, &made.right_inv}) block->numbers = detail::part<T, 31>(at);
+    for (BasicBlock<T> *block : {&made.left, &made.left_inv, &made.right, &made.right_inv})
+        block->numbers = detail::part<T, 31>(at);
     return made;
 }
 
@@ -365,7 +415,9 @@ template <class T> BasicBlock<T> block_inverse(const BasicBlock<T> &j, Status *s
 }
 
 /// Ad_X, and the Jacobians of composition (by X and by Y) and inverse, for X Exp(tau) (right) and Exp(tau) X (left).
-template <class T> BasicBlock<T> adjoint(const BasicPose<T> &x) { return detail::block_of<T>(Width<T>::adjoint, x, Width<T>::up(x), "adjoint"); }
+template <class T> BasicBlock<T> adjoint(const BasicPose<T> &x) {
+    return detail::block_of<T>(Width<T>::adjoint, x, Width<T>::up(x), "adjoint");
+}
 template <class T> auto compose_jacobians_right(const BasicPose<T> &y) {
     return detail::blocks_of<T>(Width<T>::compose_jacobians_right, y, Width<T>::down(y), "compose_jacobians_right");
 }
@@ -385,15 +437,18 @@ template <class T> BasicActJacobians<T> act_jacobians_left(const BasicPose<T> &x
     return detail::act_jacobians<T>(Width<T>::act_jacobians_left, x, p, "act_jacobians_left");
 }
 
-/// Poses joined as they come: the first is the running pose, each later one replaces it by running X; after every nth product the quaternion is renormalised.
+/// Poses joined as they come: the first is the running pose, each later one replaces it by running X; after every nth
+/// product the quaternion is renormalised.
 class Running {
 public:
     Running() { detail::settle(sim3_running_start(numbers_.data(), 8, state_.data(), 5), "Running", nullptr); }
-    /// Joins a pose, and gives the running pose as it then is. Refusal 9 where the running pose does not start where x goes; then nothing changes.
+    /// Joins a pose, and gives the running pose as it then is. Refusal 9 where the running pose does not start where x
+    /// goes; then nothing changes.
     Pose push(const Pose &x, Status *status = nullptr) {
         const auto frames = x.frames();
         const double up = sim3_host_up(numbers_.data());
-        detail::settle(sim3_running_push(numbers_.data(), 8, state_.data(), 5, x.data(), 8, frames.data(), 2, up), "Running::push", status);
+        detail::settle(sim3_running_push(numbers_.data(), 8, state_.data(), 5, x.data(), 8, frames.data(), 2, up),
+                       "Running::push", status);
         return pose();
     }
     /// From here on after every nth product, 0 for never.
@@ -410,12 +465,18 @@ private:
 class Sheets {
 public:
     enum Outcome { New = 1, Replaces = 2, Older = 3 };
-    Sheets() : store_(SIM3_SHEETS_SIZE) { detail::settle(sim3_sheets_start(store_.data(), store_.size()), "Sheets", nullptr); }
-    /// A shot: what became of it, and the take that stood before. Refusal 10 where that take is kept, 11 at a 513th sheet; then nothing changes.
-    std::pair<Outcome, std::uint16_t> put(std::uint16_t sheet, std::uint16_t take, const Pose &x, Status *status = nullptr) {
+    Sheets() : store_(SIM3_SHEETS_SIZE) {
+        detail::settle(sim3_sheets_start(store_.data(), store_.size()), "Sheets", nullptr);
+    }
+    /// A shot: what became of it, and the take that stood before. Refusal 10 where that take is kept, 11 at a 513th
+    /// sheet; then nothing changes.
+    std::pair<Outcome, std::uint16_t> put(std::uint16_t sheet, std::uint16_t take, const Pose &x,
+                                          Status *status = nullptr) {
         const auto frames = x.frames();
         std::array<std::uint16_t, 2> out{};
-        detail::settle(sim3_sheets_put(store_.data(), store_.size(), sheet, take, x.data(), 8, frames.data(), 2, out.data(), 2), "Sheets::put", status);
+        detail::settle(
+            sim3_sheets_put(store_.data(), store_.size(), sheet, take, x.data(), 8, frames.data(), 2, out.data(), 2),
+            "Sheets::put", status);
         return {static_cast<Outcome>(out[0]), out[1]};
     }
     /// The take that is kept of a sheet, and its pose. Refusal 12 where nothing was ever kept of it.
@@ -423,7 +484,9 @@ public:
         std::uint16_t take = 0;
         std::array<std::uint16_t, 2> frames{};
         Pose made;
-        detail::settle(sim3_sheets_get(store_.data(), store_.size(), sheet, &take, 1, made.numbers.data(), 8, frames.data(), 2), "Sheets::get", status);
+        detail::settle(
+            sim3_sheets_get(store_.data(), store_.size(), sheet, &take, 1, made.numbers.data(), 8, frames.data(), 2),
+            "Sheets::get", status);
         made.from = frames[0], made.to = frames[1];
         return {take, made};
     }
@@ -432,7 +495,8 @@ private:
     std::vector<std::uint8_t> store_;
 };
 
-/// The square root in whole numbers with what is left; refusal 1 where z is below zero, 8 where it is a NaN or +infinity.
+/// The square root in whole numbers with what is left; refusal 1 where z is below zero, 8 where it is a NaN or
+/// +infinity.
 struct Root {
     std::uint64_t root = 0, remainder = 0;
     std::int64_t exponent = 0;
@@ -446,7 +510,8 @@ inline Root root(double z, Status *status = nullptr) {
     return made;
 }
 
-/// Tangents in the order of sim3.h, by the bits of their numbers: -1, 0 or 1; and at most 1,024 put in order, else refusal 5.
+/// Tangents in the order of sim3.h, by the bits of their numbers: -1, 0 or 1; and at most 1,024 put in order, else
+/// refusal 5.
 inline int compare_tangents(const Tangent &a, const Tangent &b) {
     std::array<std::uint64_t, 7> of_a{}, of_b{};
     std::memcpy(of_a.data(), a.data(), sizeof of_a);
@@ -457,12 +522,15 @@ inline int compare_tangents(const Tangent &a, const Tangent &b) {
 }
 inline void sort_tangents(std::vector<Tangent> &tangents, Status *status = nullptr) {
     std::vector<std::uint64_t> patterns(7 * tangents.size() + 1); // one more, so that an empty list has a place
-    for (std::size_t i = 0; i < tangents.size(); i++) std::memcpy(&patterns[7 * i], tangents[i].data(), 7 * sizeof(double));
+    for (std::size_t i = 0; i < tangents.size(); i++)
+        std::memcpy(&patterns[7 * i], tangents[i].data(), 7 * sizeof(double));
     detail::settle(sim3_sort_tangents(patterns.data(), 7 * tangents.size()), "sort_tangents", status);
-    for (std::size_t i = 0; i < tangents.size(); i++) std::memcpy(tangents[i].numbers.data(), &patterns[7 * i], 7 * sizeof(double));
+    for (std::size_t i = 0; i < tangents.size(); i++)
+        std::memcpy(tangents[i].numbers.data(), &patterns[7 * i], 7 * sizeof(double));
 }
 
-/// How many neighbouring numbers z is from another arm: 0 where there is none; whether that lies up; and the arm there. Refusals 1 and 8.
+/// How many neighbouring numbers z is from another arm: 0 where there is none; whether that lies up; and the arm there.
+/// Refusals 1 and 8.
 struct Near {
     std::uint64_t count = 0;
     bool up = false;

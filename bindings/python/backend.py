@@ -1,9 +1,11 @@
 """How pip builds this package, by the standard library alone.
 
-usage: python3 backend.py FOLDER     compiles the loops over arrays for this Python into the folder of the library, as bindings/build wants them
+usage: python3 backend.py FOLDER     compiles the loops over arrays for this Python into the folder of the library, as
+bindings/build wants them
 
-A wheel holds the package and, beside its modules, the shared library: the one that the environment variable SIM3_LIBRARY names, or
-the one that bindings/build makes in the source tree; and the loops over arrays, where a C compiler and Python's headers are there.
+A wheel holds the package and, beside its modules, the shared library: the one that the environment variable
+SIM3_LIBRARY names, or the one that bindings/build makes in the source tree; and the loops over arrays, where a C
+compiler and Python's headers are there.
 """
 import base64
 import hashlib
@@ -32,21 +34,24 @@ def library():
     if named:
         return pathlib.Path(named)
     if not build.is_file():
-        raise SystemExit(f"sim3: no {build}, which makes {LIBRARY}: install from the source tree, or name the library by SIM3_LIBRARY")
+        raise SystemExit(f"sim3: no {build}, which makes {LIBRARY}: install from the source tree, or name the library "
+                         "by SIM3_LIBRARY")
     if subprocess.run([str(build)]).returncode:
         raise SystemExit(f"sim3: bindings/build made no {LIBRARY}; its message is above")
     return HERE.parent.parent / "target" / "bindings" / LIBRARY
 
 
 def loops(folder, library):
-    """The module of loops over arrays, compiled into a folder: its path, or None where the compiler or Python's headers are missing, which is said. It finds the
-    library by its soname, since the package has loaded that before."""
+    """The module of loops over arrays, compiled into a folder: its path, or None where the compiler or Python's headers
+    are missing, which is said. It finds the library by its soname, since the package has loaded that before."""
     include, cc = sysconfig.get_path("include"), os.environ.get("CC") or "cc"
     if not os.path.exists(os.path.join(include, "Python.h")) or not shutil.which(cc):
-        print(f"sim3: no loops over arrays, since {cc!r} or the headers of Python in {include} are missing; all else is there", file=sys.stderr)
+        print(f"sim3: no loops over arrays, since {cc!r} or the headers of Python in {include} are missing; all else "
+              "is there", file=sys.stderr)
         return None
     made, top = os.path.join(folder, "rows" + sysconfig.get_config_var("EXT_SUFFIX")), HERE.parent.parent
-    words = [cc, "-std=c99", "-O2", "-fPIC", "-shared", "-s", "-DNDEBUG", "-ffp-contract=off", f"-I{include}", f"-I{top}/include", f"-I{top}/bindings/c",
+    words = [cc, "-std=c99", "-O2", "-fPIC", "-shared", "-s", "-DNDEBUG", "-ffp-contract=off", f"-I{include}",
+             f"-I{top}/include", f"-I{top}/bindings/c",
              "-o", made + ".new", str(HERE / "rows.c"), str(library), "-lm"]
     if subprocess.run(words).returncode:
         raise SystemExit(f"sim3: {cc} did not compile {HERE}/rows.c; its message is above")
@@ -56,10 +61,13 @@ def loops(folder, library):
 
 def metadata():
     """A wheel's own file about the package, the README behind it."""
-    fields = (("Metadata-Version", "2.1"), ("Name", field("name")), ("Version", field("version")), ("Summary", field("description")),
-              ("License", re.search(r'^license = \{ text = "(.*)" \}$', (HERE / "pyproject.toml").read_text(encoding="utf-8"), re.M)[1]),
+    fields = (("Metadata-Version", "2.1"), ("Name", field("name")), ("Version", field("version")),
+              ("Summary", field("description")),
+              ("License", re.search(r'^license = \{ text = "(.*)" \}$',
+                                    (HERE / "pyproject.toml").read_text(encoding="utf-8"), re.M)[1]),
               ("Requires-Python", field("requires-python")), ("Description-Content-Type", "text/markdown"))
-    return "".join(f"{key}: {text}\n" for key, text in fields) + "\n" + (HERE / field("readme")).read_text(encoding="utf-8")
+    return "".join(f"{key}: {text}\n"
+                   for key, text in fields) + "\n" + (HERE / field("readme")).read_text(encoding="utf-8")
 
 
 def files(tag, shared, compiled):

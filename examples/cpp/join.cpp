@@ -1,6 +1,7 @@
-// The engine from C++: two runs of shots are joined by a similarity, which frames keep from being done the wrong way round; a staff line's points are moved, Jacobian
-// blocks are taken, shots are joined as they come, and refusals are shown. Every answer is compared with numbers known by hand; exit status 1 and a message where one
-// is wrong. examples/cpp/run builds and runs it; with Eigen's headers at hand it goes through Eigen's types too.
+// The engine from C++: two runs of shots are joined by a similarity, which frames keep from being done the wrong way
+// round; a staff line's points are moved, Jacobian blocks are taken, shots are joined as they come, and refusals are
+// shown. Every answer is compared with numbers known by hand; exit status 1 and a message where one is wrong.
+// examples/cpp/run builds and runs it; with Eigen's headers at hand it goes through Eigen's types too.
 #if __has_include(<Eigen/Geometry>)
 #include <Eigen/Core>
 #include <Eigen/Geometry>
@@ -17,12 +18,14 @@ constexpr std::uint16_t FIRST = 1, SECOND = 2, SHOT = 10, NEXT = 11;
 const double QUARTER = std::acos(0.0), DOUBLED = std::log(2.0), HALF_ROOT = std::sqrt(0.5);
 int wrong = 0;
 
-template <class Found, class Due> void known(const char *what, const Found &found, const Due &due, double most = 1e-12) {
+template <class Found, class Due>
+void known(const char *what, const Found &found, const Due &due, double most = 1e-12) {
     std::cout << what << ":";
     std::size_t i = 0;
     for (const auto number : found) {
         std::cout << ' ' << static_cast<double>(number);
-        if (!(std::fabs(static_cast<double>(number) - due[i]) <= most)) wrong++, std::cout << " (WRONG, not " << due[i] << ")";
+        if (!(std::fabs(static_cast<double>(number) - due[i]) <= most))
+            wrong++, std::cout << " (WRONG, not " << due[i] << ")";
         i++;
     }
     if (i != due.size()) wrong++, std::cout << " (WRONG: " << i << " numbers and not " << due.size() << ")";
@@ -35,7 +38,8 @@ template <class Call> void refused(std::uint32_t number, Call call) {
         wrong++, std::cout << "WRONG: an answer and not refusal " << number << '\n';
     } catch (const sim3::Refusal &refusal) {
         std::cout << refusal.what() << '\n';
-        if (refusal.number() != number) wrong++, std::cout << "WRONG: refusal " << refusal.number() << " and not " << number << '\n';
+        if (refusal.number() != number)
+            wrong++, std::cout << "WRONG: refusal " << refusal.number() << " and not " << number << '\n';
     }
 }
 
@@ -66,17 +70,20 @@ int main() {
     const Numbers line{0, 0, 0, 1, 0, 0, 2, 0, 0}, moved{10, 20, 30, 10, 22, 30, 10, 24, 30};
     known("staff line", sim3::act_many(join, line), moved);
     known("point by point", sim3::act_each(join, line), moved);
-    const sim3::PoseF single = sim3::exp(sim3::TangentF{{0, 0, static_cast<float>(QUARTER), 0, 0, 0, static_cast<float>(DOUBLED)}}, SHOT, FIRST);
+    const sim3::PoseF single = sim3::exp(
+        sim3::TangentF{{0, 0, static_cast<float>(QUARTER), 0, 0, 0, static_cast<float>(DOUBLED)}}, SHOT, FIRST);
     known("line at f32", sim3::act_many(single, std::array<float, 3>{1, 0, 0}), Numbers{0, 2, 0}, 1e-6);
 
     const sim3::Tangent tau{{0.1, -0.2, 0.3, 1, 2, 3, 0.5}};
     const sim3::BlockPair pair = sim3::block_pair(tau);
-    for (const sim3::Block &block : {pair.left, pair.left_inv, pair.right, pair.right_inv}) known("a block leaves its tangent", times(block, tau), tau.numbers);
+    for (const sim3::Block &block : {pair.left, pair.left_inv, pair.right, pair.right_inv})
+        known("a block leaves its tangent", times(block, tau), tau.numbers);
     known("moved point by sigma", sim3::act_jacobians_left(join, {1, 0, 0}).by_sigma, Numbers{10, 22, 30});
 
     sim3::Running running;
     running.every(2);
-    for (int shot = 0; shot < 4; shot++) running.push(sim3::Pose{{HALF_ROOT, 0, 0, HALF_ROOT, 1, 0, 0, 0}, FIRST, FIRST});
+    for (int shot = 0; shot < 4; shot++)
+        running.push(sim3::Pose{{HALF_ROOT, 0, 0, HALF_ROOT, 1, 0, 0, 0}, FIRST, FIRST});
     known("four shots", running.pose().numbers, Numbers{-1, 0, 0, 0, 0, 0, 0, 0});
     sim3::Sheets sheets;
     sheets.put(7, 1, shift), sheets.put(7, 3, join);
@@ -98,7 +105,8 @@ int main() {
 #ifdef EIGEN_GEOMETRY_MODULE_H
     const Eigen::Vector4d place = join.matrix() * Eigen::Vector4d(1, 0, 0, 1);
     known("by Eigen's matrix", Numbers(place.data(), place.data() + 3), Numbers{10, 22, 30});
-    const auto again = sim3::Pose::from_parts(join.quaternion(), join.translation(), join.numbers[7], join.from, join.to);
+    const auto again =
+        sim3::Pose::from_parts(join.quaternion(), join.translation(), join.numbers[7], join.from, join.to);
     known("by Eigen's quaternion", again.numbers, join.numbers);
     const Eigen::Matrix<double, 7, 1> same = pair.left.matrix() * tau.vector();
     known("by Eigen's 7 by 7", Numbers(same.data(), same.data() + 7), tau.numbers);

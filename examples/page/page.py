@@ -1,12 +1,14 @@
 #!/usr/bin/env python3
-"""An opening of a choirbook, photographed in three runs with scales of their own, joined by the running join, and drawn.
+"""An opening of a choirbook, photographed in three runs with scales of their own, joined by the running join, and
+drawn.
 
 usage: examples/page/page.py [FILE]     writes the picture, examples/page/page.svg if no file is given
 
-Every run's points are in units of its own camera. A shot that stands in two runs joins them: X Y^-1 takes the later run's
-points to the earlier one's. The running join puts one such pose behind the other, so that each run comes to lie on the
-page, in millimetres; the same points of two runs then differ by roundings alone, which are measured. The last run is also
-handed in the wrong way round, which its frames refuse by 9. Exit status 1 where a number is not as it must be.
+Every run's points are in units of its own camera. A shot that stands in two runs joins them: X Y^-1 takes the later
+run's points to the earlier one's. The running join puts one such pose behind the other, so that each run comes to lie
+on the page, in millimetres; the same points of two runs then differ by roundings alone, which are measured. The last
+run is also handed in the wrong way round, which its frames refuse by 9. Exit status 1 where a number is not as it must
+be.
 """
 import math
 import pathlib
@@ -34,7 +36,8 @@ def laid(angle, x, y, sigma, from_, to):
 
 
 def staff_lines():
-    """The opening: on each of two pages six staves of five lines, as lists of points x y z, and square notes upon them."""
+    """The opening: on each of two pages six staves of five lines, as lists of points x y z, and square notes upon
+    them."""
     lines, notes, source = [], [], random.Random(4)
     for left in (22, 232):
         for staff in range(6):
@@ -62,7 +65,8 @@ def rows(numbers):
 def photographed(opening):
     """Each run's lists of points in its camera's units, and the poses of the shots that stand in two runs."""
     on_page = {run: laid(*LAID[run], run, PAGE) for run in RUNS}
-    seen = {run: [rows(sim3.act_many(sim3.inverse(on_page[run]), flat(shown_by(run, points)))) for points in opening] for run in RUNS}
+    seen = {run: [rows(sim3.act_many(sim3.inverse(on_page[run]), flat(shown_by(run, points)))) for points in opening]
+            for run in RUNS}
     shots = {}
     for shot, pair in zip(SHOTS, zip(RUNS, RUNS[1:])):
         place = laid(0.3, sum(SPANS[pair[1]][:1]) + 15, 140, 0.1, shot, PAGE)
@@ -72,7 +76,8 @@ def photographed(opening):
 
 
 def joined(first, shots):
-    """The pose of each run on the page by the running join; and the refusal of the last, handed in the wrong way round."""
+    """The pose of each run on the page by the running join; and the refusal of the last, handed in the wrong way
+    round."""
     running, placed = sim3.Running(), {1: first}
     running.push(first)
     for shot, earlier, later in zip(SHOTS, RUNS, RUNS[1:]):
@@ -120,12 +125,14 @@ INK, PAPER = "#222", "#fbf7ec"
 def polyline(points, colour, width, dashed):
     """A staff line, which is straight."""
     path = " ".join(f"{x:.2f},{y:.2f}" for x, y, _ in (points[0], points[-1]))
-    return f'<polyline points="{path}" stroke="{colour}" stroke-width="{width}"' + (' stroke-dasharray="4 3"/>' if dashed else "/>")
+    return (f'<polyline points="{path}" stroke="{colour}" stroke-width="{width}"'
+            + (' stroke-dasharray="4 3"/>' if dashed else "/>"))
 
 
 def note(point, colour, size):
     x, y, _ = point
-    return f'<rect x="{x - size:.2f}" y="{y - size:.2f}" width="{2 * size:.2f}" height="{2 * size:.2f}" fill="{colour}"/>'
+    return (f'<rect x="{x - size:.2f}" y="{y - size:.2f}" width="{2 * size:.2f}" height="{2 * size:.2f}" '
+            f'fill="{colour}"/>')
 
 
 def drawn(lists, run, width=None, dashed=False):
@@ -159,16 +166,22 @@ def picture(seen, moved, astray, refused, left):
     after = "".join(drawn(moved[run], run) for run in RUNS)
     wrong = page + "".join(drawn(moved[run], run, 0.6) for run in RUNS[:-1]) + drawn(astray, RUNS[-1], 1.0, dashed=True)
     apart = " and ".join(f"{most:.0e} mm" for most in left)
-    legend = "".join(f'<tspan fill="{COLOURS[run]}">run {run}: {math.exp(-LAID[run][3]):.2f} units a millimetre</tspan>    ' for run in RUNS)
+    legend = "".join(f'<tspan fill="{COLOURS[run]}">run {run}: {math.exp(-LAID[run][3]):.2f} units a '
+                     'millimetre</tspan>    ' for run in RUNS)
     near = f'<rect x="118" y="60" width="80" height="60" fill="{PAPER}"/>{after}'
     return ('<svg xmlns="http://www.w3.org/2000/svg" viewBox="0 0 1000 790" font-family="sans-serif">\n'
             f'<rect width="1000" height="790" fill="#fff"/>\n<g fill="{INK}">\n'
             f'<text x="20" y="26" font-size="14" xml:space="preserve">{legend}</text>\n'
-            + panel("before: each run in the units of its own camera", (20, 64, 470, 330), bounds([points for run in RUNS for points in seen[run]]), before)
-            + panel("after: the staff lines of all runs over each other", (20, 428, 470, 336), (0, 0, WIDTH, HEIGHT), page + after)
-            + panel("the last run handed in the wrong way round", (520, 64, 460, 296), (-10, -10, WIDTH + 150, HEIGHT + 70), wrong,
-                    (f"refused by {refused.number}: its frames do not meet, and nothing is moved;", "dashed: where it would have come to lie"))
-            + panel("the first join from nearby: run 2 begins over run 1, which ends", (520, 428, 460, 318), (120, 62, 69, 47.7), near,
+            + panel("before: each run in the units of its own camera", (20, 64, 470, 330),
+                    bounds([points for run in RUNS for points in seen[run]]), before)
+            + panel("after: the staff lines of all runs over each other", (20, 428, 470, 336), (0, 0, WIDTH, HEIGHT),
+                    page + after)
+            + panel("the last run handed in the wrong way round", (520, 64, 460, 296),
+                    (-10, -10, WIDTH + 150, HEIGHT + 70), wrong,
+                    (f"refused by {refused.number}: its frames do not meet, and nothing is moved;",
+                     "dashed: where it would have come to lie"))
+            + panel("the first join from nearby: run 2 begins over run 1, which ends", (520, 428, 460, 318),
+                    (120, 62, 69, 47.7), near,
                     (f"left by rounding at the two joins: at most {apart}",))
             + "</g>\n</svg>\n")
 
@@ -184,10 +197,12 @@ def main(words):
     out.write_text(picture(seen, moved, on_the_page(astray, seen[3]), refused, left), encoding="utf-8")
     print(refused)
     for run in RUNS:
-        print(f"run {run}: from frame {placed[run].from_} to frame {placed[run].to}, {sum(map(len, seen[run])):,} points, scale {math.exp(placed[run].numbers[7]):.6g}")
+        print(f"run {run}: from frame {placed[run].from_} to frame {placed[run].to}, {sum(map(len, seen[run])):,} "
+              f"points, scale {math.exp(placed[run].numbers[7]):.6g}")
     for join, most in enumerate(left, 1):
         print(f"join {join}: the same points of both runs are at most {most:.2e} mm apart")
-    true = max(math.dist(p, q) for run in RUNS for points, found in zip(opening, moved[run]) for p, q in zip(shown_by(run, points), found))
+    true = max(math.dist(p, q) for run in RUNS for points, found in zip(opening, moved[run])
+               for p, q in zip(shown_by(run, points), found))
     print(f"from where they were made: at most {true:.2e} mm")
     good = refused.number == 9 and max(left) <= MOST_LEFT and true <= MOST_LEFT
     print(f"page: {out} is drawn" if good else "page: WRONG, see above")

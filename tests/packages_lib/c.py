@@ -1,4 +1,5 @@
-"""C and C++: the install itself, its headers, its symbols, and an example that is linked with what was installed alone."""
+"""C and C++: the install itself, its headers, its symbols, and an example that is linked with what was installed
+alone."""
 import re
 import shutil
 import subprocess
@@ -6,11 +7,13 @@ import subprocess
 from .common import DUE, INSTALL, ROOT, WORK, folder, prefix, ran, same, tool, tree
 
 WARNINGS = ["-Wall", "-Wextra", "-Wpedantic", "-Wshadow", "-Wundef", "-Werror"]
-STRICT = [*WARNINGS, "-Wconversion", "-Wdouble-promotion", "-Wcast-qual"]  # for the headers, whose warnings would be every caller's
+# for the headers, whose warnings would be every caller's
+STRICT = [*WARNINGS, "-Wconversion", "-Wdouble-promotion", "-Wcast-qual"]
 
 
 def repeatable():
-    """Installing twice leaves what installing once does; --uninstall leaves what was there before; nothing is written beside PREFIX."""
+    """Installing twice leaves what installing once does; --uninstall leaves what was there before; nothing is written
+    beside PREFIX."""
     tool("cc", "CC")
     work = folder("repeatable")
     (work / "own/lib").mkdir(parents=True)
@@ -38,7 +41,8 @@ def headers():
     for header in sorted((prefix() / "include").glob("*.h")):
         for language, standard in (("c", "c99"), ("c", "c11"), ("c", "c17")):
             (work / "one.c").write_text(f'#include "{header.name}"\nint main(void) {{ return 0; }}\n')
-            ran([cc, "-x", language, f"-std={standard}", *STRICT, "-Wstrict-prototypes", f"-I{prefix()}/include", "-c", "-o", "one.o", "one.c"], work)
+            ran([cc, "-x", language, f"-std={standard}", *STRICT, "-Wstrict-prototypes", f"-I{prefix()}/include", "-c",
+                 "-o", "one.o", "one.c"], work)
 
 
 def headers_in_cpp():
@@ -52,13 +56,16 @@ def headers_in_cpp():
 
 def symbols():
     """The shared library exports the functions of the header and nothing else, and has its soname."""
-    declared = set(re.findall(r"\b(sim3_\w+)\(", re.sub(r"/\*.*?\*/", "", (prefix() / "include/sim3.h").read_text(), flags=re.S)))
+    declared = set(re.findall(r"\b(sim3_\w+)\(",
+                              re.sub(r"/\*.*?\*/", "", (prefix() / "include/sim3.h").read_text(), flags=re.S)))
     told = ran([tool("nm"), "-D", "--defined-only", "--format=posix", prefix() / "lib/libsim3.so"], "/")
-    found = {line.split()[0].split("@")[0] for line in told.splitlines() if line.split()[1] != "A"}  # A is the version's own name
+    # A is the version's own name
+    found = {line.split()[0].split("@")[0] for line in told.splitlines() if line.split()[1] != "A"}
     same(found, declared, "what libsim3.so exports")
     version = (ROOT / "VERSION").read_text().strip()
     links = {path.name for path in (prefix() / "lib").glob("libsim3.so*")}
-    same(links, {"libsim3.so", f"libsim3.so.{version.split('.')[0]}", f"libsim3.so.{version}"}, "names of the shared library")
+    same(links, {"libsim3.so", f"libsim3.so.{version.split('.')[0]}", f"libsim3.so.{version}"},
+         "names of the shared library")
     told = ran([tool("readelf"), "-d", prefix() / "lib/libsim3.so"], "/")
     assert f"soname: [libsim3.so.{version.split('.')[0]}]" in told, told
 
@@ -72,7 +79,8 @@ def built_example(work, flags, **variables):
 
 def example_by_pkg_config():
     work = folder("shared")
-    flags = ran([tool("pkg-config"), "--cflags", "--libs", "sim3"], work, PKG_CONFIG_PATH=prefix() / "lib/pkgconfig").split()
+    flags = ran([tool("pkg-config"), "--cflags", "--libs", "sim3"], work,
+                PKG_CONFIG_PATH=prefix() / "lib/pkgconfig").split()
     built_example(work, flags, LD_LIBRARY_PATH=prefix() / "lib")
 
 
@@ -84,16 +92,20 @@ def example_in_cpp():
     """A few lines of C++, with the archive."""
     work, compiler = folder("example_in_cpp"), tool("c++", "CXX")
     (work / "mine.cpp").write_text('#include <cstdio>\n#include <cstring>\n#include "sim3.h"\n#include "sim3_host.h"\n'
-                                   'int main() { return std::puts(sim3_version()) < 0 || std::strcmp(sim3_version(), SIM3_VERSION) != 0; }\n')
-    ran([compiler, "-std=c++17", *WARNINGS, f"-I{prefix()}/include", "-o", "mine", "mine.cpp", prefix() / "lib/libsim3.a", "-lm"], work)
+                                   'int main() { return std::puts(sim3_version()) < 0 || std::strcmp(sim3_version(), '
+                                   'SIM3_VERSION) != 0; }\n')
+    ran([compiler, "-std=c++17", *WARNINGS, f"-I{prefix()}/include", "-o", "mine", "mine.cpp",
+         prefix() / "lib/libsim3.a", "-lm"], work)
     same(ran(["./mine"], work), (ROOT / "VERSION").read_text(), "sim3_version")
 
 
 def in_words():
     """What is wrong is said."""
-    for words, part in ((["--uninstall", f"{WORK.name}/none"], "nothing was installed there"), (["--wrong"], "'--wrong'"), (["a", "b"], "two folders")):
+    for words, part in ((["--uninstall", f"{WORK.name}/none"], "nothing was installed there"),
+                        (["--wrong"], "'--wrong'"), (["a", "b"], "two folders")):
         done = subprocess.run([INSTALL, *words], stdout=subprocess.PIPE, stderr=subprocess.PIPE, text=True)
         assert done.returncode == 2 and part in done.stderr, f"bindings/install {words}: {done}"
 
 
-TESTS = [repeatable, names_no_source, headers, headers_in_cpp, symbols, example_by_pkg_config, example_with_the_archive, example_in_cpp, in_words]
+TESTS = [repeatable, names_no_source, headers, headers_in_cpp, symbols, example_by_pkg_config, example_with_the_archive,
+         example_in_cpp, in_words]

@@ -1,4 +1,5 @@
-"""An install in a folder of its own, moved away from where it was put; commands in clean folders; tools that may be missing."""
+"""An install in a folder of its own, moved away from where it was put; commands in clean folders; tools that may be
+missing."""
 import functools
 import os
 import pathlib
@@ -29,10 +30,14 @@ def same(found, expected, what):
 
 
 def ran(words, cwd, **variables):
-    """What a command writes; its exit status must be 0. Of the environment it has what finds tools, and no place of the source tree."""
-    kept = {name: os.environ[name] for name in ("PATH", "HOME", "CARGO_HOME", "RUSTUP_HOME", "RUSTUP_TOOLCHAIN", "RT_JOBS", "CC") if name in os.environ}
+    """What a command writes; its exit status must be 0. Of the environment it has what finds tools, and no place of the
+    source tree."""
+    kept = {name: os.environ[name]
+            for name in ("PATH", "HOME", "CARGO_HOME", "RUSTUP_HOME", "RUSTUP_TOOLCHAIN", "RT_JOBS", "CC")
+            if name in os.environ}
     words = [str(word) for word in words]
-    done = subprocess.run(words, cwd=cwd, env={**kept, **{name: str(text) for name, text in variables.items()}}, stdout=subprocess.PIPE, stderr=subprocess.STDOUT, text=True)
+    done = subprocess.run(words, cwd=cwd, env={**kept, **{name: str(text) for name, text in variables.items()}},
+                          stdout=subprocess.PIPE, stderr=subprocess.STDOUT, text=True)
     assert done.returncode == 0, f"exit status {done.returncode} of {' '.join(words)}:\n{done.stdout[-3000:]}"
     return done.stdout
 
@@ -46,7 +51,8 @@ def folder(name):
 
 def tree(top):
     """Every path below a folder, and what stands there."""
-    return {str(path.relative_to(top)): os.readlink(path) if path.is_symlink() else path.read_bytes() if path.is_file() else None for path in sorted(top.rglob("*"))}
+    return {str(path.relative_to(top)): os.readlink(path) if path.is_symlink() else path.read_bytes() if path.is_file()
+            else None for path in sorted(top.rglob("*"))}
 
 
 @functools.lru_cache(maxsize=None)

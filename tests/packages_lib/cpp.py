@@ -1,4 +1,5 @@
-"""C++: sim3.hpp by g++ and clang++ with all warnings as errors, with Eigen and without, and the example by what was installed alone."""
+"""C++: sim3.hpp by g++ and clang++ with all warnings as errors, with Eigen and without, and the example by what was
+installed alone."""
 import pathlib
 import shutil
 
@@ -17,17 +18,21 @@ def compilers():
 def header():
     """The header alone, twice in one program, and with Eigen before it."""
     work = folder("hpp")
-    (work / "one.cpp").write_text('#include "sim3.hpp"\n#include "sim3.hpp"\nsim3::Pose one() { return sim3::Pose{}; }\n')
-    (work / "two.cpp").write_text('#include "sim3.hpp"\nsim3::Pose one();\nint main() { return sim3::inverse(one()).from; }\n')
+    (work / "one.cpp").write_text('#include "sim3.hpp"\n#include "sim3.hpp"\nsim3::Pose one() { return sim3::Pose{}; '
+                                  '}\n')
+    (work / "two.cpp").write_text('#include "sim3.hpp"\nsim3::Pose one();\nint main() { return '
+                                  'sim3::inverse(one()).from; }\n')
     for compiler in compilers():
         for standard in ("c++17", "c++20"):
-            ran([compiler, f"-std={standard}", *STRICT, f"-I{prefix()}/include", "-o", "both", "one.cpp", "two.cpp", prefix() / "lib/libsim3.a", "-lm"], work)
+            ran([compiler, f"-std={standard}", *STRICT, f"-I{prefix()}/include", "-o", "both", "one.cpp", "two.cpp",
+                 prefix() / "lib/libsim3.a", "-lm"], work)
         ran(["./both"], work)
 
 
 def built_example(work, compiler, *flags):
     shutil.copy(ROOT / "examples/cpp/join.cpp", work)
-    ran([compiler, "-std=c++17", "-O2", *STRICT, *flags, f"-I{prefix()}/include", "-o", "join", "join.cpp", prefix() / "lib/libsim3.a", "-lm"], work)
+    ran([compiler, "-std=c++17", "-O2", *STRICT, *flags, f"-I{prefix()}/include", "-o", "join", "join.cpp",
+         prefix() / "lib/libsim3.a", "-lm"], work)
     told = ran(["./join"], work)
     assert DUE in told, told
     return told

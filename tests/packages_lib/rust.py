@@ -42,7 +42,8 @@ def dependent():
     work = folder("dependent")
     (work / "src").mkdir()
     (work / "src/main.rs").write_text(MAIN)
-    (work / "Cargo.toml").write_text(f'[package]\nname = "mine"\nversion = "0.1.0"\nedition = "2021"\n\n[dependencies]\nsim3 = {{ path = "{prefix()}/share/sim3/rust" }}\n')
+    (work / "Cargo.toml").write_text('[package]\nname = "mine"\nversion = "0.1.0"\nedition = "2021"\n\n'
+                                     f'[dependencies]\nsim3 = {{ path = "{prefix()}/share/sim3/rust" }}\n')
     version = (prefix() / "lib/pkgconfig/sim3.pc").read_text().split("Version: ")[1].split()[0]
     same(cargo("run", cwd=work), f"{version} [1.0, 2.0, 3.0] 3 7\n", "what a crate that depends on sim3 says")
 

@@ -26,7 +26,8 @@ ONE32, NAN32, MINUS32 = 0x3F800000, SINGLE.nan, 1 << 31
 # Numbers that are easily lost on the way through text, as bits.
 ODD = [*map(DOUBLE.to_bits, (0.0, -0.0, 1.0, -1.5, 5e-324, 1.7976931348623157e308, float("inf"), float("-inf"), 0.1)),
        NAN, NAN | MINUS, 0x7FF0000000000001, 0x7FFFFFFFFFFFFFFF, 0x000FFFFFFFFFFFFF, ONE + 1]
-ODD32 = [*map(SINGLE.to_bits, (0.0, -0.0, 1.0, -1.5, 1e-45, 3.4028235e38, float("inf"), float("-inf"), 0.1, 16777216.0)),
+ODD32 = [*map(SINGLE.to_bits,
+              (0.0, -0.0, 1.0, -1.5, 1e-45, 3.4028235e38, float("inf"), float("-inf"), 0.1, 16777216.0)),
          NAN32, NAN32 | MINUS32, 0x7F800001, 0x7FFFFFFF, 0xFFA5BEEF, 0x007FFFFF, ONE32 + 1]
 
 
@@ -40,6 +41,16 @@ def with_library(test):
     """Marks a test that is skipped where the shared library is not built."""
     test.with_library = True
     return test
+
+
+def with_bulk(test):
+    """Marks a test that is skipped where the tool's own library is not built."""
+    test.with_bulk = True
+    return test
+
+
+def needs_bulk(test):
+    return getattr(test, "with_bulk", False)
 
 
 def needs_library(test):

@@ -1,10 +1,12 @@
-"""`jobs diff --html`: the page has every difference with both values, distance and inputs, and nothing from elsewhere."""
+"""`jobs diff --html`: the page has every difference with both values, distance and inputs, and nothing from
+elsewhere."""
 import html.parser
 import pathlib
 import shutil
 import subprocess
 
-from .common import ANSWER, DOUBLES, JOB, ONE, SINGLES, WORK, answers, answers_with, ended, file, holds, jobs, records, same
+from .common import (ANSWER, DOUBLES, JOB, ONE, SINGLES, WORK, answers, answers_with, ended, file, holds, jobs,
+                     records, same)
 
 
 class Reader(html.parser.HTMLParser):
@@ -43,9 +45,12 @@ def page(*words, status=1):
 def each_difference():
     """Both values, the distance and the inputs of a record stand there; so does the summary."""
     job = file("jobs.bin", records(JOB, 3, len(DOUBLES) + 1, DOUBLES))
-    reader, text = page("--job", job, file("old.bin", answers_with("AC", "point.y", ONE)), file("new.bin", answers_with("AC", "point.y", ONE + 1)))
-    same([(found["data-mark"], found["data-record"], found["data-ulps"]) for found in reader.records], [("AC", "4", "1")], "records of the page")
-    holds(text, "record 4", "point.y", "1.0", "1.0000000000000002", "1 ulp", "different: 1 record (AC 1), 1 number", "pose.q ", "inputs: ")
+    reader, text = page("--job", job, file("old.bin", answers_with("AC", "point.y", ONE)),
+                        file("new.bin", answers_with("AC", "point.y", ONE + 1)))
+    same([(found["data-mark"], found["data-record"], found["data-ulps"]) for found in reader.records],
+         [("AC", "4", "1")], "records of the page")
+    holds(text, "record 4", "point.y", "1.0", "1.0000000000000002", "1 ulp", "different: 1 record (AC 1), 1 number",
+          "pose.q ", "inputs: ")
     _, text = page(file("old.bin", answers_with("ac", "point.y", 0x3F800001)), file("new.bin", answers(SINGLES)))
     holds(text, "The records' inputs are not shown: --job JOBS gives them.")
 
@@ -76,12 +81,14 @@ def many():
 
 
 def in_a_browser():
-    """Headless Chromium runs the page's script, which counts the records that are shown; without Chromium nothing is tried."""
+    """Headless Chromium runs the page's script, which counts the records that are shown; without Chromium nothing is
+    tried."""
     browser = shutil.which("chromium") or shutil.which("chromium-browser")
     if not browser:
         return
     page(file("old.bin", answers_with("AC", "point.y", ONE)), file("new.bin", answers_with("AC", "point.y", ONE + 1)))
-    done = subprocess.run([browser, "--headless", "--no-sandbox", "--disable-gpu", f"--user-data-dir={WORK.name}/browser", "--dump-dom", f"file://{WORK.name}/page.html"],
+    done = subprocess.run([browser, "--headless", "--no-sandbox", "--disable-gpu",
+                           f"--user-data-dir={WORK.name}/browser", "--dump-dom", f"file://{WORK.name}/page.html"],
                           stdout=subprocess.PIPE, stderr=subprocess.DEVNULL, text=True, timeout=300)
     holds(done.stdout, '<span id="left">1 of 1 records</span>')
 
@@ -89,7 +96,8 @@ def in_a_browser():
 def what_is_refused():
     old, new = file("old.bin", answers()), file("new.bin", answers())
     holds(jobs("diff", "--job", old, old, new, status=2)[1], "--job with --html")
-    holds(jobs("diff", "--html", "page.html", "--by-tangent", old, new, old, new, status=2)[1], "expected neither with --by-tangent")
+    holds(jobs("diff", "--html", "page.html", "--by-tangent", old, new, old, new, status=2)[1],
+          "expected neither with --by-tangent")
     holds(jobs("diff", "--html", f"{WORK.name}/none/page.html", old, new, status=2)[1], "cannot be written")
     holds(jobs("diff", "--html", f"{WORK.name}/page.html", "--job", old, old, new, status=2)[1], "is not a job file")
 

@@ -1,12 +1,16 @@
 """`jobs show`."""
 import collections
 import hashlib
+import random
 import struct
 
-from .common import (EX_SIZE, ROOT, SINGLES, answers, end, ended, file, holds, jobs, not_finite, places_not_finite, records,
-                     same)
+from .common import (EX_SIZE, ROOT, SINGLES, answers, end, ended, file, holds, jobs, not_finite, places_not_finite,
+                     records, same, with_bulk)
+from jobs_lib import bulk
+from jobs_lib.floats import DOUBLE
 from jobs_lib.layout import ANSWER, DOUBLES, END, JOB, OLDER_ANSWER, OLDER_JOB
 from jobs_lib.records import scan, walk
+from jobs_lib.show import one_line, texts
 
 
 def layout_of_the_scope():
@@ -27,7 +31,8 @@ def layout_of_the_scope():
             (JOB, b"MU", "right.t.x", 14), (JOB, b"JI", "block.e", 30), (JOB, b"EX", "frames.from", 17),
             (JOB, b"AC", "pose.frames.to", 9), (JOB, b"MU", "left.frames.from", 8), (JOB, b"MU", "right.frames.to", 19),
             (JOB, b"MU", "up", 20), (JOB, b"IN", "pose.frames.from", 8), (JOB, b"IN", "down", 10),
-            (ANSWER, b"EX", "pose.frames.from", 8), (ANSWER, b"MU", "product.frames.to", 9), (ANSWER, b"IN", "inverse.frames.from", 8),
+            (ANSWER, b"EX", "pose.frames.from", 8), (ANSWER, b"MU", "product.frames.to", 9),
+            (ANSWER, b"IN", "inverse.frames.from", 8),
             (ANSWER, b"CO", "coeffs(+).scaled", 9), (ANSWER, b"CO", "coeffs(-).dv2", 17),
             (ANSWER, b"PA", "left.b[1][2]", 16), (ANSWER, b"PA", "right_inv.f[0]", 120),
             (JOB, b"AR", "z", 1), (JOB, b"AR", "values.down", 11), (ANSWER, b"AR", "arm(+)", 0),
@@ -35,13 +40,19 @@ def layout_of_the_scope():
             (ANSWER, b"AR", "coeffs(+).v0", 4), (ANSWER, b"AR", "coeffs(-).scaled", 23),
             (JOB, b"CH", "pose.sigma", 7), (JOB, b"CH", "pose.frames.from", 8), (JOB, b"CH", "up", 10),
             (ANSWER, b"CH", "running.frames.to", 9), (JOB, b"RN", "n", 0), (ANSWER, b"RN", "n", 0),
-            (JOB, b"SH", "sheet", 0), (JOB, b"SH", "take", 1), (JOB, b"SH", "pose.sigma", 9), (JOB, b"SH", "pose.frames.to", 11), (JOB, b"SQ", "sheet", 0),
-            (ANSWER, b"SH", "outcome", 0), (ANSWER, b"SH", "before", 1), (ANSWER, b"SQ", "take", 0), (ANSWER, b"SQ", "pose.q.w", 1), (ANSWER, b"SQ", "pose.frames.from", 9)]:
+            (JOB, b"SH", "sheet", 0), (JOB, b"SH", "take", 1), (JOB, b"SH", "pose.sigma", 9),
+            (JOB, b"SH", "pose.frames.to", 11), (JOB, b"SQ", "sheet", 0),
+            (ANSWER, b"SH", "outcome", 0), (ANSWER, b"SH", "before", 1), (ANSWER, b"SQ", "take", 0),
+            (ANSWER, b"SQ", "pose.q.w", 1), (ANSWER, b"SQ", "pose.frames.from", 9)]:
         same(table[mark].fields[number], field, f"number {number} of {mark.decode()}")
-    for table, mark, field, at in [(JOB, b"ex", "frames", 70), (JOB, b"ac", "pose.frames", 34), (JOB, b"ac", "up", 38), (JOB, b"mu", "right.q", 38),
-                                   (JOB, b"mu", "right.frames", 70), (JOB, b"mu", "up", 74), (JOB, b"in", "down", 38), (JOB, b"ji", "block.e", 122),
-                                   (ANSWER, b"co", "coeffs(-)", 42), (ANSWER, b"pa", "right_inv.e", 494), (ANSWER, b"in", "inverse.frames", 34)]:
-        same({group.name: at for at, group in table[mark].offsets()}[field], at, f"the byte of {field} in {mark.decode()}")
+    for table, mark, field, at in [(JOB, b"ex", "frames", 70), (JOB, b"ac", "pose.frames", 34), (JOB, b"ac", "up", 38),
+                                   (JOB, b"mu", "right.q", 38),
+                                   (JOB, b"mu", "right.frames", 70), (JOB, b"mu", "up", 74), (JOB, b"in", "down", 38),
+                                   (JOB, b"ji", "block.e", 122),
+                                   (ANSWER, b"co", "coeffs(-)", 42), (ANSWER, b"pa", "right_inv.e", 494),
+                                   (ANSWER, b"in", "inverse.frames", 34)]:
+        same({group.name: at for at, group in table[mark].offsets()}[field], at,
+             f"the byte of {field} in {mark.decode()}")
 
 
 def back_by_make():
@@ -95,14 +106,16 @@ not usable: 3 answers of 6 records
                 data = layout.mark.encode() + layout.numbers.pack(*numbers)
                 holds(jobs("show", "--unusable", data=data + end(1, 0, 1))[0].decode(),
                       f"record 1  {layout.mark}  {layout.fields[place]} nan\n")
-                holds(jobs("show", data=data + end(1), status=1)[1], "which are 1 begun, 0 answered, 0 refused, 1 unusable")
+                holds(jobs("show", data=data + end(1), status=1)[1],
+                      "which are 1 begun, 0 answered, 0 refused, 1 unusable")
     same(jobs("show", "--unusable", data=end(0))[0], b"not usable: 0 answers of 0 records\n", "no records")
     holds(jobs("show", "--unusable", data=records(JOB, 1, 3), status=2)[1], "is a job file; expected answers")
     holds(jobs("show", "--unusable", "--hex", data=end(0), status=2)[1], "--unusable stands alone")
 
 
 def stored_counts():
-    """The stored answers' four counts: the last three add up to the first, the fourth is of those that are not finite; both ends of an answer are among them."""
+    """The stored answers' four counts: the last three add up to the first, the fourth is of those that are not finite;
+    both ends of an answer are among them."""
     alone = collections.Counter()
     for path in sorted((ROOT / "tests" / "runs").glob("*.out")):
         data = path.read_bytes()
@@ -111,16 +124,21 @@ def stored_counts():
         for at, layout in walk(data, ANSWER):
             bad = places_not_finite(data, at, layout)
             alone.update([(layout.mark, layout.fields[bad[0]])] if len(bad) == 1 else [])
-    for place in [("AC", "point.x"), ("AC", "point.z"), ("MU", "product.q.w"), ("MU", "product.sigma"), ("IN", "inverse.sigma"),
-                  ("CO", "coeffs(+).chi_delta"), ("CO", "coeffs(-).chi_delta"), ("AR", "coeffs(-).chi_delta"), ("JI", "inverse.f[2]"),
-                  ("ac", "point.x"), ("ac", "point.z"), ("mu", "product.q.w"), ("mu", "product.sigma"), ("in", "inverse.sigma"), ("co", "coeffs(-).chi_delta"),
+    for place in [("AC", "point.x"), ("AC", "point.z"), ("MU", "product.q.w"), ("MU", "product.sigma"),
+                  ("IN", "inverse.sigma"),
+                  ("CO", "coeffs(+).chi_delta"), ("CO", "coeffs(-).chi_delta"), ("AR", "coeffs(-).chi_delta"),
+                  ("JI", "inverse.f[2]"),
+                  ("ac", "point.x"), ("ac", "point.z"), ("mu", "product.q.w"), ("mu", "product.sigma"),
+                  ("in", "inverse.sigma"), ("co", "coeffs(-).chi_delta"),
                   ("CH", "running.sigma"), ("SQ", "pose.q.w"), ("SQ", "pose.sigma")]:
         assert alone[place], f"no stored answer in which {place} alone is not finite"
-    same({mark for mark, _ in alone}, {layout.mark for layout in JOB.values() if layout.mark not in ("RN", "SH")}, "marks with one number alone that is not finite")
+    same({mark for mark, _ in alone}, {layout.mark for layout in JOB.values() if layout.mark not in ("RN", "SH")},
+         "marks with one number alone that is not finite")
 
 
 def stored_nans():
-    """In the stored answers of singles a NaN stands in every number of every answer but a flag and pa's e, which is 1; it is written 7fc00000."""
+    """In the stored answers of singles a NaN stands in every number of every answer but a flag and pa's e, which is 1;
+    it is written 7fc00000."""
     found = collections.defaultdict(set)
     for path in (ROOT / "tests" / "runs").glob("f32_nan_*.out"):
         data = path.read_bytes()
@@ -141,25 +159,32 @@ def singles_as_text():
     data = b"ac" + numbers + b"ac" + struct.pack("<3I", 0x7FC00000, 0xFFC00001, 0xFF800000) + end(2, 0, 1)
     same(jobs("show", data=data)[0].decode(), "ac point 0.1 -0.0 3.4028235e+38\nac point nan nan:ffc00001 -inf\n"
                                               "ZZ begun 2; answered 1; refused 0; unusable 1; ac 2\n", "two points")
-    holds(jobs("show", "--hex", data=data)[0].decode(), "       0  61 63                    ac\n", "       2  cd cc cc 3d              point.x = 0.1\n",
+    holds(jobs("show", "--hex", data=data)[0].decode(), "       0  61 63                    ac\n",
+          "       2  cd cc cc 3d              point.x = 0.1\n",
           "      20  01 00 c0 ff              point.y = nan:ffc00001\n")
     same(jobs("show", "--unusable", data=data)[0].decode(),
-         "record 2  ac  point.x nan, point.y nan:ffc00001, point.z -inf\nnot usable: 1 answer of 2 records\n", "the list")
+         "record 2  ac  point.x nan, point.y nan:ffc00001, point.z -inf\nnot usable: 1 answer of 2 records\n",
+         "the list")
     mixed = records(JOB, 5, 2 * len(JOB), list(JOB))
-    same([line.split()[0].encode() for line in jobs("show", data=mixed)[0].decode().splitlines()], [*JOB, *JOB], "marks of both widths")
+    same([line.split()[0].encode() for line in jobs("show", data=mixed)[0].decode().splitlines()], [*JOB, *JOB],
+         "marks of both widths")
     for mark in (b"Ac", b"aC", b"ar"):
-        holds(jobs("show", "--in", data=mixed + mark + bytes(200), status=1)[1], f"unknown mark {mark.hex(' ')} ('{mark.decode()}')")
-    holds(jobs("show", "--in", data=b"mu" + bytes(75), status=1)[1], "the file ends inside a record: mu takes 78 bytes, 77 are there")
+        holds(jobs("show", "--in", data=mixed + mark + bytes(200), status=1)[1],
+              f"unknown mark {mark.hex(' ')} ('{mark.decode()}')")
+    holds(jobs("show", "--in", data=b"mu" + bytes(75), status=1)[1],
+          "the file ends inside a record: mu takes 78 bytes, 77 are there")
 
 
 def stored_records():
-    """The stored answers up to ZZ are those whose digests tests/runs.sha256 has: whatever ZZ counts, the records stay."""
+    """The stored answers up to ZZ are those whose digests tests/runs.sha256 has: whatever ZZ counts, the records
+    stay."""
     lines = (ROOT / "tests" / "runs.sha256").read_text().splitlines()
     digests = {name: digest for digest, name in (line.split("  ") for line in lines)}
     found = {path.stem: path.read_bytes() for path in (ROOT / "tests" / "runs").glob("*.out")}
     same(sorted(digests), sorted(found), "the runs in tests/runs.sha256")
     for name, data in found.items():
-        same(hashlib.sha256(data[:scan(data, ANSWER, "").end]).hexdigest(), digests[name], f"the digest of {name} up to ZZ")
+        same(hashlib.sha256(data[:scan(data, ANSWER, "").end]).hexdigest(), digests[name],
+             f"the digest of {name} up to ZZ")
 
 
 def arms_as_text():
@@ -197,14 +222,17 @@ def frames_as_text():
           "     134  ff ff                    right.frames.from = 65535\n"
           "     136  02 01                    right.frames.to = 258\n"
           "     138  00 00 00 00 00 00 f0 3f  up = 1.0\n")
-    data = b"".join(mark + struct.pack("<8d2H", *numbers, 0x7FF0, 0xFFFF) for mark in (b"EX", b"MU", b"IN")) + b"NO\x09" + end(4, 1)
+    data = b"".join(mark + struct.pack("<8d2H", *numbers, 0x7FF0, 0xFFFF)
+                    for mark in (b"EX", b"MU", b"IN")) + b"NO\x09" + end(4, 1)
     shown = jobs("show", data=data)[0].decode()
     holds(shown, *(f"{name}.sigma 0.0; {name}.frames 32752 65535\n" for name in ("pose", "product", "inverse")),
-          "NO refusal 9  # frames do not meet: the left pose's from is not the right pose's to\n", "answered 3; refused 1; unusable 0; EX 1; CO 1; MU 1; IN 1\n")
+          "NO refusal 9  # frames do not meet: the left pose's from is not the right pose's to\n",
+          "answered 3; refused 1; unusable 0; EX 1; CO 1; MU 1; IN 1\n")
 
 
 def older_files():
-    """A job or answers of the older format, without frames, is named as such; a cut file and one without poses are not."""
+    """A job or answers of the older format, without frames, is named as such; a cut file and one without poses are
+    not."""
     def show(data, *options):
         return jobs("show", *options, data=data, status=1)[1]
 
@@ -213,8 +241,10 @@ def older_files():
         same(layout.size, about, f"bytes of an older {mark.decode()}")
         record = mark + bytes(layout.size - 2)
         for data in (record, 3 * record, records(JOB, 1, 2)[142:] + record, b"CO" + bytes(96) + record):
-            holds(show(data), "byte ", "jobs: a job of the older format? Its poses have no frames; expected from and to", "frames 3 7")
-        assert "older format" not in show(record[:-1]) + show(record + b"Q") + show(2 * record[:-2]), f"a cut {mark.decode()}"
+            holds(show(data), "byte ",
+                  "jobs: a job of the older format? Its poses have no frames; expected from and to", "frames 3 7")
+        assert "older format" not in show(record[:-1]) + show(record
+                                                              + b"Q") + show(2 * record[:-2]), f"a cut {mark.decode()}"
     whole = b"".join(layout.mark.encode() + bytes(layout.size - 2) for layout in OLDER_ANSWER.values()) + end(9, 1)
     for data in (whole, b"NO\1" + b"IN" + bytes(64) + end(2, 1), b"EX" + bytes(64) + end(1)):
         holds(show(data) + show(data, "--out"), "jobs: answers of the older format? Their poses have no frames")
@@ -225,7 +255,8 @@ def older_files():
 
 
 def stored_frames():
-    """The stored runs: frames by the rules of a product and an inverse, 9 exactly where they do not meet, 7 before 9, and the AC record of the scope."""
+    """The stored runs: frames by the rules of a product and an inverse, 9 exactly where they do not meet, 7 before 9,
+    and the AC record of the scope."""
     seen = collections.Counter()
     for path in sorted((ROOT / "tests" / "runs").glob("*.in")):
         job, told = path.read_bytes(), path.with_suffix(".out").read_bytes()
@@ -233,7 +264,8 @@ def stored_frames():
             if asked.mark not in ("EX", "MU", "IN"):
                 continue
             given = dict(zip(asked.fields, asked.numbers.unpack_from(job, at + 2)))
-            begin, to = (given[name] for name in {"EX": ("frames.from", "frames.to"), "MU": ("right.frames.from", "left.frames.to"),
+            begin, to = (given[name]
+                         for name in {"EX": ("frames.from", "frames.to"), "MU": ("right.frames.from", "left.frames.to"),
                                                   "IN": ("pose.frames.to", "pose.frames.from")}[asked.mark])
             due = asked.mark.encode()
             if asked.mark == "MU" and given["left.frames.from"] != given["right.frames.to"]:
@@ -243,7 +275,8 @@ def stored_frames():
                 due = b"NO\x09"
             same(told[told_at:told_at + len(due)], due, f"{path.name}: the record at byte {at}")
             if due != b"NO\x09":
-                same(struct.unpack_from("<2H", told, told_at + 66), (begin, to), f"{path.name}: frames of the record at byte {at}")
+                same(struct.unpack_from("<2H", told, told_at + 66), (begin, to),
+                     f"{path.name}: frames of the record at byte {at}")
                 seen[asked.mark] += 1
     for case in ("EX", "MU", "IN", "first byte", "second byte", "both bytes", "wrong order"):
         assert seen[case] >= 3, f"{seen[case]} stored records with {case}; expected 3 or more"
@@ -255,7 +288,8 @@ def stored_scope_record():
     before = b"AC" + struct.pack("<12d", 1, 0, 0, 0, 1, 2, 3, 0, 1, 4, 5, 6)
     same(job, before[:66] + bytes(4) + before[66:], "one_ac.in")
     same(told.hex(" ", -2), "4143 0000 0000 0000 1440 0000 0000 0000 1c40 0000 0000 0000 2240 "
-                            "5a5a 0100 0000 0100 0000 0000 0000 0000 0000 " + 6 * "0000 " + "0100 0000 " + 31 * "0000 " + "0000", "one_ac.out")
+                            "5a5a 0100 0000 0100 0000 0000 0000 0000 0000 " + 6 * "0000 " + "0100 0000 " + 31 * "0000 "
+         + "0000", "one_ac.out")
 
 
 def single_records():
@@ -307,7 +341,8 @@ def damaged_answers():
     for data, message in [
             (whole[:last], f"byte {last}: ZZ and its counts are missing"),
             (whole[:-1], f"byte {last}: ZZ is short, 97 of 98 bytes"),
-            (whole[:-80], f"byte {last}: ZZ is short, 18 of 98 bytes: the answer is not whole; it has its first four counts alone"),
+            (whole[:-80], f"byte {last}: ZZ is short, 18 of 98 bytes: the answer is not whole; it has its first four "
+                          f"counts alone"),
             (whole[:100], "byte 70: the file ends inside a record: CO takes 162 bytes, 30 are"),
             (whole[:EX_SIZE] + b"QQ" + whole[EX_SIZE:], "byte 70: unknown mark 51 51 ('QQ')"),
             (whole + b"AC", f"byte {len(whole)}: 2 bytes after ZZ"),
@@ -318,5 +353,47 @@ def damaged_answers():
         holds(jobs("show", "--out", data=data, status=1)[1], message)
 
 
-TESTS = [layout_of_the_scope, back_by_make, stored_runs, answers_as_text, unusable_answers, stored_counts, stored_nans, singles_as_text,
-         stored_records, arms_as_text, frames_as_text, older_files, stored_frames, stored_scope_record, single_records, guesses, damaged_jobs, damaged_answers]
+def patterns(source, width):
+    """Bits of numbers whose decimals are easily wrong: any at all, powers of two and beside them, short decimals, the
+    least and the largest."""
+    fraction = 52 if width is DOUBLE else 23
+    top = 1 << 8 * width.size - 1 - fraction  # exponents
+    some = [source.getrandbits(8 * width.size) for _ in range(6000)]
+    some += [width.to_bits(source.gauss(0, 10)) for _ in range(3000)]
+    some += [e << fraction | last for e in range(top) for last in (0, 1, (1 << fraction) - 1)]
+    some += [width.to_bits(round(source.uniform(-1000, 1000), digits)) for digits in range(12) for _ in range(200)]
+    some += [width.to_bits(times * 10.0 ** power) for power in range(-323, 308) for times in (1, -2, 5, 9.9999999)]
+    return some + list(range(200)) + [width.to_bits(float(1 << n) + 1) for n in range(64)]
+
+
+@with_bulk
+def texts_by_the_library():
+    """bulk.c writes every number as floats.py does: of all records, and of patterns that are easily wrong."""
+    for table in (JOB, ANSWER):
+        data = records(table, 21, 30 * len(table), list(table))
+        for at, layout in walk(data, table):
+            same(bulk.texts(data, at, layout), texts(layout, layout.bits.unpack_from(data, at + 2)),
+                 f"{layout.mark} at {at}")
+    for mark in (b"JI", b"ji"):
+        layout, bits = ANSWER[mark], patterns(random.Random(22), ANSWER[mark].width)
+        size = len(layout.fields)
+        for i in range(0, len(bits) - size, size):
+            data = mark + layout.bits.pack(*bits[i:i + size])
+            same(bulk.texts(data, 0, layout), texts(layout, bits[i:i + size]), "the decimals of some patterns")
+
+
+def without_the_library():
+    """Where bulk.c is not there, the same lines are written."""
+    data, functions = records(ANSWER, 23, 400, list(ANSWER)), bulk.functions
+    lines = [one_line(data, at, layout) for at, layout in walk(data, ANSWER)]
+    bulk.functions = lambda: None
+    try:
+        same([one_line(data, at, layout) for at, layout in walk(data, ANSWER)], lines, "the lines of all answers")
+    finally:
+        bulk.functions = functions
+
+
+TESTS = [texts_by_the_library, without_the_library, layout_of_the_scope, back_by_make, stored_runs, answers_as_text,
+         unusable_answers, stored_counts, stored_nans, singles_as_text,
+         stored_records, arms_as_text, frames_as_text, older_files, stored_frames, stored_scope_record, single_records,
+         guesses, damaged_jobs, damaged_answers]

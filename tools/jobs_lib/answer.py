@@ -33,22 +33,6 @@ example:
 """
 
 
-def add_program(commands, add_command):
-    """The two commands' arguments."""
-    one = add_command(commands, "run", RUN.format(script=SCRIPT), "answer a job file by the job program")
-    one.add_argument("job", nargs="?", metavar="JOBS", help="the job file; standard input if not given")
-    one = add_command(commands, "format", FORMAT, "the bytes of every record")
-    one.add_argument("marks", nargs="*", metavar="MARK", help="these marks alone")
-
-
-def program(arguments):
-    """The commands: the exit status."""
-    if arguments.command == "run":
-        return run(arguments.job)
-    print(format_text(arguments.marks))
-    return 0
-
-
 def run(path):
     """Becomes ./sim3-job with the file as its standard input; so the exit status is that script's."""
     if path is not None:
@@ -70,7 +54,8 @@ def of_mark(mark):
     if not found:
         marks = dict.fromkeys(layout.mark for _, table in tables for layout in table)
         raise Failure(f"jobs: {mark!r} is no mark; expected one of {' '.join(marks)}")
-    return "\n".join((page.short_text if layout.width is SINGLE else page.layout_text)(direction, layout) for direction, layout in found)
+    return "\n".join((page.short_text if layout.width is SINGLE else page.layout_text)(direction, layout)
+                     for direction, layout in found)
 
 
 def format_text(marks):

@@ -3,22 +3,9 @@ import argparse
 import re
 import signal
 import sys
+from typing import Any, NamedTuple
 
-from .answer import add_program, program
-from .arms import arms
-from .diff import diff
-from .floats import DOUBLE, SINGLE
-from .html import PageReport, write_page
-from .layout import ANSWER, JOB, MOST_RECORDS
-from .make import MAY_MISS, groups_text, make
-from .merge import merge
-from .near import near
-from .order import diff_by_tangent, sort
-from .sheets import sheets
-from .show import show
-from .split import HEAD, split
 from .terminal import INSTALLED, Failure, say, worded
-from .totals import totals
 
 ABOUT = """\
 Job files of the Sim(3) engine: make them from text, show them as text, compare their answers, see
@@ -68,8 +55,9 @@ example:
 SHOW = """\
 A job file or an answer file as text, one record a line: numbers as the shortest decimals that read
 back exactly, refusals with their meaning, and the counts of ZZ, of those by mark the ones that are not
-0 (--counts: every one). `jobs make` turns the lines of a job file into the same bytes again. Which of the two a file is is guessed unless it is said. With
---unusable only the answers that hold a NaN or an infinity are listed, by their numbers in the file.
+0 (--counts: every one). `jobs make` turns the lines of a job file into the same bytes again. Which of
+the two a file is is guessed unless it is said. With --unusable only the answers that hold a NaN or an
+infinity are listed, by their numbers in the file.
 
 Exit status: 0, or 1 where the file is damaged or cut (the byte is named), or 2 if it cannot be read.
 
@@ -182,9 +170,9 @@ SPLIT = """\
 Cuts a job of any size into parts that the job program answers one by one, on the cores of one machine or
 on many machines, in any order; `jobs merge` puts the answers together. FOLDER, which is new or empty,
 then holds the parts, NAME.in, and the file index. Records of marks without state stand in parts of at
-most N records, in their order; all of CH and RN, however many, in one part, all of SH and SQ in another. An unknown
-mark and a cut record end the job, as in one run. A part begins with two IN records of its own, by which
-its answers say of which job and which part they are.
+most N records, in their order; all of CH and RN in one part, all of SH and SQ in another, up to 999,998
+of each. An unknown mark and a cut record end the job, as in one run. A part begins with two IN records of
+its own, by which its answers say of which job and which part they are.
 
 Exit status: 0, or 2 where the job cannot be read or cut.
 
@@ -208,8 +196,12 @@ example:
 """
 
 
-def forms_text():
-    """Each mark with its groups, those that may be left out in brackets."""
+def make_about():
+    """The help of `make`, with each mark's groups, those that may be left out in brackets, and the marks in small
+    letters."""
+    from .floats import DOUBLE, SINGLE
+    from .layout import JOB
+    from .make import MAY_MISS, groups_text
     lines = []
     for layout in (layout for layout in JOB.values() if layout.width is DOUBLE):
         line = groups_text(layout.groups)
@@ -217,12 +209,20 @@ def forms_text():
             part = groups_text([g for g in layout.groups if g.name in names])
             line = line.replace("; " + part, f"; [{part}]")
         lines.append(f"  {layout.mark}  {line}")
-    return "\n".join(lines)
+    singles = " ".join(layout.mark for layout in JOB.values() if layout.width is SINGLE)
+    return MAKE.format(forms="\n".join(lines), singles=singles)
 
 
-def singles_text():
-    """The marks in small letters."""
-    return " ".join(layout.mark for layout in JOB.values() if layout.width is SINGLE)
+def run_about():
+    """The help of `run`, with the script's place."""
+    from .answer import RUN, SCRIPT
+    return RUN.format(script=SCRIPT)
+
+
+def format_about():
+    """The help of `format`."""
+    from .answer import FORMAT
+    return FORMAT
 
 
 def record_range(word):
@@ -241,7 +241,8 @@ def limit(word):
 
 
 def part_size(word):
-    most = MOST_RECORDS - HEAD
+    from .split import MOST_PART
+    most = MOST_PART
     if not re.fullmatch(r"[0-9]+", word) or not 1 <= int(word) <= most:
         raise argparse.ArgumentTypeError(f"{word!r} is no count of records; expected a whole number from 1 to {most:,}")
     return int(word)
@@ -253,116 +254,200 @@ def steps(word):
     return int(word)
 
 
-def add_command(commands, name, about, summary):
-    return commands.add_parser(name, help=summary, description=worded(about),
-                               formatter_class=argparse.RawDescriptionHelpFormatter)
+# The commands. Each imports what it needs when it is asked for: the others would take longer than a short job.
 
-
-def add_searches(commands):
-    """The commands that look for something in the records."""
-    one = add_command(commands, "arms", ARMS, "count and draw the arms of AR records")
-    one.add_argument("--svg", metavar="FILE", help="the picture to be written")
-    one.add_argument("job", metavar="JOBS")
-    one.add_argument("answers", metavar="ANSWERS")
-    one = add_command(commands, "near", NEAR, "which shots lie beside another arm")
-    one.add_argument("--within", type=steps, default=1000, metavar="N", help="at most N steps from it; 1,000 if not given")
-    one.add_argument("file", nargs="?", metavar="FILE", help="the job; standard input if not given")
-    one = add_command(commands, "sort", SORT, "a job file in the order of its tangents")
-    one.add_argument("job", nargs="?", metavar="JOBS", help="the job file; standard input if not given")
-    one = add_command(commands, "sheets", SHEETS, "which take of each sheet is kept, and what was refused")
-    one.add_argument("--csv", action="store_true", help="as comma-separated values")
-    one.add_argument("job", metavar="JOBS")
-    one.add_argument("answers", nargs="?", metavar="ANSWERS", help="the answers; without them the records alone are followed")
-    one = add_command(commands, "totals", TOTALS, "add up the counts of several answer files by mark")
-    one.add_argument("--csv", action="store_true", help="as comma-separated values, with every row")
-    one.add_argument("--all", action="store_true", help="a row for every mark, those without records too")
-    one.add_argument("files", nargs="+", metavar="FILE", help="answer files; - for standard input")
-
-
-def add_parts(commands):
-    """The commands that take a job apart and put its answers together."""
-    one = add_command(commands, "split", SPLIT, "cut a job into parts for several cores or machines")
-    one.add_argument("--records", type=part_size, default=MOST_RECORDS - HEAD, metavar="N", help="at most N records a part; %(default)s if not given")
-    one.add_argument("job", metavar="JOBS", help="the job file; - for standard input")
-    one.add_argument("folder", metavar="FOLDER", help="the folder of the parts, which is made")
-    one = add_command(commands, "merge", MERGE, "put the answers of a job's parts together")
-    one.add_argument("folder", metavar="FOLDER", help="the folder of the parts and their answers")
-
-
-def parser():
-    top = argparse.ArgumentParser(prog="sim3-jobs" if INSTALLED else "jobs", description=worded(ABOUT),
-                                  formatter_class=argparse.RawDescriptionHelpFormatter)
-    commands = top.add_subparsers(dest="command", metavar="COMMAND", required=True)
-    one = add_command(commands, "make", MAKE.format(forms=forms_text(), singles=singles_text()), "text to a job file")
+def add_make(one):
     one.add_argument("file", nargs="?", metavar="FILE", help="the text; standard input if not given")
-    add_program(commands, add_command)
-    one = add_command(commands, "show", SHOW, "a job or answer file to text")
+
+
+def run_make(asked):
+    from .make import make
+    return make(asked.file)
+
+
+def add_run(one):
+    one.add_argument("job", nargs="?", metavar="JOBS", help="the job file; standard input if not given")
+
+
+def run_run(asked):
+    from .answer import run
+    return run(asked.job)
+
+
+def add_format(one):
+    one.add_argument("marks", nargs="*", metavar="MARK", help="these marks alone")
+
+
+def run_format(asked):
+    from .answer import format_text
+    print(format_text(asked.marks))
+    return 0
+
+
+def add_show(one):
     kind = one.add_mutually_exclusive_group()
-    kind.add_argument("--in", dest="table", action="store_const", const=JOB, help="it is a job file")
-    kind.add_argument("--out", dest="table", action="store_const", const=ANSWER,
-                      help="it is an answer file")
+    kind.add_argument("--in", dest="kind", action="store_const", const="JOB", help="it is a job file")
+    kind.add_argument("--out", dest="kind", action="store_const", const="ANSWER", help="it is an answer file")
     one.add_argument("--hex", action="store_true", help="the bytes too, one number a line")
     one.add_argument("--record", type=record_range, metavar="N[-M]", help="these records alone")
     one.add_argument("--counts", action="store_true", help="every count of ZZ by mark, those that are 0 too")
     one.add_argument("--unusable", action="store_true",
                      help="which answers hold a NaN or an infinity, and in which numbers")
     one.add_argument("file", nargs="?", metavar="FILE", help="the file; standard input if not given")
-    one = add_command(commands, "diff", DIFF, "compare two answer files")
+
+
+def run_show(asked):
+    from . import layout
+    from .show import show
+    if asked.unusable and (asked.hex or asked.record):
+        raise Failure("jobs: --unusable stands alone; expected neither --hex nor --record with it")
+    if asked.counts and (asked.unusable or asked.record):
+        raise Failure("jobs: --counts is about ZZ, which --record and --unusable leave out; expected neither with it")
+    table = asked.kind and getattr(layout, asked.kind)
+    return show(asked.file, table, asked.record, asked.hex, asked.unusable, asked.counts)
+
+
+def add_diff(one):
     one.add_argument("--limit", type=limit, metavar="N", help="print at most N differences")
     one.add_argument("--html", metavar="FILE", help="the differences as a page for a browser too")
     one.add_argument("--job", metavar="JOBS", help="the job that both answers are to, whose inputs the page then shows")
-    one.add_argument("--by-tangent", action="store_true",
-                     help="match the shots of two jobs: JOBS ANSWERS JOBS ANSWERS")
+    one.add_argument("--by-tangent", action="store_true", help="match the shots of two jobs: JOBS ANSWERS JOBS ANSWERS")
     one.add_argument("old", metavar="OLD", help="the older answers; with --by-tangent the older job")
     one.add_argument("new", metavar="NEW", help="the newer answers; with --by-tangent the older answers")
-    one.add_argument("more", nargs="*", metavar="FILE",
-                     help="with --by-tangent the newer job and its answers")
-    add_searches(commands)
-    add_parts(commands)
-    return top
+    one.add_argument("more", nargs="*", metavar="FILE", help="with --by-tangent the newer job and its answers")
 
 
-def run_diff(files, by_tangent, most, page, job):
+def run_diff(asked):
     """Two answer files, or two jobs each with its answers."""
-    if (page or job) and by_tangent or job and not page:
+    from .diff import diff
+    from .html import PageReport, write_page
+    from .order import diff_by_tangent
+    files, page, job, most = [asked.old, asked.new, *asked.more], asked.html, asked.job, asked.limit
+    if (page or job) and asked.by_tangent or job and not page:
         raise Failure("jobs: --html goes with OLD NEW alone, and --job with --html; expected neither with --by-tangent")
-    if len(files) != (4 if by_tangent else 2):
-        expected = "JOBS ANSWERS JOBS ANSWERS with --by-tangent" if by_tangent else "OLD NEW"
+    if len(files) != (4 if asked.by_tangent else 2):
+        expected = "JOBS ANSWERS JOBS ANSWERS with --by-tangent" if asked.by_tangent else "OLD NEW"
         raise Failure(f"jobs: diff got {len(files)} files; expected {expected}")
     if page:
         report = PageReport(most)
         return diff(*files, most, report, lambda names, said: write_page(page, names, said, report, job))
-    return diff_by_tangent(files, most) if by_tangent else diff(*files, most)
+    return diff_by_tangent(files, most) if asked.by_tangent else diff(*files, most)
 
 
-def run(arguments):
-    if arguments.command == "make":
-        return make(arguments.file)
-    if arguments.command in ("run", "format"):
-        return program(arguments)
-    if arguments.command == "show":
-        if arguments.unusable and (arguments.hex or arguments.record):
-            raise Failure("jobs: --unusable stands alone; expected neither --hex nor --record with it")
-        if arguments.counts and (arguments.unusable or arguments.record):
-            raise Failure("jobs: --counts is about ZZ, which --record and --unusable leave out; expected neither with it")
-        return show(arguments.file, arguments.table, arguments.record, arguments.hex,
-                    arguments.unusable, arguments.counts)
-    if arguments.command == "diff":
-        files = [arguments.old, arguments.new, *arguments.more]
-        return run_diff(files, arguments.by_tangent, arguments.limit, arguments.html, arguments.job)
-    if arguments.command == "near":
-        return near(arguments.file, arguments.within)
-    if arguments.command == "sort":
-        return sort(arguments.job)
-    if arguments.command == "sheets":
-        return sheets(arguments.job, arguments.answers, arguments.csv)
-    if arguments.command == "totals":
-        return totals(arguments.files, arguments.csv, arguments.all)
-    if arguments.command == "split":
-        return split(arguments.job, arguments.folder, arguments.records)
-    if arguments.command == "merge":
-        return merge(arguments.folder)
-    return arms(arguments.job, arguments.answers, arguments.svg)
+def add_arms(one):
+    one.add_argument("--svg", metavar="FILE", help="the picture to be written")
+    one.add_argument("job", metavar="JOBS")
+    one.add_argument("answers", metavar="ANSWERS")
+
+
+def run_arms(asked):
+    from .arms import arms
+    return arms(asked.job, asked.answers, asked.svg)
+
+
+def add_near(one):
+    one.add_argument("--within", type=steps, default=1000, metavar="N",
+                     help="at most N steps from it; 1,000 if not given")
+    one.add_argument("file", nargs="?", metavar="FILE", help="the job; standard input if not given")
+
+
+def run_near(asked):
+    from .near import near
+    return near(asked.file, asked.within)
+
+
+def add_sort(one):
+    one.add_argument("job", nargs="?", metavar="JOBS", help="the job file; standard input if not given")
+
+
+def run_sort(asked):
+    from .order import sort
+    return sort(asked.job)
+
+
+def add_sheets(one):
+    one.add_argument("--csv", action="store_true", help="as comma-separated values")
+    one.add_argument("job", metavar="JOBS")
+    one.add_argument("answers", nargs="?", metavar="ANSWERS",
+                     help="the answers; without them the records alone are followed")
+
+
+def run_sheets(asked):
+    from .sheets import sheets
+    return sheets(asked.job, asked.answers, asked.csv)
+
+
+def add_totals(one):
+    one.add_argument("--csv", action="store_true", help="as comma-separated values, with every row")
+    one.add_argument("--all", action="store_true", help="a row for every mark, those without records too")
+    one.add_argument("files", nargs="+", metavar="FILE", help="answer files; - for standard input")
+
+
+def run_totals(asked):
+    from .totals import totals
+    return totals(asked.files, asked.csv, asked.all)
+
+
+def add_split(one):
+    from .split import MOST_PART
+    one.add_argument("--records", type=part_size, default=MOST_PART, metavar="N",
+                     help="at most N records a part; %(default)s if not given")
+    one.add_argument("job", metavar="JOBS", help="the job file; - for standard input")
+    one.add_argument("folder", metavar="FOLDER", help="the folder of the parts, which is made")
+
+
+def run_split(asked):
+    from .split import split
+    return split(asked.job, asked.folder, asked.records)
+
+
+def add_merge(one):
+    one.add_argument("folder", metavar="FOLDER", help="the folder of the parts and their answers")
+
+
+def run_merge(asked):
+    from .merge import merge
+    return merge(asked.folder)
+
+
+class Command(NamedTuple):
+    """A line about it, its help or what makes that, what adds its arguments, and what does it, which gives the
+    status."""
+
+    summary: str
+    about: Any
+    add: Any
+    run: Any
+
+
+COMMANDS = {
+    "make": Command("text to a job file", make_about, add_make, run_make),
+    "run": Command("answer a job file by the job program", run_about, add_run, run_run),
+    "format": Command("the bytes of every record", format_about, add_format, run_format),
+    "show": Command("a job or answer file to text", SHOW, add_show, run_show),
+    "diff": Command("compare two answer files", DIFF, add_diff, run_diff),
+    "arms": Command("count and draw the arms of AR records", ARMS, add_arms, run_arms),
+    "near": Command("which shots lie beside another arm", NEAR, add_near, run_near),
+    "sort": Command("a job file in the order of its tangents", SORT, add_sort, run_sort),
+    "sheets": Command("which take of each sheet is kept, and what was refused", SHEETS, add_sheets, run_sheets),
+    "totals": Command("add up the counts of several answer files by mark", TOTALS, add_totals, run_totals),
+    "split": Command("cut a job into parts for several cores or machines", SPLIT, add_split, run_split),
+    "merge": Command("put the answers of a job's parts together", MERGE, add_merge, run_merge),
+}
+
+
+def parser(names=tuple(COMMANDS)):
+    """The parser of the command line; only the commands of these names have their help and arguments."""
+    top = argparse.ArgumentParser(prog="sim3-jobs" if INSTALLED else "jobs", description=worded(ABOUT),
+                                  formatter_class=argparse.RawDescriptionHelpFormatter)
+    commands = top.add_subparsers(dest="command", metavar="COMMAND", required=True)
+    for name, command in COMMANDS.items():
+        about = (command.about() if callable(command.about) else command.about) if name in names else ""
+        one = commands.add_parser(name, help=command.summary, description=worded(about),
+                                  formatter_class=argparse.RawDescriptionHelpFormatter)
+        if name in names:
+            command.add(one)
+    return top
 
 
 def main(words):
@@ -370,7 +455,8 @@ def main(words):
         signal.signal(signal.SIGPIPE, signal.SIG_DFL)  # a reader that leaves, as `head`, is no error
     sys.stdout.reconfigure(errors="backslashreplace")  # a file's name may hold any bytes
     try:
-        return run(parser().parse_args(words))
+        asked = parser(words[:1]).parse_args(words)
+        return COMMANDS[asked.command].run(asked)
     except Failure as failure:
         say(str(failure))
         return failure.status

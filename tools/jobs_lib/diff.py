@@ -192,7 +192,8 @@ def say_unusable(names, scans, out):
 
 
 def diff(old_path, new_path, limit, report=None, finish=None):
-    """The command: 0 equal and whole, 1 different or not whole, 2 not to be read. `finish` is given what is said at the end."""
+    """The command: 0 equal and whole, 1 different or not whole, 2 not to be read. `finish` is given what is said at the
+    end."""
     if old_path == new_path == "-":
         raise Failure("jobs: OLD and NEW are both standard input; expected two files")
     names = (f"OLD {old_path}", f"NEW {new_path}")

@@ -171,14 +171,16 @@ class Single(Width):
         low, high = self.between(bits & self.magnitude)
         if bits & self.FRACTION:
             return self.shortened(x, bits, low, high)
-        for digits in range(1, 10):  # a power of two has less room below than above, so a longer decimal may not do where a shorter one does
+        # a power of two has less room below than above, so a longer decimal may not do where a shorter one does
+        for digits in range(1, 10):
             near = float("%.*g" % (digits, x))
             if self.is_between(abs(near), low, high, bits, near):
                 return repr(near)
         raise AssertionError(f"nine digits do not read back as {bits:08x}")
 
     def shortened(self, x, bits, low, high):
-        """The decimal of nine digits, which always does, or the shortest that does: with each digit less it lies further away."""
+        """The decimal of nine digits, which always does, or the shortest that does: with each digit less it lies
+        further away."""
         best = float("%.9g" % x)
         for form in self.SHORTER:
             near = float(form % x)
@@ -188,12 +190,13 @@ class Single(Width):
         return repr(best)
 
     def is_between(self, near, low, high, bits, number):
-        """Whether a decimal, whose nearest double is `number`, reads back as these bits. Decimals are rounded to doubles in their order, so only where that double is
-        a bound must the decimal itself be looked at."""
+        """Whether a decimal, whose nearest double is `number`, reads back as these bits. Decimals are rounded to
+        doubles in their order, so only where that double is a bound must the decimal itself be looked at."""
         return low < near < high or near in (low, high) and bits == self.read(repr(number))
 
     def between(self, magnitude):
-        """The doubles midway between a positive single and those beside it, both exact; behind the largest stands 2^128."""
+        """The doubles midway between a positive single and those beside it, both exact; behind the largest stands
+        2^128."""
         below, here, above = self.THREE.unpack(self.THREE_BITS.pack(magnitude - 1, magnitude, magnitude + 1))
         return (below + here) / 2, (here + min(above, 2.0 ** 128)) / 2
 

@@ -42,7 +42,8 @@ class Group(NamedTuple):
     name: str
     parts: Tuple[str, ...]  # what each number adds to the name: ".x", "[1][2]", nothing
     about: str
-    code: str = DOUBLE.code  # struct's letter: d a double, f a single, B a byte, H a frame, n, sheet or take, I a 32-bit count
+    # struct's letter: d a double, f a single, B a byte, H a frame, n, sheet or take, I a 32-bit count
+    code: str = DOUBLE.code
     names: Optional[dict] = None  # what its numbers stand for, where each has a name
 
     @property
@@ -83,6 +84,15 @@ class Layout:
         numbers = self.numbers.unpack_from(data, at + 2)
         # A sum is finite only of finite numbers; a sum of such may still overflow.
         return isfinite(sum(numbers)) or all(map(isfinite, numbers))
+
+    @property
+    def floats(self):
+        """The byte at which the first of an answer's doubles or singles stands, how many they are, and the bytes of
+        each.
+        They stand in one run, as in every answer."""
+        first, count = self.codes.find(self.width.code), self.codes.count(self.width.code)
+        assert self.width.code * count in self.codes, f"the numbers of {self.mark} stand apart"
+        return 2 + struct.calcsize("<" + self.codes[:max(first, 0)]), count, self.width.size
 
     def offsets(self):
         """Each group with the byte at which it starts, counted from the mark."""

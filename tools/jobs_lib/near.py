@@ -1,4 +1,5 @@
-"""`jobs near`: which shots of a job lie beside another arm, nearest first, by the library's `nearest_arm` of their width."""
+"""`jobs near`: which shots of a job lie beside another arm, nearest first, by the library's `nearest_arm` of their
+width."""
 from . import host  # so that the binding is found
 from .arms import limits_give, single_arm
 from .floats import DOUBLE, SINGLE
@@ -9,7 +10,8 @@ from .terminal import Failure, Lines, Progress, count
 import sim3
 
 MARKS = ("AR", "CO", "co")  # the records that ask for coefficients: sigma and z stand first
-# By the width of a record's numbers: the library's function, the arm of sigma and z, the arms' names, and what a step is called.
+# By the width of a record's numbers: the library's function, the arm of sigma and z, the arms' names, and what a step
+# is called.
 AT = {
     DOUBLE: (sim3.nearest_arm, lambda sigma, z: limits_give(sigma, z)[0], ARMS, "step"),
     SINGLE: (sim3.f32.nearest_arm, single_arm, SINGLE_ARMS, "single step"),
@@ -45,8 +47,9 @@ def lines(found):
     for steps, number, layout, sigma, z, near in sorted(found.near, key=lambda shot: shot[:2]):
         width, (_, arm_of, names, step) = layout.width, AT[layout.width]
         arm = arm_of(sigma, z)
-        yield f"record {number}  {layout.mark}  {count(steps, step)} {near.direction} to arm {near.arm} ({names[near.arm]}) " \
-              f"from arm {arm} ({names[arm]})  sigma {width.text(width.to_bits(sigma))}; z {width.text(width.to_bits(z))}"
+        sigma, z = (width.text(width.to_bits(x)) for x in (sigma, z))
+        yield f"record {number}  {layout.mark}  {count(steps, step)} {near.direction} to arm {near.arm} " \
+              f"({names[near.arm]}) from arm {arm} ({names[arm]})  sigma {sigma}; z {z}"
     yield f"{len(found.near):,} of {count(found.asked, 'shot')} within {count(found.within, 'step')} of another arm"
     if found.alone:
         yield f"{count(found.alone, 'shot')} with the same arm at every z"

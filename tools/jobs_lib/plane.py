@@ -187,7 +187,8 @@ def legend(found, arm_from, series_below, rules, rule_text, drawn):
 
 STYLE = """text{font:13px sans-serif;fill:#000}.title{font-size:17px}.middle{text-anchor:middle}
 .end{text-anchor:end}.name{font-weight:bold}
-line,.limit,.box{stroke:#000;fill:none}.under{stroke:#fff;stroke-opacity:.75;stroke-width:4;fill:none}.decade{stroke:#ddd}.edge{stroke:#888}
+line,.limit,.box{stroke:#000;fill:none}.under{stroke:#fff;stroke-opacity:.75;stroke-width:4;fill:none}
+.decade{stroke:#ddd}.edge{stroke:#888}
 .limit{stroke-width:1.6}.dashed{stroke-width:1.6;stroke-dasharray:6 4}"""
 
 

@@ -1,15 +1,18 @@
 """Job and answer files as bytes: reading them, walking their records, saying what is damaged."""
+import collections
 import mmap
 import os
 import stat
 import sys
 from typing import NamedTuple
 
+from .bulk import bulk
 from .layout import ANSWER, COUNTED, END, FOUR, JOB, OLDER_ANSWER, OLDER_END, OLDER_JOB
 from .terminal import Failure, Progress, count
 
 STDIN = "(standard input)"
 ZZ = END.mark.encode()
+WINDOW = 1 << 21  # bytes that are looked through between two looks at the clock
 GUESS = 1000  # records that are enough to tell a job file from an answer file
 
 
@@ -94,7 +97,8 @@ def misfits(counts, counted, marks):
         yield f"ZZ's counts by mark add up to {sum(by_mark):,}, where {counts[0]:,} are begun"
     for mark, number in zip(COUNTED, by_mark):
         if number < marks.get(mark, 0):
-            yield f"ZZ counts {number:,} {mark}, where {count(marks[mark], 'record')} of them {'is' if marks[mark] == 1 else 'are'} answered"
+            yield (f"ZZ counts {number:,} {mark}, where {count(marks[mark], 'record')} of them "
+                   f"{'is' if marks[mark] == 1 else 'are'} answered")
     if by_mark[-1] > 1:
         yield f"ZZ counts {by_mark[-1]:,} unknown and half marks, where a job ends at the first"
 
@@ -107,7 +111,8 @@ def end_damages(data, at, marks, unusable):
         found = [torn(data, at, ANSWER)] if left else []
         return found if found and found[0].unreadable else [*found, missing]
     if left < END.size:
-        four = "; it has its first four counts alone, as before records were counted by mark: run the job again" if left == OLDER_END.size else ""
+        four = ("; it has its first four counts alone, as before records were counted by mark: run the job again"
+                if left == OLDER_END.size else "")
         return [Damage(at, f"ZZ is short, {left} of {END.size} bytes: the answer is not whole{four}", False)]
     begun, refused = sum(marks.values()), marks.get("NO", 0)
     counted = (begun, begun - refused - unusable, refused, unusable)
@@ -117,20 +122,26 @@ def end_damages(data, at, marks, unusable):
     return found
 
 
+def scanned(data, table, what):
+    """The records of a whole file by mark, which answers are not usable, and the byte behind the last record."""
+    marks, unusable, done, end, records = collections.Counter(), [], 0, 0, bulk(table)
+    progress = Progress(what, 0, step=1)
+    while True:
+        at = end
+        end, counts = records.count(data, at, min(len(data), at + WINDOW))
+        if end == at:
+            progress.end()
+            return {mark.decode(): number for mark, number in marks.items() if number}, unusable, end
+        if table is ANSWER:
+            unusable += (done + 1 + number for number in records.unusable(data, at, end))
+        marks.update(counts)
+        done += sum(counts.values())
+        progress(done)
+
+
 def scan(data, table, what):
     """Walks a whole file."""
-    marks, unusable, done, end = {}, [], 0, 0
-    progress = Progress(what, 0)
-    for at, layout in walk(data, table):
-        mark = layout.mark
-        marks[mark] = marks.get(mark, 0) + 1
-        end = at + layout.size
-        done += 1
-        if table is ANSWER and not layout.usable(data, at):
-            unusable.append(done)
-        if not done % Progress.STEP:
-            progress(done)
-    progress.end()
+    marks, unusable, end = scanned(data, table, what)
     if table is JOB:
         damages = [torn(data, end, JOB)] if end < len(data) else []
         return Scan(marks, unusable, end, damages, None)

@@ -111,9 +111,11 @@ def follow_both(job, answers):
             continue
         told = bytes(answers[answer_at:answer_at + min(answer.size, 4 if answer.mark == "SQ" else 5)])
         if told != due:
-            found.wrong.append(f"record {number}  {asked.mark}  told {in_words(told)}; the records before it give {in_words(due)}")
+            found.wrong.append(f"record {number}  {asked.mark}  told {in_words(told)}; the records before it give "
+                               f"{in_words(due)}")
         elif kept and not same_pose(job, kept.at, answers, answer_at):
-            found.wrong.append(f"record {number}  SQ  told another pose than that of record {kept.record}, which brought the take")
+            found.wrong.append(f"record {number}  SQ  told another pose than that of record {kept.record}, which "
+                               "brought the take")
     return found
 
 
@@ -135,13 +137,15 @@ def rows(found):
 
 def lines(found):
     """The kept sheets as a table, and what was refused."""
-    table = [COLUMNS, *(tuple(f"{value:,}" if i > 1 else str(value) for i, value in enumerate(row)) for row in rows(found))]
+    table = [COLUMNS, *(tuple(f"{value:,}" if i > 1 else str(value) for i, value in enumerate(row))
+                        for row in rows(found))]
     widths = [max(map(len, column)) for column in zip(*table)]
     if found.sheets:
         yield from ("  ".join(f"{word:>{width}}" for word, width in zip(row, widths)) for row in table)
     again = [kept.retaken for kept in found.sheets.values() if kept.retaken]
     room = MOST_SHEETS - len(found.sheets)
-    yield f"{count(len(found.sheets), 'sheet')} kept, {f'room for {room:,} more' if room else 'no room for another'}; " \
+    yield f"{count(len(found.sheets), 'sheet')} kept, " \
+          f"{f'room for {room:,} more' if room else 'no room for another'}; " \
           f"{len(again):,} retaken, {count(sum(again), 'time')} in all"
     for refusal in (SAME_TAKE, TOO_MANY, NEVER_KEPT):
         numbers = [number for number, why in zip(*found.refused[:2]) if why == refusal]

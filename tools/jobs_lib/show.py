@@ -5,10 +5,10 @@ import struct
 import sys
 from math import isfinite
 
+from . import bulk
 from .floats import DOUBLE
 from .layout import ANSWER, END, FOUR, JOB, MOST_RECORDS
 from .records import guess, hexadecimal, load, name_of, older, scan, walk
-from .split import Walker
 from .terminal import Failure, Lines, Progress, count, say
 
 MOST_RAW = 32  # bytes that are shown of what begins with no mark
@@ -45,18 +45,26 @@ def texts(layout, bits):
 def end_line(data, at, layout):
     """ZZ as a line: its four counts, and of those by mark the ones that are not 0."""
     numbers = layout.numbers.unpack_from(data, at + 2)
-    shown = (f"{name} {number}" for i, (name, number) in enumerate(zip(layout.fields, numbers)) if number or i < len(FOUR))
+    shown = (f"{name} {number}"
+             for i, (name, number) in enumerate(zip(layout.fields, numbers)) if number or i < len(FOUR))
     return [f"{layout.mark} " + "; ".join(shown)]
+
+
+def plain_line(data, at, layout):
+    """A record's numbers in its line, without bulk.c: str is the shortest decimal of a double."""
+    bits = layout.bits.unpack_from(data, at + 2)
+    if layout.width is DOUBLE:
+        line = TEMPLATES[layout] % layout.numbers.unpack_from(data, at + 2)
+        if line.count("nan") == bits.count(DOUBLE.nan):
+            return line
+    return TEMPLATES[layout] % texts(layout, bits)  # singles; a NaN with bits of its own
 
 
 def one_line(data, at, layout):
     """A record as a line, which `make` reads if it is a job's."""
-    numbers = layout.numbers.unpack_from(data, at + 2)
-    line = TEMPLATES[layout] % numbers  # str is the shortest decimal of a double
-    nans = line.count("nan")
-    if layout.width is not DOUBLE or nans and layout.bits.unpack_from(data, at + 2).count(DOUBLE.nan) != nans:
-        line = TEMPLATES[layout] % texts(layout, layout.bits.unpack_from(data, at + 2))  # singles; a NaN with bits of its own
-    said = remark(layout, numbers)
+    shown = bulk.texts(data, at, layout)
+    line = TEMPLATES[layout] % shown if shown else plain_line(data, at, layout)
+    said = remark(layout, layout.numbers.unpack_from(data, at + 2)) if layout.named else ""
     return [f"{line}  # {said}" if said else line]
 
 
@@ -119,9 +127,10 @@ def print_all(data, table, records, lines_of):
     if records < MANY or cores == 1:
         return print_records(data, table, range(1, records + 1), lines_of)
     progress, done = Progress("show", records, step=1), 0
+    sys.stdout.flush()
     with multiprocessing.get_context("fork").Pool(cores, begin_texts, (data, table, lines_of)) as pool:
         for text, some in pool.imap(text_between, stretches(data, table)):
-            sys.stdout.write(text)
+            sys.stdout.buffer.write(text)
             done += some
             progress(done)
         sys.stdout.flush()
@@ -130,8 +139,13 @@ def print_all(data, table, records, lines_of):
 
 def stretches(data, table):
     """Where a file's records can be parted: the first byte of some of them, and the byte behind the last of those."""
-    for window in Walker(table, STRETCH).windows(data, 0, len(data)):
-        yield window.places[0], window.places[-1]
+    at, records = 0, bulk.bulk(table)
+    while True:
+        end, _ = records.count(data, at, min(at + STRETCH, len(data)))
+        if end == at:
+            return
+        yield at, end
+        at = end
 
 
 def begin_texts(*given):
@@ -141,7 +155,7 @@ def begin_texts(*given):
 
 
 def text_between(places):
-    """The lines of the records between two bytes, as one text, and how many records they are."""
+    """The lines of the records between two bytes, as one text in bytes, and how many records they are."""
     data, table, lines_of = GIVEN
     at, end = places
     lines, records = [], 0
@@ -149,7 +163,7 @@ def text_between(places):
         layout = table[data[at:at + 2]]
         lines += lines_of(data, at, layout)
         at, records = at + layout.size, records + 1
-    return "\n".join(lines) + "\n", records
+    return ("\n".join(lines) + "\n").encode(), records
 
 
 def print_end(data, table, found, lines_of):

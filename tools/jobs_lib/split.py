@@ -1,17 +1,15 @@
-"""`jobs split`: a job of any size cut at record boundaries into parts that the program answers one by one, and an index by
-which `jobs merge` puts their answers together.
+"""`jobs split`: a job of any size cut at record boundaries into parts that the program answers one by one, and an index
+by which `jobs merge` puts their answers together.
 
-Every part begins with two IN records of its own, the head, whose frames hold 48 bits of the job's sum and the part's number.
+Every part begins with two IN records of its own, the head, whose frames hold 48 bits of the job's sum and the part's
+number.
 The program answers IN with the same frames exchanged, so a part's answers say of which job and which part they are.
 """
-import collections
-import hashlib
 import json
 import os
-import re
-from itertools import accumulate
-from typing import NamedTuple
+import zlib
 
+from .bulk import bulk
 from .layout import ANSWER, JOB, JOIN, MOST_RECORDS, SHEETS
 from .records import load, name_of, torn
 from .terminal import Failure, Progress, count, say
@@ -19,47 +17,31 @@ from .terminal import Failure, Progress, count, say
 FORMAT = "sim3 parts of a job, 1"
 INDEX, ASKED, TOLD = "index", ".in", ".out"  # the index's name, and how the names of a part and of its answers end
 HEAD, IN = 2, "IN"  # the records of a part's own that stand first, and their mark
+MOST_PART = MOST_RECORDS - HEAD  # records of the job's in a part
 MOST_PARTS, MOST_COUNT = 0xFFFF, 0xFFFFFFFF  # a frame has 16 bits, a count of ZZ 32
-WINDOW = 1 << 23  # bytes that are looked through at once
-FREE, JOINED, KEPT = b"f", b"j", b"k"  # the index's letter for a record: of no state, of the running join, of the kept sheets
-NAMES = {JOINED: "join", KEPT: "sheets"}
-GROUPS = {**dict.fromkeys(JOB, FREE[0]), **dict.fromkeys(JOIN, JOINED[0]), **dict.fromkeys(SHEETS, KEPT[0])}
-STRETCHES = re.compile(b"f+|j+|k+")
+STEP = 1 << 26  # bytes that are summed up between two looks at the clock
+FREE, JOINED, KEPT = range(3)  # the groups: records without state, of the running join, of the kept sheets
+LETTERS = b"fjk"  # the groups' letters in the index
+NAMES, MARKS = {JOINED: "join", KEPT: "sheets"}, {JOINED: JOIN, KEPT: SHEETS}
+GROUPS = {**dict.fromkeys(JOB, FREE), **dict.fromkeys(JOIN, JOINED), **dict.fromkeys(SHEETS, KEPT)}
+NUMBERS = bytes(range(len(LETTERS)))
+TO_LETTERS, TO_NUMBERS = bytes.maketrans(NUMBERS, LETTERS), bytes.maketrans(LETTERS, NUMBERS)
 
 
-class Window(NamedTuple):
-    """Records that stand one behind another: their marks, and where each begins and the last ends."""
-
-    marks: list
-    places: list
+def marks_text(group):
+    """`CH and RN`."""
+    return " and ".join(mark.decode() for mark in MARKS[group])
 
 
-class Walker:
-    """The whole records of a file by a table, window by window of so many bytes."""
-
-    def __init__(self, table, window=WINDOW):
-        self.window = window
-        self.sizes = {mark: layout.size for mark, layout in table.items()}
-        records = b"|".join(b"%b.{%d}" % (mark, size - 2) for mark, size in self.sizes.items())
-        self.marks = re.compile(b"(?s)(?=(..))(?:%b)|.+" % records)  # what is no whole record is one match, without a mark
-
-    def windows(self, data, at, end):
-        """The records from byte `at` on, up to `end` or the first bytes that are no whole record."""
-        while at < end:
-            marks = self.marks.findall(data, at, min(end, at + self.window))
-            if not marks[-1]:
-                marks.pop()
-            if not marks:
-                return
-            places = list(accumulate(map(self.sizes.__getitem__, marks), initial=at))
-            yield Window(marks, places)
-            at = places[-1]
-
-
-def sum_of(data):
-    """The 48 bits by which a job is known, as three frames."""
-    digest = hashlib.sha256(data).digest()
-    return tuple(int.from_bytes(digest[i:i + 2], "little") for i in (0, 2, 4))
+def sum_of(data, most):
+    """The 48 bits by which a job's parts are known, as three frames: 32 of its bytes, and 16 of its length and the
+    size of the parts."""
+    view, found, progress = memoryview(data), 0, Progress("split: reading", len(data), "bytes", 1)
+    for at in range(0, len(data), STEP):
+        found = zlib.crc32(view[at:at + STEP], found)
+        progress(at)
+    progress.end()
+    return found & 0xFFFF, found >> 16, zlib.crc32(b"%d %d" % (len(data), most)) & 0xFFFF
 
 
 def head(job, number):
@@ -71,7 +53,8 @@ def head(job, number):
 
 
 def told_head(data):
-    """What the answers to a head say: the job's three frames and the part's number; None where they are no such answers."""
+    """What the answers to a head say: the job's three frames and the part's number; None where they are no such
+    answers."""
     layout, found = ANSWER[IN.encode()], []
     for i in range(HEAD):
         at = i * layout.size
@@ -85,10 +68,10 @@ def told_head(data):
 class Part:
     """A part that is being written."""
 
-    def __init__(self, folder, name, job, number):
-        self.name, self.records = name, 0
+    def __init__(self, folder, name, group, head):
+        self.name, self.group, self.records = name, group, 0
         self.file = open(os.path.join(folder, name + ASKED), "wb")
-        self.file.write(head(job, number))
+        self.file.write(head)
 
 
 class Cutter:
@@ -96,85 +79,62 @@ class Cutter:
 
     def __init__(self, folder, job, most):
         self.folder, self.job, self.most = folder, job, most
-        self.parts, self.open = [], {}
+        self.parts, self.open = [], [None] * len(LETTERS)
         self.order = bytearray()
 
     def begin(self, group):
         """A new part of a group."""
-        number = len(self.parts) + 1
+        number, before = len(self.parts) + 1, self.open[group]
         if number > MOST_PARTS:
             raise Failure(f"jobs: more than {MOST_PARTS:,} parts; give more records to a part (--records)")
-        name = NAMES.get(group) or f"{number:05}"
-        self.parts.append((Part(self.folder, name, self.job, number), group))
-        before, self.open[group] = self.open.get(group), self.parts[-1][0]
+        if before and group != FREE:
+            raise Failure(f"jobs: more than {before.records:,} records of {marks_text(group)}, whose answers depend on "
+                          "one another, so that they stand in one part, which the program does not answer to its end; "
+                          "begin a new job in between")
         if before:
             before.file.close()
-        return self.open[group]
+        self.open[group] = Part(self.folder, NAMES.get(group) or f"{number:05}", group, head(self.job, number))
+        self.parts.append(self.open[group])
 
     def most_of(self, group):
         """How many records a part of a group takes; all that have state must stand in one."""
-        return self.most if group == FREE else MOST_RECORDS - HEAD
+        return self.most if group == FREE else MOST_PART
 
     def room(self, group):
-        """The part of a group that takes its next record."""
-        part = self.open.get(group)
+        """How many records go to the group's part, or to the next one where that is full or not begun."""
+        most, part = self.most_of(group), self.open[group]
+        return most - part.records % most if part else most
+
+    def put(self, group, some, records):
+        """Records of a group, as many as there is room for, or fewer."""
+        part = self.open[group]
         if part is None or part.records == self.most_of(group):
-            if part and group != FREE:
-                marks = " and ".join(mark.decode() for mark in (JOIN if group == JOINED else SHEETS))
-                raise Failure(f"jobs: more than {self.most_of(group):,} records of {marks}, whose answers depend on one another, so that they stand in one part, "
-                              "which the program does not answer to its end; begin a new job in between")
-            part = self.begin(group)
-        return part
+            self.begin(group)
+        self.open[group].file.write(some)
+        self.open[group].records += records
 
-    def put(self, group, pieces, records):
-        """Records of a group in pieces, which its part has room for."""
-        part = self.room(group)
-        part.file.write(pieces[0] if len(pieces) == 1 else b"".join(pieces))
-        part.records += records
-
-    def fitting(self, groups, first):
-        """Where the records of a window from `first` on no longer fit into the parts that take them."""
-        last = len(groups)
-        for group in (FREE, JOINED, KEPT):
-            asked = groups.count(group, first, last)
-            most = self.most_of(group) - self.room(group).records if asked else 0
-            if asked > most:
-                last = [i for i in range(first, last) if groups[i] == group[0]][most]
-        return last
-
-    def take(self, data, window):
-        """All records of a window."""
-        groups, first = bytes(map(GROUPS.__getitem__, window.marks)), 0
-        self.order += groups
-        while first < len(groups):
-            last = self.fitting(groups, first)
-            self.take_some(data, window.places, groups, first, last)
-            first = last
-
-    def take_some(self, data, places, groups, first, last):
-        """Records of a window that fit into the parts as they are."""
-        pieces = {FREE[0]: [], JOINED[0]: [], KEPT[0]: []}
-        for stretch in STRETCHES.finditer(groups, first, last):
-            begin, end = stretch.span()
-            pieces[groups[begin]].append(data[places[begin]:places[end]])
-        for letter, some in pieces.items():
-            if some:
-                self.put(bytes([letter]), some, groups.count(letter, first, last))
+    def take(self, cut):
+        """Records that are sorted to their groups."""
+        for group, (some, records) in enumerate(zip(cut.pieces, cut.records)):
+            if records:
+                self.put(group, some, records)
+        self.order += cut.order
 
     def take_end(self, data, at):
-        """What stands behind the last whole record: the program answers an unknown mark by 6 and a cut record by 7, and stops."""
+        """What stands behind the last whole record: the program answers an unknown mark by 6 and a cut record by 7, and
+        stops."""
         mark = data[at:at + 2]
-        some = data[at:] if mark in JOB or len(mark) < 2 else mark
-        self.put(FREE, [some], 1)
-        self.order += FREE
+        self.put(FREE, data[at:] if mark in JOB or len(mark) < 2 else mark, 1)
+        self.order.append(FREE)
 
     def write_index(self, name, size):
         """The index: a line of JSON, and behind it a letter for each record unless all are of one group."""
-        parts = [{"name": part.name, "records": part.records, "group": group.decode()} for part, group in self.parts]
-        told = {"format": FORMAT, "job": name, "bytes": size, "sum": self.job, "records": len(self.order), "parts": parts}
+        parts = [{"name": part.name, "records": part.records, "group": chr(LETTERS[part.group])} for part in self.parts]
+        told = {"format": FORMAT, "job": name, "bytes": size, "sum": self.job, "records": len(self.order),
+                "parts": parts}
         with open(os.path.join(self.folder, INDEX), "wb") as file:
             file.write(json.dumps(told).encode() + b"\n")
-            file.write(self.order if len(self.open) > 1 else b"")
+            file.write(self.order.translate(TO_LETTERS) if len(self.open) - self.open.count(None) > 1 else b"")
 
 
 def made_folder(folder):
@@ -189,35 +149,48 @@ def made_folder(folder):
 
 def cut(data, cutter):
     """All records of a job to their parts; the damage at which the program stops, or None."""
-    progress, done, end = Progress("split", 0, step=1), 0, 0
-    for window in Walker(JOB).windows(data, 0, len(data)):
-        cutter.take(data, window)
-        done, end = done + len(window.marks), window.places[-1]
-        progress(done)
-        if done >= MOST_COUNT:
-            raise Failure(f"jobs: more than {MOST_COUNT:,} records, which ZZ's counts of 32 bits do not hold; begin a new job before that")
+    progress, at, records = Progress("split", 0, step=1), 0, bulk(JOB, GROUPS)
+    while True:
+        some = records.cut(data, at, len(data), [cutter.room(group) for group in range(len(LETTERS))])
+        if not some.order:
+            break
+        cutter.take(some)
+        at = some.at
+        progress(len(cutter.order))
+        if len(cutter.order) >= MOST_COUNT:
+            raise Failure(f"jobs: more than {MOST_COUNT:,} records, which ZZ's counts of 32 bits do not hold; begin a "
+                          "new "
+                          "job before that")
     progress.end()
-    if end == len(data):
+    if at == len(data):
         return None
-    cutter.take_end(data, end)
-    return torn(data, end, JOB)
+    cutter.take_end(data, at)
+    return torn(data, at, JOB)
+
+
+def written(path, data, folder, most):
+    """The parts and the index in their folder: the cutter, and the damage at which the program stops, or None."""
+    made_folder(folder)
+    try:
+        cutter = Cutter(folder, sum_of(data, most), most)
+        damage = cut(data, cutter)
+        if not cutter.parts:
+            cutter.begin(FREE)
+        for part in filter(None, cutter.open):
+            part.file.close()
+        cutter.write_index(name_of(path), len(data))
+    except OSError as error:
+        raise Failure(f"jobs: {folder} cannot be written: {error.strerror}; remove it, and split the job again")
+    return cutter, damage
 
 
 def split(path, folder, most):
     """The command: 0."""
     data = load(path)
-    made_folder(folder)
-    cutter = Cutter(folder, sum_of(data), most)
-    damage = cut(data, cutter)
-    if not cutter.parts:
-        cutter.begin(FREE)
-    for part in cutter.open.values():
-        part.file.close()
-    cutter.write_index(name_of(path), len(data))
-    kinds = collections.Counter(group for _, group in cutter.parts)
+    cutter, damage = written(path, data, folder, most)
     say(f"jobs: {count(len(cutter.order), 'record')} in {count(len(cutter.parts), 'part')} of at most {most:,}"
-        + "".join(f"; {NAMES[group]}{ASKED} has all of {' and '.join(mark.decode() for mark in marks)}"
-                  for group, marks in ((JOINED, JOIN), (KEPT, SHEETS)) if kinds[group]))
+        + "".join(f"; {part.name}{ASKED} has all of {marks_text(part.group)}"
+                  for part in cutter.open[JOINED:] if part))
     if damage:
         say(f"jobs: {name_of(path)}: byte {damage.at}: {damage.text}; the program stops there")
     return 0

@@ -100,7 +100,8 @@ def lines(added, every):
         return
     table = list(rows(added, every))
     heads = ["count", *(f"file {n}" for n in range(1, len(added) + 1) if alone and len(added) > 1), "sum"]
-    words = [heads, *([field, *(f"{n:,}" for n in numbers if alone and len(added) > 1), f"{total:,}"] for field, numbers, total in table)]
+    words = [heads, *([field, *(f"{n:,}" for n in numbers if alone and len(added) > 1), f"{total:,}"]
+                      for field, numbers, total in table)]
     widths = [max(map(len, column)) for column in zip(*words)]
     for place, row in enumerate(words):
         if place == 1 + len(FOUR):

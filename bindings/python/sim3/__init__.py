@@ -8,8 +8,9 @@
 A list is any sequence of numbers, array('d') or another buffer of doubles, in the orders that
 include/sim3.h states: pose 8, tangent 7, ten values, matrix 9 (column by column), block 31. Answers
 are array('d'). Points are x y z of each, flat or a buffer of the shape (n, 3), as many as there are; those of
-a numpy array come back as one of the same shape, and `out=` names a buffer to be written. A pose is a Pose: its numbers and its frames, from_ and to. Poses are joined only where
-the frames meet. What reads no frame, the action and the Jacobians, also takes the eight numbers alone.
+a numpy array come back as one of the same shape, and `out=` names a buffer to be written. A pose is a Pose: its numbers
+and its frames, from_ and to. Poses are joined only where the frames meet. What reads no frame, the action and the
+Jacobians, also takes the eight numbers alone.
 The host's values (values, up, down, ds, jl, jl_inv) may be left out: sim3.host then computes them.
 Every number is taken, NaN and infinities too. What is not answered raises Refusal, whose `number` is
 1, 2, 5, 8, 9, 10, 11, 12 or 100; what holds no numbers raises TypeError.
@@ -20,14 +21,14 @@ OtherEnvironment, and writes nothing; `with sim3.environment():` is a block that
 
 sim3.f32 has the same functions over singles.
 
-Every function of the engine also takes arrays of numpy of n things, (n, 7), (n, 8), .., at once, and answers (n, ..) arrays:
-sim3.arrays says how.
+Every function but those of Sheets also takes arrays of numpy of n things, (n, 7), (n, 8), .., at once, and answers
+(n, ..) arrays: sim3.arrays says how.
 
 The shared library that this package loads at the first call stands beside it where pip installed it; in the
 source tree bindings/build makes it.
 """
 from . import f32, host, raw
-from .arrays import NearRows, Poses, block_matrix
+from .arrays import NearRows, Poses, RootRows, block_matrix
 from .engine import Engine
 from .guard import environment
 from .mxcsr import OtherEnvironment
@@ -42,8 +43,9 @@ from .tangents import compare_tangents, sort_tangents
 from .version import __version__
 from .widths import DOUBLE
 
-__all__ = ["LibraryMissing", "Near", "NearRows", "OtherEnvironment", "Pose", "Poses", "Refusal", "Root", "Running",
-           "Sheets", "Shelved", "__version__", "act", "block_matrix", "environment", "f32", "host", "nearest_arm",
+__all__ = ["LibraryMissing", "Near", "NearRows", "OtherEnvironment", "Pose", "Poses", "Refusal", "Root", "RootRows",
+           "Running", "Sheets", "Shelved", "__version__", "act", "block_matrix", "environment", "f32", "host",
+           "nearest_arm",
            "nearest_root", "renormalize_all", "root", "version", *raw.FUNCTIONS, *raw.PATTERNS]
 
 

@@ -37,7 +37,8 @@ class Engine:
     # ---- asking the C functions
 
     def or_host(self, name, given, function, *arguments):
-        """A value of the caller's, or the host's where it was left out, which is not computed in another environment."""
+        """A value of the caller's, or the host's where it was left out, which is not computed in another
+        environment."""
         if given is not None:
             return given
         if raw.differs():
@@ -64,7 +65,8 @@ class Engine:
 
     def is_read(self, kind, x):
         """Whether a ctypes array is what `read` gives for this kind, so that it goes to C as it is."""
-        return x._type_ is self.width.number and len(x) == raw.KINDS[kind][0] and ctypes.addressof(x) % self.width.size == 0
+        return (x._type_ is self.width.number and len(x) == raw.KINDS[kind][0]
+                and ctypes.addressof(x) % self.width.size == 0)
 
     def ask(self, name, *arguments):
         """The answer of a C function, or Refusal."""
@@ -81,8 +83,8 @@ class Engine:
         return parts(out, made.gives)
 
     def read_pose(self, name, argument, x):
-        """A pose's numbers in an array, its own where it has one; their bytes, a copy of eight numbers; and the bytes of
-        its frames."""
+        """A pose's numbers in an array, its own where it has one; their bytes, a copy of eight numbers; and the bytes
+        of its frames."""
         if not isinstance(x, Pose):
             expected(f"{self.width.package}.{name}: {argument}", x)
         numbers, from_, to = x
@@ -177,28 +179,33 @@ class Engine:
             if answer is not None:
                 return answer
         x = self.read(name, "x", x)
-        return points.move(name, x, self.number(name, "up", self.or_host(name, up, self.host.up, x)), pts, out, self.width)
+        return points.move(name, x, self.number(name, "up", self.or_host(name, up, self.host.up, x)), pts, out,
+                           self.width)
 
-    def act_many(self, x: PoseOrNumbers, pts: Numbers, up: Optional[float] = None, out: Optional[Buffer] = None) -> Buffer:
+    def act_many(self, x: PoseOrNumbers, pts: Numbers, up: Optional[float] = None,
+                 out: Optional[Buffer] = None) -> Buffer:
         """Every point moved by the matrix s R, formed once: the bits of helicoid's act_many."""
         return self.move("act_many", x, pts, up, out)
 
-    def act_each(self, x: PoseOrNumbers, pts: Numbers, up: Optional[float] = None, out: Optional[Buffer] = None) -> Buffer:
+    def act_each(self, x: PoseOrNumbers, pts: Numbers, up: Optional[float] = None,
+                 out: Optional[Buffer] = None) -> Buffer:
         """Every point moved by itself: the bits of the job's mark AC, ac at f32."""
         return self.move("act_each", x, pts, up, out)
 
     def act(self, x: PoseOrNumbers, p: Numbers, up: Optional[float] = None) -> Buffer:
         """A point moved, with the bits of act_each; of poses (n, 8) and points (n, 3) each point by its own pose."""
-        return self.act_each(x, p, up)
+        return self.move("act_each", x, p, up, None)
 
     # ---- both signs, both sides, from one evaluation
 
-    def scaled_pair(self, sigma: float, z: float, values: Optional[Numbers] = None) -> Tuple[array.array[float], array.array[float]]:
+    def scaled_pair(self, sigma: float, z: float,
+                    values: Optional[Numbers] = None) -> Tuple[array.array[float], array.array[float]]:
         """The nine coefficients and the flag at sigma, and those at -sigma; Refusal 1 where z is below zero."""
         sigma, z = self.number("scaled_pair", "sigma", sigma), self.number("scaled_pair", "z", z)
         return self.ask("scaled_pair", sigma, z, self.or_host("scaled_pair", values, self.host.values, sigma, z))
 
-    def coeffs_armed(self, sigma: float, z: float, values: Optional[Numbers] = None) -> Tuple[array.array[float], array.array[float]]:
+    def coeffs_armed(self, sigma: float, z: float,
+                     values: Optional[Numbers] = None) -> Tuple[array.array[float], array.array[float]]:
         """The arm and its ends, and the nine coefficients and the flag, at sigma; Refusal 1 where z is below zero."""
         sigma, z = self.number("coeffs_armed", "sigma", sigma), self.number("coeffs_armed", "z", z)
         return self.ask("coeffs_armed", sigma, z, self.or_host("coeffs_armed", values, self.host.values, sigma, z))
@@ -216,7 +223,8 @@ class Engine:
 
     def block_pair(self, tau: Numbers, values: Optional[Numbers] = None, jl: Optional[Numbers] = None,
                    jl_inv: Optional[Numbers] = None) -> Tuple[array.array[float], ...]:
-        """Four blocks: J_l(tau), its inverse, J_r(tau), its inverse; jl is J_l(phi) of the rotation, jl_inv its inverse."""
+        """Four blocks: J_l(tau), its inverse, J_r(tau), its inverse; jl is J_l(phi) of the rotation, jl_inv its
+        inverse."""
         tau = self.read("block_pair", "tau", tau)
         values = self.or_host("block_pair", values, self.host.tangent_values, tau)
         if jl is None or jl_inv is None:
@@ -235,22 +243,26 @@ class Engine:
         x = self.read("adjoint", "x", x)
         return self.ask("adjoint", x, self.or_host("adjoint", up, self.host.up, x))
 
-    def act_jacobians_right(self, x: PoseOrNumbers, p: Numbers, up: Optional[float] = None) -> Tuple[array.array[float], ...]:
+    def act_jacobians_right(self, x: PoseOrNumbers, p: Numbers,
+                            up: Optional[float] = None) -> Tuple[array.array[float], ...]:
         """Of X p for X Exp(tau): by phi 9, by rho 9, by sigma 3, and by p 9; up is e^sigma of X."""
         x = self.read("act_jacobians_right", "x", x)
         return self.ask("act_jacobians_right", x, self.or_host("act_jacobians_right", up, self.host.up, x), p)
 
-    def act_jacobians_left(self, x: PoseOrNumbers, p: Numbers, up: Optional[float] = None) -> Tuple[array.array[float], ...]:
+    def act_jacobians_left(self, x: PoseOrNumbers, p: Numbers,
+                           up: Optional[float] = None) -> Tuple[array.array[float], ...]:
         """Of X p for Exp(tau) X: by phi 9, by rho 9, by sigma 3, and by p 9; up is e^sigma of X."""
         x = self.read("act_jacobians_left", "x", x)
         return self.ask("act_jacobians_left", x, self.or_host("act_jacobians_left", up, self.host.up, x), p)
 
-    def compose_jacobians_right(self, y: PoseOrNumbers, down: Optional[float] = None) -> Tuple[array.array[float], array.array[float]]:
+    def compose_jacobians_right(self, y: PoseOrNumbers,
+                                down: Optional[float] = None) -> Tuple[array.array[float], array.array[float]]:
         """Of X Y, right: by X and by Y, two blocks that read Y alone; down is e^-sigma of Y."""
         y = self.read("compose_jacobians_right", "y", y)
         return self.ask("compose_jacobians_right", y, self.or_host("compose_jacobians_right", down, self.host.down, y))
 
-    def compose_jacobians_left(self, x: PoseOrNumbers, up: Optional[float] = None) -> Tuple[array.array[float], array.array[float]]:
+    def compose_jacobians_left(self, x: PoseOrNumbers,
+                               up: Optional[float] = None) -> Tuple[array.array[float], array.array[float]]:
         """Of X Y, left: by X and by Y, two blocks that read X alone; up is e^sigma of X."""
         x = self.read("compose_jacobians_left", "x", x)
         return self.ask("compose_jacobians_left", x, self.or_host("compose_jacobians_left", up, self.host.up, x))

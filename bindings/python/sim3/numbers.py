@@ -8,6 +8,7 @@ import ctypes
 from .widths import DOUBLE
 
 TEXT = (str, bytes, bytearray, memoryview)
+PATTERNS = ("Q", "<Q", "=Q", "@Q", "L", "=L", "@L")  # formats of a buffer of 64-bit patterns
 
 
 def number(where, x, width=DOUBLE):
@@ -56,4 +57,18 @@ def lent(where, x, width=DOUBLE):
         copy = of_sequence(where, x, width)
         return over(copy, len(copy), width)
     what = type(x).__name__ + ("" if view is None else f", a buffer of format {view.format!r}")
-    raise TypeError(f"{where} is {what}; expected a list, a tuple, array({width.code!r}) or another buffer of {width.word}s")
+    raise TypeError(f"{where} is {what}; expected a list, a tuple, array({width.code!r}) or another buffer of "
+                    f"{width.word}s")
+
+
+def patterns(where, x):
+    """The bit patterns of x in an array of their own, and whether x itself was one of patterns. A buffer of
+    64-bit whole numbers, as array('Q'), is one; all else is numbers, as everywhere in this package."""
+    try:
+        view = memoryview(x)
+    except TypeError:
+        view = None
+    of_patterns = view is not None and view.format in PATTERNS and view.itemsize == 8
+    words = array.array("Q")
+    words.frombytes(view.tobytes() if of_patterns else bytes(lent(where, x)))
+    return words, of_patterns

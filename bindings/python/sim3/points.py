@@ -9,6 +9,7 @@ from .numbers import lent, over
 from .refusals import MOST_NUMBERS, explained, out_length, points_length
 
 PIECE = MOST_NUMBERS  # numbers of 21,845 points
+PLAIN = (array.array, list, tuple)  # lists of numbers that go to C by way of an array
 
 
 def view_of(x, width):
@@ -50,7 +51,8 @@ def written(name, out, count, width):
     """The caller's list as a ctypes array over its own bytes."""
     where, view = f"{width.package}.{name}: out", view_of(out, width)
     if view is None:
-        raise TypeError(f"{where} is {type(out).__name__}; expected array({width.code!r}) or another buffer of {width.word}s that can be written")
+        raise TypeError(f"{where} is {type(out).__name__}; expected array({width.code!r}) or another buffer of "
+                        f"{width.word}s that can be written")
     rows(where, view)
     if view.readonly or not view.c_contiguous:
         raise TypeError(f"{where} is a buffer {'that cannot be written' if view.readonly else 'with gaps'}; "
@@ -79,7 +81,11 @@ def moved_at_once(name, x, up, pts):
         return None
     if numpy is not None and type(pts) is numpy.ndarray:
         answer = numpy.empty(pts.shape, dtype="d")
-    elif type(pts) is array.array and pts.typecode == "d":
+    elif type(pts) in PLAIN:
+        try:
+            pts = pts if type(pts) is array.array and pts.typecode == "d" else array.array("d", pts)
+        except (TypeError, OverflowError):
+            return None  # `move` says which of them is no number
         answer = array.array("d", pts)
     else:
         return None

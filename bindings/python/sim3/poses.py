@@ -47,8 +47,8 @@ class Fields(NamedTuple):
 
 class Pose(Fields):
     """A pose, which maps points of the frame `from_` to points of the frame `to`. `numbers` are the
-    quaternion w x y z, the translation x y z and sigma; a frame is a whole number from 0 to 65,535. What is none of that
-    is refused here: TypeError, OverflowError for a frame, and Refusal 100 for another count of numbers."""
+    quaternion w x y z, the translation x y z and sigma; a frame is a whole number from 0 to 65,535. What is none of
+    that is refused here: TypeError, OverflowError for a frame, and Refusal 100 for another count of numbers."""
 
     __slots__ = ()
 
@@ -74,7 +74,8 @@ def eight(x):
     elif isinstance(x, (array.array, collections.abc.Sequence)) and not isinstance(x, TEXT):
         count = len(of_sequence("sim3.Pose: numbers", x, DOUBLE))
     else:
-        raise TypeError(f"sim3.Pose: numbers is {type(x).__name__}; expected eight: a list, a tuple, array('d') or another buffer of numbers")
+        raise TypeError(f"sim3.Pose: numbers is {type(x).__name__}; expected eight: a list, a tuple, array('d') or "
+                        "another buffer of numbers")
     if count != KINDS["pose"][0]:
         raise wrong_length("Pose", "numbers", "pose", count)
     return x

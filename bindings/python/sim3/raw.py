@@ -83,14 +83,17 @@ PATTERNS = {
 WRITTEN, READ = "written", "read"
 RUNNING = {
     "running_start": (("pose", ctypes.c_double, WRITTEN), ("state", ctypes.c_uint16, WRITTEN)),
-    "running_push": (("pose", ctypes.c_double, WRITTEN), ("state", ctypes.c_uint16, WRITTEN), ("x", ctypes.c_double, READ),
+    "running_push": (("pose", ctypes.c_double, WRITTEN), ("state", ctypes.c_uint16, WRITTEN),
+                     ("x", ctypes.c_double, READ),
                      ("x_frames", ctypes.c_uint16, READ), ("up", ctypes.c_double, NUMBER)),
     "running_every": (("state", ctypes.c_uint16, WRITTEN), ("n", ctypes.c_uint16, NUMBER)),
     "renormalize_all": (("poses", ctypes.c_double, WRITTEN),),
     "sheets_start": (("store", ctypes.c_uint8, WRITTEN),),
-    "sheets_put": (("store", ctypes.c_uint8, WRITTEN), ("sheet", ctypes.c_uint16, NUMBER), ("take", ctypes.c_uint16, NUMBER), ("x", ctypes.c_double, READ),
+    "sheets_put": (("store", ctypes.c_uint8, WRITTEN), ("sheet", ctypes.c_uint16, NUMBER),
+                   ("take", ctypes.c_uint16, NUMBER), ("x", ctypes.c_double, READ),
                    ("x_frames", ctypes.c_uint16, READ), ("out", ctypes.c_uint16, WRITTEN)),
-    "sheets_get": (("store", ctypes.c_uint8, READ), ("sheet", ctypes.c_uint16, NUMBER), ("take", ctypes.c_uint16, WRITTEN), ("out", ctypes.c_double, WRITTEN),
+    "sheets_get": (("store", ctypes.c_uint8, READ), ("sheet", ctypes.c_uint16, NUMBER),
+                   ("take", ctypes.c_uint16, WRITTEN), ("out", ctypes.c_double, WRITTEN),
                    ("out_frames", ctypes.c_uint16, WRITTEN)),
 }
 SHEETS_SIZE = 167_938  # bytes of a store
@@ -158,8 +161,10 @@ def library():
         found.update((name, declared_lists(loaded["sim3_" + name], made)) for name, made in PATTERNS.items())
         found.update((name, declared_running(loaded["sim3_" + name], made)) for name, made in RUNNING.items())
         found.update((name, declared_environment(path, name)) for name in ENVIRONMENT)
-        found.update(("nearest_arm" + width.ending, declared_near(loaded["sim3_nearest_arm" + width.ending], width)) for width in WIDTHS)
-        return {**found, "root": declared_root(loaded["sim3_root"]), "version": declared_version(loaded["sim3_version"])}
+        found.update(("nearest_arm" + width.ending, declared_near(loaded["sim3_nearest_arm" + width.ending], width))
+                     for width in WIDTHS)
+        return {**found, "root": declared_root(loaded["sim3_root"]),
+                "version": declared_version(loaded["sim3_version"])}
     except (OSError, AttributeError) as error:
         raise LibraryMissing(f"sim3: {path} is no library of this engine: {error}; "
                              "remove it and run bindings/build") from None
@@ -219,7 +224,8 @@ def declared_running(symbol, made):
 
 
 def declared_environment(path, name):
-    """A C function of the environment, loaded so that it keeps Python's lock: to let go of that costs more than the call."""
+    """A C function of the environment, loaded so that it keeps Python's lock: to let go of that costs more than the
+    call."""
     gives, made = ENVIRONMENT[name]
     symbol = declared_running(ctypes.PyDLL(str(path.resolve()))["sim3_" + name], made)
     symbol.restype = gives
@@ -227,8 +233,8 @@ def declared_environment(path, name):
 
 
 def differs():
-    """0 where this thread computes as the proofs say, else the bits of MXCSR that differ. At the first call the C function itself
-    takes this name."""
+    """0 where this thread computes as the proofs say, else the bits of MXCSR that differ. At the first call the C
+    function itself takes this name."""
     global differs
     differs = library()["environment_differs"]
     return differs()

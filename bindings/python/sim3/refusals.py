@@ -60,7 +60,8 @@ def explained(number, name, given, width=DOUBLE):
 
 def text_of(number, name, given, width):
     if number == 1:
-        return f"z is {given['z']!r}, below zero; hand in a squared angle, as {width.package}.host.norm_sq(phi) gives it"
+        return (f"z is {given['z']!r}, below zero; hand in a squared angle, as {width.package}.host.norm_sq(phi) "
+                "gives it")
     if number == 2:
         return f"e, the last number of j, is {given['j'][30]!r}; such a block has no inverse, so leave it " \
                "out or look at e first"

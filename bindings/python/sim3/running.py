@@ -4,6 +4,8 @@ import ctypes
 from typing import Optional
 
 from . import host, raw
+from .arrays import Poses, pushed
+from .engine import Engine
 from .numbers import lent, number, over
 from .poses import Pose, expected, frames, short, trusted
 from .refusals import explained, refusal, wrong_length
@@ -24,7 +26,10 @@ class Running:
     def push(self, x, up=None) -> Pose:
         """Joins a Pose, and gives the running pose as it then is. up is e^sigma of the running pose, and
         unused at the first; left out, sim3.host computes it. Refusal 9 where the running pose does not start
-        from the frame to which x goes; then nothing changes."""
+        from the frame to which x goes; then nothing changes. Of a sim3.Poses of arrays each row is joined in turn, and
+        the answer is one with the running pose after each."""
+        if isinstance(x, Poses):
+            return pushed(x, up, self._numbers, self._state)
         x = expected("sim3.Running.push: x", x)
         numbers = lent("sim3.Running.push: x", x.numbers)
         if len(numbers) != POSE:
@@ -35,7 +40,8 @@ class Running:
         up = host.up(self._numbers) if up is None else number("sim3.Running.push: up", up)
         refused = raw.call("running_push", self._numbers, self._state, numbers, given, up)
         if refused == 9:
-            raise refusal(9, "Running.push", f"the running pose starts from frame {self._state[FROM]}, and x goes to frame "
+            raise refusal(9, "Running.push",
+                          f"the running pose starts from frame {self._state[FROM]}, and x goes to frame "
                           f"{x.to}; running X wants one frame there, so hand in a pose that goes to it")
         if refused:
             raise explained(refused, "Running.push", {})
@@ -52,7 +58,8 @@ class Running:
 
     def __repr__(self):
         every, since = self._state[EVERY], self._state[SINCE]
-        return f"<sim3.Running: {self.pose() or 'no pose yet'}, renormalised {f'after every {every} products' if every else 'never'}, " \
+        often = f"after every {every} products" if every else "never"
+        return f"<sim3.Running: {self.pose() or 'no pose yet'}, renormalised {often}, " \
                f"{since:,}{' or more' if since == 65_535 else ''} since then>"
 
     def _held(self):
@@ -67,7 +74,10 @@ class Running:
 
 def renormalize_all(poses):
     """The Poses of a list, each after one Newton step that brings its quaternion nearer to length 1, with its
-    own frames. The list and its poses stay as they are."""
+    own frames. The list and its poses stay as they are. A sim3.Poses of arrays is answered by one, as renormalize
+    does."""
+    if isinstance(poses, Poses):
+        return Engine(DOUBLE, host).renormalize(poses)
     poses = [expected(f"sim3.renormalize_all: poses[{i}]", x) for i, x in enumerate(poses)]
     numbers = array.array("d")
     for i, x in enumerate(poses):

@@ -38,9 +38,11 @@ class Sheets:
         if len(numbers) != POSE:
             raise wrong_length("Sheets.put", "x", "pose", len(numbers))
         out = (ctypes.c_uint16 * 2)()
-        refused = raw.call("sheets_put", self._store, sheet, take, numbers, frames("sim3.Sheets.put: x.", x.from_, x.to), out)
+        refused = raw.call("sheets_put", self._store, sheet, take, numbers,
+                           frames("sim3.Sheets.put: x.", x.from_, x.to), out)
         if refused == 10:
-            raise refusal(10, "Sheets.put", f"take {take} is the one that is kept of sheet {sheet}; number the takes of a sheet anew")
+            raise refusal(10, "Sheets.put",
+                          f"take {take} is the one that is kept of sheet {sheet}; number the takes of a sheet anew")
         if refused == 11:
             raise refusal(11, "Sheets.put", f"sheet {sheet} would be the 513th; 512 are kept, so begin another store")
         if refused:

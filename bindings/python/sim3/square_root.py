@@ -1,7 +1,7 @@
 """The square root with what is left, and its double for the host's values."""
 from typing import NamedTuple
 
-from . import raw
+from . import arrays, raw
 from .numbers import number
 from .refusals import Refusal, explained
 
@@ -19,7 +19,9 @@ class Root(NamedTuple):
 
 def root(z: float) -> Root:
     """The square root of z with what is left, a Root; Refusal 1 where z is below zero, 8 where it is a
-    NaN or infinite."""
+    NaN or infinite. Of an array (n,) a RootRows."""
+    if arrays.is_rows(z, 1):
+        return arrays.roots(z)
     z = number("sim3.root: z", z)
     whole, exponent, nearest = ((kind * count)() for kind, count in raw.ROOT_WRITES.values())
     refused = raw.call("root", z, whole, exponent, nearest)
@@ -30,7 +32,10 @@ def root(z: float) -> Root:
 
 def nearest_root(z: float) -> float:
     """The double of root(z), for host.values(sigma, z, root=sim3.nearest_root). What root refuses has
-    the root that IEEE 754 gives it: a NaN below zero; a NaN and +infinity are their own."""
+    the root that IEEE 754 gives it: a NaN below zero; a NaN and +infinity are their own. Of an array (n,) one of the
+    same shape."""
+    if arrays.is_rows(z, 1):
+        return arrays.nearest_roots(z)
     try:
         return root(z).nearest
     except Refusal as refusal:

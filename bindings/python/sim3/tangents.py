@@ -3,32 +3,16 @@ go to C as their bit patterns, so NaNs with different bits differ, and none lose
 import array
 import ctypes
 
-from . import raw
-from .hints import Numbers
-from .numbers import lent
+from . import arrays, raw
+from .hints import Buffer, Numbers
+from .numbers import patterns
 from .refusals import explained, refusal, wrong_length
 
 TANGENT, MOST = raw.KINDS["tangent"][0], 7_168
-PATTERNS = ("Q", "<Q", "=Q", "@Q", "L", "=L", "@L")  # formats of a buffer of 64-bit patterns
-
-
-def patterns(where, x):
-    """The bit patterns of x in an array of their own, and whether x itself was one of patterns. A buffer of
-    64-bit whole numbers, as array('Q'), is one; all else is numbers, as everywhere in this package."""
-    try:
-        view = memoryview(x)
-    except TypeError:
-        view = None
-    of_patterns = view is not None and view.format in PATTERNS and view.itemsize == 8
-    words = array.array("Q")
-    words.frombytes(view.tobytes() if of_patterns else bytes(lent(where, x)))
-    return words, of_patterns
-
-
 def over(words):
     """A ctypes array over the words' own bytes."""
     kind = ctypes.c_uint64 * len(words)
-    return kind.from_buffer(words) if words else kind()
+    return kind.from_buffer(words) if len(words) else kind()
 
 
 def tangent(argument, x):
@@ -40,7 +24,10 @@ def tangent(argument, x):
 
 
 def compare_tangents(a: Numbers, b: Numbers) -> int:
-    """-1 where the tangent a stands before b, 0 where all bits are the same, 1 where it stands after."""
+    """-1 where the tangent a stands before b, 0 where all bits are the same, 1 where it stands after. Of arrays (n, 7),
+    or one and a tangent for all rows, an array (n,) of these."""
+    if arrays.is_rows(a, 2) or arrays.is_rows(b, 2):
+        return arrays.compared_tangents(a, b)
     out = (ctypes.c_int64 * 1)()
     refused = raw.call("compare_tangents", tangent("a", a), tangent("b", b), out)
     if refused:
@@ -48,14 +35,22 @@ def compare_tangents(a: Numbers, b: Numbers) -> int:
     return out[0]
 
 
-def sort_tangents(tangents: Numbers) -> array.array:
-    """The tangents of a flat list, seven numbers each, smallest first: array('d'), or array('Q') where
-    patterns were handed in. `tangents` stays as it is. Refusal 5 where it is no multiple of seven or longer
-    than 7,168 numbers (1,024 tangents)."""
-    words, of_patterns = patterns("sim3.sort_tangents: tangents", tangents)
+def sort(words):
+    """Patterns of tangents put in order in their place, or Refusal."""
     refused = raw.call("sort_tangents", over(words))
     if refused:
         raise refusal(refused, "sort_tangents",
                       f"tangents has {len(words):,} numbers; hand in seven of every tangent, flat, "
                       f"and at most {MOST:,} ({MOST // TANGENT:,} tangents) at once")
+
+
+def sort_tangents(tangents: Numbers) -> Buffer:
+    """The tangents of a flat list, seven numbers each, smallest first: array('d'), or array('Q') where
+    patterns were handed in; of an array (n, 7), and of each list of an array (m, n, 7), one of the same shape.
+    `tangents` stays as it is. Refusal 5 where it is no multiple of seven or longer than 7,168 numbers (1,024
+    tangents)."""
+    if arrays.is_rows(tangents, 2, 3):
+        return arrays.sorted_tangents(tangents, sort)
+    words, of_patterns = patterns("sim3.sort_tangents: tangents", tangents)
+    sort(words)
     return words if of_patterns else array.array("d", words.tobytes())
