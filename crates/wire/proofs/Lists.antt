@@ -1,22 +1,22 @@
 -- The stores by which bytes become a list, and a list bytes; whether all numbers of a list are finite. Assumes nothing.
-use Prim.Native.Nat.{ℕ, zero, suc, _+_, _-_, _*_, _^_, _≤_, _<_}
+use Prim.Native.Nat.{ℕ, zero, suc, _+_, _-_, _*_, _^_, _/_, _≤_, _<_}
 use mathlib.Core.Path.{_≡_, refl, sym, ap, subst, _∙_}
 use mathlib.Core.Bool.{Bool, Bool·beq, true, false, not, cond, _&&_, and-assoc}
 use mathlib.Core.List.{List, [], _∷_, _++_, append-nil, append-assoc}
-use native.Mathlib.Nat.{add-zero, add-suc, suc-add, suc-mul, add-comm}
+use native.Mathlib.Nat.{add-zero, add-suc, suc-add, suc-mul, add-comm, zero-mul}
 use native.Mathlib.Numerals.{add-one}
 use native.Mathlib.Omega.{arith}
 use borrow.Author.Tests.{eq-eqb}
 use lib.Dec.{T, ltb}
 use lib.ListN.{length, take, drop, set, getD, length-append}
-use lib.Seq.{sets, take-suc, length-take-le}
+use lib.Seq.{sets, sets-eq, take-suc, take-all, length-take-le}
 use lib.IntN.{ℤ}
-use lib.Ieee.{Float, nan, inf, fin, Format, ofBits, nanBits, isNan, up, down, low, emax, prec, odd, units, round, sum, neg, add, sub, eq}
+use lib.Ieee.{Float, nan, inf, fin, Format, binary32, binary64, ofBits, nanBits, isNan, up, down, low, emax, prec, odd, units, round, sum, neg, add, sub, eq}
 use lib.Ieee.Bits.{nanBits-is}
 use Rattle.ieee.specs.Finite.{isFinite}
-use Rattle.wire.specs.Wire.{width, wordBytes, wordAt, numberAt, numberBytes, numbersBytes, numbers, allFinite, firsts, numbersAt, wordsAt, wordsBytes}
+use Rattle.wire.specs.Wire.{width, wordOf, wordBytes, wordAt, numberAt, numberBytes, numbersBytes, numbers, allFinite, fewer, firsts, numbersAt, wordsAt, wordsBytes}
 use Rattle.wire.proofs.Bytes.{word-length, numbers-length, numbers-append}
-use Rattle.wire.proofs.Places.{part-read}
+use Rattle.wire.proofs.Places.{within, part-read}
 
 sets-split : {A : Type 0} (a b l : List A) (i : ℕ) → sets l i (a ++ b) ≡ sets (sets l i a) (i + length a) b
 sets-split [] b l i = rw add-zero
@@ -162,10 +162,62 @@ one-finite (x ∷ l) d zero i e h g = absurd (omega arith)
 one-finite (x ∷ l) d (suc n) zero e h g = both (isFinite x) (allFinite (numbers (take n l))) e .0
 one-finite (x ∷ l) d (suc n) (suc i) e h g = one-finite l d n i (both (isFinite x) (allFinite (numbers (take n l))) e .1) (omega arith) (omega arith)
 
--- ---- a part of the bytes that has just the numbers that are read
-pub numbers-part :
-    (f : Format) (b : List ℕ) (i n m : ℕ) → (i + n) * width f ≤ length b → m ≤ n →
-    numbersAt f (take (n * width f) (drop (i * width f) b)) m ≡ firsts (λ k. numberAt f b (i + k)) m
+-- ---- what is read of bytes that have just the numbers for a list
+front-read : (f : Format) (b : List ℕ) (n k : ℕ) → n * width f ≤ length b → k < n → numberAt f (take (n * width f) b) k ≡ numberAt f b k
+front-read f b n k h g =
+    let i : 0 + n ≡ n = omega arith in
+    let z : 0 + k ≡ k = omega arith in
+    rw (zero-mul (width f), z) at (part-read f b 0 n k (rw i h) g)
+
+numbers-front : (f : Format) (b : List ℕ) (n m : ℕ) → n * width f ≤ length b → m ≤ n → numbersAt f (take (n * width f) b) m ≡ numbersAt f b m
 unfolding firsts
-numbers-part f b i n zero h g = refl
-numbers-part f b i n (suc m) h g = rw (numbers-part f b i n m h (omega arith), part-read f b i n m h (omega arith))
+numbers-front f b n zero h g = refl
+numbers-front f b n (suc m) h g = rw (numbers-front f b n m h (omega arith), front-read f b n m h (omega arith))
+
+drop-all : {A : Type 0} (n : ℕ) (l : List A) → length l ≤ n → drop n l ≡ []
+drop-all zero [] h = refl
+drop-all zero (x ∷ l) h = absurd (omega arith)
+drop-all (suc n) [] h = refl
+drop-all (suc n) (x ∷ l) h = drop-all n l (omega arith)
+
+one-of-two : {A : Type 0} (t : Bool) (x : A) → cond t x x ≡ x
+one-of-two true x = refl
+one-of-two false x = refl
+
+all-stored : {A : Type 0} (l a : List A) → length l ≡ length a → sets l 0 a ≡ a
+all-stored l a h = sets-eq a l 0 (omega (arith, h)) ∙ rw (drop-all (0 + length a) l (omega (arith, h))) (append-nil a)
+
+many : (f : Format) (n : ℕ) → n * width f / width f ≡ n
+many binary32 n = omega arith
+many binary64 n = omega arith
+
+pub decoded :
+    (f : Format) (b : List ℕ) (l : List Float) (n : ℕ) → n * width f ≤ length b → length l ≡ n →
+    sets l 0 (numbersAt f (take (n * width f) b) (fewer (length (take (n * width f) b) / width f) (length l))) ≡ numbersAt f b n
+decoded f b l n h e =
+    let k : fewer (length (take (n * width f) b) / width f) (length l) ≡ n = rw (length-take-le (n * width f) b h, many f n, e) (one-of-two (ltb n n) n) in
+    rw (k, numbers-front f b n n h (omega arith)) (all-stored l (numbersAt f b n) (e ∙ sym (firsts-length (numberAt f b) n)))
+
+-- whole numbers of two bytes
+short-front : (b : List ℕ) (n k : ℕ) → n * 2 ≤ length b → k < n → wordAt 2 (take (n * 2) b) (k * 2) ≡ wordAt 2 b (k * 2)
+unfolding wordAt
+short-front b n k h g =
+    let z : 0 + k * 2 ≡ k * 2 = omega arith in
+    ap wordOf (rw z at (within b 0 (k * 2) 2 ((n - k) * 2) (n * 2) (omega arith) (omega arith) (omega arith)))
+
+shorts-front : (b : List ℕ) (n m : ℕ) → n * 2 ≤ length b → m ≤ n → wordsAt 2 (take (n * 2) b) m ≡ wordsAt 2 b m
+unfolding firsts
+shorts-front b n zero h g = refl
+shorts-front b n (suc m) h g = rw (shorts-front b n m h (omega arith), short-front b n m h (omega arith))
+
+pub shorts-decoded :
+    (b l : List ℕ) (n : ℕ) → n * 2 ≤ length b → length l ≡ n →
+    sets l 0 (wordsAt 2 (take (n * 2) b) (fewer (length (take (n * 2) b) / 2) (length l))) ≡ wordsAt 2 b n
+shorts-decoded b l n h e =
+    let m : n * 2 / 2 ≡ n = omega arith in
+    let k : fewer (length (take (n * 2) b) / 2) (length l) ≡ n = rw (length-take-le (n * 2) b h, m, e) (one-of-two (ltb n n) n) in
+    rw (k, shorts-front b n n h (omega arith)) (all-stored l (wordsAt 2 b n) (e ∙ sym (firsts-length (λ (i : ℕ). wordAt 2 b (i * 2)) n)))
+
+-- ---- a list that is written whole
+pub encoded : {A : Type 0} (y : List A) (p : List ℕ) (w n : ℕ) → length y ≡ n → length p / w ≡ n → take (fewer (length y) (length p / w)) y ≡ y
+encoded y p w n h e = rw (h, e, one-of-two (ltb n n) n) (take-all n y (omega (arith, h)))

@@ -14,6 +14,9 @@ ghost use Rattle.wire.specs.Private.{Plain};
 
 pub mod single; // singles
 
+// How many bytes a double has.
+pub const NUMBER: usize = 8;
+
 // The sign's bit, and all bits of the fraction.
 const SIGN: u64 = 0x8000_0000_0000_0000;
 

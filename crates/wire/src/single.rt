@@ -10,6 +10,9 @@ ghost use Rattle.wire.specs.Wire.{width, wordOf, wordAt, numberOf, numbe
 ghost use Rattle.wire.specs.Wire.{fewer, numbersAt, numbers, numbersBytes, allFinite};
 ghost use Rattle.wire.specs.Private.{Plain};
 
+// How many bytes a single has.
+pub const NUMBER: usize = 4;
+
 // The sign's bit, and all bits of the fraction.
 const SIGN: u32 = 0x8000_0000;
 
