@@ -262,7 +262,7 @@ def build_without_tools():
         environment = {"PATH": f"{work}/bin"}
         done = subprocess.run(build, env=environment, stderr=subprocess.PIPE, text=True)
         assert done.returncode == 2 and "'rt'" in done.stderr, f"without rt: {done}"
-        for archive in ("libsim3_c.a", "libsim3_c_doubles.a", "libsim3_c_f32.a"):
+        for archive in ("libsim3_c.a", "libsim3_c_doubles.a", "libsim3_c_entries.a", "libsim3_c_entries_f32.a", "libsim3_c_f32.a"):
             shutil.copy(ROOT / "target/staticlib" / archive, f"{work}/target/staticlib")
         done = subprocess.run(build, env=environment, stderr=subprocess.PIPE, text=True)
         assert done.returncode == 2 and "'cc'" in done.stderr, f"without cc: {done}"

@@ -45,6 +45,10 @@ def contracts(sources, module, text, used):
 
 def code(sources, crate, module, text):
     used = set()
+    for name in sources.asked(text):
+        text = re.sub(rf"\b{name}\b", twin(name), text)
+    singles = "|".join(sources.singles)
+    text = re.sub(rf"\bwire::(?=(?:{singles})\b)", "wire::single::", text)
     text = imports(sources, crate, width(contracts(sources, module, text, used)))
     text = after_uses(text, as_lines(sources, crate, used, "ghost use ", ";"), "ghost use")
     for c in sources.twins:

@@ -151,6 +151,8 @@ def proof(sources, crate, function, text):
     name = twin(crate).replace("_", "-")
     text = text.replace(f"calls-{crate}·{crate}·", f"calls-{name}·{name}·").replace(f"calls-{crate}·", f"calls-{name}·")
     text = text.replace(f"`{crate}::", f"`{twin(crate)}::")
+    for asked in sources.asked(sources.code(crate)[function.module]):
+        text = re.sub(rf"(?<=\.){asked.replace('_', '-')}(?![\w-])", twin(asked).replace("_", "-"), text)
     return exported(text, function) if function.exported else text
 
 

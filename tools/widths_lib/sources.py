@@ -74,6 +74,9 @@ class Sources:
             if t.name in self.types:
                 raise ValueError(f"{self.types[t.name].crate} and {t.crate} both declare {t.name}: types are known by their names")
             self.types[t.name] = t
+        # (crate, name) of each exported function, whose name differs at the other width; and what `wire` has for both widths
+        self.exported = {(crate, f.name) for crate in self.twins for module, text in self.code(crate).items() for _, f in functions(module, text) if f.exported}
+        self.singles = sorted(re.findall(r"(?m)^pub (?:fn|const) (\w+)", self.code("wire")["single"]))
         self.told, self.gives = {}, {}
         for crate in self.twins:
             for path in sorted((top / "crates" / crate / "specs").glob("*.antt")):
@@ -101,6 +104,10 @@ class Sources:
             if taken and taken.crate == crate and not self.floating(taken.name) and (taken.kind == "enum" or self.mixed(taken.name)):
                 body = text[re.search(rf"(?m)^{keep} pub {name} :.*\n", text).end() :].split("\n\n")[0]
                 self.told[name] = (crate, module, keep, taken, rest.removeprefix(" → "), body)
+
+    def asked(self, text):
+        """The exported functions of other crates that a source file imports."""
+        return [name for crate, name in re.findall(r"(?m)^use (\w+)::(?:\w+::)*(\w+);", text) if (crate, name) in self.exported]
 
     def floating(self, name):
         """Whether a type is a struct of numbers, which the definitions have as a record of their own."""

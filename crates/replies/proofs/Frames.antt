@@ -1,4 +1,4 @@
--- The bytes of a pose and its frames: as the code stores them, and how many they are; in either format. Assumes nothing.
+-- The bytes of a pose and its frames: how many they are; in either format. Assumes nothing.
 use Prim.Native.Nat.{ℕ, _+_, _-_, _*_}
 use mathlib.Core.Path.{_≡_, refl, sym, ap, _∙_}
 use mathlib.Core.List.{List, [], _∷_, _++_}
@@ -47,15 +47,6 @@ framed-length f x =
 pub framed-finite : (x : Pose) → allFinite (framedItems x) ≡ allFinite (numbers (poseNumbers (x .sim3)))
 unfolding framedItems poseNumbers quatNumbers vecNumbers numbers allFinite
 framed-finite x = refl
-
--- the numbers, and behind them the frames
-pub framed-run :
-    (f : Format) (x : Pose) (l : List ℕ) →
-    sets (sets (sets l 0 (posed f x)) (poseCount * width f) (frame f (x .from))) (poseCount * width f + frameWidth) (frame f (x .to)) ≡ sets l 0 (itemsBytes f (framedItems x))
-framed-run f x l =
-    let n : 0 + length (posed f x) ≡ poseCount * width f = omega (arith, posed-length f x) in
-    let m : poseCount * width f + length (frame f (x .from)) ≡ poseCount * width f + frameWidth = ap (λ (k : ℕ). poseCount * width f + k) (frame-length f (x .from)) in
-    run-behind (frame f (x .from)) (frame f (x .to)) _ (poseCount * width f) _ m ∙ run-behind (posed f x) _ l 0 _ n ∙ ap (sets l 0) (sym (framed-bytes f x))
 
 -- ---- a list without its first k, as the code lends it
 pub rest-is : (b : List ℕ) (k : ℕ) → take (length b - k) (drop k b) ≡ drop k b

@@ -1,9 +1,9 @@
--- The laws of replies, and the runs of stores by which the code writes them.
-pub mod Numbers
-pub mod NoNans
+-- The laws of replies, and of calls on lists as answers.
 pub mod Arms
+pub mod Calls
 pub mod Frames
 pub mod Replies
+pub mod Told
 mod ArAsCo
 mod ArAsPa
 mod Examples

@@ -1,32 +1,19 @@
--- What each exported function answers: 0 and the numbers in `out`, or the number of a refusal and `out` as it was (Written.antt of crate `to_lists`).
+-- What each exported function answers, but for those that records of the job have too (crate `sim3_c_entries`): 0 and the numbers in `out`, or the number of a refusal and `out` as it was (Written.antt of crate `to_lists`).
 -- A list whose length is not the one that is due is refused by the lists' own number; lists of points by the scope's 5.
 use Prim.Native.Nat.{ℕ}
 use mathlib.Core.List.{List}
 use lib.Ieee.{Float, Format}
 use Rattle.linalg.specs.Answer.{Answer, answers, andThen}
 use Rattle.linalg.specs.declared.vector.Vec3.{Vec3}
-use Rattle.coeffs.specs.Entries.{pairAnswer, armedAnswer, armedPairAnswer}
+use Rattle.coeffs.specs.Entries.{armedAnswer, armedPairAnswer}
 use Rattle.point_lists.specs.Points.{pointsAnswer, pointsOut, poseActMany, poseActEach}
-use Rattle.frames.specs.Pose.{framedExp, framedInverse}
-use Rattle.frames.specs.Joins.{framedMul, framedMulInv, framedInvMul}
-use Rattle.jacobian.specs.Jac.{jacInverseAnswer}
-use Rattle.sides.specs.Pair.{blockPair}
+use Rattle.frames.specs.Joins.{framedMulInv, framedInvMul}
 use Rattle.sides.specs.Side.{poseAdjoint, actJacobiansRight, actJacobiansLeft, composeJacobiansRight, composeJacobiansLeft, inverseJacobianRight, inverseJacobianLeft}
-use Rattle.layout.specs.Layout.{blockNumbers, blockPairNumbers, scaledPairNumbers, twoNumbers, actNumbers}
-use Rattle.from_lists.specs.Lists.{vecFrom, matFrom, poseFrom, tangentFrom, valuesFrom, blockFrom, PoseLists, framesFrom, framedFrom}
-use Rattle.to_lists.specs.Written.{fitting, framedFitting, joinedFitting, armedNumbers, armedPairNumbers}
+use Rattle.layout.specs.Layout.{blockNumbers, twoNumbers, actNumbers}
+use Rattle.from_lists.specs.Lists.{vecFrom, poseFrom, valuesFrom, PoseLists, framedFrom}
+use Rattle.to_lists.specs.Written.{fitting, joinedFitting, armedNumbers, armedPairNumbers}
 
 -- ---- poses with their frames
-unfoldable pub expCall : Format → List Float → List Float → List ℕ → PoseLists → Answer PoseLists
-expCall f tau values frames out =
-    andThen (tangentFrom tau) (λ t. andThen (valuesFrom values) (λ v. andThen (framesFrom frames) (λ k. framedFitting out (framedExp f t v (k .from) (k .to)))))
-
-unfoldable pub mulCall : Format → PoseLists → PoseLists → Float → PoseLists → Answer PoseLists
-mulCall f x y up out = andThen (framedFrom x) (λ a. andThen (framedFrom y) (λ b. joinedFitting out (framedMul f a b up)))
-
-unfoldable pub inverseCall : Format → PoseLists → Float → PoseLists → Answer PoseLists
-inverseCall f x down out = andThen (framedFrom x) (λ a. framedFitting out (framedInverse f a down))
-
 unfoldable pub mulInvCall : Format → PoseLists → PoseLists → Float → PoseLists → Answer PoseLists
 mulInvCall f x y ds out = andThen (framedFrom x) (λ a. andThen (framedFrom y) (λ b. joinedFitting out (framedMulInv f a b ds)))
 
@@ -43,14 +30,6 @@ actManyCall f x up pts out = andThen (poseFrom x) (λ a. actCall (poseActMany f 
 unfoldable pub actEachCall : Format → List Float → Float → List Float → List Float → Answer (List Float)
 actEachCall f x up pts out = andThen (poseFrom x) (λ a. actCall (poseActEach f a up) pts out)
 
--- ---- the pairs
-unfoldable pub scaledPairCall : Format → Float → Float → List Float → List Float → Answer (List Float)
-scaledPairCall f sigma z values out = andThen (valuesFrom values) (λ v. andThen (pairAnswer f sigma z v) (λ p. fitting out (scaledPairNumbers p)))
-
-unfoldable pub blockPairCall : Format → List Float → List Float → List Float → List Float → List Float → Answer (List Float)
-blockPairCall f tau values jl jlInv out =
-    andThen (tangentFrom tau) (λ t. andThen (valuesFrom values) (λ v. andThen (matFrom jl) (λ j. andThen (matFrom jlInv) (λ i. fitting out (blockPairNumbers (blockPair f t v j i))))))
-
 -- ---- the coefficients with their arms
 unfoldable pub armedCall : Format → Float → Float → List Float → List Float → Answer (List Float)
 armedCall f sigma z values out = andThen (valuesFrom values) (λ v. andThen (armedAnswer f sigma z v) (λ a. fitting out (armedNumbers f a)))
@@ -59,9 +38,6 @@ unfoldable pub armedPairCall : Format → Float → Float → List Float → Lis
 armedPairCall f sigma z values out = andThen (valuesFrom values) (λ v. andThen (armedPairAnswer f sigma z v) (λ p. fitting out (armedPairNumbers f p)))
 
 -- ---- blocks
-unfoldable pub blockInverseCall : Format → List Float → List Float → Answer (List Float)
-blockInverseCall f j out = andThen (blockFrom j) (λ b. andThen (jacInverseAnswer f b) (λ i. fitting out (blockNumbers i)))
-
 unfoldable pub adjointCall : Format → List Float → Float → List Float → Answer (List Float)
 adjointCall f x up out = andThen (poseFrom x) (λ a. fitting out (blockNumbers (poseAdjoint f a up)))
 

@@ -3,16 +3,13 @@
 ghost use mathlib.Core.Path.{_≡_};
 ghost use lib.Ieee.{binary64};
 ghost use Rattle.to_lists.specs.Written.{status, written};
-ghost use Rattle.sim3_c.specs.Calls.{blockInverseCall, adjointCall, actJacobiansRightCall, actJacobiansLeftCall};
+ghost use Rattle.sim3_c.specs.Calls.{adjointCall, actJacobiansRightCall, actJacobiansLeftCall};
 ghost use Rattle.sim3_c.specs.Calls.{composeJacobiansRightCall, composeJacobiansLeftCall, inverseJacobianRightCall, inverseJacobianLeftCall};
-use from_lists::BlockRead;
 use from_lists::LIST_LENGTH;
 use from_lists::PoseRead;
 use from_lists::VecRead;
-use from_lists::block_from;
 use from_lists::pose_from;
 use from_lists::vec_from;
-use jacobian::jac::JacAnswer;
 use sides::side::act_jacobians_left;
 use sides::side::act_jacobians_right;
 use sides::side::adjoint;
@@ -23,21 +20,6 @@ use sides::side::inverse_jacobian_right;
 use to_lists::put_act;
 use to_lists::put_block;
 use to_lists::put_two;
-
-// The inverse of a block; refusal 2 where e is a zero.
-#[no_mangle]
-pub extern "C" fn sim3_block_inverse(j: &[f64], out: &mut [f64]) -> u32
-    ensures { λ r. ⌜ r ≡ status (blockInverseCall binary64 (now (j .entry)) (now (out .entry))) ⌝ }
-    ensures { λ _. ⌜ now (out .exit) ≡ written (blockInverseCall binary64 (now (j .entry)) (now (out .entry))) (now (out .entry)) ⌝ }
-{
-    let BlockRead::Got(b) = block_from(j) else {
-        return LIST_LENGTH;
-    };
-    match b.inverse() {
-        JacAnswer::Block(i) => put_block(out, i),
-        JacAnswer::Refused(n) => n as u32,
-    }
-}
 
 // Ad_X; up is e^sigma of X.
 #[no_mangle]

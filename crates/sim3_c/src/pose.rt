@@ -4,106 +4,12 @@ ghost use mathlib.Core.Path.{_≡_};
 ghost use lib.Ieee.{binary64};
 ghost use Rattle.from_lists.specs.Lists.{poseLists};
 ghost use Rattle.to_lists.specs.Written.{status, written, framedWritten, renormalizeCall};
-ghost use Rattle.sim3_c.specs.Calls.{expCall, mulCall, inverseCall, mulInvCall, invMulCall};
-use frames::Pose;
+ghost use Rattle.sim3_c.specs.Calls.{mulInvCall, invMulCall};
 use from_lists::FramedRead;
-use from_lists::FramesRead;
 use from_lists::LIST_LENGTH;
-use from_lists::TangentRead;
-use from_lists::ValuesRead;
 use from_lists::framed_from;
-use from_lists::frames_from;
-use from_lists::tangent_from;
-use from_lists::values_from;
-use to_lists::put_framed;
 use to_lists::put_joined;
 use to_lists::renormalize_pose;
-
-// Exp of the tangent, with its ten function values and the frames that it is given.
-#[no_mangle]
-pub extern "C" fn sim3_exp(
-    tau: &[f64],
-    values: &[f64],
-    frames: &[u16],
-    out: &mut [f64],
-    out_frames: &mut [u16],
-) -> u32
-    ensures { λ r. ⌜
-        r ≡ status (expCall binary64 (now (tau .entry)) (now (values .entry)) (now (frames .entry))
-        (poseLists (now (out .entry)) (now («out_frames» .entry))))
-        ⌝ }
-    ensures { λ _. ⌜
-        poseLists (now (out .exit)) (now («out_frames» .exit))
-        ≡ framedWritten (expCall binary64 (now (tau .entry)) (now (values .entry)) (now (frames .entry)))
-        (poseLists (now (out .entry)) (now («out_frames» .entry)))
-        ⌝ }
-{
-    let TangentRead::Got(t) = tangent_from(tau) else {
-        return LIST_LENGTH;
-    };
-    let ValuesRead::Got(v) = values_from(values) else {
-        return LIST_LENGTH;
-    };
-    let FramesRead::Got(k) = frames_from(frames) else {
-        return LIST_LENGTH;
-    };
-    put_framed(out, out_frames, Pose::exp(t, v, k.from, k.to))
-}
-
-// X Y, where X starts from the frame to which Y goes; up is e^sigma of X.
-#[no_mangle]
-pub extern "C" fn sim3_mul(
-    x: &[f64],
-    x_frames: &[u16],
-    y: &[f64],
-    y_frames: &[u16],
-    up: f64,
-    out: &mut [f64],
-    out_frames: &mut [u16],
-) -> u32
-    ensures { λ r. ⌜
-        r ≡ status (mulCall binary64 (poseLists (now (x .entry)) (now («x_frames» .entry))) (poseLists (now (y .entry)) (now («y_frames» .entry))) up
-        (poseLists (now (out .entry)) (now («out_frames» .entry))))
-        ⌝ }
-    ensures { λ _. ⌜
-        poseLists (now (out .exit)) (now («out_frames» .exit))
-        ≡ framedWritten (mulCall binary64 (poseLists (now (x .entry)) (now («x_frames» .entry))) (poseLists (now (y .entry)) (now («y_frames» .entry))) up)
-        (poseLists (now (out .entry)) (now («out_frames» .entry)))
-        ⌝ }
-{
-    let FramedRead::Got(a) = framed_from(x, x_frames) else {
-        return LIST_LENGTH;
-    };
-    let FramedRead::Got(b) = framed_from(y, y_frames) else {
-        return LIST_LENGTH;
-    };
-    put_joined(out, out_frames, a.mul(b, up))
-}
-
-// X^-1, with the frames exchanged; down is e^-sigma of X.
-#[no_mangle]
-pub extern "C" fn sim3_inverse(
-    x: &[f64],
-    x_frames: &[u16],
-    down: f64,
-    out: &mut [f64],
-    out_frames: &mut [u16],
-) -> u32
-    ensures { λ r. ⌜
-        r ≡ status (inverseCall binary64 (poseLists (now (x .entry)) (now («x_frames» .entry))) down
-        (poseLists (now (out .entry)) (now («out_frames» .entry))))
-        ⌝ }
-    ensures { λ _. ⌜
-        poseLists (now (out .exit)) (now («out_frames» .exit))
-        ≡ framedWritten (inverseCall binary64 (poseLists (now (x .entry)) (now («x_frames» .entry))) down)
-        (poseLists (now (out .entry)) (now («out_frames» .entry)))
-        ⌝ }
-{
-    let FramedRead::Got(a) = framed_from(x, x_frames) else {
-        return LIST_LENGTH;
-    };
-    put_framed(out, out_frames, a.inverse(down))
-}
 
 // X Y^-1, where both start from one frame; ds is e^(sigma of X - sigma of Y).
 #[no_mangle]

@@ -1,19 +1,16 @@
-// Written by tools/widths from crates/sim3_c/src/jacobians.rt: edit that one. Digest 12b70ec1ebc054c6.
+// Written by tools/widths from crates/sim3_c/src/jacobians.rt: edit that one. Digest 4060d10643a8d30d.
 // Jacobian blocks, as a, b, c, f, e: the matrix with the rows (a, 0, 0), (b, c, f), (0, 0, e). Right is
 // X Exp(tau), left Exp(tau) X.
 ghost use mathlib.Core.Path.{_≡_};
 ghost use lib.Ieee.{binary32};
 ghost use Rattle.to_lists.specs.Written.{status, written};
-ghost use Rattle.sim3_c.specs.Calls.{blockInverseCall, adjointCall, actJacobiansRightCall, actJacobiansLeftCall};
+ghost use Rattle.sim3_c.specs.Calls.{adjointCall, actJacobiansRightCall, actJacobiansLeftCall};
 ghost use Rattle.sim3_c.specs.Calls.{composeJacobiansRightCall, composeJacobiansLeftCall, inverseJacobianRightCall, inverseJacobianLeftCall};
-use from_lists_f32::BlockRead;
 use from_lists_f32::LIST_LENGTH;
 use from_lists_f32::PoseRead;
 use from_lists_f32::VecRead;
-use from_lists_f32::block_from;
 use from_lists_f32::pose_from;
 use from_lists_f32::vec_from;
-use jacobian_f32::jac::JacAnswer;
 use sides_f32::side::act_jacobians_left;
 use sides_f32::side::act_jacobians_right;
 use sides_f32::side::adjoint;
@@ -24,21 +21,6 @@ use sides_f32::side::inverse_jacobian_right;
 use to_lists_f32::put_act;
 use to_lists_f32::put_block;
 use to_lists_f32::put_two;
-
-// The inverse of a block; refusal 2 where e is a zero.
-#[no_mangle]
-pub extern "C" fn sim3_block_inverse_f32(j: &[f32], out: &mut [f32]) -> u32
-    ensures { λ r. ⌜ r ≡ status (blockInverseCall binary32 (now (j .entry)) (now (out .entry))) ⌝ }
-    ensures { λ _. ⌜ now (out .exit) ≡ written (blockInverseCall binary32 (now (j .entry)) (now (out .entry))) (now (out .entry)) ⌝ }
-{
-    let BlockRead::Got(b) = block_from(j) else {
-        return LIST_LENGTH;
-    };
-    match b.inverse() {
-        JacAnswer::Block(i) => put_block(out, i),
-        JacAnswer::Refused(n) => n as u32,
-    }
-}
 
 // Ad_X; up is e^sigma of X.
 #[no_mangle]

@@ -1,110 +1,16 @@
-// Written by tools/widths from crates/sim3_c/src/pose.rt: edit that one. Digest 3f71b651629ddfee.
+// Written by tools/widths from crates/sim3_c/src/pose.rt: edit that one. Digest 3ba6b0a06e915c34.
 // Poses: quaternion w x y z, t, sigma, and in a list beside these the frames: from, to. A pose that is
 // the result has its numbers and its frames written to two lists; both or none.
 ghost use mathlib.Core.Path.{_≡_};
 ghost use lib.Ieee.{binary32};
 ghost use Rattle.from_lists.specs.Lists.{poseLists};
 ghost use Rattle.to_lists.specs.Written.{status, written, framedWritten, renormalizeCall};
-ghost use Rattle.sim3_c.specs.Calls.{expCall, mulCall, inverseCall, mulInvCall, invMulCall};
-use frames_f32::Pose;
+ghost use Rattle.sim3_c.specs.Calls.{mulInvCall, invMulCall};
 use from_lists_f32::FramedRead;
-use from_lists_f32::FramesRead;
 use from_lists_f32::LIST_LENGTH;
-use from_lists_f32::TangentRead;
-use from_lists_f32::ValuesRead;
 use from_lists_f32::framed_from;
-use from_lists_f32::frames_from;
-use from_lists_f32::tangent_from;
-use from_lists_f32::values_from;
-use to_lists_f32::put_framed;
 use to_lists_f32::put_joined;
 use to_lists_f32::renormalize_pose;
-
-// Exp of the tangent, with its ten function values and the frames that it is given.
-#[no_mangle]
-pub extern "C" fn sim3_exp_f32(
-    tau: &[f32],
-    values: &[f32],
-    frames: &[u16],
-    out: &mut [f32],
-    out_frames: &mut [u16],
-) -> u32
-    ensures { λ r. ⌜
-        r ≡ status (expCall binary32 (now (tau .entry)) (now (values .entry)) (now (frames .entry))
-        (poseLists (now (out .entry)) (now («out_frames» .entry))))
-        ⌝ }
-    ensures { λ _. ⌜
-        poseLists (now (out .exit)) (now («out_frames» .exit))
-        ≡ framedWritten (expCall binary32 (now (tau .entry)) (now (values .entry)) (now (frames .entry)))
-        (poseLists (now (out .entry)) (now («out_frames» .entry)))
-        ⌝ }
-{
-    let TangentRead::Got(t) = tangent_from(tau) else {
-        return LIST_LENGTH;
-    };
-    let ValuesRead::Got(v) = values_from(values) else {
-        return LIST_LENGTH;
-    };
-    let FramesRead::Got(k) = frames_from(frames) else {
-        return LIST_LENGTH;
-    };
-    put_framed(out, out_frames, Pose::exp(t, v, k.from, k.to))
-}
-
-// X Y, where X starts from the frame to which Y goes; up is e^sigma of X.
-#[no_mangle]
-pub extern "C" fn sim3_mul_f32(
-    x: &[f32],
-    x_frames: &[u16],
-    y: &[f32],
-    y_frames: &[u16],
-    up: f32,
-    out: &mut [f32],
-    out_frames: &mut [u16],
-) -> u32
-    ensures { λ r. ⌜
-        r ≡ status (mulCall binary32 (poseLists (now (x .entry)) (now («x_frames» .entry))) (poseLists (now (y .entry)) (now («y_frames» .entry))) up
-        (poseLists (now (out .entry)) (now («out_frames» .entry))))
-        ⌝ }
-    ensures { λ _. ⌜
-        poseLists (now (out .exit)) (now («out_frames» .exit))
-        ≡ framedWritten (mulCall binary32 (poseLists (now (x .entry)) (now («x_frames» .entry))) (poseLists (now (y .entry)) (now («y_frames» .entry))) up)
-        (poseLists (now (out .entry)) (now («out_frames» .entry)))
-        ⌝ }
-{
-    let FramedRead::Got(a) = framed_from(x, x_frames) else {
-        return LIST_LENGTH;
-    };
-    let FramedRead::Got(b) = framed_from(y, y_frames) else {
-        return LIST_LENGTH;
-    };
-    put_joined(out, out_frames, a.mul(b, up))
-}
-
-// X^-1, with the frames exchanged; down is e^-sigma of X.
-#[no_mangle]
-pub extern "C" fn sim3_inverse_f32(
-    x: &[f32],
-    x_frames: &[u16],
-    down: f32,
-    out: &mut [f32],
-    out_frames: &mut [u16],
-) -> u32
-    ensures { λ r. ⌜
-        r ≡ status (inverseCall binary32 (poseLists (now (x .entry)) (now («x_frames» .entry))) down
-        (poseLists (now (out .entry)) (now («out_frames» .entry))))
-        ⌝ }
-    ensures { λ _. ⌜
-        poseLists (now (out .exit)) (now («out_frames» .exit))
-        ≡ framedWritten (inverseCall binary32 (poseLists (now (x .entry)) (now («x_frames» .entry))) down)
-        (poseLists (now (out .entry)) (now («out_frames» .entry)))
-        ⌝ }
-{
-    let FramedRead::Got(a) = framed_from(x, x_frames) else {
-        return LIST_LENGTH;
-    };
-    put_framed(out, out_frames, a.inverse(down))
-}
 
 // X Y^-1, where both start from one frame; ds is e^(sigma of X - sigma of Y).
 #[no_mangle]

@@ -59,7 +59,7 @@ unfolding wordAt
 short-read b at h = rw (bytes-at b at 2 h) (simp towards-suc)
 
 -- ---- n numbers of a list, from the i-th on, as a list
-within : (b : List ℕ) (a m s t q : ℕ) → q ≡ m + t → m ≤ length (drop a b) → s ≤ t → take s (drop m (take q (drop a b))) ≡ take s (drop (a + m) b)
+pub within : (b : List ℕ) (a m s t q : ℕ) → q ≡ m + t → m ≤ length (drop a b) → s ≤ t → take s (drop m (take q (drop a b))) ≡ take s (drop (a + m) b)
 within b a m s t q e h g =
     rw (e, take-add m t (drop a b))
     (ap (take s) (drop-at (take m (drop a b)) (take t (drop m (drop a b))) m (length-take-le m (drop a b) h))

@@ -2,7 +2,8 @@
 use Prim.Native.Nat.{ℕ, zero, suc, _+_, _*_, _/_, _%_}
 use mathlib.Core.List.{List, [], _∷_, _++_}
 use lib.ListN.{length, take, drop}
-use mathlib.Core.Bool.{Bool, true, not, _&&_}
+use mathlib.Core.Bool.{Bool, true, not, cond, _&&_}
+use lib.Dec.{ltb}
 use lib.Ieee.{Float, Format, binary32, binary64, ofBits, toBits, isNan}
 use Rattle.ieee.specs.Finite.{isFinite}
 
@@ -79,3 +80,24 @@ numbers (x ∷ l) = number x ∷ numbers l
 -- a count of 32 bits
 unfoldable pub countBytes : ℕ → List ℕ
 countBytes n = wordBytes 4 n
+
+-- ---- lists, to and from bytes: as far as the bytes and the list both go
+abbrev pub fewer : ℕ → ℕ → ℕ
+fewer a b = cond (ltb a b) a b
+
+-- the first n of a sequence
+unfoldable pub firsts : {A : Type 0} → (ℕ → A) → ℕ → List A
+firsts at zero = []
+firsts at (suc n) = firsts at n ++ (at n ∷ [])
+
+-- the first n numbers of the bytes; the first n whole numbers of k bytes
+abbrev pub numbersAt : Format → List ℕ → ℕ → List Float
+numbersAt f b n = firsts (numberAt f b) n
+
+abbrev pub wordsAt : ℕ → List ℕ → ℕ → List ℕ
+wordsAt k b n = firsts (λ i. wordAt k b (i * k)) n
+
+-- the bytes of whole numbers, k each
+unfoldable pub wordsBytes : ℕ → List ℕ → List ℕ
+wordsBytes k [] = []
+wordsBytes k (n ∷ l) = wordBytes k n ++ wordsBytes k l

@@ -1,4 +1,4 @@
--- Written by tools/widths from crates/replies/proofs/reply/Proof.antt: edit that one. Digest 648a725b0313ab7b.
+-- Written by tools/widths from crates/replies/proofs/reply/Proof.antt: edit that one. Digest 2ae9e1076237546e.
 -- `replies_f32::reply` meets its contract: a cut record and an output without room are told; else the mark or NO is stored before what the entry wrote. Assumes nothing.
 use borrow.Author.Needs.{needs}
 use native.Mathlib.Omega.{arith}
@@ -23,7 +23,7 @@ use Rattle.sim3_f32.proofs.As.{sim3-singles}
 use Rattle.jacobian_f32.proofs.As.{jacobian-singles}
 use Rattle.sides_f32.proofs.As.{sides-singles}
 use Rattle.frames_f32.proofs.As.{frames-singles}
-use Rattle.replies_f32.proofs.As.{replies-singles}
+use Rattle.from_lists_f32.proofs.As.{from-lists-singles}
 
 -- what is known where the entry has answered
 given : (c : tie.After-give) → let a =
@@ -85,7 +85,7 @@ slice-write-out-2 c =
       jacobian-singles,
       sides-singles,
       frames-singles,
-      replies-singles,
+      from-lists-singles,
       length-set,
     ) (omega (arith, given-length (given (c1 .before .before))))
 
@@ -109,7 +109,7 @@ slice-write-out-4 c =
       jacobian-singles,
       sides-singles,
       frames-singles,
-      replies-singles,
+      from-lists-singles,
       length-set,
     ) (omega (arith, given-length (given (c1 .before .before))))
 
@@ -132,7 +132,7 @@ slice-write-out-6 c =
       jacobian-singles,
       sides-singles,
       frames-singles,
-      replies-singles,
+      from-lists-singles,
       length-set,
     )
     (omega (arith, given-length (given (c1))))
@@ -151,7 +151,7 @@ slice-write-out-7 c =
       jacobian-singles,
       sides-singles,
       frames-singles,
-      replies-singles,
+      from-lists-singles,
       length-set,
     )
     (omega (arith, given-length (given (c1))))
@@ -170,7 +170,7 @@ same-length c =
       jacobian-singles,
       sides-singles,
       frames-singles,
-      replies-singles,
+      from-lists-singles,
       length-set,
     ) (given-length (given (c1 .before .before)))
 
@@ -188,7 +188,7 @@ same-length-2 c =
       jacobian-singles,
       sides-singles,
       frames-singles,
-      replies-singles,
+      from-lists-singles,
       length-set,
     ) (given-length (given (c1 .before .before)))
 
@@ -206,7 +206,7 @@ same-length-3 c =
       jacobian-singles,
       sides-singles,
       frames-singles,
-      replies-singles,
+      from-lists-singles,
       length-set,
     ) (given-length (given (c1)))
 

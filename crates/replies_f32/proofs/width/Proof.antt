@@ -1,4 +1,4 @@
--- Written by tools/widths from crates/replies/proofs/width/Proof.antt: edit that one. Digest 7569f2ac229920d1.
+-- Written by tools/widths from crates/replies/proofs/width/Proof.antt: edit that one. Digest 5e911e86bd65c334.
 -- `replies_f32::width` meets its contract: by the entry. Assumes nothing.
 use borrow.Author.Needs.{needs}
 use Rattle.replies_f32.proofs.width.Statement.{statement}
@@ -13,7 +13,7 @@ use Rattle.sim3_f32.proofs.As.{sim3-singles}
 use Rattle.jacobian_f32.proofs.As.{jacobian-singles}
 use Rattle.sides_f32.proofs.As.{sides-singles}
 use Rattle.frames_f32.proofs.As.{frames-singles}
-use Rattle.replies_f32.proofs.As.{replies-singles}
+use Rattle.from_lists_f32.proofs.As.{from-lists-singles}
 
 returns : tie.Need-returns
 returns c = simp (
@@ -27,7 +27,7 @@ returns c = simp (
   jacobian-singles,
   sides-singles,
   frames-singles,
-  replies-singles,
+  from-lists-singles,
   c .enum-told .given .1,
 )
 
@@ -43,7 +43,7 @@ returns-2 c = simp (
   jacobian-singles,
   sides-singles,
   frames-singles,
-  replies-singles,
+  from-lists-singles,
   c .enum-told2 .given .1,
 )
 
@@ -59,7 +59,7 @@ returns-3 c = simp (
   jacobian-singles,
   sides-singles,
   frames-singles,
-  replies-singles,
+  from-lists-singles,
   c .enum-told3 .given .1,
 )
 
@@ -75,7 +75,7 @@ returns-4 c = simp (
   jacobian-singles,
   sides-singles,
   frames-singles,
-  replies-singles,
+  from-lists-singles,
   c .enum-told4 .given .1,
 )
 
@@ -91,7 +91,7 @@ returns-5 c = simp (
   jacobian-singles,
   sides-singles,
   frames-singles,
-  replies-singles,
+  from-lists-singles,
   c .enum-told5 .given .1,
 )
 
@@ -107,7 +107,7 @@ returns-6 c = simp (
   jacobian-singles,
   sides-singles,
   frames-singles,
-  replies-singles,
+  from-lists-singles,
   c .enum-told6 .given .1,
 )
 
@@ -123,7 +123,7 @@ returns-7 c = simp (
   jacobian-singles,
   sides-singles,
   frames-singles,
-  replies-singles,
+  from-lists-singles,
   c .enum-told7 .given .1,
 )
 
@@ -139,7 +139,7 @@ returns-8 c = simp (
   jacobian-singles,
   sides-singles,
   frames-singles,
-  replies-singles,
+  from-lists-singles,
   c .enum-told8 .given .1,
 )
 

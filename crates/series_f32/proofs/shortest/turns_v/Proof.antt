@@ -1,4 +1,4 @@
--- Written by tools/proofs from Proof.template: edit that one. Digest 713c8210f1eb2d86.
+-- Written by tools/proofs from Proof.template: edit that one. Digest 5e6523fba07abbd1.
 -- `series_f32::shortest::turns_v` meets its contract: turn by turn, as the definition has it. Assumes nothing.
 use borrow.Author.Needs.{needs}
 use Rattle.series.specs.Private.{vTurns}

@@ -1,0 +1,2 @@
+-- The laws of the arms.
+pub mod Arms
