@@ -4,6 +4,7 @@ import re
 import signal
 import sys
 
+from .accuracy import report
 from .answer import add_program, program
 from .arms import arms
 from .diff import diff
@@ -23,7 +24,8 @@ from .totals import totals
 ABOUT = """\
 Job files of the Sim(3) engine: make them from text, show them as text, compare their answers, see
 which arm gave each coefficient set, which shots lie beside another arm, which takes are kept, and how
-many records of each mark several answers have; cut a large job into parts, and merge their answers.
+many records of each mark several answers have; cut a large job into parts, and merge their answers;
+say how far an answer can be from the exact one.
 docs/JOB-FORMAT.md has the bytes of every record, and so has `jobs format`. `jobs run` finds the job
 program from any folder.
 
@@ -39,6 +41,7 @@ example:
   tools/jobs totals answers.bin more-answers.bin
   tools/jobs split jobs.bin parts
   tools/jobs merge parts > answers.bin
+  tools/jobs accuracy --point 65536 --joins 1000 --every 16
 """
 
 MAKE = """\
@@ -208,6 +211,22 @@ example:
 """
 
 
+ACCURACY = """\
+How far an answer can be from the exact one: the proved bounds of docs/ACCURACY.md, computed in whole
+numbers for the sizes given, each the greatest absolute value of its numbers: of points, of e^sigma as it
+is handed in, of translations, of rho, whose phi has numbers up to 3/2 (13/8 at singles). With --joins
+also those of a running join that is renormalised after every nth product, n at most --every, of poses
+whose quaternions have a length within 2^-40 of 1 (2^-20 at singles). Each line has the bound, as a
+decimal and as a power of two, and the statement that is proved.
+
+Exit status: 0, or 2 where a size is none or no bound is proved for it.
+
+example:
+  tools/jobs accuracy --point 65536 --scale 16 --translation 2^20
+  tools/jobs accuracy --single --point 1 --joins 100 --every 16
+"""
+
+
 def forms_text():
     """Each mark with its groups, those that may be left out in brackets."""
     lines = []
@@ -279,6 +298,16 @@ def add_searches(commands):
     one.add_argument("files", nargs="+", metavar="FILE", help="answer files; - for standard input")
 
 
+def add_accuracy(commands):
+    """The command that says how accurate answers are."""
+    one = add_command(commands, "accuracy", ACCURACY, "how far an answer can be from the exact one, as proved")
+    one.add_argument("--single", action="store_true", help="at singles")
+    for name, about in (("point", "of the points"), ("scale", "of e^sigma"), ("translation", "of the translations"), ("rho", "of rho")):
+        one.add_argument(f"--{name}", default="1", metavar="SIZE", help=f"the greatest number {about}; 1 if not given")
+    one.add_argument("--joins", type=limit, default=0, metavar="N", help="after at most N joins")
+    one.add_argument("--every", type=steps, default=1, metavar="n", help="renormalised after every nth product; 1 if not given")
+
+
 def add_parts(commands):
     """The commands that take a job apart and put its answers together."""
     one = add_command(commands, "split", SPLIT, "cut a job into parts for several cores or machines")
@@ -319,6 +348,7 @@ def parser():
                      help="with --by-tangent the newer job and its answers")
     add_searches(commands)
     add_parts(commands)
+    add_accuracy(commands)
     return top
 
 
@@ -350,6 +380,8 @@ def run(arguments):
     if arguments.command == "diff":
         files = [arguments.old, arguments.new, *arguments.more]
         return run_diff(files, arguments.by_tangent, arguments.limit, arguments.html, arguments.job)
+    if arguments.command == "accuracy":
+        return report(arguments)
     if arguments.command == "near":
         return near(arguments.file, arguments.within)
     if arguments.command == "sort":
