@@ -1,4 +1,4 @@
--- THE SERIES ARMS: rounding and truncation together. Assumes nothing.
+-- The arms of the series: rounding and truncation together. Assumes nothing.
 use mathlib.Core.Path.{_≡_}
 use Prim.Native.Nat.{ℕ, suc, _+_, _*_, _^_, _≤_, _<_}
 use native.Mathlib.Numerals.{add-one, add-two, add-three, add-four}
@@ -118,7 +118,7 @@ restHolds w r k c =
 abbrev pub totalsHold : Eight ℕ → Eight ℕ → Eight ℕ → Type 0
 totalsHold e c g = (e .v0 + 2 * c .v0 ≤ g .v0) × (e .v1 + 2 * c .v1 ≤ g .v1) × (e .v2 + 2 * c .v2 ≤ g .v2) × (e .w0 + 2 * c .w0 ≤ g .w0) × (e .w1 + 2 * c .w1 ≤ g .w1) × (e .w2 + 2 * c .w2 ≤ g .w2) × (e .dv1 + 2 * c .dv1 ≤ g .dv1) × (e .dv2 + 2 * c .dv2 ≤ g .dv2)
 
--- THE SERIES of k terms, where the computed Δ is below the limit n 2 ^ d: within g / w of every sum of k terms or more
+-- the series of k terms, where the computed Δ is below the limit n 2 ^ d: within g / w of every sum of k terms or more
 pub arm-accurate : (f : Format) (w x r y k n : ℕ) (d : ℤ) (e c g : Eight ℕ) → 0 < w → 2 * r ≤ k * w → w * (n * up d) ≤ x * down d → w * deltaMost f w x ≤ r * r → before f w x ≤ y → armHolds f w r y k e → restHolds w r k c → totalsHold e c g
     → (sigma z : Float) → T (lt (coeffsDelta f sigma z) (fin false n d)) → T (not (lt z f0)) → Accurate w (seriesFull f sigma z k) (valueOf sigma) (valueOf z) k g
 unfolding seriesFull seriesCoeffs seriesSums levelTerms
@@ -135,7 +135,7 @@ arm-accurate f w x r y k n d e c g wp half lim root magnitude a b m sigma z t p 
       dv2 = rw add-four (dv2-accurate f w r y k sigma z wp half h (e .dv2) (c .dv2) (g .dv2) (a .7) (b .7) (m .7));
     }
 
--- ---- THE ARMS, in units of 2 ^ -100
+-- ---- the arms, in units of 2 ^ -100
 
 -- Δ below 5.424690937011326e-05, 6 terms
 pub short-binary64 : (sigma z : Float) → T (lt (coeffsDelta binary64 sigma z) (shortBelow binary64)) → T (not (lt z f0))

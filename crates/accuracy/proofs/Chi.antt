@@ -90,7 +90,7 @@ chi-accurate f w x r y k n d e0 e2 e a b g wp half lim root magnitude t0 t2 tc r
           (near-turn w (exactChi s u (exactHorner s 1 (k + m)) (exactTotal (exactTerm s u zetaPart 1) (suc (suc k) + i))) (exactChi s u v0 v2) (chi-left w r y a b) error)));
     }
 
--- ---- THE ARMS, in units of 2 ^ -100
+-- ---- the arms, in units of 2 ^ -100
 
 pub chi-short-binary64 : (sigma z : Float) → T (lt (coeffsDelta binary64 sigma z) (shortBelow binary64)) → T (not (lt z f0)) → ChiAccurate (2 ^ 100) (seriesFull binary64 sigma z 6 .«chi_delta») (valueOf sigma) (valueOf z) 6 8 (chiErrors binary64 1)
 unfolding ofBits hornerHolds totalHolds chiHolds chi-left factorial

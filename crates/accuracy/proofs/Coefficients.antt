@@ -1,4 +1,4 @@
--- THE COEFFICIENTS below the limit of the series, by whichever arm: rounding and truncation. Assumes nothing.
+-- The coefficients below the limit of the series, by whichever arm: rounding and truncation. Assumes nothing.
 use mathlib.Core.Path.{_≡_, refl, sym, ap, _∙_, subst}
 use Prim.Native.Nat.{ℕ, suc, _+_, _^_, _≤_}
 use native.Mathlib.Nat.{add-assoc, le-refl}

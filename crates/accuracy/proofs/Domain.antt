@@ -217,7 +217,7 @@ exact-delta f w x num den (fin s m j) t b c z e h =
       h .1,
     )
 
--- ---- THE DOMAIN
+-- ---- the domain
 z-fin : (w x : ℕ) (a z : Float) → SumIn w a z x → IsFin z
 z-fin w x nan z h = absurd h
 z-fin w x (inf s) z h = absurd h

@@ -1,4 +1,4 @@
--- THE TRANSLATION OF AN EXPONENTIAL below the limit of the series: rounding and truncation. Assumes nothing.
+-- The exponential below the limits of the series: rounding and truncation. Assumes nothing.
 use mathlib.Core.Path.{_≡_, refl, sym, ap, _∙_, subst}
 use mathlib.Core.List.{[], _∷_}
 use Prim.Native.Nat.{ℕ, zero, suc, _+_, _*_, _^_, _≤_, _<_}

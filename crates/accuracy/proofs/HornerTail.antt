@@ -82,7 +82,7 @@ horner-most w r s z h (suc n) l k =
     (most-convert (factorial l) (w * factorial (suc l)) (times s (exactHorner s (suc l) n)) 1 (r * 2) (mul-pos z (factorial-above (suc l))) (room (factorial l) r w l k)
     (most-factor w (factorial (suc l)) s (exactHorner s (suc l) n) r 2 h (horner-most w r s z h n (suc l) (more r w l k))))
 
--- ---- THE TAIL of Horner's sums
+-- ---- the tail of Horner's sums
 near-none : (u : ℕ) (x : Value) (e : ℕ) → AtMost u x e → Near u x (valueOf f0) e
 unfolding valueOf
 near-none u x e h = let a = h .above in let b = h .below in record { above = simp (zeros, mul-one) a; below = simp (zeros, mul-one, one-mul) b }

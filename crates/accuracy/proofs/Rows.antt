@@ -1,4 +1,4 @@
--- THE ROWS OF THE CIRCLE FUNCTIONS: rounding and truncation. Assumes nothing.
+-- The rows of the circle functions: rounding and truncation. Assumes nothing.
 use mathlib.Core.Path.{_≡_, refl, sym, ap, _∙_, subst}
 use Prim.Native.Nat.{ℕ, zero, suc, _+_, _*_, _^_, _≤_, _<_}
 use native.Mathlib.Nat.{le-trans, le-of-eq, mul-pos, add-assoc, zero-add, suc-add, pow-suc, mul-le-mul, mul-le-mul-left, mul-le-mul-right, le-of-mul-le-mul-right}
@@ -243,7 +243,7 @@ bounded-below w x (fin true m e) n d t p h = go w x (m * up e) (down e) (nltb→
     go : (w x a b : ℕ) → a * 1 + 0 * 1 * b ≤ 0 → w * a ≤ x * b
     go w x a b h = let e : a ≡ 0 = omega arith in let k : w * a ≡ w * 0 = ap (λ (i : ℕ). w * i) e in omega arith
 
--- ---- THE CIRCLE FUNCTIONS OF AN EXPONENTIAL where z is below both limits, in units of 2 ^ -100
+-- ---- the circle functions of an exponential where z is below both limits, in units of 2 ^ -100
 member : (P : Float → Type 0) (s t : Bool) (a b c : Float) → T t → (T s → P a) → P b → P (cond s a (cond t b c))
 member P true t a b c h k l = k tt
 member P false true a b c h k l = l

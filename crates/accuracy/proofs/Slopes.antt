@@ -1,4 +1,4 @@
--- The derivatives by theta² of the sequences of Norm.antt, and their sizes. Assumes nothing.
+-- The derivatives by theta² of the sequences of Powers.antt, and their sizes. Assumes nothing.
 use mathlib.Core.Path.{_≡_, refl, sym, ap, _∙_}
 use Prim.Native.Nat.{ℕ, zero, suc, _+_, _*_, _^_, _≤_}
 use native.Mathlib.Nat.{mul-add, mul-assoc, mul-comm, one-mul, suc-mul, mul-zero, mul-le-mul-left, pow-suc, pow-zero}

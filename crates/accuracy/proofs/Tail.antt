@@ -141,10 +141,7 @@ near-scale w k x y e h = record { above = scale-le w k _ _ e _ (h .above); below
 pub near-unscale : (w k : ℕ) (x y : Value) (e : ℕ) → 0 < k → Near (w * k) x y (k * e) → Near w x y e
 near-unscale w k x y e z h = record { above = unscale-le w k _ _ e _ z (h .above); below = unscale-le w k _ _ e _ z (h .below) }
 
-most-scale : (w k : ℕ) (x : Value) (b : ℕ) → AtMost w x b → AtMost (w * k) x (k * b)
-most-scale w k x b h = record { above = scale-le w k _ _ b _ (h .above); below = scale-le w k _ _ b _ (h .below) }
-
--- ---- THE TAIL: where each term from k on is at most c / w, and halves, the sums beyond k terms stay within 2 c / w
+-- ---- the tail: where each term from k on is at most c / w, and halves, the sums beyond k terms stay within 2 c / w
 unfoldable grown : ℕ → ℕ → ℕ
 grown c zero = 0
 grown c (suc n) = 2 * (grown c n + c)

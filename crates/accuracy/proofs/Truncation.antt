@@ -1,4 +1,4 @@
--- THE TRUNCATION of the series: how far the sums of any greater length are from those of k terms. Assumes nothing.
+-- The truncation of the series: how far the sums of any greater length are from those of k terms. Assumes nothing.
 use mathlib.Core.Path.{_≡_, sym, ap, _∙_, subst₃}
 use Prim.Native.Nat.{ℕ, zero, suc, _+_, _*_, _^_, _≤_, _<_}
 use native.Mathlib.Nat.{le-refl, le-trans, mul-assoc, mul-comm, mul-mul-mul-comm, zero-mul, mul-zero, suc-add, mul-pos, mul-le-mul, mul-le-mul-left, mul-le-mul-right, le-of-mul-le-mul-right, pow-suc, pow-zero}

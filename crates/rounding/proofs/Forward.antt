@@ -1,4 +1,4 @@
--- THE ERROR THEOREM: the computed value of a tree is finite and within the bound of its exact value. Assumes nothing.
+-- The forward error of a tree: the computed value of a tree is finite and within the bound of its exact value. Assumes nothing.
 use mathlib.Core.Path.{_≡_, sym, subst}
 use Prim.Native.Nat.{ℕ, suc, _+_, _-_, _*_, _/_, _%_, _^_, _≤_, _<_}
 use native.Mathlib.Nat.{mul-pos, suc-mul, div-add-mod', mod-lt}
@@ -136,7 +136,7 @@ error-neg w (inf s) x' e h = h
 error-neg w (fin false i j) x' e h = near-opposite w (signed false (i * up j) (down j)) x' e h
 error-neg w (fin true i j) x' e h = near-opposite w (signed true (i * up j) (down j)) x' e h
 
--- ---- THE THEOREM
+-- ---- the theorem
 pub forward-opp : (w : ℕ) (x : Float) (v : Value) (a : Bound) → ForwardError w x v a → ForwardError w (neg x) (opposite v) a
 forward-opp w x v a h = record { close = error-neg w x v (a .error) (h .close); size = most-opposite w v (a .magnitude) (h .size); above = h .above }
 

@@ -1,4 +1,4 @@
--- QUOTIENTS: the error theorem for trees that have them. Assumes nothing.
+-- The forward error of trees that have quotients. Assumes nothing.
 use mathlib.Core.Path.{_≡_, refl, sym, ap, subst, subst₂}
 use Prim.Native.Nat.{ℕ, zero, suc, _+_, _-_, _*_, _^_, _≤_, _<_}
 use native.Mathlib.Nat.{mul-add, mul-comm, mul-pos, mul-le-mul, mul-le-mul-left, mul-le-mul-right, le-of-mul-le-mul-right, mul-zero}
@@ -93,9 +93,6 @@ record Side (w k : ℕ) (y : Value) (c D' : ℕ) : Type 0 where
   is : y .p ≡ y .n + D
   pos : 0 < D
   near : Near w (signed false (y .d) D) (signed false c D') k
-
-near-turned : (w a b c d e f g : ℕ) → w * (a * b + c * d) ≤ w * (e * b + f * d) + g * (d * b) → w * (c * d + a * b) ≤ w * (f * d + e * b) + g * (b * d)
-near-turned w a b c d e f g h = simp expand (omega (arith, simp expand at h))
 
 core : (w g l k : ℕ) (y : Value) (p n c D' : ℕ) → 0 < y .d → 0 < c → g < l → p ≡ n + D' → Near w y (of p n c) g → l * c ≤ w * D' → g * (w * w) ≤ k * (l * (l - g)) → Side w k y c D'
 core w g l k y p n c D' yz cz gl e h i j =
@@ -257,7 +254,7 @@ forward-quot f w l x y v u a c z p q lt h i =
     less : (g l : ℕ) → g < l → 0 < l
     less g l h = omega arith
 
--- ---- THE THEOREM, with quotients
+-- ---- the theorem, with quotients
 pub forward-error-divided : (f : Format) (w : ℕ) (x : ℕ → Float) (v : ℕ → Value) (b : ℕ → Bound) → 0 < w → ((i : ℕ) → ForwardError w (x i) (v i) (b i)) → (t : Term) → T (wellDefined f w b t) → DivisorsAtLeast w v t
     → ForwardError w (computed f x t) (exact v t) (bound f w b t)
 unfolding computed exact bound wellDefined DivisorsAtLeast

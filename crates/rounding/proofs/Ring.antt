@@ -227,6 +227,6 @@ balanced-ev r (x ∷ p) t =
     ap₂ (λ (a b : ℕ). a + b) (item-level (x .c .p) (x .c .n) (evM r (x .m) .p) (evM r (x .m) .n) (eqb→eq (x .c .p) (x .c .n) (and-l (eqb (x .c .p) (x .c .n)) (balanced p) t)))
     (balanced-ev r p (and-r (eqb (x .c .p) (x .c .n)) (balanced p) t))
 
--- THE RING: an expression whose normal form is 0 is 0 at every point
+-- an expression whose normal form is 0 is 0 at every point
 pub ring : (a : Ex) → T (balanced (normal a)) → (r : ℕ → Gap) → ev r a .p ≡ ev r a .n
 ring a t r = ap (λ (x : Gap). x .p) (sym (normal-ev r a)) ∙ balanced-ev r (normal a) t ∙ ap (λ (x : Gap). x .n) (normal-ev r a)

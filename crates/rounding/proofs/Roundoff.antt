@@ -90,7 +90,7 @@ scaled-down w x e l p num den q z h s b =
     let c = mul-le-mul-right den b in
     le-of-mul-le-mul-right {k = 2 * p} (simp expand (omega (arith, simp expand at u, simp expand at v, simp expand at c))) (omega arith)
 
--- ---- `rnd` is enough
+-- ---- `roundingError` is enough
 next : (a b : ℕ) → 0 < b → a ≤ suc (a / b) * b
 next a b h = let e : a / b * b + a % b ≡ a = div-add-mod' a b in let l : a % b < b = mod-lt a h in rw suc-mul (omega arith)
 
@@ -137,7 +137,7 @@ small-enough w x e l t num den q z h s b g =
     let d : (x + e) * l < t * w * l = mul-lt-mul-of-pos-right b g in
     lt-of-mul-lt-mul-right w (simp expand (omega (arith, simp expand at c, simp expand at d)))
 
--- ---- THE ROUNDING: num / den of at most x / w comes out finite and within rnd f w x / w, where x + rnd f w x is below the format's overflow
+-- ---- one rounding: num / den of at most x / w comes out finite and within its rounding error, where the sum of both is below the format's overflow
 pub rounding-error : (f : Format) (w x : ℕ) (s : Bool) (num den : ℕ) → 0 < den → w * num ≤ x * den → x + roundingError f w x < 2 ^ suc (emax f) * w
     → AbsoluteError w (round f s num den) (signed s num den) (roundingError f w x)
 rounding-error f w x s num den z h b =

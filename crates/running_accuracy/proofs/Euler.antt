@@ -58,7 +58,7 @@ at p q (suc (suc (suc (suc (suc zero))))) = q .x
 at p q (suc (suc (suc (suc (suc (suc zero)))))) = q .y
 at p q (suc (suc (suc (suc (suc (suc (suc i))))))) = q .z
 
--- ---- EULER: |p q|² = |p|² |q|²
+-- ---- Euler's identity: |p q|² = |p|² |q|²
 pub euler : (p q : Quad Gap) → squared (hamilton p q) .p + (squared p ⊗ squared q) .n ≡ squared (hamilton p q) .n + (squared p ⊗ squared q) .p
 unfolding normal
 euler p q = ring (sub (squaredX (hamiltonX one two)) (R.times (squaredX one) (squaredX two))) tt (at p q)

@@ -1,4 +1,4 @@
--- POSES JOINED IN A ROW: the error of the running pose. Assumes nothing.
+-- Poses joined in a row: the error of the running pose. Assumes nothing.
 use mathlib.Core.List.{List, [], _∷_}
 use Prim.Native.Nat.{ℕ, zero, suc, _+_, _*_, _^_, _≤_, _<_}
 use native.Mathlib.Omega.{arith}
@@ -158,7 +158,7 @@ module _ (f : Format) (u v b s h : ℕ) (up : 0 < u) where
         translation = join-shift f u b s h x X j p up (run-forward u (p .rotation .magnitude) (p .rotation .error) (x .q) (X .q) (k .above) (k .rotation)) (k .translation) (g .t) (g .up) (g .scale) (g .above) (and-r a c t);
       }
 
-  -- JOINS IN A ROW: the bound after each is the next span of the one before
+  -- joins in a row: the bound after each is the next of the one before
   pub joins : (c g : ℕ) (l : List Join) (N : ℕ) → length l ≤ N → (p : PoseBound) (x : Sim3) (X : Exact) → T (joinsHold f u v b s h c g p N) → AllJoinsIn u v b s h l → PoseRun u p x X
       → QuatError u (joined f x l .q) (exactJoined X l .q) c × VecError u (joined f x l .t) (exactJoined X l .t) g
   unfolding joined exactJoined joinsHold AllJoinsIn

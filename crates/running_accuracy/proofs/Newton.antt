@@ -1,4 +1,4 @@
--- THE NEWTON STEP, q (3 - |q|²) / 2, for quaternions of differences: it does not move two quaternions apart, and its length is 1 but for the square of what it was away. Assumes nothing.
+-- The Newton step, q (3 - |q|²) / 2, for quaternions of differences: it does not move two quaternions apart, and its length is 1 but for the square of what it was away. Assumes nothing.
 use mathlib.Core.Path.{_≡_, refl, sym, ap, _∙_, subst, subst₂}
 use mathlib.Core.List.{[], _∷_}
 use Prim.Native.Nat.{ℕ, _+_, _-_, _*_, _≤_, _<_}
@@ -89,10 +89,6 @@ level-trans a b c h k = omega arith
 level-add : (a a' b b' : Gap) → Level a a' → Level b b' → Level (a ⊕ b) (a' ⊕ b')
 unfolding Level
 level-add a a' b b' h k = omega arith
-
-level-opp : (a a' : Gap) → Level a a' → Level (opp a) (opp a')
-unfolding Level
-level-opp a a' h = omega arith
 
 level-sub : (a a' b b' : Gap) → Level a a' → Level b b' → Level (a ⊖ b) (a' ⊖ b')
 unfolding Level
@@ -308,7 +304,7 @@ seven u b P E z k h =
 factor-most : (u c L C E : ℕ) → L + C ≡ E * 3 → u * E ≤ u * L + c * E → u * C ≤ (2 * u + c) * E
 factor-most u c L C E e h = let a = ap (λ (x : ℕ). u * x) e in simp expand (omega (arith, h, simp expand at a))
 
--- TWO NEWTON STEPS: no farther from one another than (1 + c / 2) times what they were, and the cube of it
+-- two Newton steps: no farther from one another than (1 + c / 2) times what they were, and the cube of it
 pub newton-apart : (u c b d g d' e : ℕ) (r s : Quad Gap) → 0 < u → 0 < e → 4 * c ≤ u → 4 * (b * b) ≤ 7 * (u * u) → d * d * d ≤ g * (u * u) → (2 * u + c) * (d + g) ≤ 2 * u * d' → Even u c s e → Long u r e b → Long u (sub4 r s) e d
     → Long u (sub4 (newtonGap r e) (newtonGap s e)) (e * (e * e * 2)) d'
 newton-apart u c b d g d' e r s uz ez hc hb hg hd ev lr ld =
@@ -495,19 +491,6 @@ even-hamilton u c t o e g a b uz hk ea eb =
     (subst (λ (x : ℕ). u * (L * M) ≤ (u + k) * x) (den-product e g) (product-above u c t o L M (e * e) (g * g) uz hk l1 m1))
     (subst (λ (x : ℕ). u * x ≤ u * (L * M) + k * x) (den-product e g) (product-below u c t o L M (e * e) (g * g) uz hk l1 m1 l2 m2)) in
     record { above = z .0; below = z .1 }
-
-pub even-wider : (u c k : ℕ) (a : Quad Gap) (e : ℕ) → c ≤ k → Even u c a e → Even u k a e
-even-wider u c k a e l h =
-    let x : c * (e * e) ≤ k * (e * e) = mul-le-mul-right (e * e) l in
-    let p = h .above in
-    let q = h .below in
-    record { above = one u c k (squared a .p) (squared a .n) (e * e) x p; below = le-trans q (more (u * squared a .p) (c * (e * e)) (k * (e * e)) x) }
-  where
-    more : (a b c : ℕ) → b ≤ c → a + b ≤ a + c
-    more a b c h = omega arith
-
-    one : (u c k p n E : ℕ) → c * E ≤ k * E → u * p ≤ u * n + (u + c) * E → u * p ≤ u * n + (u + k) * E
-    one u c k p n E x h = simp add-mul (omega (arith, simp add-mul at h))
 
 pub even-long : (u c m : ℕ) (a : Quad Gap) (e : ℕ) → u * (u + c) ≤ m * m → Even u c a e → Long u a e m
 even-long u c m a e l h = record { magnitude = go u c (m * m) (squared a .p) (squared a .n) (e * e) (mul-le-mul-right (e * e) l) (mul-le-mul-left u (h .above)) }

@@ -1,4 +1,4 @@
--- PRODUCTS IN A ROW: the error of the running rotation grows as their number. Assumes nothing.
+-- Products in a row: the error of the running rotation grows as their number. Assumes nothing.
 use mathlib.Core.Path.{_≡_, sym, ap, ap₂, subst}
 use mathlib.Core.List.{List, [], _∷_}
 use Prim.Native.Nat.{ℕ, zero, suc, _+_, _*_, _≤_, _<_}

@@ -1,4 +1,4 @@
--- THE RUNNING JOIN WITH RENORMALISATIONS: its error grows with the number of products, and not with the drift of the length. Assumes nothing.
+-- The running join with renormalisations: its error grows with the number of products, and not with the drift of the length. Assumes nothing.
 use mathlib.Core.Path.{_≡_, refl, sym, ap, subst}
 use mathlib.Core.List.{List, [], _∷_}
 use Prim.Native.Nat.{ℕ, zero, suc, _+_, _*_, _≤_, _<_}
@@ -526,7 +526,7 @@ running-accurate f n p up l L c g N tl tm t h nz nm hp a =
     (λ d w k q X i o r. ends′ (L .unit) c g (boundAt L d w) (q .sim3) X (and-l (leb d c) (leb (w .error) g) o) (and-r (leb d c) (leb (w .error) g) o) (record { rotation = r .rotation .run; above = r .rotation .above; translation = r .translation }))
     N n p up l tl tm t h nz nm hp a
 
--- AND ITS ACTION ON A POINT
+-- and its action on a point
 act-done : (f : Format) (L : JoinBox) (b s h e : ℕ) (d : ℕ) (w : Bound) (k : ℕ) (q : Pose) (X : Exact) (up : Float) (z : Value) (pt : Vec3) → 0 < L .unit → VecIn (L .unit) b pt → AbsoluteError (L .unit) up z h → AtMost (L .unit) z s → 0 < z .d → T (actTest f (L .unit) b s h e (boundAt L d w)) → PoseTurn L d w k (q .sim3) X
     → ActionError f (L .unit) e up z pt (Posed q) X
 unfolding ActionError exactActBy actTest exactJoin
@@ -548,7 +548,7 @@ page-accurate f n p up l L b s h e N scale z pt tl tm t c nz nm hp a hb hu hs ha
     (λ d w k q X i o r. act-done f L b s h e d w k q X scale z pt (fine L tl .positive) hb hu hs ha o r)
     N n p up l tl tm t c nz nm hp a
 
--- AND ITS LENGTH: the exact rotation keeps a length near 1, however many products there are
+-- and its length: the exact rotation keeps a length near 1, however many products there are
 pub length-accurate : (f : Format) (L : JoinBox) (e : PoseBound → Bool) (N n : ℕ) (p : Pose) (up : Float) (l : List Step) → T (boxHolds L) → T (ltb (L .every) 65536) → T (runHolds f L e (boundAt L 0 (plain (L .translation))) N) → count l ≤ N → 0 < n → n ≤ L .every → FirstIn L p → AllStepsIn L l
     → Normal (L .unit) (away L) (exactRan n 0 (p .from) (exactPose (p .sim3)) l .q)
 length-accurate f L e N n p up l tl tm t h nz nm hp a =

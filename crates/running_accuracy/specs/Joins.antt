@@ -76,13 +76,17 @@ nextPose f u v b s h p = record { rotation = nextRotation f u v (p .rotation); t
 
 unfoldable pub joinNoOverflow : Format → ℕ → ℕ → ℕ → ℕ → ℕ → PoseBound → Bool
 unfolding noOverflow treeAct treeQuatMul
-joinNoOverflow f u v b s h p = noOverflow f u (sizes (quatMulSizes (p .rotation .magnitude + p .rotation .error) v)) (treeQuatMul .w) && noOverflow f u (nth noBound (joinBounds u b s h p)) (treeAct .x)
+joinNoOverflow f u v b s h p =
+    noOverflow f u (sizes (quatMulSizes (p .rotation .magnitude + p .rotation .error) v)) (treeQuatMul .w)
+    && noOverflow f u (nth noBound (joinBounds u b s h p)) (treeAct .x)
 
 -- the computed test: none of n joins more overflows, and the errors of rotation and translation are at most c and g after each
 unfoldable pub joinsHold : Format → ℕ → ℕ → ℕ → ℕ → ℕ → ℕ → ℕ → PoseBound → ℕ → Bool
 unfolding nextPose joinNoOverflow
 joinsHold f u v b s h c g p zero = leb (p .rotation .error) c && leb (p .translation .error) g
-joinsHold f u v b s h c g p (suc n) = (leb (p .rotation .error) c && leb (p .translation .error) g) && (joinNoOverflow f u v b s h p && joinsHold f u v b s h c g (nextPose f u v b s h p) n)
+joinsHold f u v b s h c g p (suc n) =
+    (leb (p .rotation .error) c && leb (p .translation .error) g)
+    && (joinNoOverflow f u v b s h p && joinsHold f u v b s h c g (nextPose f u v b s h p) n)
 
 -- ---- what is proved
 abbrev pub firstBound : ℕ → ℕ → PoseBound

@@ -47,7 +47,8 @@ joinAt x up s = record { pose = x .sim3; up = up; scale = s }
 abbrev pub exactRenormalized : Exact → Exact
 exactRenormalized x = record { q = exactNewton (x .q); t = x .t }
 
--- the running pose in exact arithmetic, with the products accepted and renormalised where the running join does so: n is set, k products since the last renormalisation, the pose is from the frame i
+-- the running pose in exact arithmetic, with the products accepted and renormalised where the running join does so: n is set,
+-- there were k products since the last renormalisation, and the pose is from the frame i
 unfoldable pub exactRan : ℕ → ℕ → ℕ → Exact → List Step → Exact
 exactRan n k i X [] = X
 exactRan n k i X (renews m ∷ l) = exactRan m k i X l
@@ -85,9 +86,16 @@ AllStepsIn L [] = Unit {0}
 AllStepsIn L (joins x up s ∷ l) = StepIn L x up s × AllStepsIn L l
 AllStepsIn L (renews n ∷ l) = ((0 < n) × (n ≤ L .every)) × AllStepsIn L l
 
+-- the computed test of a box: the running rotation's length stays near 1
 abbrev pub boxHolds : JoinBox → Bool
 boxHolds L =
-    leb 1 (L .unit) && (leb 1 (L .longest) && (leb (L .square + 3 * upward (L .unit) (L .drift * L .every * L .square)) (L .drift) && (leb (upward (L .unit) (away L * away L)) (L .drift) && (leb (L .square) (L .drift) && (leb (L .unit * (L .unit + away L)) (L .longest * L .longest) && leb (4 * away L) (L .unit))))))
+    leb 1 (L .unit)
+    && (leb 1 (L .longest)
+    && (leb (L .square + 3 * upward (L .unit) (L .drift * L .every * L .square)) (L .drift)
+    && (leb (upward (L .unit) (away L * away L)) (L .drift)
+    && (leb (L .square) (L .drift)
+    && (leb (L .unit * (L .unit + away L)) (L .longest * L .longest)
+    && leb (4 * away L) (L .unit))))))
 
 -- ---- the bounds
 unfoldable pub newtonError : Format → ℕ → ℕ → ℕ
