@@ -148,29 +148,33 @@ def renormalized(run, width, count, exponent):
     return [row]
 
 
-def coefficients(run, width, count):
-    """The nine coefficients, on each arm of the series."""
-    rows, mark = [], mark_of(width, "CO")
-    for arm, name in enumerate(ARMS):
-        draw, high, low = Draw(width, name), LIMITS[width][arm], LIMITS[width][arm - 1] if arm else 0.0
-        cases = []
-        while len(cases) < count:
-            delta = draw.random.uniform(low, high) if draw.random.random() < 0.7 else high * (1 - 2.0 ** -draw.random.randrange(4, 20))
-            part = draw.random.choice((draw.random.random(), draw.random.random(), 0.0, 1.0))
-            sigma = rounded(width, draw.random.choice((-1, 1)) * math.sqrt(delta * part))
-            z = rounded(width, delta * (1 - part))
-            square = rounded(width, sigma * sigma)
-            if abs(sigma) in (0.0,) or abs(sigma) > 2.0 ** -40:
-                if low <= rounded(width, square + z) < high and (z == 0.0 or z > 2.0 ** -60):
-                    cases.append((sigma, z))
-        data = run(b"".join(record(mark, sigma, z, *[0.0] * 10) for sigma, z in cases))
-        made = [Row(f"CoefficientsTheorem.{name}", width, exponent, f"{which}, {name} arm")
-                for which, exponent in zip(NAMES, COEFFICIENTS[width][name], strict=True)]
-        for (sigma, z), got in zip(cases, answers(data, mark, count), strict=True):
-            for row, x, y in zip(made, got[:9], fixed.coefficients(fixed.of(sigma), fixed.of(z)), strict=True):
-                row.worst.add([x], [y])
-        rows += made
-    return rows
+def coefficient_cases(draw, width, count, arm):
+    """σ and z whose computed Δ is of this arm of the series."""
+    high, low = LIMITS[width][arm], LIMITS[width][arm - 1] if arm else 0.0
+    cases = []
+    while len(cases) < count:
+        delta = draw.random.uniform(low, high) if draw.random.random() < 0.7 else high * (1 - 2.0 ** -draw.random.randrange(4, 20))
+        part = draw.random.choice((draw.random.random(), draw.random.random(), 0.0, 1.0))
+        sigma = rounded(width, draw.random.choice((-1, 1)) * math.sqrt(delta * part))
+        z = rounded(width, delta * (1 - part))
+        square = rounded(width, sigma * sigma)
+        if (sigma == 0.0 or abs(sigma) > 2.0 ** -40) and (z == 0.0 or z > 2.0 ** -60):
+            if low <= rounded(width, square + z) < high:
+                cases.append((sigma, z))
+    return cases
+
+
+def coefficients(run, width, count, arm):
+    """The nine coefficients on one arm of the series."""
+    name, mark = ARMS[arm], mark_of(width, "CO")
+    cases = coefficient_cases(Draw(width, name), width, count, arm)
+    data = run(b"".join(record(mark, sigma, z, *[0.0] * 10) for sigma, z in cases))
+    made = [Row(f"CoefficientsTheorem.{name}", width, exponent, f"{which}, {name} arm")
+            for which, exponent in zip(NAMES, COEFFICIENTS[width][name], strict=True)]
+    for (sigma, z), got in zip(cases, answers(data, mark, count), strict=True):
+        for row, x, y in zip(made, got[:9], fixed.coefficients(fixed.of(sigma), fixed.of(z)), strict=True):
+            row.worst.add([x], [y])
+    return made
 
 
 def exponential(run, width, count, rho, field, exponent, turned):
