@@ -1,4 +1,4 @@
-"""Exact arithmetic as whole numbers of 2^-280: more than 60 digits behind the point of every number that the tests meet."""
+"""Exact arithmetic as whole numbers of 2^-280: more than 60 digits behind the point of every number of the tests."""
 PLACES = 280
 ONE = 1 << PLACES
 
@@ -35,8 +35,10 @@ def moved(q, t, scale, p):
 def hamilton(p, q):
     pw, px, py, pz = p
     qw, qx, qy, qz = q
-    return [mul(pw, qw) - mul(px, qx) - mul(py, qy) - mul(pz, qz), mul(pw, qx) + mul(px, qw) + mul(py, qz) - mul(pz, qy),
-            mul(pw, qy) - mul(px, qz) + mul(py, qw) + mul(pz, qx), mul(pw, qz) + mul(px, qy) - mul(py, qx) + mul(pz, qw)]
+    return [mul(pw, qw) - mul(px, qx) - mul(py, qy) - mul(pz, qz),
+            mul(pw, qx) + mul(px, qw) + mul(py, qz) - mul(pz, qy),
+            mul(pw, qy) - mul(px, qz) + mul(py, qw) + mul(pz, qx),
+            mul(pw, qz) + mul(px, qy) - mul(py, qx) + mul(pz, qw)]
 
 
 def newton(q):

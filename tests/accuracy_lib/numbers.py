@@ -1,4 +1,4 @@
-"""The bounds of sim3.accuracy against the numbers that the checker computes, and the rows' bounds against the statements."""
+"""The bounds of sim3.accuracy against the numbers that the checker computes, and the rows' against the statements."""
 import importlib.util
 import pathlib
 import re
@@ -22,7 +22,8 @@ def checked():
     """name -> number, of the lines `pub NAME : .. ≡ NUMBER` of the specs."""
     found = {}
     for path in SPECS:
-        for name, number in re.findall(r"pub ([a-z-]+) :[^≡]*≡\s*([0-9]+)$", path.read_text(encoding="utf-8"), re.M):
+        text = path.read_text(encoding="utf-8")
+        for name, number in re.findall(r"pub ([a-z-]+) :[^≡]*≡\s*([0-9]+)$", text, re.M):
             found[name] = int(number)
     return found
 
@@ -38,9 +39,12 @@ def computed(accuracy):
         found[f"inverse-{kind}"] = accuracy.inverse(2 ** 20, 16, width=width) * units
         found[f"exponential-{kind}"] = accuracy.exponential(2 ** 16, width=width) * units
         found[f"unit-exponential-{kind}"] = accuracy.exponential(1, width=width) * units
-    boxes = {"doubles": (64, (2 ** 100 + 2 ** 60, 2 ** 61 + 2 ** 21, 2 ** 110, 2 ** 101, 2 ** 48, 2 ** 100 + 2 ** 77, 2 ** 61 + 2 ** 50, 65535)),
-             "singles": (32, (2 ** 100 + 2 ** 80, 2 ** 81 + 2 ** 61, 2 ** 110, 2 ** 101, 2 ** 77, 2 ** 100 + 2 ** 85, 2 ** 81 + 2 ** 75, 16)),
-             "page": (64, (2 ** 100 + 2 ** 60, 2 ** 61 + 2 ** 21, 2 ** 116, 2 ** 102, 2 ** 50, 2 ** 100 + 2 ** 65, 2 ** 61 + 2 ** 40, 16))}
+    one, near, square = 2 ** 100, 2 ** 100 + 2 ** 60, 2 ** 61 + 2 ** 21
+    boxes = {  # boxDoubles, boxSingles and pageBox of crates/running_accuracy/specs/Running.antt
+        "doubles": (64, (near, square, 2 ** 110, 2 ** 101, 2 ** 48, one + 2 ** 77, 2 ** 61 + 2 ** 50, 65535)),
+        "singles": (32, (one + 2 ** 80, 2 ** 81 + 2 ** 61, 2 ** 110, 2 ** 101, 2 ** 77, one + 2 ** 85,
+                         2 ** 81 + 2 ** 75, 16)),
+        "page": (64, (near, square, 2 ** 116, 2 ** 102, 2 ** 50, one + 2 ** 65, 2 ** 61 + 2 ** 40, 16))}
     for kind, (width, box) in boxes.items():
         state = accuracy.Joins(width, accuracy.JoinBox(*box))
         for _ in range(JOINS):
@@ -71,7 +75,7 @@ def stated():
             body = re.search(rf"^{name}Errors binary{width} =\n(.*)$", text, re.M).group(1)
             due = tuple(int(x) - 100 for x in [*re.findall(r"2 \^ (\d+)", body), last[arm]])
             if due != rows.COEFFICIENTS[width][name]:
-                yield f"the rows of the {name} arm at {width} bits are {rows.COEFFICIENTS[width][name]}, and the statement has {due}"
+                yield f"the {name} arm at {width} bits is {rows.COEFFICIENTS[width][name]}, and the statement has {due}"
 
 
 def agree():
@@ -79,7 +83,8 @@ def agree():
     accuracy = module()
     due, found = checked(), computed(accuracy)
     wrong = [*stated(), *corollaries(accuracy)]
-    wrong += [f"{name} is {found.get(name)} in the binding and {due.get(name)} in the specs" for name in sorted({*due, *found}) if due.get(name) != found.get(name)]
+    wrong += [f"{name} is {found.get(name)} in the binding and {due.get(name)} in the specs"
+              for name in sorted({*due, *found}) if due.get(name) != found.get(name)]
     for line in wrong:
         print(f"accuracy: FAILED: {line}")
     return not wrong

@@ -9,15 +9,21 @@ from . import fixed
 
 SINGLE = struct.Struct("<f")
 # The limits of the series' arms in Δ, as bit patterns: crates/closed/specs/Limits.antt.
-LIMITS = {64: [struct.unpack(">d", bytes.fromhex(x))[0] for x in ("3f0c70e59cfc9f1f", "3fa59742aa36710d", "3fd0e8139c96fc79", "3fffb1ffbc2a9c8c")],
-          32: [struct.unpack(">f", bytes.fromhex(x))[0] for x in ("3a7ce158", "3e03ba20", "3f205df3", "4017c496")]}
+LIMITS = {64: struct.unpack(">4d", bytes.fromhex("3f0c70e59cfc9f1f3fa59742aa36710d3fd0e8139c96fc793fffb1ffbc2a9c8c")),
+          32: struct.unpack(">4f", bytes.fromhex("3a7ce1583e03ba203f205df34017c496"))}
 ARMS = ("short", "mid", "upper", "series")
 NAMES = ("v0", "v1", "v2", "w0", "w1", "w2", "dv1", "dv2", "chi_delta")
-# The exponents of the bounds: shortErrors .. seriesErrors and chiErrors of crates/accuracy/specs/Series.antt, which `stated` compares.
-COEFFICIENTS = {64: {"short": (-51, -50, -51, -52, -52, -54, -53, -55, -63), "mid": (-51, -49, -51, -52, -51, -53, -52, -55, -53),
-                     "upper": (-50, -49, -50, -52, -50, -52, -52, -54, -50), "series": (-49, -47, -48, -51, -49, -51, -50, -52, -45)},
-                32: {"short": (-22, -21, -23, -23, -23, -25, -24, -27, -30), "mid": (-22, -21, -22, -23, -22, -24, -24, -26, -22),
-                     "upper": (-21, -20, -21, -23, -22, -23, -23, -25, -19), "series": (-19, -18, -20, -22, -21, -22, -21, -24, -15)}}
+# The exponents of the bounds, which numbers.stated compares: shortErrors .. seriesErrors and chiErrors of
+# crates/accuracy/specs/Series.antt.
+COEFFICIENTS = {
+    64: {"short": (-51, -50, -51, -52, -52, -54, -53, -55, -63),
+         "mid": (-51, -49, -51, -52, -51, -53, -52, -55, -53),
+         "upper": (-50, -49, -50, -52, -50, -52, -52, -54, -50),
+         "series": (-49, -47, -48, -51, -49, -51, -50, -52, -45)},
+    32: {"short": (-22, -21, -23, -23, -23, -25, -24, -27, -30),
+         "mid": (-22, -21, -22, -23, -22, -24, -24, -26, -22),
+         "upper": (-21, -20, -21, -23, -22, -23, -23, -25, -19),
+         "series": (-19, -18, -20, -22, -21, -22, -21, -24, -15)}}
 
 
 def rounded(width, x):
@@ -95,7 +101,8 @@ class Row:
         self.worst = Worst()
 
     def holds(self):
-        return self.worst.error <= fixed.ONE * 2 ** self.exponent if self.exponent >= 0 else self.worst.error << -self.exponent <= fixed.ONE
+        bound = fixed.ONE << self.exponent if self.exponent >= 0 else fixed.ONE >> -self.exponent
+        return self.worst.error <= bound
 
 
 def fixes(numbers):
@@ -104,7 +111,8 @@ def fixes(numbers):
 
 def action(run, width, count, box, field, exponent):
     """s R p + t"""
-    row, draw, mark = Row(f"ActionTheorem.{field}", width, exponent, "a moved coordinate"), Draw(width, field), mark_of(width, "AC")
+    row = Row(f"ActionTheorem.{field}", width, exponent, "a moved coordinate")
+    draw, mark = Draw(width, field), mark_of(width, "AC")
     point, scale, shift = box
     cases = [(draw.quaternion(), draw.vector(shift), abs(draw.within(scale)), draw.vector(point)) for _ in range(count)]
     data = run(b"".join(record(mark, *q, *t, 0.0, 1, 2, s, *p) for q, t, s, p in cases))
@@ -116,7 +124,8 @@ def action(run, width, count, box, field, exponent):
 def product(run, width, count, exponent):
     """The quaternion of a product."""
     field = "doubles" if width == 64 else "singles"
-    row, draw, mark = Row(f"QuaternionTheorem.product-{field}", width, exponent, "a product's quaternion"), Draw(width, "product"), mark_of(width, "MU")
+    row = Row(f"QuaternionTheorem.product-{field}", width, exponent, "a product's quaternion")
+    draw, mark = Draw(width, "product"), mark_of(width, "MU")
     cases = [(draw.quaternion(), draw.quaternion()) for _ in range(count)]
     data = run(b"".join(record(mark, *p, 0, 0, 0, 0, 1, 2, *q, 0, 0, 0, 0, 3, 1, 1.0) for p, q in cases))
     for (p, q), got in zip(cases, answers(data, mark, count), strict=True):
@@ -127,7 +136,8 @@ def product(run, width, count, exponent):
 def inverse(run, width, count, exponent):
     """The translation of an inverse."""
     field = "doubles" if width == 64 else "singles"
-    row, draw, mark = Row(f"QuaternionTheorem.inverse-{field}", width, exponent, "an inverse's translation"), Draw(width, "inverse"), mark_of(width, "IN")
+    row = Row(f"QuaternionTheorem.inverse-{field}", width, exponent, "an inverse's translation")
+    draw, mark = Draw(width, "inverse"), mark_of(width, "IN")
     cases = [(draw.quaternion(), draw.vector(2.0 ** 20), abs(draw.within(16.0))) for _ in range(count)]
     data = run(b"".join(record(mark, *q, *t, 0.0, 1, 2, s) for q, t, s in cases))
     for (q, t, s), got in zip(cases, answers(data, mark, count), strict=True):
@@ -139,11 +149,13 @@ def inverse(run, width, count, exponent):
 
 def renormalized(run, width, count, exponent):
     """The Newton step, by a running join that is renormalised at its first product, with the identity."""
-    row, draw = Row("QuaternionTheorem.renormalized-doubles", width, exponent, "a renormalised quaternion"), Draw(width, "newton")
-    zeros, cases = [0.0] * 4, [draw.quaternion() for _ in range(count)]
-    for q in cases[:max(1, count // 50)]:  # a running join begins only once in a job
-        data = run(record(b"RN", 1) + record(b"CH", *q, *zeros, 1, 1, 1.0) + record(b"CH", 1.0, 0.0, 0.0, 0.0, *zeros, 1, 1, 1.0))
-        found = ANSWER[b"CH"].numbers.unpack_from(data, 2 + ANSWER[b"RN"].numbers.size + 2 + ANSWER[b"CH"].numbers.size + 2)
+    row = Row("QuaternionTheorem.renormalized-doubles", width, exponent, "a renormalised quaternion")
+    draw, begun, size = Draw(width, "newton"), 2 + ANSWER[b"RN"].numbers.size, 2 + ANSWER[b"CH"].numbers.size
+    rest = [0.0] * 4 + [1, 1, 1.0]  # translation and sigma, frames, up
+    for _ in range(max(1, count // 50)):  # a running join begins only once in a job
+        q = draw.quaternion()
+        data = run(record(b"RN", 1) + record(b"CH", *q, *rest) + record(b"CH", 1.0, 0.0, 0.0, 0.0, *rest))
+        found = ANSWER[b"CH"].numbers.unpack_from(data, begun + size + 2)
         row.worst.add(found[:4], fixed.newton(fixes(q)))
     return [row]
 
@@ -153,7 +165,9 @@ def coefficient_cases(draw, width, count, arm):
     high, low = LIMITS[width][arm], LIMITS[width][arm - 1] if arm else 0.0
     cases = []
     while len(cases) < count:
-        delta = draw.random.uniform(low, high) if draw.random.random() < 0.7 else high * (1 - 2.0 ** -draw.random.randrange(4, 20))
+        delta = draw.random.uniform(low, high)
+        if draw.random.random() < 0.3:
+            delta = high * (1 - 2.0 ** -draw.random.randrange(4, 20))
         part = draw.random.choice((draw.random.random(), draw.random.random(), 0.0, 1.0))
         sigma = rounded(width, draw.random.choice((-1, 1)) * math.sqrt(delta * part))
         z = rounded(width, delta * (1 - part))
@@ -201,8 +215,8 @@ def exponential(run, width, count, rho, field, exponent, turned):
 
 
 def running(run, count, joins, every, box, wanted):
-    """The running join against the same history in exact arithmetic, and its action; `count` histories. `wanted` has the rows
-    of its rotation, of its translation and of a point that it moves, by 0, 1 and 2."""
+    """The running join against the same history in exact arithmetic, and its action; `count` histories. `wanted` has
+    the rows of its rotation, of its translation and of a point that it moves, by 0, 1 and 2."""
     most, scale, point = box
     draw = Draw(64, f"running {joins} {every} {most}")
     size, begun = 2 + ANSWER[b"CH"].numbers.size, 2 + ANSWER[b"RN"].numbers.size
@@ -217,7 +231,8 @@ def running(run, count, joins, every, box, wanted):
                 exact = fixed.newton(exact)
         p, s = draw.vector(point), abs(draw.within(scale))
         moved = ANSWER[b"AC"].numbers.unpack_from(run(record(b"AC", *got[:7], 0.0, 1, 2, s, *p)), 2)
-        pairs = ((got[:4], exact), (got[4:7], shift), (moved, fixed.moved(exact, shift, fixed.of(s), fixes(p))))
+        due = fixed.moved(exact, shift, fixed.of(s), fixes(p))
+        pairs = ((got[:4], exact), (got[4:7], shift), (moved, due))
         for which, row in wanted.items():
             row.worst.add(*pairs[which])
     return list(wanted.values())

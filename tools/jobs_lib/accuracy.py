@@ -39,7 +39,8 @@ def bounds(point, scale, translation, rho, joins, every, width):
         rotation, shift = accuracy.running(joins, every, translation, scale, **at)
         yield line(f"after {joins:,} joins: the rotation", rotation, "RunningTheorem")
         yield line(f"after {joins:,} joins: the translation", shift, "RunningTheorem")
-        yield line(f"after {joins:,} joins: a coordinate", accuracy.page(joins, every, point, translation, scale, **at), "RunningTheorem")
+        moved = accuracy.page(joins, every, point, translation, scale, **at)
+        yield line(f"after {joins:,} joins: a coordinate", moved, "RunningTheorem")
 
 
 def report(arguments):

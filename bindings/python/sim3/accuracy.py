@@ -4,10 +4,10 @@
     sim3.accuracy.action(point=2**16, scale=16, translation=2**20)        # a Fraction; float(..) is 1.18e-08
     sim3.accuracy.page(point=2**16, scale=4, translation=2**16, joins=1000, every=16)
 
-Each function computes, in whole numbers, what `bound` of crates/rounding/specs/Tree.antt computes for the function's tree,
-in units of 2^-100, with `width` 64 or 32. Sizes are upper bounds of absolute values, any int, float or Fraction. The
-answer is the absolute error that no number of the result exceeds, a Fraction; OutOfBounds where a number of the box can
-overflow, or where no bound is proved. No library is loaded.
+Each function computes, in whole numbers, what `bound` of crates/rounding/specs/Tree.antt computes for the function's
+tree, in units of 2^-100, with `width` 64 or 32. Sizes are upper bounds of absolute values, any int, float or
+Fraction. The answer is the absolute error that no number of the result exceeds, a Fraction; OutOfBounds where a number
+of the box can overflow, or where no bound is proved. No library is loaded.
 """
 from fractions import Fraction
 from typing import NamedTuple, Tuple, Union
@@ -49,7 +49,8 @@ class Bound(NamedTuple):
         digits, greatest = FORMATS[self.width]
         error = x // 2 ** digits + 1 + UNIT // 2 ** (greatest + digits - 1) + 1
         if x + error >= 2 ** (greatest + 1) * UNIT:
-            raise OutOfBounds("sim3.accuracy: a number of this box can overflow, so nothing is proved; give smaller sizes")
+            raise OutOfBounds("sim3.accuracy: a number of this box can overflow, so nothing is proved; "
+                              "give smaller sizes")
         return error
 
     def reach(self) -> int:
@@ -171,8 +172,8 @@ def join_box(translation, scale, scale_error, length, every):
     longest = units(length)
     square = upward(UNIT, longest * longest) - UNIT
     drift = square + 3 * upward(UNIT, 2 * square * every * square) + 1
-    box = JoinBox(longest, square, units(translation), units(scale), units(scale_error), UNIT + drift * (every + 1) // 2 + 1,
-                  drift, every)
+    box = JoinBox(longest, square, units(translation), units(scale), units(scale_error),
+                  UNIT + drift * (every + 1) // 2 + 1, drift, every)
     if not box.holds():
         raise OutOfBounds("sim3.accuracy: the quaternions are too far from length 1 for so many products between two "
                           "renormalisations; give a smaller n or a length nearer to 1")
@@ -198,7 +199,8 @@ class Joins:
         self.translation = self.moved(Bound(self.width, self.box.translation))
         near = self.box.longest + product
         if 4 * near * near > 7 * UNIT * UNIT:
-            raise OutOfBounds("sim3.accuracy: the rotation's error grows too large for a renormalisation; give fewer joins")
+            raise OutOfBounds("sim3.accuracy: the rotation's error grows too large for a renormalisation; "
+                              "give fewer joins")
         cube = upward(UNIT * UNIT, product ** 3)
         self.rotation = (2 * newton(Bound(self.width, near)).error
                          + upward(2 * UNIT, (2 * UNIT + self.box.away()) * (product + cube)))
@@ -218,15 +220,15 @@ def joined(joins, every, width, translation, scale, scale_error, length):
 def running(joins: int, every: int, translation: Size, scale: Size, scale_error: Size = None, length: Size = None,
             width: int = 64) -> Tuple[Fraction, Fraction]:
     """Of each number of the running rotation and of the running translation after at most `joins` joins, renormalised
-    after every nth, n at most `every` (RunningTheorem): translations of the poses, and the scale of the running pose with
-    the error with which it is handed in, one rounding if not given. The length of a
+    after every nth, n at most `every` (RunningTheorem): translations of the poses, and the scale of the running pose
+    with the error with which it is handed in, one rounding if not given. The length of a
     quaternion that comes is within `length` - 1 of 1."""
     state = joined(joins, every, width, translation, scale, scale_error, length)
     return told(state.rotation), told(state.translation.error)
 
 
-def page(joins: int, every: int, point: Size, translation: Size, scale: Size, scale_error: Size = None, length: Size = None,
-         width: int = 64) -> Fraction:
+def page(joins: int, every: int, point: Size, translation: Size, scale: Size, scale_error: Size = None,
+         length: Size = None, width: int = 64) -> Fraction:
     """Of each coordinate of a point that the running pose moves after at most `joins` joins (RunningTheorem)."""
     state = joined(joins, every, width, translation, scale, scale_error, length)
     return told(state.moved(leaf(width, point)).error)
