@@ -10,7 +10,7 @@ Fraction. The answer is the absolute error that no number of the result exceeds,
 of the box can overflow, or where no bound is proved. No library is loaded.
 """
 from fractions import Fraction
-from typing import NamedTuple, Tuple, Union
+from typing import NamedTuple, Optional, Tuple, Union
 
 Size = Union[int, float, Fraction]
 UNIT = 2 ** 100
@@ -105,24 +105,24 @@ def told(error):
     return Fraction(error, UNIT)
 
 
-def action(point: Size, scale: Size, translation: Size, quaternion: Size = None, width: int = 64) -> Fraction:
+def action(point: Size, scale: Size, translation: Size, quaternion: Optional[Size] = None, width: int = 64) -> Fraction:
     """Of each coordinate of X p (ActionTheorem), for a scale e^sigma as it is handed in."""
     q = leaf(width, LENGTHS[known(width)] if quaternion is None else quaternion)
     return told(moved(q, leaf(width, point), leaf(width, scale), leaf(width, translation)).error)
 
 
-def product(left: Size = None, right: Size = None, width: int = 64) -> Fraction:
+def product(left: Optional[Size] = None, right: Optional[Size] = None, width: int = 64) -> Fraction:
     """Of each number of a product of quaternions (QuaternionTheorem)."""
     left, right = (LENGTHS[known(width)] if size is None else size for size in (left, right))
     return told(hamilton(leaf(width, left), leaf(width, right)).error)
 
 
-def renormalized(quaternion: Size = None, width: int = 64) -> Fraction:
+def renormalized(quaternion: Optional[Size] = None, width: int = 64) -> Fraction:
     """Of each number of a renormalised quaternion against the exact Newton step (QuaternionTheorem)."""
     return told(newton(leaf(width, LENGTHS[known(width)] if quaternion is None else quaternion)).error)
 
 
-def inverse(translation: Size, scale: Size, quaternion: Size = None, width: int = 64) -> Fraction:
+def inverse(translation: Size, scale: Size, quaternion: Optional[Size] = None, width: int = 64) -> Fraction:
     """Of each number of the translation of X^-1, scale being e^-sigma as it is handed in (QuaternionTheorem)."""
     q = leaf(width, LENGTHS[known(width)] if quaternion is None else quaternion)
     return told((rotated(Bound(width, 2 * UNIT), q, leaf(width, translation)) * leaf(width, scale)).error)
@@ -217,8 +217,8 @@ def joined(joins, every, width, translation, scale, scale_error, length):
     return state
 
 
-def running(joins: int, every: int, translation: Size, scale: Size, scale_error: Size = None, length: Size = None,
-            width: int = 64) -> Tuple[Fraction, Fraction]:
+def running(joins: int, every: int, translation: Size, scale: Size, scale_error: Optional[Size] = None,
+            length: Optional[Size] = None, width: int = 64) -> Tuple[Fraction, Fraction]:
     """Of each number of the running rotation and of the running translation after at most `joins` joins, renormalised
     after every nth, n at most `every` (RunningTheorem): translations of the poses, and the scale of the running pose
     with the error with which it is handed in, one rounding if not given. The length of a
@@ -227,8 +227,8 @@ def running(joins: int, every: int, translation: Size, scale: Size, scale_error:
     return told(state.rotation), told(state.translation.error)
 
 
-def page(joins: int, every: int, point: Size, translation: Size, scale: Size, scale_error: Size = None,
-         length: Size = None, width: int = 64) -> Fraction:
+def page(joins: int, every: int, point: Size, translation: Size, scale: Size, scale_error: Optional[Size] = None,
+         length: Optional[Size] = None, width: int = 64) -> Fraction:
     """Of each coordinate of a point that the running pose moves after at most `joins` joins (RunningTheorem)."""
     state = joined(joins, every, width, translation, scale, scale_error, length)
     return told(state.moved(leaf(width, point)).error)

@@ -548,7 +548,7 @@ page-accurate f n p up l L b s h e N scale z pt tl tm t c nz nm hp a hb hu hs ha
     (λ d w k q X i o r. act-done f L b s h e d w k q X scale z pt (fine L tl .positive) hb hu hs ha o r)
     N n p up l tl tm t c nz nm hp a
 
--- and its length: the exact rotation keeps a length near 1, however many products there are
+-- and its length: the exact rotation keeps a length near 1, within a bound that does not grow with the products
 pub length-accurate : (f : Format) (L : JoinBox) (e : PoseBound → Bool) (N n : ℕ) (p : Pose) (up : Float) (l : List Step) → T (boxHolds L) → T (ltb (L .every) 65536) → T (runHolds f L e (boundAt L 0 (plain (L .translation))) N) → count l ≤ N → 0 < n → n ≤ L .every → FirstIn L p → AllStepsIn L l
     → Normal (L .unit) (away L) (exactRan n 0 (p .from) (exactPose (p .sim3)) l .q)
 length-accurate f L e N n p up l tl tm t h nz nm hp a =

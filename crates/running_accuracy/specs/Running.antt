@@ -264,7 +264,7 @@ pub record RunningTheorem : Type 0 where
   -- any format, box and number of joins
   pub running : (f : Format) (n : ℕ) (p : Pose) (up : Float) (l : List Step) → RunningAccurate f n p l (poseAfter f n p up l)
   pub page : (f : Format) (n : ℕ) (p : Pose) (up : Float) (l : List Step) → PageAccurate f n p l (poseAfter f n p up l)
-  -- the exact rotation's length stays near 1, however many joins there are
+  -- the exact rotation's length stays near 1, within a bound that does not grow with the number of joins
   pub length : (f : Format) (L : JoinBox) (e : PoseBound → Bool) (N n : ℕ) (p : Pose) (up : Float) (l : List Step) →
       T (boxHolds L) → T (ltb (L .every) 65536) → T (runHolds f L e (boundAt L 0 (plain (L .translation))) N) →
       count l ≤ N → 0 < n → n ≤ L .every → FirstIn L p → AllStepsIn L l →
