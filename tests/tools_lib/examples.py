@@ -29,7 +29,7 @@ def as_a_program():
 
 
 def help_has_examples():
-    for words in [["--help"], *([name, "--help"] for name in ("make", "show", "diff", "arms", "near", "sort", "sheets", "totals", "run", "format"))]:
+    for words in [["--help"], *([name, "--help"] for name in ("make", "show", "diff", "arms", "near", "sort", "sheets", "totals", "accuracy", "run", "format"))]:
         holds(jobs(*words)[0].decode(), "example:\n", "tools/jobs ")
     holds(jobs(status=2)[1], "COMMAND")
     holds(jobs("shwo", status=2)[1], "shwo", "make", "show", "diff", "arms", "sheets", "totals")

@@ -4,7 +4,8 @@ import re
 
 top = pathlib.Path(__file__).resolve().parent.parent.parent
 FOLDERS = ("must-fail", "must-fail/quick")  # what rt ci tries, and what tests/edits tries
-GUARDS = re.compile(r"(01|02, K\d+): \S.*\S")  # the paper, the request, and the words that the edit breaks
+# the paper, or the request, and the words that the edit breaks; or a statement of docs/ACCURACY.md, and what it says
+GUARDS = re.compile(r"(01|02, K\d+|ACCURACY, (?P<statement>\w+)): \S.*\S")
 
 
 class Edit:

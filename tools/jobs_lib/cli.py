@@ -10,7 +10,8 @@ from .terminal import INSTALLED, Failure, say, worded
 ABOUT = """\
 Job files of the Sim(3) engine: make them from text, show them as text, compare their answers, see
 which arm gave each coefficient set, which shots lie beside another arm, which takes are kept, and how
-many records of each mark several answers have; cut a large job into parts, and merge their answers.
+many records of each mark several answers have; cut a large job into parts, and merge their answers;
+say how far an answer can be from the exact one.
 docs/JOB-FORMAT.md has the bytes of every record, and so has `jobs format`. `jobs run` finds the job
 program from any folder.
 
@@ -26,6 +27,7 @@ example:
   tools/jobs totals answers.bin more-answers.bin
   tools/jobs split jobs.bin parts
   tools/jobs merge parts > answers.bin
+  tools/jobs accuracy --point 65536 --joins 1000 --every 16
 """
 
 MAKE = """\
@@ -193,6 +195,22 @@ Exit status: 0, or 1 where a part's answers are not taken, or 2 where FOLDER has
 
 example:
   tools/jobs merge parts > answers.bin
+"""
+
+
+ACCURACY = """\
+How far an answer can be from the exact one: the proved bounds of docs/ACCURACY.md, computed in whole
+numbers for the sizes given, each the greatest absolute value of its numbers: of points, of e^sigma as it
+is handed in, of translations, of rho, whose phi has numbers up to 3/2 (13/8 at singles). With --joins
+also those of a running join that is renormalised after every nth product, n at most --every, of poses
+whose quaternions have a length within 2^-40 of 1 (2^-20 at singles). Each line has the bound, as a
+decimal and as a power of two, and the statement that is proved.
+
+Exit status: 0, or 2 where a size is none or no bound is proved for it.
+
+example:
+  tools/jobs accuracy --point 65536 --scale 16 --translation 2^20
+  tools/jobs accuracy --single --point 1 --joins 100 --every 16
 """
 
 
@@ -410,6 +428,21 @@ def run_merge(asked):
     return merge(asked.folder)
 
 
+def add_accuracy(one):
+    one.add_argument("--single", action="store_true", help="at singles")
+    for name, about in (("point", "of the points"), ("scale", "of e^sigma"), ("translation", "of the translations"),
+                        ("rho", "of rho")):
+        one.add_argument(f"--{name}", default="1", metavar="SIZE", help=f"the greatest number {about}; 1 if not given")
+    one.add_argument("--joins", type=limit, default=0, metavar="N", help="after at most N joins")
+    one.add_argument("--every", type=steps, default=1, metavar="n",
+                     help="renormalised after every nth product; 1 if not given")
+
+
+def run_accuracy(asked):
+    from .accuracy import report
+    return report(asked)
+
+
 class Command(NamedTuple):
     """A line about it, its help or what makes that, what adds its arguments, and what does it, which gives the
     status."""
@@ -433,6 +466,7 @@ COMMANDS = {
     "totals": Command("add up the counts of several answer files by mark", TOTALS, add_totals, run_totals),
     "split": Command("cut a job into parts for several cores or machines", SPLIT, add_split, run_split),
     "merge": Command("put the answers of a job's parts together", MERGE, add_merge, run_merge),
+    "accuracy": Command("how far an answer can be from the exact one, as proved", ACCURACY, add_accuracy, run_accuracy),
 }
 
 

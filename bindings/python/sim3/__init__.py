@@ -19,7 +19,7 @@ Every call first asks how this thread rounds: what is proved is IEEE 754 with ro
 zero and no traps. In another environment, which a library linked with -ffast-math sets when it is loaded, it raises
 OtherEnvironment, and writes nothing; `with sim3.environment():` is a block that computes as it is proved.
 
-sim3.f32 has the same functions over singles.
+sim3.f32 has the same functions over singles. sim3.accuracy says how far an answer can be from the exact one, as proved.
 
 Every function but those of Sheets also takes arrays of numpy of n things, (n, 7), (n, 8), .., at once, and answers
 (n, ..) arrays: sim3.arrays says how.
@@ -27,7 +27,7 @@ Every function but those of Sheets also takes arrays of numpy of n things, (n, 7
 The shared library that this package loads at the first call stands beside it where pip installed it; in the
 source tree bindings/build makes it.
 """
-from . import f32, host, raw
+from . import accuracy, f32, host, raw
 from .arrays import NearRows, Poses, RootRows, block_matrix
 from .engine import Engine
 from .guard import environment
@@ -44,7 +44,7 @@ from .version import __version__
 from .widths import DOUBLE
 
 __all__ = ["LibraryMissing", "Near", "NearRows", "OtherEnvironment", "Pose", "Poses", "Refusal", "Root", "RootRows",
-           "Running", "Sheets", "Shelved", "__version__", "act", "block_matrix", "environment", "f32", "host",
+           "Running", "Sheets", "Shelved", "__version__", "accuracy", "act", "block_matrix", "environment", "f32", "host",
            "nearest_arm",
            "nearest_root", "renormalize_all", "root", "version", *raw.FUNCTIONS, *raw.PATTERNS]
 

@@ -1,0 +1,16 @@
+pub mod Action
+pub mod Quaternions
+pub mod Series
+pub mod Powers
+pub mod Slopes
+pub mod Tail
+pub mod HornerTail
+pub mod Truncation
+pub mod SlopeTail
+pub mod Domain
+pub mod Arms
+pub mod Chi
+pub mod Coefficients
+pub mod Rows
+pub mod Exponential
+pub mod Numbers

@@ -1,0 +1,10 @@
+pub mod Differences
+pub mod Squares
+pub mod Fractions
+pub mod Roundoff
+pub mod Forward
+pub mod Leaves
+pub mod Quotients
+pub mod Ring
+pub mod Denominators
+pub mod Theorem

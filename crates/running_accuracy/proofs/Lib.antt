@@ -1,0 +1,9 @@
+pub mod Euler
+pub mod Length
+pub mod Products
+pub mod Newton
+pub mod Joins
+pub mod Running
+pub mod Page
+pub mod OneMore
+pub mod Numbers

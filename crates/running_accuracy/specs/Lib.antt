@@ -1,0 +1,5 @@
+pub mod Products
+pub mod Joins
+pub mod Running
+pub mod Join
+pub mod Numbers

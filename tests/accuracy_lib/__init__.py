@@ -1,0 +1,1 @@
+"""What tests/accuracy is made of."""
