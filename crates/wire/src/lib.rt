@@ -1,6 +1,5 @@
-// Doubles, counts and numbers of 16 bits as little-endian bytes. The functions go between a value and an array of its
-// bytes, so that each is total; where in a list the bytes stand is the business of the crates above, but for the one
-// that looks through a whole list for a NaN.
+// Doubles, counts and numbers of 16 bits as little-endian bytes: one value and an array of its bytes, and whole lists,
+// `decode` and `encode`. Each public function is total; those on lists go as far as the bytes and the list both do.
 ghost use mathlib.Core.Path.{_≡_};
 ghost use mathlib.Core.Bool.{true};
 ghost use Prim.Native.Nat.{_+_, _*_, _/_, _≤_, _<_};
@@ -185,8 +184,8 @@ fn decode_plain(b: &[u8], out: &mut [f64], n: usize)
     }
 }
 
-// The numbers in the bytes, to a list. Where none is a NaN, which one look through all of them tells, their bits are taken as
-// they are.
+// The numbers in the bytes, to a list. Where none is a NaN, which one look through all of them tells, their bits are
+// taken as they are.
 pub fn decode(b: &[u8], out: &mut [f64])
     ensures { λ _. ⌜
         now (out .exit)
@@ -235,7 +234,8 @@ fn put_finite(out: &mut [u8], i: usize, x: f64)
     out[at + 7] = d[7];
 }
 
-// Whether the first n numbers are finite: a number less itself is a zero, which equals itself; of a NaN or an infinity it is NaN.
+// Whether the first n numbers are finite: a number less itself is a zero, which equals itself; of a NaN or an infinity
+// it is NaN, which does not.
 fn all_finite(x: &[f64], n: usize) -> bool
     requires { ⌜ n ≤ length (now x) ⌝ }
     ensures { λ r. ⌜ r ≡ allFinite (numbers (take n (now (x .entry)))) ⌝ }
@@ -275,7 +275,7 @@ fn encode_finite(x: &[f64], out: &mut [u8], n: usize)
     }
 }
 
-// The numbers of a list, to bytes. Tells whether all of them are finite; then their bits are taken as they are.
+// The numbers of a list to bytes, and whether all of them are finite; where they are, their bits are taken as they are.
 pub fn encode(x: &[f64], out: &mut [u8]) -> bool
     ensures { λ r. ⌜ r ≡ allFinite (numbers (take (fewer (length (now (x .entry))) (length (now (out .entry)) / width binary64)) (now (x .entry)))) ⌝ }
     ensures { λ _. ⌜

@@ -100,8 +100,8 @@ fn decode_plain(b: &[u8], out: &mut [f32], n: usize)
     }
 }
 
-// The numbers in the bytes, to a list. Where none is a NaN, which one look through all of them tells, their bits are taken as
-// they are.
+// The numbers in the bytes, to a list. Where none is a NaN, which one look through all of them tells, their bits are
+// taken as they are.
 pub fn decode(b: &[u8], out: &mut [f32])
     ensures { λ _. ⌜
         now (out .exit)
@@ -142,7 +142,8 @@ fn put_finite(out: &mut [u8], i: usize, x: f32)
     out[at + 3] = d[3];
 }
 
-// Whether the first n numbers are finite: a number less itself is a zero, which equals itself; of a NaN or an infinity it is NaN.
+// Whether the first n numbers are finite: a number less itself is a zero, which equals itself; of a NaN or an infinity
+// it is NaN, which does not.
 fn all_finite(x: &[f32], n: usize) -> bool
     requires { ⌜ n ≤ length (now x) ⌝ }
     ensures { λ r. ⌜ r ≡ allFinite (numbers (take n (now (x .entry)))) ⌝ }
@@ -182,7 +183,7 @@ fn encode_finite(x: &[f32], out: &mut [u8], n: usize)
     }
 }
 
-// The numbers of a list, to bytes. Tells whether all of them are finite; then their bits are taken as they are.
+// The numbers of a list to bytes, and whether all of them are finite; where they are, their bits are taken as they are.
 pub fn encode(x: &[f32], out: &mut [u8]) -> bool
     ensures { λ r. ⌜ r ≡ allFinite (numbers (take (fewer (length (now (x .entry))) (length (now (out .entry)) / width binary32)) (now (x .entry)))) ⌝ }
     ensures { λ _. ⌜
