@@ -87,10 +87,14 @@ chi-binary64 sigma z v t p =
     let d = coeffsDelta binary64 sigma z in
     by-arm (λ (arm : ℕ). ChiAccurate (2 ^ 100) (coeffsAt binary64 sigma z v arm .«chi_delta») (valueOf sigma) (valueOf z) 23 23 (chiErrors binary64 4))
     (lt d (shortBelow binary64)) (lt d (midBelow binary64)) (lt d (upperBelow binary64)) (lt d (seriesBelow binary64))
-    (λ h. chi-from (2 ^ 100) (seriesFull binary64 sigma z 6 .«chi_delta») (valueOf sigma) (valueOf z) 6 8 17 15 23 (chiErrors binary64 1) (chiErrors binary64 4) refl refl (lit≤ tt) (chi-short-binary64 sigma z h p))
-    (λ h. chi-from (2 ^ 100) (seriesFull binary64 sigma z 11 .«chi_delta») (valueOf sigma) (valueOf z) 11 13 12 10 23 (chiErrors binary64 2) (chiErrors binary64 4) refl refl (lit≤ tt) (chi-mid-binary64 sigma z h p))
-    (λ h. chi-from (2 ^ 100) (seriesFull binary64 sigma z 14 .«chi_delta») (valueOf sigma) (valueOf z) 14 16 9 7 23 (chiErrors binary64 3) (chiErrors binary64 4) refl refl (lit≤ tt) (chi-upper-binary64 sigma z h p))
-    (λ h. chi-from (2 ^ 100) (seriesFull binary64 sigma z 19 .«chi_delta») (valueOf sigma) (valueOf z) 19 21 4 2 23 (chiErrors binary64 4) (chiErrors binary64 4) refl refl (lit≤ tt) (chi-series-binary64 sigma z h p))
+    (λ h. chi-from (2 ^ 100) (seriesFull binary64 sigma z 6 .«chi_delta») (valueOf sigma) (valueOf z) 6 8 17 15 23 (chiErrors binary64 1)
+    (chiErrors binary64 4) refl refl (lit≤ tt) (chi-short-binary64 sigma z h p))
+    (λ h. chi-from (2 ^ 100) (seriesFull binary64 sigma z 11 .«chi_delta») (valueOf sigma) (valueOf z) 11 13 12 10 23 (chiErrors binary64 2)
+    (chiErrors binary64 4) refl refl (lit≤ tt) (chi-mid-binary64 sigma z h p))
+    (λ h. chi-from (2 ^ 100) (seriesFull binary64 sigma z 14 .«chi_delta») (valueOf sigma) (valueOf z) 14 16 9 7 23 (chiErrors binary64 3)
+    (chiErrors binary64 4) refl refl (lit≤ tt) (chi-upper-binary64 sigma z h p))
+    (λ h. chi-from (2 ^ 100) (seriesFull binary64 sigma z 19 .«chi_delta») (valueOf sigma) (valueOf z) 19 21 4 2 23 (chiErrors binary64 4)
+    (chiErrors binary64 4) refl refl (lit≤ tt) (chi-series-binary64 sigma z h p))
     t
 
 pub eight-binary32 : (sigma z : Float) (v : Values) → T (lt (coeffsDelta binary32 sigma z) (seriesBelow binary32)) → T (not (lt z f0))
@@ -117,10 +121,14 @@ chi-binary32 sigma z v t p =
     let d = coeffsDelta binary32 sigma z in
     by-arm (λ (arm : ℕ). ChiAccurate (2 ^ 100) (coeffsAt binary32 sigma z v arm .«chi_delta») (valueOf sigma) (valueOf z) 15 15 (chiErrors binary32 4))
     (lt d (shortBelow binary32)) (lt d (midBelow binary32)) (lt d (upperBelow binary32)) (lt d (seriesBelow binary32))
-    (λ h. chi-from (2 ^ 100) (seriesFull binary32 sigma z 4 .«chi_delta») (valueOf sigma) (valueOf z) 4 6 11 9 15 (chiErrors binary32 1) (chiErrors binary32 4) refl refl (lit≤ tt) (chi-short-binary32 sigma z h p))
-    (λ h. chi-from (2 ^ 100) (seriesFull binary32 sigma z 7 .«chi_delta») (valueOf sigma) (valueOf z) 7 9 8 6 15 (chiErrors binary32 2) (chiErrors binary32 4) refl refl (lit≤ tt) (chi-mid-binary32 sigma z h p))
-    (λ h. chi-from (2 ^ 100) (seriesFull binary32 sigma z 9 .«chi_delta») (valueOf sigma) (valueOf z) 9 11 6 4 15 (chiErrors binary32 3) (chiErrors binary32 4) refl refl (lit≤ tt) (chi-upper-binary32 sigma z h p))
-    (λ h. chi-from (2 ^ 100) (seriesFull binary32 sigma z 11 .«chi_delta») (valueOf sigma) (valueOf z) 11 13 4 2 15 (chiErrors binary32 4) (chiErrors binary32 4) refl refl (lit≤ tt) (chi-series-binary32 sigma z h p))
+    (λ h. chi-from (2 ^ 100) (seriesFull binary32 sigma z 4 .«chi_delta») (valueOf sigma) (valueOf z) 4 6 11 9 15 (chiErrors binary32 1)
+    (chiErrors binary32 4) refl refl (lit≤ tt) (chi-short-binary32 sigma z h p))
+    (λ h. chi-from (2 ^ 100) (seriesFull binary32 sigma z 7 .«chi_delta») (valueOf sigma) (valueOf z) 7 9 8 6 15 (chiErrors binary32 2)
+    (chiErrors binary32 4) refl refl (lit≤ tt) (chi-mid-binary32 sigma z h p))
+    (λ h. chi-from (2 ^ 100) (seriesFull binary32 sigma z 9 .«chi_delta») (valueOf sigma) (valueOf z) 9 11 6 4 15 (chiErrors binary32 3)
+    (chiErrors binary32 4) refl refl (lit≤ tt) (chi-upper-binary32 sigma z h p))
+    (λ h. chi-from (2 ^ 100) (seriesFull binary32 sigma z 11 .«chi_delta») (valueOf sigma) (valueOf z) 11 13 4 2 15 (chiErrors binary32 4)
+    (chiErrors binary32 4) refl refl (lit≤ tt) (chi-series-binary32 sigma z h p))
     t
 
 -- what specs/Series.antt states

@@ -40,7 +40,8 @@ round-fin f s num den t m j e =
     let q = closest (num * 2 ^ low f) (den * 2 ^ k) in
     go (ltb (q * 2 ^ k) (2 ^ (low f + suc (emax f)))) (sym (round-is f s num den) ∙ e)
   where
-    go : (b : Bool) → cond b (odd (suc (prec f)) s (closest (num * 2 ^ low f) (den * 2 ^ drop f num den)) (drop f num den) (low f)) (inf s) ≡ fin t m j → HasValue (fin t m j) s (kept f num den) (2 ^ low f)
+    go : (b : Bool) → cond b (odd (suc (prec f)) s (closest (num * 2 ^ low f) (den * 2 ^ drop f num den)) (drop f num den) (low f)) (inf s)
+        ≡ fin t m j → HasValue (fin t m j) s (kept f num den) (2 ^ low f)
     go true h = subst (λ (x : Float). HasValue x s (kept f num den) (2 ^ low f)) h (odd-sign (suc (prec f)) s (closest (num * 2 ^ low f) (den * 2 ^ drop f num den)) (drop f num den) (low f))
     go false h = absurd (subst IsFin (sym h) tt)
 
@@ -51,7 +52,8 @@ units-most w x l m v q z e k =
     let b = ap (λ (i : ℕ). w * i) e in
     le-of-mul-le-mul-right (simp expand (omega (arith, simp expand at a, simp expand at b))) z
 
-back-rest : (w x b u p l num den q : ℕ) → 0 < u * l → 2 * p ≡ u + 2 → 2 * (p * (num * l)) ≤ 2 * (p * (q * den)) + 2 * (num * l) + p * den → w * q ≤ x * l → 2 * (p * (l * x)) + p * w ≤ b * (u * l) → w * num ≤ b * den
+back-rest : (w x b u p l num den q : ℕ) → 0 < u * l → 2 * p ≡ u + 2 → 2 * (p * (num * l)) ≤ 2 * (p * (q * den)) + 2 * (num * l) + p * den
+    → w * q ≤ x * l → 2 * (p * (l * x)) + p * w ≤ b * (u * l) → w * num ≤ b * den
 back-rest w x b u p l num den q z e h k c =
     let a = mul-le-mul-left w h in
     let f = mul-le-mul-left (2 * p * den) k in
@@ -59,7 +61,8 @@ back-rest w x b u p l num den q z e h k c =
     let i = ap (λ (j : ℕ). j * (w * (num * l))) e in
     le-of-mul-le-mul-right {k = u * l} (last w x b u p l num den q a f g i) z
   where
-    last : (w x b u p l num den q : ℕ) → w * (2 * (p * (num * l))) ≤ w * (2 * (p * (q * den)) + 2 * (num * l) + p * den) → 2 * p * den * (w * q) ≤ 2 * p * den * (x * l) → (2 * (p * (l * x)) + p * w) * den ≤ b * (u * l) * den
+    last : (w x b u p l num den q : ℕ) → w * (2 * (p * (num * l))) ≤ w * (2 * (p * (q * den)) + 2 * (num * l) + p * den) → 2 * p * den *
+        (w * q) ≤ 2 * p * den * (x * l) → (2 * (p * (l * x)) + p * w) * den ≤ b * (u * l) * den
         → 2 * p * (w * (num * l)) ≡ (u + 2) * (w * (num * l)) → w * num * (u * l) ≤ b * den * (u * l)
     last w x b u p l num den q a f g i = simp expand (omega (arith, simp expand at a, simp expand at f, simp expand at g, simp expand at i))
 
@@ -89,7 +92,8 @@ round-back f w x s num den t m j z e h =
     (next (2 * (p * (l * x)) + p * w) ((2 * p - 2) * l) up)
 
 -- what was rounded is at most the result and the error
-pub round-gap : (f : Format) (w y : ℕ) (s : Bool) (num den : ℕ) (t : Bool) (m : ℕ) (j : ℤ) → 0 < den → round f s num den ≡ fin t m j → w * num ≤ y * den → w * (num * down j) ≤ w * (m * up j * den) + roundingError f w y * (den * down j)
+pub round-gap : (f : Format) (w y : ℕ) (s : Bool) (num den : ℕ) (t : Bool) (m : ℕ) (j : ℤ) → 0 < den → round f s num den ≡ fin t m j
+    → w * num ≤ y * den → w * (num * down j) ≤ w * (m * up j * den) + roundingError f w y * (den * down j)
 round-gap f w y s num den t m j z e h =
     let p = 2 ^ prec f in
     let l = 2 ^ low f in
@@ -118,7 +122,8 @@ unfolding units
 round-inf f num den e = go (ltb (kept f num den) (2 ^ (low f + suc (emax f)))) (sym (round-is f false num den) ∙ e)
   where
     go : (b : Bool) → cond b (odd (suc (prec f)) false (closest (num * 2 ^ low f) (den * 2 ^ drop f num den)) (drop f num den) (low f)) (inf false) ≡ inf true → ⊥
-    go true h = fin-no-inf (odd (suc (prec f)) false (closest (num * 2 ^ low f) (den * 2 ^ drop f num den)) (drop f num den) (low f)) true (odd-finite (suc (prec f)) false (closest (num * 2 ^ low f) (den * 2 ^ drop f num den)) (drop f num den) (low f)) h
+    go true h = fin-no-inf (odd (suc (prec f)) false (closest (num * 2 ^ low f) (den * 2 ^ drop f num den)) (drop f num den) (low f)) true
+        (odd-finite (suc (prec f)) false (closest (num * 2 ^ low f) (den * 2 ^ drop f num den)) (drop f num den) (low f)) h
     go false h = subst IsTrue (sym h) tt
 
 limit-le : (w x a v b u : ℕ) → 0 < u → a * u < b * v → w * b ≤ x * u → w * a ≤ x * v
@@ -159,7 +164,8 @@ SumIn w (fin s m e) (fin t n d) x = (w * (m * up e * down d + n * up d * down e)
 none : (a b c : ℕ) → a * 1 + b ≤ 0 → a ≡ 0
 none a b c h = omega arith
 
-minus-in : (f : Format) (w x a b c n : ℕ) (d : ℤ) → 0 < c → b ≡ 0 → w * (n * up d) ≤ x * down d → (g : Bool) → (T g → a < b) → T (lt (cond g (round f true (b - a) c) (round f false (a - b) c)) (fin false n d)) → w * (a + b) ≤ before f w x * c
+minus-in : (f : Format) (w x a b c n : ℕ) (d : ℤ) → 0 < c → b ≡ 0 → w * (n * up d) ≤ x * down d → (g : Bool) → (T g → a < b) → T
+    (lt (cond g (round f true (b - a) c) (round f false (a - b) c)) (fin false n d)) → w * (a + b) ≤ before f w x * c
 minus-in f w x a b c n d z e h true g t = let k : a < b = g tt in absurd (omega arith)
 minus-in f w x a b c n d z e h false g t =
     let q : a - b ≡ a + b = omega arith in
@@ -237,7 +243,8 @@ delta-side w x r a b c u h k =
     let q = mul-le-mul-right (c * u) k in
     le-trans (le-of-eq (mul-assoc w w (a * u + b * c))) (le-trans p (le-trans (le-of-eq (sym (mul-assoc w x (c * u)))) q))
 
-delta-most : (w x r : ℕ) (s t : Bool) (a c b u : ℕ) → cond t b 0 ≡ 0 → w * (a * a * u + b * (c * c)) ≤ x * (c * c * u) → w * x ≤ r * r → AtMost (w * w) (plus (times (signed s a c) (signed s a c)) (signed t b u)) (r * r)
+delta-most : (w x r : ℕ) (s t : Bool) (a c b u : ℕ) → cond t b 0 ≡ 0 → w * (a * a * u + b * (c * c)) ≤ x * (c * c * u) → w * x ≤ r * r → AtMost
+    (w * w) (plus (times (signed s a c) (signed s a c)) (signed t b u)) (r * r)
 delta-most w x r false false a c b u e h k = let l = delta-side w x r (a * a) b (c * c) u h k in record { above = simp zeros l; below = simp zeros (omega arith) }
 delta-most w x r true false a c b u e h k = let l = delta-side w x r (a * a) b (c * c) u h k in record { above = simp zeros l; below = simp zeros (omega arith) }
 delta-most w x r false true a c b u e h k =
@@ -252,7 +259,8 @@ unfolding valueOf
 value-plain t n d h = h
 
 -- where the computed Δ is below n 2 ^ d, and z not below 0
-pub domain : (f : Format) (w x r y : ℕ) (sigma z : Float) (n : ℕ) (d : ℤ) → 0 < w → T (lt (coeffsDelta f sigma z) (fin false n d)) → T (not (lt z f0)) → w * (n * up d) ≤ x * down d → w * deltaMost f w x ≤ r * r → before f w x ≤ y
+pub domain : (f : Format) (w x r y : ℕ) (sigma z : Float) (n : ℕ) (d : ℤ) → 0 < w → T (lt (coeffsDelta f sigma z) (fin false n d)) → T (not (lt z f0))
+    → w * (n * up d) ≤ x * down d → w * deltaMost f w x ≤ r * r → before f w x ≤ y
     → InDomain w r y sigma z
 unfolding coeffsDelta mul valueOf
 domain f w x r y nan z n d wp t k h a yb = absurd (sum-in f w x nan z n d tt k t h)

@@ -43,14 +43,24 @@ use Rattle.accuracy.proofs.Domain.{domain}
 use Rattle.accuracy.proofs.Coefficients.{by-arm, eight-binary64, eight-binary32}
 
 -- ---- the polynomial
-poly-close : (f : Format) (w a b e : ℕ) (phi rho : Vec3) (x0 x1 x2 : Float) (y0 y1 y2 : Value) (b0 b1 b2 : Bound) → 0 < w → VecIn w a phi → VecIn w b rho → ForwardError w x0 y0 b0 → ForwardError w x1 y1 b1 → ForwardError w x2 y2 b2 → T (polyHolds f w a b b0 b1 b2 e)
+poly-close : (f : Format) (w a b e : ℕ) (phi rho : Vec3) (x0 x1 x2 : Float) (y0 y1 y2 : Value) (b0 b1 b2 : Bound) → 0 < w → VecIn w a phi
+    → VecIn w b rho → ForwardError w x0 y0 b0 → ForwardError w x1 y1 b1 → ForwardError w x2 y2 b2 → T (polyHolds f w a b b0 b1 b2 e)
     → VecError w (polyApply f phi x0 x1 x2 rho) (exactPoly (exactVec phi) y0 y1 y2 (exactVec rho)) e
 unfolding computed exact bound noOverflow treePoly polyApply vecScale vecCross vecAdd sub exactPoly polyHolds
 poly-close f w a b e phi rho x0 x1 x2 y0 y1 y2 b0 b1 b2 z hp hr h0 h1 h2 t =
     let l = phi .x ∷ phi .y ∷ phi .z ∷ rho .x ∷ rho .y ∷ rho .z ∷ x0 ∷ x1 ∷ x2 ∷ [] in
     let v = valueOf (phi .x) ∷ valueOf (phi .y) ∷ valueOf (phi .z) ∷ valueOf (rho .x) ∷ valueOf (rho .y) ∷ valueOf (rho .z) ∷ y0 ∷ y1 ∷ y2 ∷ [] in
     let d = polyBounds a b b0 b1 b2 in
-    let all : AllForwardError w l v d = (leaf-forward w (phi .x) a (hp .x), (leaf-forward w (phi .y) a (hp .y), (leaf-forward w (phi .z) a (hp .z), (leaf-forward w (rho .x) b (hr .x), (leaf-forward w (rho .y) b (hr .y), (leaf-forward w (rho .z) b (hr .z), (h0, (h1, (h2, tt))))))))) in
+    let all : AllForwardError w l v d = (
+      leaf-forward w (phi .x) a (hp .x),
+      (
+        leaf-forward w (phi .y) a (hp .y),
+        (
+          leaf-forward w (phi .z) a (hp .z),
+          (leaf-forward w (rho .x) b (hr .x), (leaf-forward w (rho .y) b (hr .y), (leaf-forward w (rho .z) b (hr .z), (h0, (h1, (h2, tt)))))),
+        ),
+      ),
+    ) in
     let s = noOverflow f w (nth noBound d) (treePoly .x) in
     let E = bound f w (nth noBound d) (treePoly .x) .error in
     let le : E ≤ e = leb→le E e (and-r s (leb E e) t) in
@@ -59,7 +69,12 @@ poly-close f w a b e phi rho x0 x1 x2 y0 y1 y2 b0 b1 b2 z hp hr h0 h1 h2 t =
     λ r q. forward-error f w (nth f0 l) (nth (valueOf f0) v) (nth noBound d) z (nth-forward w l v d all) r q in
     let P = polyApply f phi x0 x1 x2 rho in
     let Y = exactPoly (exactVec phi) y0 y1 y2 (exactVec rho) in
-    record { x = error-wider w (P .x) (Y .x) E e le (go (treePoly .x) ts .close); y = error-wider w (P .y) (Y .y) E e le (go (treePoly .y) ts .close); z = error-wider w (P .z) (Y .z) E e le (go (treePoly .z) ts .close) }
+    record {
+      x = error-wider w (P .x) (Y .x) E e le (go (treePoly .x) ts .close);
+      y = error-wider w (P .y) (Y .y) E e le
+          (go (treePoly .y) ts .close);
+      z = error-wider w (P .z) (Y .z) E e le (go (treePoly .z) ts .close);
+    }
 
 -- ---- the sums have denominators above 0
 record FiveAbove (l : Five Value) : Type 0 where
@@ -101,7 +116,8 @@ module _ (s z : Value) (sp : 0 < s .d) (zp : 0 < z .d) where
 
 -- ---- the sizes of the sums
 module _ (f : Format) (w r y k : ℕ) (sigma z : Float) (wp : 0 < w) (half : 2 * r ≤ k * w) (h : InDomain w r y sigma z) where
-  v0-most : (c b : ℕ) → T (hornerNoOverflow f w (plain r) 1 k) → w * r ^ k ≤ c * (w ^ k * factorial (k + 1)) → boundHorner f w (plain r) 1 k .magnitude + 2 * c ≤ b → (n : ℕ) → AtMost w (exactHorner (valueOf sigma) 1 (k + n)) b
+  v0-most : (c b : ℕ) → T (hornerNoOverflow f w (plain r) 1 k) → w * r ^ k ≤ c * (w ^ k * factorial (k + 1)) → boundHorner f w
+      (plain r) 1 k .magnitude + 2 * c ≤ b → (n : ℕ) → AtMost w (exactHorner (valueOf sigma) 1 (k + n)) b
   v0-most c b t q l n =
       let S = exactHorner (valueOf sigma) 1 k in
       let g = horner-forward f w sigma (valueOf sigma) (plain r) wp (leaf-forward w sigma r (h .sigma)) 1 k t in
@@ -110,12 +126,15 @@ module _ (f : Format) (w r y k : ℕ) (sigma z : Float) (wp : 0 < w) (half : 2 *
       (tail-horner w r (valueOf sigma) (valueOf z) wp (value-pos w sigma r (h .sigma)) (value-pos w z y (h .z)) (value-signed w sigma r (h .sigma)) (h .plain) (h .delta) 1 k c half q n) (g .size))
 
   sum-within : (c : Part) (m : ℕ) → T (totalNoOverflow f w (termNoOverflow f w (plain r) (plain y) c 1) (boundTerm f w (plain r) (plain y) c 1) m)
-      → ForwardError w (seriesSum f (λ j. mul f (part c (ofLevel (seriesLevel f sigma z j))) (recipFact f (j + 1))) m) (exactTotal (exactTerm (valueOf sigma) (valueOf z) c 1) m) (boundTotal f w (boundTerm f w (plain r) (plain y) c 1) m)
+      → ForwardError w (seriesSum f (λ j. mul f (part c (ofLevel (seriesLevel f sigma z j))) (recipFact f (j + 1))) m)
+      (exactTotal (exactTerm (valueOf sigma) (valueOf z) c 1) m) (boundTotal f w (boundTerm f w (plain r) (plain y) c 1) m)
   sum-within c m t =
-      total-forward f w (λ j. mul f (part c (ofLevel (seriesLevel f sigma z j))) (recipFact f (j + 1))) (exactTerm (valueOf sigma) (valueOf z) c 1) (boundTerm f w (plain r) (plain y) c 1) (termNoOverflow f w (plain r) (plain y) c 1) wp
+      total-forward f w (λ j. mul f (part c (ofLevel (seriesLevel f sigma z j))) (recipFact f (j + 1))) (exactTerm (valueOf sigma) (valueOf z) c 1)
+      (boundTerm f w (plain r) (plain y) c 1) (termNoOverflow f w (plain r) (plain y) c 1) wp
       (λ j t. term-forward f w sigma z (valueOf sigma) (valueOf z) (plain r) (plain y) wp (leaf-forward w sigma r (h .sigma)) (leaf-forward w z y (h .z)) c 1 j t) m t
 
-  v1-most : (c b : ℕ) → T (totalNoOverflow f w (termNoOverflow f w (plain r) (plain y) xiPart 1) (boundTerm f w (plain r) (plain y) xiPart 1) (suc k)) → Rest w r k (suc (suc k)) c → boundTotal f w (boundTerm f w (plain r) (plain y) xiPart 1) (suc k) .magnitude + 2 * c ≤ b
+  v1-most : (c b : ℕ) → T (totalNoOverflow f w (termNoOverflow f w (plain r) (plain y) xiPart 1) (boundTerm f w (plain r) (plain y) xiPart 1) (suc k))
+      → Rest w r k (suc (suc k)) c → boundTotal f w (boundTerm f w (plain r) (plain y) xiPart 1) (suc k) .magnitude + 2 * c ≤ b
       → (n : ℕ) → AtMost w (exactTotal (exactTerm (valueOf sigma) (valueOf z) xiPart 1) (suc k + n)) b
   v1-most c b t q l n =
       let V1 = exactTotal (exactTerm (valueOf sigma) (valueOf z) xiPart 1) in
@@ -125,7 +144,9 @@ module _ (f : Format) (w r y k : ℕ) (sigma z : Float) (wp : 0 < w) (half : 2 *
       (most-near w (V1 (suc k + n)) (V1 (suc k)) B (2 * c) (g .above)
       (tail-v1 w r (valueOf sigma) (valueOf z) wp (value-pos w sigma r (h .sigma)) (value-pos w z y (h .z)) (value-signed w sigma r (h .sigma)) (h .plain) (h .delta) k c half q n) (g .size))
 
-  v2-most : (c b : ℕ) → T (totalNoOverflow f w (termNoOverflow f w (plain r) (plain y) zetaPart 1) (boundTerm f w (plain r) (plain y) zetaPart 1) (suc (suc k))) → Rest w r k (2 * suc (suc (suc k))) c → boundTotal f w (boundTerm f w (plain r) (plain y) zetaPart 1) (suc (suc k)) .magnitude + 2 * c ≤ b
+  v2-most : (c b : ℕ) → T (totalNoOverflow f w (termNoOverflow f w (plain r) (plain y) zetaPart 1) (boundTerm f w (plain r) (plain y) zetaPart 1)
+      (suc (suc k))) → Rest w r k (2 * suc (suc (suc k))) c → boundTotal f w (boundTerm f w (plain r) (plain y) zetaPart 1)
+      (suc (suc k)) .magnitude + 2 * c ≤ b
       → (n : ℕ) → AtMost w (exactTotal (exactTerm (valueOf sigma) (valueOf z) zetaPart 1) (suc (suc k) + n)) b
   v2-most c b t q l n =
       let V2 = exactTotal (exactTerm (valueOf sigma) (valueOf z) zetaPart 1) in
@@ -138,12 +159,14 @@ module _ (f : Format) (w r y k : ℕ) (sigma z : Float) (wp : 0 < w) (half : 2 *
 -- ---- times 1
 times-one : (y : Value) → times (valueOf f1) y ≡ y
 unfolding valueOf
-times-one y = ap (λ (p : ℕ). record { p = p; n = 1 * y .n + 0 * y .p; d = 1 * y .d }) (one (y .p) (y .n)) ∙ ap (λ (n : ℕ). record { p = y .p; n = n; d = 1 * y .d }) (one (y .n) (y .p)) ∙ ap (λ (d : ℕ). record { p = y .p; n = y .n; d = d }) (one-mul (y .d))
+times-one y = ap (λ (p : ℕ). record { p = p; n = 1 * y .n + 0 * y .p; d = 1 * y .d }) (one (y .p) (y .n)) ∙ ap
+    (λ (n : ℕ). record { p = y .p; n = n; d = 1 * y .d }) (one (y .n) (y .p)) ∙ ap (λ (d : ℕ). record { p = y .p; n = y .n; d = d }) (one-mul (y .d))
   where
     one : (a b : ℕ) → 1 * a + 0 * b ≡ a
     one a b = omega arith
 
-unscaled-within : (f : Format) (w : ℕ) (x : Float) (y : Value) (b e : ℕ) → 0 < w → AbsoluteError w x y e → AtMost w y b → 0 < y .d → T (inRange f w (prodReach w (plain w) (record { magnitude = b; error = e }))) → ForwardError w (mul f f1 x) y (unscaled f w b e)
+unscaled-within : (f : Format) (w : ℕ) (x : Float) (y : Value) (b e : ℕ) → 0 < w → AbsoluteError w x y e → AtMost w y b → 0 < y .d → T
+    (inRange f w (prodReach w (plain w) (record { magnitude = b; error = e }))) → ForwardError w (mul f f1 x) y (unscaled f w b e)
 unscaled-within f w x y b e z h k a t =
     subst (λ (v : Value). ForwardError w (mul f f1 x) v (unscaled f w b e)) (times-one y)
     (forward-prod f w f1 x (valueOf f1) y (plain w) (record { magnitude = b; error = e }) z (one-forward w) (record { close = h; size = k; above = a }) t)
@@ -160,16 +183,24 @@ abbrev coeffsOf : Format → Sim3Tangent → Values → Sim3Coeffs
 coeffsOf f tau v = coeffsScaled f (tau .sigma) (vecNormSq f (tau .phi)) v .c
 
 module _ (f : Format) (w a b e b0 b1 b2 e0 e1 e2 : ℕ) (tau : Sim3Tangent) (v : Values) (y0 y1 y2 : Value) where
-  exp-plain : 0 < w → VecIn w a (tau .phi) → VecIn w b (tau .rho) → AbsoluteError w (coeffsOf f tau v .v0) y0 e0 → AbsoluteError w (coeffsOf f tau v .v1) y1 e1 → AbsoluteError w (coeffsOf f tau v .v2) y2 e2 → AtMost w y0 b0 → AtMost w y1 b1 → AtMost w y2 b2 → 0 < y0 .d → 0 < y1 .d → 0 < y2 .d
-      → T (inRange f w (prodReach w (plain w) (record { magnitude = b0; error = e0 }))) → T (inRange f w (prodReach w (plain w) (record { magnitude = b1; error = e1 }))) → T (inRange f w (prodReach w (plain w) (record { magnitude = b2; error = e2 })))
+  exp-plain : 0 < w → VecIn w a (tau .phi) → VecIn w b (tau .rho) → AbsoluteError w (coeffsOf f tau v .v0) y0 e0 → AbsoluteError w
+      (coeffsOf f tau v .v1) y1 e1 → AbsoluteError w (coeffsOf f tau v .v2) y2 e2 → AtMost w y0 b0 → AtMost w y1 b1 → AtMost w y2 b2 → 0 < y0 .d
+      → 0 < y1 .d → 0 < y2 .d
+      → T (inRange f w (prodReach w (plain w) (record { magnitude = b0; error = e0 }))) → T
+      (inRange f w (prodReach w (plain w) (record { magnitude = b1; error = e1 }))) → T
+      (inRange f w (prodReach w (plain w) (record { magnitude = b2; error = e2 })))
       → T (polyHolds f w a b (unscaled f w b0 e0) (unscaled f w b1 e1) (unscaled f w b2 e2) e)
-      → VecError w (polyApply f (tau .phi) (mul f f1 (coeffsOf f tau v .v0)) (mul f f1 (coeffsOf f tau v .v1)) (mul f f1 (coeffsOf f tau v .v2)) (tau .rho)) (exactPoly (exactVec (tau .phi)) y0 y1 y2 (exactVec (tau .rho))) e
+      → VecError w (polyApply f (tau .phi) (mul f f1 (coeffsOf f tau v .v0)) (mul f f1 (coeffsOf f tau v .v1)) (mul f f1 (coeffsOf f tau v .v2))
+      (tau .rho)) (exactPoly (exactVec (tau .phi)) y0 y1 y2 (exactVec (tau .rho))) e
   exp-plain z hp hr h0 h1 h2 m0 m1 m2 a0 a1 a2 i0 i1 i2 t =
-      poly-close f w a b e (tau .phi) (tau .rho) (mul f f1 (coeffsOf f tau v .v0)) (mul f f1 (coeffsOf f tau v .v1)) (mul f f1 (coeffsOf f tau v .v2)) y0 y1 y2 (unscaled f w b0 e0) (unscaled f w b1 e1) (unscaled f w b2 e2) z hp hr
-      (unscaled-within f w (coeffsOf f tau v .v0) y0 b0 e0 z h0 m0 a0 i0) (unscaled-within f w (coeffsOf f tau v .v1) y1 b1 e1 z h1 m1 a1 i1) (unscaled-within f w (coeffsOf f tau v .v2) y2 b2 e2 z h2 m2 a2 i2) t
+      poly-close f w a b e (tau .phi) (tau .rho) (mul f f1 (coeffsOf f tau v .v0)) (mul f f1 (coeffsOf f tau v .v1))
+      (mul f f1 (coeffsOf f tau v .v2)) y0 y1 y2 (unscaled f w b0 e0) (unscaled f w b1 e1) (unscaled f w b2 e2) z hp hr
+      (unscaled-within f w (coeffsOf f tau v .v0) y0 b0 e0 z h0 m0 a0 i0) (unscaled-within f w (coeffsOf f tau v .v1) y1 b1 e1 z h1 m1 a1 i1)
+      (unscaled-within f w (coeffsOf f tau v .v2) y2 b2 e2 z h2 m2 a2 i2) t
 
   exp-chosen : T (lt (vecNormSq f (tau .phi)) (rowLimit f bRow)) → coeffsScaled f (tau .sigma) (vecNormSq f (tau .phi)) v .scaled ≡ false
-      → VecError w (polyApply f (tau .phi) (mul f f1 (coeffsOf f tau v .v0)) (mul f f1 (coeffsOf f tau v .v1)) (mul f f1 (coeffsOf f tau v .v2)) (tau .rho)) (exactPoly (exactVec (tau .phi)) y0 y1 y2 (exactVec (tau .rho))) e
+      → VecError w (polyApply f (tau .phi) (mul f f1 (coeffsOf f tau v .v0)) (mul f f1 (coeffsOf f tau v .v1)) (mul f f1 (coeffsOf f tau v .v2))
+      (tau .rho)) (exactPoly (exactVec (tau .phi)) y0 y1 y2 (exactVec (tau .rho))) e
       → VecError w (poseExp f tau v .t) (exactPoly (exactVec (tau .phi)) y0 y1 y2 (exactVec (tau .rho))) e
   unfolding poseExp vApply coeffsV coeffsPlain coeffsUnscale coeffs4
   exp-chosen t s h =
@@ -183,12 +214,15 @@ not-scaled : (f : Format) (sigma z : Float) (v : Values) → T (lt (coeffsDelta 
 unfolding coeffsScaled coeffsArm
 not-scaled f sigma z v t =
     let d = coeffsDelta f sigma z in
-    by-arm (λ (arm : ℕ). cond (ltb arm 5) (record { c = seriesFull f sigma z (armTerms f arm); scaled = false }) (closedScaled f sigma z (circleSincABD f z (v .root) (v .«sin_half») (v .«cos_half») (v .sin)) (v .e) (v .m) (armEnds f sigma arm)) .scaled ≡ false)
+    by-arm (λ (arm : ℕ). cond (ltb arm 5) (record { c = seriesFull f sigma z (armTerms f arm); scaled = false })
+    (closedScaled f sigma z (circleSincABD f z (v .root) (v .«sin_half») (v .«cos_half») (v .sin)) (v .e) (v .m) (armEnds f sigma arm)) .scaled
+    ≡ false)
     (lt d (shortBelow f)) (lt d (midBelow f)) (lt d (upperBelow f)) (lt d (seriesBelow f)) (λ h. refl) (λ h. refl) (λ h. refl) (λ h. refl) t
 
 -- the sizes of the sums over the whole domain of the series
 most64 : (sigma z : Float) → T (lt (coeffsDelta binary64 sigma z) (seriesBelow binary64)) → T (not (lt z f0)) → (n : ℕ)
-    → AtMost (2 ^ 100) (sum0 sigma (23 + n)) (9 * 2 ^ 98) × AtMost (2 ^ 100) (sum1 sigma z (23 + n)) (7 * 2 ^ 98) × AtMost (2 ^ 100) (sum2 sigma z (23 + n)) (5 * 2 ^ 97) × (0 < valueOf sigma .d) × (0 < valueOf z .d)
+    → AtMost (2 ^ 100) (sum0 sigma (23 + n)) (9 * 2 ^ 98) × AtMost (2 ^ 100) (sum1 sigma z (23 + n)) (7 * 2 ^ 98) × AtMost (2 ^ 100)
+    (sum2 sigma z (23 + n)) (5 * 2 ^ 97) × (0 < valueOf sigma .d) × (0 < valueOf z .d)
 unfolding ofBits hornerNoOverflow totalNoOverflow termNoOverflow boundHorner boundTotal boundTerm factorial
 most64 sigma z t p n =
     let w = 2 ^ 100 in
@@ -211,13 +245,17 @@ exp-of64 b e o tau v t l hp hr n =
     let s = tau .sigma in
     let c = eight-binary64 s z v t p in
     let m = most64 s z t p n in
-    exp-chosen binary64 (2 ^ 100) (3 * 2 ^ 99) b e (9 * 2 ^ 98) (7 * 2 ^ 98) (5 * 2 ^ 97) (2 ^ 51) (2 ^ 53) (2 ^ 52) tau v (sum0 s (23 + n)) (sum1 s z (23 + n)) (sum2 s z (23 + n)) l (not-scaled binary64 s z v t)
-    (exp-plain binary64 (2 ^ 100) (3 * 2 ^ 99) b e (9 * 2 ^ 98) (7 * 2 ^ 98) (5 * 2 ^ 97) (2 ^ 51) (2 ^ 53) (2 ^ 52) tau v (sum0 s (23 + n)) (sum1 s z (23 + n)) (sum2 s z (23 + n)) (lit< tt) hp hr (c .v0 n) (c .v1 n) (c .v2 n) (m .0) (m .1) (m .2)
-    (horner-above (valueOf s) (valueOf z) (m .3) (m .4) 1 (23 + n)) (total-above (valueOf s) (valueOf z) (m .3) (m .4) xiPart 1 (23 + n)) (total-above (valueOf s) (valueOf z) (m .3) (m .4) zetaPart 1 (23 + n)) tt tt tt o)
+    exp-chosen binary64 (2 ^ 100) (3 * 2 ^ 99) b e (9 * 2 ^ 98) (7 * 2 ^ 98) (5 * 2 ^ 97) (2 ^ 51) (2 ^ 53) (2 ^ 52) tau v (sum0 s (23 + n))
+    (sum1 s z (23 + n)) (sum2 s z (23 + n)) l (not-scaled binary64 s z v t)
+    (exp-plain binary64 (2 ^ 100) (3 * 2 ^ 99) b e (9 * 2 ^ 98) (7 * 2 ^ 98) (5 * 2 ^ 97) (2 ^ 51) (2 ^ 53) (2 ^ 52) tau v (sum0 s (23 + n))
+    (sum1 s z (23 + n)) (sum2 s z (23 + n)) (lit< tt) hp hr (c .v0 n) (c .v1 n) (c .v2 n) (m .0) (m .1) (m .2)
+    (horner-above (valueOf s) (valueOf z) (m .3) (m .4) 1 (23 + n)) (total-above (valueOf s) (valueOf z) (m .3) (m .4) xiPart 1 (23 + n))
+    (total-above (valueOf s) (valueOf z) (m .3) (m .4) zetaPart 1 (23 + n)) tt tt tt o)
 
 -- ---- the same at binary32, with sums of 15 terms or more
 most32 : (sigma z : Float) → T (lt (coeffsDelta binary32 sigma z) (seriesBelow binary32)) → T (not (lt z f0)) → (n : ℕ)
-    → AtMost (2 ^ 100) (sum0 sigma (15 + n)) (5 * 2 ^ 99) × AtMost (2 ^ 100) (sum1 sigma z (15 + n)) (2 ^ 101) × AtMost (2 ^ 100) (sum2 sigma z (15 + n)) (3 * 2 ^ 98) × (0 < valueOf sigma .d) × (0 < valueOf z .d)
+    → AtMost (2 ^ 100) (sum0 sigma (15 + n)) (5 * 2 ^ 99) × AtMost (2 ^ 100) (sum1 sigma z (15 + n)) (2 ^ 101) × AtMost (2 ^ 100)
+    (sum2 sigma z (15 + n)) (3 * 2 ^ 98) × (0 < valueOf sigma .d) × (0 < valueOf z .d)
 unfolding ofBits hornerNoOverflow totalNoOverflow termNoOverflow boundHorner boundTotal boundTerm factorial
 most32 sigma z t p n =
     let w = 2 ^ 100 in
@@ -239,11 +277,15 @@ exp-of32 b e o tau v t l hp hr n =
     let s = tau .sigma in
     let c = eight-binary32 s z v t p in
     let m = most32 s z t p n in
-    exp-chosen binary32 (2 ^ 100) (13 * 2 ^ 97) b e (5 * 2 ^ 99) (2 ^ 101) (3 * 2 ^ 98) (2 ^ 81) (2 ^ 82) (2 ^ 80) tau v (sum0 s (15 + n)) (sum1 s z (15 + n)) (sum2 s z (15 + n)) l (not-scaled binary32 s z v t)
-    (exp-plain binary32 (2 ^ 100) (13 * 2 ^ 97) b e (5 * 2 ^ 99) (2 ^ 101) (3 * 2 ^ 98) (2 ^ 81) (2 ^ 82) (2 ^ 80) tau v (sum0 s (15 + n)) (sum1 s z (15 + n)) (sum2 s z (15 + n)) (lit< tt) hp hr (c .v0 n) (c .v1 n) (c .v2 n) (m .0) (m .1) (m .2)
-    (horner-above (valueOf s) (valueOf z) (m .3) (m .4) 1 (15 + n)) (total-above (valueOf s) (valueOf z) (m .3) (m .4) xiPart 1 (15 + n)) (total-above (valueOf s) (valueOf z) (m .3) (m .4) zetaPart 1 (15 + n)) tt tt tt o)
+    exp-chosen binary32 (2 ^ 100) (13 * 2 ^ 97) b e (5 * 2 ^ 99) (2 ^ 101) (3 * 2 ^ 98) (2 ^ 81) (2 ^ 82) (2 ^ 80) tau v (sum0 s (15 + n))
+    (sum1 s z (15 + n)) (sum2 s z (15 + n)) l (not-scaled binary32 s z v t)
+    (exp-plain binary32 (2 ^ 100) (13 * 2 ^ 97) b e (5 * 2 ^ 99) (2 ^ 101) (3 * 2 ^ 98) (2 ^ 81) (2 ^ 82) (2 ^ 80) tau v (sum0 s (15 + n))
+    (sum1 s z (15 + n)) (sum2 s z (15 + n)) (lit< tt) hp hr (c .v0 n) (c .v1 n) (c .v2 n) (m .0) (m .1) (m .2)
+    (horner-above (valueOf s) (valueOf z) (m .3) (m .4) 1 (15 + n)) (total-above (valueOf s) (valueOf z) (m .3) (m .4) xiPart 1 (15 + n))
+    (total-above (valueOf s) (valueOf z) (m .3) (m .4) zetaPart 1 (15 + n)) tt tt tt o)
 
-exp-rotation : (f : Format) → ((phi : Vec3) (root sh ch : Float) → RotationAccurate f phi (so3Exp f phi root sh ch)) → (tau : Sim3Tangent) (v : Values) → RotationAccurate f (tau .phi) (poseExp f tau v .q)
+exp-rotation : (f : Format) → ((phi : Vec3) (root sh ch : Float) → RotationAccurate f phi (so3Exp f phi root sh ch)) → (tau : Sim3Tangent)
+    (v : Values) → RotationAccurate f (tau .phi) (poseExp f tau v .q)
 unfolding poseExp
 exp-rotation f h tau v = h (tau .phi) (v .root) (v .«sin_half») (v .«cos_half»)
 

@@ -19,7 +19,8 @@ factor-whole w u r e sp sn sd xp xn xd yp yn yd h =
     let x = mul-le-mul-right sd h in
     simp expand (omega (arith, simp expand at x))
 
-over-factor : (w u r e sp sn sd xp xn xd yp yn yd : ℕ) → w * sp ≤ w * sn + r * sd → w * sn ≤ w * sp + r * sd → u * (xp * yd + yn * xd) ≤ u * (xn * yd + yp * xd) + e * (xd * yd) → u * (xn * yd + yp * xd) ≤ u * (xp * yd + yn * xd) + e * (xd * yd)
+over-factor : (w u r e sp sn sd xp xn xd yp yn yd : ℕ) → w * sp ≤ w * sn + r * sd → w * sn ≤ w * sp + r * sd → u * (xp * yd + yn * xd) ≤ u *
+    (xn * yd + yp * xd) + e * (xd * yd) → u * (xn * yd + yp * xd) ≤ u * (xp * yd + yn * xd) + e * (xd * yd)
     → w * u * ((sp * xp + sn * xn) * (sd * yd) + (sp * yn + sn * yp) * (sd * xd)) ≤ w * u * ((sp * xn + sn * xp) * (sd * yd) + (sp * yp + sn * yn) * (sd * xd)) + r * e * (sd * xd * (sd * yd))
 over-factor w u r e sp sn sd xp xn xd yp yn yd a b h k =
     factor-whole w u r e sp sn sd xp xn xd yp yn yd
@@ -97,7 +98,8 @@ late : (r w k l : ℕ) → 2 * r ≤ suc (suc k + l) * w → 2 * r ≤ suc (k + 
 late r w k l h = subst (λ (i : ℕ). 2 * r ≤ suc i * w) (suc-add k l ∙ sym (add-suc k l)) h
 
 unit-step : (w k l : ℕ) → w * (w ^ k * factorial (k + suc l)) ≡ w ^ suc k * factorial (suc k + l)
-unit-step w k l = sym (mul-assoc w (w ^ k) (factorial (k + suc l))) ∙ ap (λ (i : ℕ). i * factorial (k + suc l)) (mul-comm w (w ^ k) ∙ sym (pow-suc w k)) ∙ ap (λ (i : ℕ). w ^ suc k * factorial i) (add-suc k l ∙ sym (suc-add k l))
+unit-step w k l = sym (mul-assoc w (w ^ k) (factorial (k + suc l))) ∙ ap (λ (i : ℕ). i * factorial (k + suc l))
+    (mul-comm w (w ^ k) ∙ sym (pow-suc w k)) ∙ ap (λ (i : ℕ). w ^ suc k * factorial i) (add-suc k l ∙ sym (suc-add k l))
 
 error-step : (r k : ℕ) → r * (r ^ k * 2) ≡ r ^ suc k * 2
 error-step r k = sym (mul-assoc r (r ^ k) 2) ∙ ap (λ (i : ℕ). i * 2) (mul-comm r (r ^ k) ∙ sym (pow-suc r k))

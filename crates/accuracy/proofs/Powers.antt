@@ -125,7 +125,18 @@ pairs (suc j) = pairs j + suc (suc j)
 pub twice-pairs : (j : ℕ) → 2 * pairs j ≡ suc j * suc (suc j)
 unfolding pairs
 twice-pairs zero = refl
-twice-pairs (suc j) = let i = twice-pairs j in simp expand (omega (arith, i, suc-mul j (suc (suc j)), suc-mul (suc j) (suc (suc (suc j))), mul-comm j (suc (suc (suc j))), mul-comm j (suc (suc j)), suc-mul j j, suc-mul (suc j) j, suc-mul (suc (suc j)) j))
+twice-pairs (suc j) = let i = twice-pairs j in simp expand (omega (
+  arith,
+  i,
+  suc-mul j (suc (suc j)),
+  suc-mul (suc j) (suc (suc (suc j))),
+  mul-comm j
+      (suc (suc (suc j))),
+  mul-comm j (suc (suc j)),
+  suc-mul j j,
+  suc-mul (suc j) j,
+  suc-mul (suc (suc j)) j,
+))
 
 x-step : (j r k : ℕ) → r * (suc j * k) + k * r ≡ suc (suc j) * (k * r)
 x-step j r k = rw (suc-mul (suc j) (k * r)) (simp expand)
@@ -147,7 +158,8 @@ module _ (s s' y t r : ℕ) (e : s * s + s' * s' + y ≡ t + 2 * (s * s')) (b : 
   pub h-size : (j : ℕ) → Size (state s s' y j .h) (state s s' y j .h') (r ^ j)
   h-size j =
       let a = state s s' y j in
-      let d : a .h * a .h + a .h' * a .h' ≤ t ^ j + 2 * (a .h * a .h') = drop-x (a .h * a .h + a .h' * a .h') y (a .x * a .x + a .x' * a .x') (2 * (a .h * a .h')) (t ^ j) (2 * (a .x * a .x')) (norm j) (twice-le (a .x) (a .x')) in
+      let d : a .h * a .h + a .h' * a .h' ≤ t ^ j + 2 * (a .h * a .h') = drop-x (a .h * a .h + a .h' * a .h') y (a .x * a .x + a .x' * a .x')
+      (2 * (a .h * a .h')) (t ^ j) (2 * (a .x * a .x')) (norm j) (twice-le (a .x) (a .x')) in
       let k : t ^ j ≤ r ^ j * r ^ j = le-trans (power-mono t (r * r) j b) (le-of-eq (power-square r j)) in
       size-root (a .h) (a .h') (r ^ j) (omega arith)
 
@@ -172,8 +184,10 @@ module _ (s s' y t r : ℕ) (e : s * s + s' * s' + y ≡ t + 2 * (s * s')) (b : 
   z-size zero = rw pow-zero (record { above = omega arith; below = omega arith })
   z-size (suc j) =
       let a = state s s' y (suc (suc j)) in
-      rw pow-suc (size-same (s * a .z + s' * a .z' + a .x) (s * a .z' + s' * a .z + a .x') (r * (pairs j * r ^ j) + suc (suc j) * (r ^ j * r)) ((pairs j + suc (suc j)) * (r ^ j * r)) (z-step (pairs j) j r (r ^ j))
-      (size-sum (s * a .z + s' * a .z') (s * a .z' + s' * a .z) (a .x) (a .x') (r * (pairs j * r ^ j)) (suc (suc j) * (r ^ j * r)) (size-product s s' (a .z) (a .z') r (pairs j * r ^ j) s-size (z-size j))
+      rw pow-suc (size-same (s * a .z + s' * a .z' + a .x) (s * a .z' + s' * a .z + a .x') (r * (pairs j * r ^ j) + suc (suc j) * (r ^ j * r))
+      ((pairs j + suc (suc j)) * (r ^ j * r)) (z-step (pairs j) j r (r ^ j))
+      (size-sum (s * a .z + s' * a .z') (s * a .z' + s' * a .z) (a .x) (a .x') (r * (pairs j * r ^ j)) (suc (suc j) * (r ^ j * r))
+      (size-product s s' (a .z) (a .z') r (pairs j * r ^ j) s-size (z-size j))
       (rw pow-suc at (x-size (suc j)))))
 
   -- h is p - y z

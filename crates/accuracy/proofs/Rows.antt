@@ -80,7 +80,8 @@ near-add u e x y h =
 near-same : (u : ℕ) (x : Value) (e : ℕ) → Near u x x e
 near-same u x e = record { above = omega arith; below = omega arith }
 
-module _ (w y : ℕ) (rule : ℕ → Rational) (ones : (i : ℕ) → rule i .num ≡ 1) (dens : (i : ℕ) → 0 < rule i .den) (ratio : (i : ℕ) → rule (suc i) .den * (y * 2) ≤ w * rule (suc (suc i)) .den) (z : Value) (wp : 0 < w) (h : AtMost w z y) where
+module _ (w y : ℕ) (rule : ℕ → Rational) (ones : (i : ℕ) → rule i .num ≡ 1) (dens : (i : ℕ) → 0 < rule i .den)
+    (ratio : (i : ℕ) → rule (suc i) .den * (y * 2) ≤ w * rule (suc (suc i)) .den) (z : Value) (wp : 0 < w) (h : AtMost w z y) where
   entry-most : (i : ℕ) → AtMost (rule i .den) (ruleValue rule i) 1
   entry-most i = most-signed (rule i .den) 1 (rule i .negative) (rule i .num) (rule i .den) (le-of-eq (ap (λ (x : ℕ). rule i .den * x) (ones i) ∙ one (rule i .den)))
     where
@@ -103,13 +104,15 @@ module _ (w y : ℕ) (rule : ℕ → Rational) (ones : (i : ℕ) → rule i .num
   row-tail : (k i n : ℕ) → Near (restUnit w rule i k) (exactRow rule z i (suc (longer k n))) (exactRow rule z i (suc k)) (restMost y k)
   unfolding exactRow restUnit restMost longer
   row-tail zero i zero = near-same (w * rule (suc i) .den) (ruleValue rule i) (y * 2)
-  row-tail zero i (suc n) = near-add (w * rule (suc i) .den) (y * 2) (ruleValue rule i) (times z (exactRow rule z (suc i) (suc n))) (most-factor w (rule (suc i) .den) z (exactRow rule z (suc i) (suc n)) y 2 h (row-most n i))
+  row-tail zero i (suc n) = near-add (w * rule (suc i) .den) (y * 2) (ruleValue rule i) (times z (exactRow rule z (suc i) (suc n)))
+      (most-factor w (rule (suc i) .den) z (exactRow rule z (suc i) (suc n)) y 2 h (row-most n i))
   row-tail (suc k) i n =
       let u = restUnit w rule (suc i) k in
       let long = exactRow rule z (suc i) (suc (longer k n)) in
       let short = exactRow rule z (suc i) (suc k) in
       subst (λ (e : ℕ). Near (w * u) (plus (ruleValue rule i) (times z long)) (plus (ruleValue rule i) (times z short)) e) (zero-add (y * restMost y k))
-      (near-plus (w * u) (ruleValue rule i) (ruleValue rule i) (times z long) (times z short) 0 (y * restMost y k) (near-same (w * u) (ruleValue rule i) 0) (near-factor w u z long short y (restMost y k) h (row-tail k (suc i) n)))
+      (near-plus (w * u) (ruleValue rule i) (ruleValue rule i) (times z long) (times z short) 0 (y * restMost y k)
+      (near-same (w * u) (ruleValue rule i) 0) (near-factor w u z long short y (restMost y k) h (row-tail k (suc i) n)))
 
   rest-above : (k i : ℕ) → 0 < restUnit w rule i k
   unfolding restUnit
@@ -122,8 +125,10 @@ unfolding longer
 longer-is zero n = sym (zero-add n)
 longer-is (suc k) n = ap (λ (x : ℕ). suc x) (longer-is k n) ∙ sym (suc-add k n)
 
-pub row-close : (f : Format) (w y k c g : ℕ) (rule : ℕ → Rational) → ((i : ℕ) → rule i .num ≡ 1) → ((i : ℕ) → 0 < rule i .den) → ((i : ℕ) → rule (suc i) .den * (y * 2) ≤ w * rule (suc (suc i)) .den) → 0 < w → (x : Float) → Bounded w x y
-    → T (rowNoOverflow f w rule (plain y) 0 k) → w * restMost y k ≤ c * restUnit w rule 0 k → rowBound f w rule (plain y) 0 k .error + c ≤ g → (n : ℕ) → AbsoluteError w (hornerSum f x (entries f rule 0 (suc k))) (exactRow rule (valueOf x) 0 (suc (k + n))) g
+pub row-close : (f : Format) (w y k c g : ℕ) (rule : ℕ → Rational) → ((i : ℕ) → rule i .num ≡ 1) → ((i : ℕ) → 0 < rule i .den) →
+    ((i : ℕ) → rule (suc i) .den * (y * 2) ≤ w * rule (suc (suc i)) .den) → 0 < w → (x : Float) → Bounded w x y
+    → T (rowNoOverflow f w rule (plain y) 0 k) → w * restMost y k ≤ c * restUnit w rule 0 k → rowBound f w rule (plain y) 0 k .error + c ≤ g → (n : ℕ)
+    → AbsoluteError w (hornerSum f x (entries f rule 0 (suc k))) (exactRow rule (valueOf x) 0 (suc (k + n))) g
 row-close f w y k c g rule ones dens ratio wp x h t r m n =
     let z = valueOf x in
     let hx = leaf-forward w x y h in
@@ -132,7 +137,8 @@ row-close f w y k c g rule ones dens ratio wp x h t r m n =
     let E = rowBound f w rule (plain y) 0 k .error in
     let long = exactRow rule z 0 (suc (longer k n)) in
     let short = exactRow rule z 0 (suc k) in
-    let tl : Near w long short c = near-convert w (restUnit w rule 0 k) long short c (restMost y k) (rest-above w y rule ones dens ratio z wp (hx .size) k 0) r (row-tail w y rule ones dens ratio z wp (hx .size) k 0 n) in
+    let tl : Near w long short c = near-convert w (restUnit w rule 0 k) long short c (restMost y k)
+    (rest-above w y rule ones dens ratio z wp (hx .size) k 0) r (row-tail w y rule ones dens ratio z wp (hx .size) k 0 n) in
     subst (λ (j : ℕ). AbsoluteError w X (exactRow rule z 0 (suc j)) g) (longer-is k n)
     (error-wider w X long (E + c) g m (error-trans w X short long E c (a .above) (a .close) (near-turn w long short c tl)))
 
@@ -142,8 +148,11 @@ row-above rule dens z h zero i = dens i
 row-above rule dens z h (suc n) i = mul-pos (dens i) (mul-pos h (row-above rule dens z h n (suc i)))
 
 -- with its size
-pub row-in : (f : Format) (w y k c g b : ℕ) (rule : ℕ → Rational) → ((i : ℕ) → rule i .num ≡ 1) → ((i : ℕ) → 0 < rule i .den) → ((i : ℕ) → rule (suc i) .den * (y * 2) ≤ w * rule (suc (suc i)) .den) → 0 < w → (x : Float) → Bounded w x y
-    → T (rowNoOverflow f w rule (plain y) 0 k) → w * restMost y k ≤ c * restUnit w rule 0 k → rowBound f w rule (plain y) 0 k .error + c ≤ g → rowBound f w rule (plain y) 0 k .magnitude + c ≤ b → (n : ℕ) → ForwardError w (hornerSum f x (entries f rule 0 (suc k))) (exactRow rule (valueOf x) 0 (suc (k + n))) (record { magnitude = b; error = g })
+pub row-in : (f : Format) (w y k c g b : ℕ) (rule : ℕ → Rational) → ((i : ℕ) → rule i .num ≡ 1) → ((i : ℕ) → 0 < rule i .den) →
+    ((i : ℕ) → rule (suc i) .den * (y * 2) ≤ w * rule (suc (suc i)) .den) → 0 < w → (x : Float) → Bounded w x y
+    → T (rowNoOverflow f w rule (plain y) 0 k) → w * restMost y k ≤ c * restUnit w rule 0 k → rowBound f w rule (plain y) 0 k .error + c ≤ g
+    → rowBound f w rule (plain y) 0 k .magnitude + c ≤ b → (n : ℕ) → ForwardError w (hornerSum f x (entries f rule 0 (suc k)))
+    (exactRow rule (valueOf x) 0 (suc (k + n))) (record { magnitude = b; error = g })
 row-in f w y k c g b rule ones dens ratio wp x h t r m l n =
     let z = valueOf x in
     let hx = leaf-forward w x y h in
@@ -151,7 +160,8 @@ row-in f w y k c g b rule ones dens ratio wp x h t r m l n =
     let B = rowBound f w rule (plain y) 0 k .magnitude in
     let long = exactRow rule z 0 (suc (longer k n)) in
     let short = exactRow rule z 0 (suc k) in
-    let tl : Near w long short c = near-convert w (restUnit w rule 0 k) long short c (restMost y k) (rest-above w y rule ones dens ratio z wp (hx .size) k 0) r (row-tail w y rule ones dens ratio z wp (hx .size) k 0 n) in
+    let tl : Near w long short c = near-convert w (restUnit w rule 0 k) long short c (restMost y k)
+    (rest-above w y rule ones dens ratio z wp (hx .size) k 0) r (row-tail w y rule ones dens ratio z wp (hx .size) k 0 n) in
     record {
       close = row-close f w y k c g rule ones dens ratio wp x h t r m n;
       size = subst (λ (j : ℕ). AtMost w (exactRow rule z 0 (suc j)) b) (longer-is k n) (most-wider w long (B + c) b l (most-near w long short B c (a .above) tl (a .size)));
@@ -267,14 +277,22 @@ circle-in64 z root sh ch tc tk p n =
     let K = exactRow (rowRule kRow) (valueOf z) 0 in (
       member (λ (x : Float). ForwardError w x (C (suc (10 + n))) (record { magnitude = (7 * 2 ^ 98); error = (2 ^ 50) })) (lt z (expShortLimit binary64)) (lt z (rowLimit binary64 cosHalfRow)) _ _ _ tc
           (λ t. more (λ (i : ℕ). ForwardError w (rowShort binary64 cosHalfRow z) (C i) (record { magnitude = (7 * 2 ^ 98); error = (2 ^ 50) })) 4 6 10 refl
-          (row-in binary64 w (3016614013290099 * 2 ^ 41) 4 (2 ^ 44) (2 ^ 50) (7 * 2 ^ 98) (rowRule cosHalfRow) (one-num cosHalfRow) (row-dens cosHalfRow) (cos-ratio w (3016614013290099 * 2 ^ 41) (lit≤ tt)) (lit< tt) z (bounded-below w (3016614013290099 * 2 ^ 41) z 3016614013290099 (negsuc 58) t p (lit≤ tt)) tt (lit≤ tt) (lit≤ tt) (lit≤ tt)) n)
+          (row-in binary64 w (3016614013290099 * 2 ^ 41) 4 (2 ^ 44) (2 ^ 50) (7 * 2 ^ 98) (rowRule cosHalfRow) (one-num cosHalfRow)
+          (row-dens cosHalfRow) (cos-ratio w (3016614013290099 * 2 ^ 41) (lit≤ tt)) (lit< tt) z
+          (bounded-below w (3016614013290099 * 2 ^ 41) z 3016614013290099 (negsuc 58) t p (lit≤ tt)) tt (lit≤ tt) (lit≤ tt) (lit≤ tt)) n)
           (more (λ (i : ℕ). ForwardError w (rowWhole binary64 cosHalfRow z) (C i) (record { magnitude = (7 * 2 ^ 98); error = (2 ^ 50) })) 9 1 10 refl
-          (row-in binary64 w (5891824244707225 * 2 ^ 50) 9 (2 ^ 44) (2 ^ 50) (7 * 2 ^ 98) (rowRule cosHalfRow) (one-num cosHalfRow) (row-dens cosHalfRow) (cos-ratio w (5891824244707225 * 2 ^ 50) (lit≤ tt)) (lit< tt) z (bounded-below w (5891824244707225 * 2 ^ 50) z 5891824244707225 (negsuc 49) tc p (lit≤ tt)) tt (lit≤ tt) (lit≤ tt) (lit≤ tt)) n),
+          (row-in binary64 w (5891824244707225 * 2 ^ 50) 9 (2 ^ 44) (2 ^ 50) (7 * 2 ^ 98) (rowRule cosHalfRow) (one-num cosHalfRow)
+          (row-dens cosHalfRow) (cos-ratio w (5891824244707225 * 2 ^ 50) (lit≤ tt)) (lit< tt) z
+          (bounded-below w (5891824244707225 * 2 ^ 50) z 5891824244707225 (negsuc 49) tc p (lit≤ tt)) tt (lit≤ tt) (lit≤ tt) (lit≤ tt)) n),
       member (λ (x : Float). ForwardError w x (K (suc (10 + n))) (record { magnitude = (3 * 2 ^ 98); error = (2 ^ 48) })) (lt z (expShortLimit binary64)) (lt z (rowLimit binary64 kRow)) _ _ _ tk
           (λ t. more (λ (i : ℕ). ForwardError w (rowShort binary64 kRow z) (K i) (record { magnitude = (3 * 2 ^ 98); error = (2 ^ 48) })) 4 6 10 refl
-          (row-in binary64 w (3016614013290099 * 2 ^ 41) 4 (2 ^ 40) (2 ^ 48) (3 * 2 ^ 98) (rowRule kRow) (one-num kRow) (row-dens kRow) (k-ratio w (3016614013290099 * 2 ^ 41) (lit≤ tt)) (lit< tt) z (bounded-below w (3016614013290099 * 2 ^ 41) z 3016614013290099 (negsuc 58) t p (lit≤ tt)) tt (lit≤ tt) (lit≤ tt) (lit≤ tt)) n)
+          (row-in binary64 w (3016614013290099 * 2 ^ 41) 4 (2 ^ 40) (2 ^ 48) (3 * 2 ^ 98) (rowRule kRow) (one-num kRow) (row-dens kRow)
+          (k-ratio w (3016614013290099 * 2 ^ 41) (lit≤ tt)) (lit< tt) z
+          (bounded-below w (3016614013290099 * 2 ^ 41) z 3016614013290099 (negsuc 58) t p (lit≤ tt)) tt (lit≤ tt) (lit≤ tt) (lit≤ tt)) n)
           (more (λ (i : ℕ). ForwardError w (rowWhole binary64 kRow z) (K i) (record { magnitude = (3 * 2 ^ 98); error = (2 ^ 48) })) 10 0 10 refl
-          (row-in binary64 w (2715281069981685 * 2 ^ 52) 10 (2 ^ 40) (2 ^ 48) (3 * 2 ^ 98) (rowRule kRow) (one-num kRow) (row-dens kRow) (k-ratio w (2715281069981685 * 2 ^ 52) (lit≤ tt)) (lit< tt) z (bounded-below w (2715281069981685 * 2 ^ 52) z 2715281069981685 (negsuc 47) tk p (lit≤ tt)) tt (lit≤ tt) (lit≤ tt) (lit≤ tt)) n),
+          (row-in binary64 w (2715281069981685 * 2 ^ 52) 10 (2 ^ 40) (2 ^ 48) (3 * 2 ^ 98) (rowRule kRow) (one-num kRow) (row-dens kRow)
+          (k-ratio w (2715281069981685 * 2 ^ 52) (lit≤ tt)) (lit< tt) z
+          (bounded-below w (2715281069981685 * 2 ^ 52) z 2715281069981685 (negsuc 47) tk p (lit≤ tt)) tt (lit≤ tt) (lit≤ tt) (lit≤ tt)) n),
     )
 
 pub circle-binary64 : (z root sh ch : Float) → CircleAccurate binary64 z (circleExp binary64 z root sh ch)
@@ -291,8 +309,15 @@ rotation-binary64 phi root sh ch tc tk hp n =
     let K = exactRow (rowRule kRow) (valueOf z) 0 (suc (10 + n)) in
     let B : Bound = record { magnitude = (3 * 2 ^ 98); error = (2 ^ 48) } in
     let part : (x : Float) → Bounded w x (5 * 2 ^ 99) → AbsoluteError w (mul binary64 (c .k) x) (times K (valueOf x)) (2 ^ 50) =
-    λ x s. error-wider w (mul binary64 (c .k) x) (times K (valueOf x)) (prodBound binary64 w B (plain (5 * 2 ^ 99)) .error) (2 ^ 50) (lit≤ tt) (forward-prod binary64 w (c .k) x K (valueOf x) B (plain (5 * 2 ^ 99)) (lit< tt) (h .1) (leaf-forward w x (5 * 2 ^ 99) s) tt .close) in
-    record { w = error-wider w (c .«cos_half») (exactRow (rowRule cosHalfRow) (valueOf z) 0 (suc (10 + n))) (2 ^ 50) (2 ^ 50) (lit≤ tt) (h .0 .close); x = part (phi .x) (hp .x); y = part (phi .y) (hp .y); z = part (phi .z) (hp .z) }
+    λ x s. error-wider w (mul binary64 (c .k) x) (times K (valueOf x)) (prodBound binary64 w B (plain (5 * 2 ^ 99)) .error) (2 ^ 50) (lit≤ tt)
+    (forward-prod binary64 w (c .k) x K (valueOf x) B (plain (5 * 2 ^ 99)) (lit< tt) (h .1) (leaf-forward w x (5 * 2 ^ 99) s) tt .close) in
+    record {
+      w = error-wider w (c .«cos_half») (exactRow (rowRule cosHalfRow) (valueOf z) 0 (suc (10 + n))) (2 ^ 50) (2 ^ 50) (lit≤ tt)
+          (h .0 .close);
+      x = part (phi .x) (hp .x);
+      y = part (phi .y) (hp .y);
+      z = part (phi .z) (hp .z);
+    }
 
 -- binary32: of every sum of 7 terms or more
 circle-in32 : (z root sh ch : Float) → T (lt z (rowLimit binary32 cosHalfRow)) → T (lt z (rowLimit binary32 kRow)) → T (not (lt z f0)) → (n : ℕ)
@@ -305,14 +330,22 @@ circle-in32 z root sh ch tc tk p n =
     let K = exactRow (rowRule kRow) (valueOf z) 0 in (
       member (λ (x : Float). ForwardError w x (C (suc (6 + n))) (record { magnitude = (7 * 2 ^ 98); error = (2 ^ 79) })) (lt z (expShortLimit binary32)) (lt z (rowLimit binary32 cosHalfRow)) _ _ _ tc
           (λ t. more (λ (i : ℕ). ForwardError w (rowShort binary32 cosHalfRow z) (C i) (record { magnitude = (7 * 2 ^ 98); error = (2 ^ 79) })) 2 4 6 refl
-          (row-in binary32 w (16414961 * 2 ^ 67) 2 (2 ^ 74) (2 ^ 79) (7 * 2 ^ 98) (rowRule cosHalfRow) (one-num cosHalfRow) (row-dens cosHalfRow) (cos-ratio w (16414961 * 2 ^ 67) (lit≤ tt)) (lit< tt) z (bounded-below w (16414961 * 2 ^ 67) z 16414961 (negsuc 32) t p (lit≤ tt)) tt (lit≤ tt) (lit≤ tt) (lit≤ tt)) n)
+          (row-in binary32 w (16414961 * 2 ^ 67) 2 (2 ^ 74) (2 ^ 79) (7 * 2 ^ 98) (rowRule cosHalfRow) (one-num cosHalfRow) (row-dens cosHalfRow)
+          (cos-ratio w (16414961 * 2 ^ 67) (lit≤ tt)) (lit< tt) z (bounded-below w (16414961 * 2 ^ 67) z 16414961 (negsuc 32) t p (lit≤ tt)) tt
+          (lit≤ tt) (lit≤ tt) (lit≤ tt)) n)
           (more (λ (i : ℕ). ForwardError w (rowWhole binary32 cosHalfRow z) (C i) (record { magnitude = (7 * 2 ^ 98); error = (2 ^ 79) })) 5 1 6 refl
-          (row-in binary32 w (2375855 * 2 ^ 81) 5 (2 ^ 74) (2 ^ 79) (7 * 2 ^ 98) (rowRule cosHalfRow) (one-num cosHalfRow) (row-dens cosHalfRow) (cos-ratio w (2375855 * 2 ^ 81) (lit≤ tt)) (lit< tt) z (bounded-below w (2375855 * 2 ^ 81) z 2375855 (negsuc 18) tc p (lit≤ tt)) tt (lit≤ tt) (lit≤ tt) (lit≤ tt)) n),
+          (row-in binary32 w (2375855 * 2 ^ 81) 5 (2 ^ 74) (2 ^ 79) (7 * 2 ^ 98) (rowRule cosHalfRow) (one-num cosHalfRow) (row-dens cosHalfRow)
+          (cos-ratio w (2375855 * 2 ^ 81) (lit≤ tt)) (lit< tt) z (bounded-below w (2375855 * 2 ^ 81) z 2375855 (negsuc 18) tc p (lit≤ tt)) tt
+          (lit≤ tt) (lit≤ tt) (lit≤ tt)) n),
       member (λ (x : Float). ForwardError w x (K (suc (6 + n))) (record { magnitude = (3 * 2 ^ 98); error = (2 ^ 77) })) (lt z (expShortLimit binary32)) (lt z (rowLimit binary32 kRow)) _ _ _ tk
           (λ t. more (λ (i : ℕ). ForwardError w (rowShort binary32 kRow z) (K i) (record { magnitude = (3 * 2 ^ 98); error = (2 ^ 77) })) 2 4 6 refl
-          (row-in binary32 w (16414961 * 2 ^ 67) 2 (2 ^ 69) (2 ^ 77) (3 * 2 ^ 98) (rowRule kRow) (one-num kRow) (row-dens kRow) (k-ratio w (16414961 * 2 ^ 67) (lit≤ tt)) (lit< tt) z (bounded-below w (16414961 * 2 ^ 67) z 16414961 (negsuc 32) t p (lit≤ tt)) tt (lit≤ tt) (lit≤ tt) (lit≤ tt)) n)
+          (row-in binary32 w (16414961 * 2 ^ 67) 2 (2 ^ 69) (2 ^ 77) (3 * 2 ^ 98) (rowRule kRow) (one-num kRow) (row-dens kRow)
+          (k-ratio w (16414961 * 2 ^ 67) (lit≤ tt)) (lit< tt) z (bounded-below w (16414961 * 2 ^ 67) z 16414961 (negsuc 32) t p (lit≤ tt)) tt
+          (lit≤ tt) (lit≤ tt) (lit≤ tt)) n)
           (more (λ (i : ℕ). ForwardError w (rowWhole binary32 kRow z) (K i) (record { magnitude = (3 * 2 ^ 98); error = (2 ^ 77) })) 6 0 6 refl
-          (row-in binary32 w (5057605 * 2 ^ 81) 6 (2 ^ 69) (2 ^ 77) (3 * 2 ^ 98) (rowRule kRow) (one-num kRow) (row-dens kRow) (k-ratio w (5057605 * 2 ^ 81) (lit≤ tt)) (lit< tt) z (bounded-below w (5057605 * 2 ^ 81) z 5057605 (negsuc 18) tk p (lit≤ tt)) tt (lit≤ tt) (lit≤ tt) (lit≤ tt)) n),
+          (row-in binary32 w (5057605 * 2 ^ 81) 6 (2 ^ 69) (2 ^ 77) (3 * 2 ^ 98) (rowRule kRow) (one-num kRow) (row-dens kRow)
+          (k-ratio w (5057605 * 2 ^ 81) (lit≤ tt)) (lit< tt) z (bounded-below w (5057605 * 2 ^ 81) z 5057605 (negsuc 18) tk p (lit≤ tt)) tt
+          (lit≤ tt) (lit≤ tt) (lit≤ tt)) n),
     )
 
 pub circle-binary32 : (z root sh ch : Float) → CircleAccurate binary32 z (circleExp binary32 z root sh ch)
@@ -329,5 +362,12 @@ rotation-binary32 phi root sh ch tc tk hp n =
     let K = exactRow (rowRule kRow) (valueOf z) 0 (suc (6 + n)) in
     let B : Bound = record { magnitude = (3 * 2 ^ 98); error = (2 ^ 77) } in
     let part : (x : Float) → Bounded w x (5 * 2 ^ 99) → AbsoluteError w (mul binary32 (c .k) x) (times K (valueOf x)) (2 ^ 79) =
-    λ x s. error-wider w (mul binary32 (c .k) x) (times K (valueOf x)) (prodBound binary32 w B (plain (5 * 2 ^ 99)) .error) (2 ^ 79) (lit≤ tt) (forward-prod binary32 w (c .k) x K (valueOf x) B (plain (5 * 2 ^ 99)) (lit< tt) (h .1) (leaf-forward w x (5 * 2 ^ 99) s) tt .close) in
-    record { w = error-wider w (c .«cos_half») (exactRow (rowRule cosHalfRow) (valueOf z) 0 (suc (6 + n))) (2 ^ 79) (2 ^ 79) (lit≤ tt) (h .0 .close); x = part (phi .x) (hp .x); y = part (phi .y) (hp .y); z = part (phi .z) (hp .z) }
+    λ x s. error-wider w (mul binary32 (c .k) x) (times K (valueOf x)) (prodBound binary32 w B (plain (5 * 2 ^ 99)) .error) (2 ^ 79) (lit≤ tt)
+    (forward-prod binary32 w (c .k) x K (valueOf x) B (plain (5 * 2 ^ 99)) (lit< tt) (h .1) (leaf-forward w x (5 * 2 ^ 99) s) tt .close) in
+    record {
+      w = error-wider w (c .«cos_half») (exactRow (rowRule cosHalfRow) (valueOf z) 0 (suc (6 + n))) (2 ^ 79) (2 ^ 79) (lit≤ tt)
+          (h .0 .close);
+      x = part (phi .x) (hp .x);
+      y = part (phi .y) (hp .y);
+      z = part (phi .z) (hp .z);
+    }

@@ -70,7 +70,8 @@ row-within w x y v u a b l m c h k g (suc (suc (suc (suc (suc zero))))) = g .dxi
 row-within w x y v u a b l m c h k g (suc (suc (suc (suc (suc (suc zero)))))) = g .dzeta
 row-within w x y v u a b l m c h k g (suc (suc (suc (suc (suc (suc (suc i))))))) = zero-within w
 
-next-within : (f : Format) (w : ℕ) (x y : Float) (v u : Value) (a b : Bound) (l : Level) (m : Five Value) (c : Five Bound) → 0 < w → ForwardError w x v a → ForwardError w y u b → FiveForwardError w (ofLevel l) m c → T (nextNoOverflow f w a b c)
+next-within : (f : Format) (w : ℕ) (x y : Float) (v u : Value) (a b : Bound) (l : Level) (m : Five Value) (c : Five Bound) → 0 < w
+    → ForwardError w x v a → ForwardError w y u b → FiveForwardError w (ofLevel l) m c → T (nextNoOverflow f w a b c)
     → FiveForwardError w (ofLevel (seriesNext f x y l)) (exactNext v u m) (boundNext f w a b c)
 unfolding computed exact seriesNext exactNext boundNext nextNoOverflow treeNext sub
 next-within f w x y v u a b l m c z h k g t =
@@ -78,7 +79,8 @@ next-within f w x y v u a b l m c z h k g t =
     let s : (r : Term) → Bool = λ r. noOverflow f w e r in
     let go : (r : Term) → T (s r) → ForwardError w (computed f (nth f0 (row x y (ofLevel l))) r) (exact (nth (valueOf f0) (row v u m)) r) (bound f w e r) =
     λ r q. forward-error f w (nth f0 (row x y (ofLevel l))) (nth (valueOf f0) (row v u m)) e z (row-within w x y v u a b (ofLevel l) m c h k g) r q in
-    let t1 : T (s (treeNext .xi) && (s (treeNext .zeta) && (s (treeNext .dxi) && s (treeNext .dzeta)))) = and-r (s (treeNext .p)) (s (treeNext .xi) && (s (treeNext .zeta) && (s (treeNext .dxi) && s (treeNext .dzeta)))) t in
+    let t1 : T (s (treeNext .xi) && (s (treeNext .zeta) && (s (treeNext .dxi) && s (treeNext .dzeta)))) = and-r (s (treeNext .p))
+    (s (treeNext .xi) && (s (treeNext .zeta) && (s (treeNext .dxi) && s (treeNext .dzeta)))) t in
     let t2 : T (s (treeNext .zeta) && (s (treeNext .dxi) && s (treeNext .dzeta))) = and-r (s (treeNext .xi)) (s (treeNext .zeta) && (s (treeNext .dxi) && s (treeNext .dzeta))) t1 in
     let t3 : T (s (treeNext .dxi) && s (treeNext .dzeta)) = and-r (s (treeNext .zeta)) (s (treeNext .dxi) && s (treeNext .dzeta)) t2 in
     record {
@@ -109,7 +111,8 @@ module _ (f : Format) (w : ℕ) (x y : Float) (v u : Value) (a b : Bound) (z : 0
   part-within dzetaPart l m d g = g .dzeta
 
   -- ---- a term
-  pub term-forward : (c : Part) (o j : ℕ) → T (termNoOverflow f w a b c o j) → ForwardError w (mul f (part c (ofLevel (seriesLevel f x y j))) (recipFact f (j + o))) (exactTerm v u c o j) (boundTerm f w a b c o j)
+  pub term-forward : (c : Part) (o j : ℕ) → T (termNoOverflow f w a b c o j) → ForwardError w
+      (mul f (part c (ofLevel (seriesLevel f x y j))) (recipFact f (j + o))) (exactTerm v u c o j) (boundTerm f w a b c o j)
   unfolding exactTerm boundTerm termNoOverflow
   term-forward c o j t =
       let l = levelNoOverflow f w a b j in
@@ -121,7 +124,8 @@ module _ (f : Format) (w : ℕ) (x y : Float) (v u : Value) (a b : Bound) (z : 0
       (recip-within f w (j + o) (and-l i m r)) (and-r i m r)
 
 -- ---- a sum from the left
-pub total-forward : (f : Format) (w : ℕ) (t : ℕ → Float) (v : ℕ → Value) (b : ℕ → Bound) (ok : ℕ → Bool) → 0 < w → ((j : ℕ) → T (ok j) → ForwardError w (t j) (v j) (b j)) → (n : ℕ) → T (totalNoOverflow f w ok b n)
+pub total-forward : (f : Format) (w : ℕ) (t : ℕ → Float) (v : ℕ → Value) (b : ℕ → Bound) (ok : ℕ → Bool) → 0 < w →
+    ((j : ℕ) → T (ok j) → ForwardError w (t j) (v j) (b j)) → (n : ℕ) → T (totalNoOverflow f w ok b n)
     → ForwardError w (seriesSum f t n) (exactTotal v n) (boundTotal f w b n)
 unfolding seriesSum exactTotal boundTotal totalNoOverflow
 total-forward f w t v b ok z h zero s = zero-within w
@@ -132,7 +136,8 @@ total-forward f w t v b ok z h (suc n) s =
     forward-sum f w (seriesSum f t n) (t n) (exactTotal v n) (v n) (boundTotal f w b n) (b n) z (total-forward f w t v b ok z h n (and-l p (ok n && i) s)) (h n (and-l (ok n) i r)) (and-r (ok n) i r)
 
 -- ---- Horner's sum
-pub horner-forward : (f : Format) (w : ℕ) (x : Float) (v : Value) (a : Bound) → 0 < w → ForwardError w x v a → (l n : ℕ) → T (hornerNoOverflow f w a l n) → ForwardError w (gSeries f x l n) (exactHorner v l n) (boundHorner f w a l n)
+pub horner-forward : (f : Format) (w : ℕ) (x : Float) (v : Value) (a : Bound) → 0 < w → ForwardError w x v a → (l n : ℕ) → T
+    (hornerNoOverflow f w a l n) → ForwardError w (gSeries f x l n) (exactHorner v l n) (boundHorner f w a l n)
 unfolding gSeries exactHorner boundHorner hornerNoOverflow
 horner-forward f w x v a z h l zero s = zero-within w
 horner-forward f w x v a z h l (suc n) s =
@@ -143,7 +148,8 @@ horner-forward f w x v a z h l (suc n) s =
     let m = inRange f w (sumReach (recipBound f w l) (prodBound f w a b)) in
     let r : T (i && (j && m)) = and-r p (i && (j && m)) s in
     let q : T (j && m) = and-r i (j && m) r in
-    forward-sum f w (recipFact f l) (mul f x (gSeries f x (suc l) n)) (exactRecip l) (times v (exactHorner v (suc l) n)) (recipBound f w l) (prodBound f w a b) z (recip-within f w l (and-l i (j && m) r))
+    forward-sum f w (recipFact f l) (mul f x (gSeries f x (suc l) n)) (exactRecip l) (times v (exactHorner v (suc l) n)) (recipBound f w l)
+    (prodBound f w a b) z (recip-within f w l (and-l i (j && m) r))
     (forward-prod f w x (gSeries f x (suc l) n) v (exactHorner v (suc l) n) a b z h (horner-forward f w x v a z h (suc l) n (and-l p (i && (j && m)) s)) (and-l j m q))
     (and-r j m q)
 
@@ -153,7 +159,8 @@ within-close w x v b e h t = error-wider w x v (b .error) e (leb→le (b .error)
 
 module _ (f : Format) (w s y : ℕ) (sigma z : Float) (p : 0 < w) (hs : Bounded w sigma s) (hz : Bounded w z y) where
   pub total-close : (c : Part) (o n e : ℕ) → T (totalHolds f w (plain s) (plain y) c o n e)
-      → AbsoluteError w (seriesSum f (λ j. mul f (part c (ofLevel (seriesLevel f sigma z j))) (recipFact f (j + o))) n) (exactTotal (exactTerm (valueOf sigma) (valueOf z) c o) n) e × (0 < exactTotal (exactTerm (valueOf sigma) (valueOf z) c o) n .d)
+      → AbsoluteError w (seriesSum f (λ j. mul f (part c (ofLevel (seriesLevel f sigma z j))) (recipFact f (j + o))) n)
+      (exactTotal (exactTerm (valueOf sigma) (valueOf z) c o) n) e × (0 < exactTotal (exactTerm (valueOf sigma) (valueOf z) c o) n .d)
   unfolding totalHolds
   total-close c o n e t =
       let a = plain s in
@@ -161,9 +168,13 @@ module _ (f : Format) (w s y : ℕ) (sigma z : Float) (p : 0 < w) (hs : Bounded 
       let q = totalNoOverflow f w (termNoOverflow f w a b c o) (boundTerm f w a b c o) n in
       let d = boundTotal f w (boundTerm f w a b c o) n in
       let g =
-      total-forward f w (λ j. mul f (part c (ofLevel (seriesLevel f sigma z j))) (recipFact f (j + o))) (exactTerm (valueOf sigma) (valueOf z) c o) (boundTerm f w a b c o) (termNoOverflow f w a b c o) p
-      (λ j t. term-forward f w sigma z (valueOf sigma) (valueOf z) a b p (leaf-forward w sigma s hs) (leaf-forward w z y hz) c o j t) n (and-l q (leb (d .error) e) t) in
-      (within-close w (seriesSum f (λ j. mul f (part c (ofLevel (seriesLevel f sigma z j))) (recipFact f (j + o))) n) (exactTotal (exactTerm (valueOf sigma) (valueOf z) c o) n) d e g (and-r q (leb (d .error) e) t), g .above)
+      total-forward f w (λ j. mul f (part c (ofLevel (seriesLevel f sigma z j))) (recipFact f (j + o))) (exactTerm (valueOf sigma) (valueOf z) c o)
+      (boundTerm f w a b c o) (termNoOverflow f w a b c o) p
+      (λ j t. term-forward f w sigma z (valueOf sigma) (valueOf z) a b p (leaf-forward w sigma s hs) (leaf-forward w z y hz) c o j t) n (and-l q (leb (d .error) e) t) in (
+        within-close w (seriesSum f (λ j. mul f (part c (ofLevel (seriesLevel f sigma z j))) (recipFact f (j + o))) n)
+            (exactTotal (exactTerm (valueOf sigma) (valueOf z) c o) n) d e g (and-r q (leb (d .error) e) t),
+        g .above,
+      )
 
   pub horner-close : (l n e : ℕ) → T (hornerHolds f w (plain s) l n e) → AbsoluteError w (gSeries f sigma l n) (exactHorner (valueOf sigma) l n) e × (0 < exactHorner (valueOf sigma) l n .d)
   unfolding hornerHolds
@@ -175,7 +186,9 @@ module _ (f : Format) (w s y : ℕ) (sigma z : Float) (p : 0 < w) (hs : Bounded 
       (within-close w (gSeries f sigma l n) (exactHorner (valueOf sigma) l n) d e g (and-r q (leb (d .error) e) t), g .above)
 
   chi-within : (k : ℕ) (i : ℕ) → ForwardError w (gSeries f sigma 1 k) (exactHorner (valueOf sigma) 1 k) (boundHorner f w (plain s) 1 k)
-      → ForwardError w (seriesSum f (λ j. mul f (part zetaPart (ofLevel (seriesLevel f sigma z j))) (recipFact f (j + 1))) (k + 2)) (exactTotal (exactTerm (valueOf sigma) (valueOf z) zetaPart 1) (k + 2)) (boundTotal f w (boundTerm f w (plain s) (plain y) zetaPart 1) (k + 2))
+      → ForwardError w (seriesSum f (λ j. mul f (part zetaPart (ofLevel (seriesLevel f sigma z j))) (recipFact f (j + 1))) (k + 2))
+      (exactTotal (exactTerm (valueOf sigma) (valueOf z) zetaPart 1) (k + 2))
+      (boundTotal f w (boundTerm f w (plain s) (plain y) zetaPart 1) (k + 2))
       → ForwardError w (nth f0 (chiLeaves sigma z (gSeries f sigma 1 k) (seriesSum f (λ j. mul f (part zetaPart (ofLevel (seriesLevel f sigma z j))) (recipFact f (j + 1))) (k + 2))) i)
       (nth (valueOf f0) (chiLeaves (valueOf sigma) (valueOf z) (exactHorner (valueOf sigma) 1 k) (exactTotal (exactTerm (valueOf sigma) (valueOf z) zetaPart 1) (k + 2))) i)
       (nth noBound (chiLeaves (plain s) (plain y) (boundHorner f w (plain s) 1 k) (boundTotal f w (boundTerm f w (plain s) (plain y) zetaPart 1) (k + 2))) i)
@@ -207,7 +220,8 @@ module _ (f : Format) (w s y : ℕ) (sigma z : Float) (p : 0 < w) (hs : Bounded 
       let q : T (sc && d) = and-r s2 (sc && d) r in
       let h = horner-forward f w sigma (valueOf sigma) a p (leaf-forward w sigma s hs) 1 k (and-l s0 (s2 && (sc && d)) t) in
       let g =
-      total-forward f w (λ j. mul f (part zetaPart (ofLevel (seriesLevel f sigma z j))) (recipFact f (j + 1))) (exactTerm (valueOf sigma) (valueOf z) zetaPart 1) (boundTerm f w a b zetaPart 1) (termNoOverflow f w a b zetaPart 1) p
+      total-forward f w (λ j. mul f (part zetaPart (ofLevel (seriesLevel f sigma z j))) (recipFact f (j + 1)))
+      (exactTerm (valueOf sigma) (valueOf z) zetaPart 1) (boundTerm f w a b zetaPart 1) (termNoOverflow f w a b zetaPart 1) p
       (λ j t. term-forward f w sigma z (valueOf sigma) (valueOf z) a b p (leaf-forward w sigma s hs) (leaf-forward w z y hz) zetaPart 1 j t) (k + 2) (and-l s2 (sc && d) r) in
       within-close w (computed f (nth f0 (chiLeaves sigma z v0 v2)) treeChi) (exact (nth (valueOf f0) (chiLeaves (valueOf sigma) (valueOf z) e0 e2)) treeChi) (bound f w l treeChi) e
       (forward-error f w (nth f0 (chiLeaves sigma z v0 v2)) (nth (valueOf f0) (chiLeaves (valueOf sigma) (valueOf z) e0 e2)) l p (λ i. chi-within k i h g) treeChi (and-l sc d q))

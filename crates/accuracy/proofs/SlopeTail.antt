@@ -28,7 +28,8 @@ dzeta-shift : (s s' d a a' b b' : ℕ)
     ≡ s * (d * (d * (d * (d * b')))) + s' * (d * (d * (d * (d * b)))) + d * (d * (d * (d * a'))) + d * (d * (d * (d * (s * b + s' * b' + a))))
 dzeta-shift s s' d a a' b b' = simp expand (omega arith)
 
-b-shift : (y d b b' : ℕ) → y * (d * (d * (d * (d * b)))) + 0 * (d * (d * (d * (d * b')))) + d * (y * (d * (d * (d * b')))) ≡ y * (d * (d * (d * (d * b')))) + 0 * (d * (d * (d * (d * b)))) + d * (y * (d * (d * (d * b))))
+b-shift : (y d b b' : ℕ) → y * (d * (d * (d * (d * b)))) + 0 * (d * (d * (d * (d * b')))) + d * (y * (d * (d * (d * b')))) ≡ y *
+    (d * (d * (d * (d * b')))) + 0 * (d * (d * (d * (d * b)))) + d * (y * (d * (d * (d * b))))
 b-shift y d b b' = simp (zeros, expand) (omega arith)
 
 slope-next : (s s' y d e : ℕ) (sigma z : Value) (l : Five Value) (c : State) (a : Slope) → 0 < d → Is sigma s s' d → Is z y 0 (d * d) → LevelIs l c d e → SlopeIs l a d e
@@ -45,7 +46,8 @@ slope-next s s' y d e sigma z l c a pos hs hz h k =
     let sb = is-times sigma (l .dzeta) s s' (d * (d * (d * (d * a .b)))) (d * (d * (d * (d * a .b')))) d e hs (k .dzeta) in
     let da = is-scaled (l .dxi) (d * (d * (d * a .a))) (d * (d * (d * a .a'))) e d (k .dxi) in
     record {
-      dxi = is-shift (minus (minus (times sigma (l .dxi)) (l .zeta)) (times z (l .dzeta))) _ _ (d * (d * (d * (s * a .a + s' * a .a' + c .z' + y * a .b')))) (d * (d * (d * (s * a .a' + s' * a .a + c .z + y * a .b)))) (d * e)
+      dxi = is-shift (minus (minus (times sigma (l .dxi)) (l .zeta)) (times z (l .dzeta))) _ _
+          (d * (d * (d * (s * a .a + s' * a .a' + c .z' + y * a .b')))) (d * (d * (d * (s * a .a' + s' * a .a + c .z + y * a .b)))) (d * e)
           (dxi-shift s s' y d (a .a) (a .a') (c .z) (c .z') (a .b) (a .b'))
           (is-plus (minus (times sigma (l .dxi)) (l .zeta)) (opposite (times z (l .dzeta))) _ _ _ _ (d * e)
           (is-plus (times sigma (l .dxi)) (opposite (l .zeta)) _ _ _ _ (d * e) sa (is-opposite (l .zeta) _ _ (d * e) dz)) (is-opposite (times z (l .dzeta)) _ _ (d * e) zc));
@@ -61,7 +63,8 @@ module _ (s s' y t r : ℕ) (e : s * s + s' * s' + y ≡ t + 2 * (s * s')) (b : 
   slope-is : (j : ℕ) → SlopeIs (exactLevel sigma z j) (slope s s' y j) d (d ^ j)
   unfolding exactLevel slope
   slope-is zero = rw pow-zero (slope-first d s s' y)
-  slope-is (suc j) = rw (pow-suc, mul-comm (d ^ j) d) (slope-next s s' y d (d ^ j) sigma z (exactLevel sigma z j) (state s s' y j) (slope s s' y j) pos hs hz (level-is s s' y t r e b d sigma z pos hs hz j) (slope-is j))
+  slope-is (suc j) = rw (pow-suc, mul-comm (d ^ j) d) (slope-next s s' y d (d ^ j) sigma z (exactLevel sigma z j) (state s s' y j)
+      (slope s s' y j) pos hs hz (level-is s s' y t r e b d sigma z pos hs hz j) (slope-is j))
 
 -- ---- factorials
 regroup-dxi : (a b c e p f : ℕ) → 6 * p ≡ a * (b * c) → e * (c * (b * (a * f))) ≡ p * (6 * e) * f
@@ -91,7 +94,8 @@ four-times : (d a : ℕ) → d * (d * (d * (d * a))) ≡ d * (d * (d * d)) * a
 four-times d a = simp expand
 
 module _ (w r : ℕ) (sigma z : Value) (wp : 0 < w) (sd : 0 < sigma .d) (zd : 0 < z .d) (ss : sigma .p * sigma .n ≡ 0) (zn : z .n ≡ 0) (delta : AtMost (w * w) (plus (times sigma sigma) z) (r * r)) where
-  is-slope : (j : ℕ) → SlopeIs (exactLevel sigma z j) (slope (sigma .p * (z .d * w)) (sigma .n * (z .d * w)) (z .p * (sigma .d * (sigma .d * (z .d * (w * w))))) j) (sigma .d * z .d * w) ((sigma .d * z .d * w) ^ j)
+  is-slope : (j : ℕ) → SlopeIs (exactLevel sigma z j) (slope (sigma .p * (z .d * w)) (sigma .n * (z .d * w))
+      (z .p * (sigma .d * (sigma .d * (z .d * (w * w))))) j) (sigma .d * z .d * w) ((sigma .d * z .d * w) ^ j)
   is-slope j =
       let s = sigma .p * (z .d * w) in
       let s' = sigma .n * (z .d * w) in
@@ -101,7 +105,8 @@ module _ (w r : ℕ) (sigma z : Value) (wp : 0 < w) (sd : 0 < sigma .d) (zd : 0 
       (sigma .d * z .d * w) sigma z (mul-pos (mul-pos sd zd) wp)
       (record { equal = sigma-whole (sigma .p) (sigma .n) (sigma .d) (z .d) w }) (record { equal = z-whole (z .p) (z .n) (sigma .d) (z .d) w zn }) j
 
-  dxi-most : (u c m n : ℕ) → u * (triples m * (r * (sigma .d * z .d)) ^ m) ≤ c * ((sigma .d * z .d * w) ^ m * factorial n) → AtMost u (times (exactLevel sigma z (suc (suc (suc m))) .dxi) (exactRecip n)) c
+  dxi-most : (u c m n : ℕ) → u * (triples m * (r * (sigma .d * z .d)) ^ m) ≤ c * ((sigma .d * z .d * w) ^ m * factorial n) → AtMost u
+      (times (exactLevel sigma z (suc (suc (suc m))) .dxi) (exactRecip n)) c
   dxi-most u c m n h =
       let s = sigma .p * (z .d * w) in
       let s' = sigma .n * (z .d * w) in
@@ -114,7 +119,8 @@ module _ (w r : ℕ) (sigma z : Value) (wp : 0 < w) (sd : 0 < sigma .d) (zd : 0 
       (a-size s s' y (s * s + s' * s' + y) (r * (sigma .d * z .d)) (plain-sum (s * s + s' * s' + y) (2 * (s * s')) (no-cross (sigma .p) (sigma .n) (z .d * w) ss))
       (delta-whole w r (sigma .p) (sigma .n) (sigma .d) (z .p) (z .d) _ (no-minus (sigma .p) (sigma .n) (sigma .d) (z .n) (z .d) w ss zn) (delta .above)) m) h
 
-  dzeta-most : (u c m n : ℕ) → u * (fours m * (r * (sigma .d * z .d)) ^ m) ≤ c * ((sigma .d * z .d * w) ^ m * factorial n) → AtMost u (times (exactLevel sigma z (suc (suc (suc (suc m)))) .dzeta) (exactRecip n)) c
+  dzeta-most : (u c m n : ℕ) → u * (fours m * (r * (sigma .d * z .d)) ^ m) ≤ c * ((sigma .d * z .d * w) ^ m * factorial n) → AtMost u
+      (times (exactLevel sigma z (suc (suc (suc (suc m)))) .dzeta) (exactRecip n)) c
   dzeta-most u c m n h =
       let s = sigma .p * (z .d * w) in
       let s' = sigma .n * (z .d * w) in
@@ -122,27 +128,36 @@ module _ (w r : ℕ) (sigma z : Value) (wp : 0 < w) (sd : 0 < sigma .d) (zd : 0 
       let d = sigma .d * z .d * w in
       let dp : 0 < d = mul-pos (mul-pos sd zd) wp in
       let a = slope s s' y (suc (suc (suc (suc m)))) in
-      term-most u c (d * (d * (d * d))) (a .b) (a .b') (fours m * (r * (sigma .d * z .d)) ^ m) (d ^ m) n (exactLevel sigma z (suc (suc (suc (suc m)))) .dzeta) (mul-pos dp (mul-pos dp (mul-pos dp dp))) (power-pos d m dp)
-      (subst₃ (λ (p q e : ℕ). Is (exactLevel sigma z (suc (suc (suc (suc m)))) .dzeta) p q e) (four-times d (a .b)) (four-times d (a .b')) (four-powers d m) (is-slope (suc (suc (suc (suc m)))) .dzeta))
+      term-most u c (d * (d * (d * d))) (a .b) (a .b') (fours m * (r * (sigma .d * z .d)) ^ m) (d ^ m) n
+      (exactLevel sigma z (suc (suc (suc (suc m)))) .dzeta) (mul-pos dp (mul-pos dp (mul-pos dp dp))) (power-pos d m dp)
+      (subst₃ (λ (p q e : ℕ). Is (exactLevel sigma z (suc (suc (suc (suc m)))) .dzeta) p q e) (four-times d (a .b)) (four-times d (a .b'))
+      (four-powers d m) (is-slope (suc (suc (suc (suc m)))) .dzeta))
       (b-size s s' y (s * s + s' * s' + y) (r * (sigma .d * z .d)) (plain-sum (s * s + s' * s' + y) (2 * (s * s')) (no-cross (sigma .p) (sigma .n) (z .d * w) ss))
       (delta-whole w r (sigma .p) (sigma .n) (sigma .d) (z .p) (z .d) _ (no-minus (sigma .p) (sigma .n) (sigma .d) (z .n) (z .d) w ss zn) (delta .above)) m) h
 
   -- dv₁: the first term left out is the one of level k + 3
-  pub tail-dv1 : (k c : ℕ) → 2 * r ≤ k * w → Rest w r k (6 * suc (suc (suc (suc k)))) c → (n : ℕ) → Near w (exactTotal (exactTerm sigma z dxiPart 1) (suc (suc (suc k)) + n)) (exactTotal (exactTerm sigma z dxiPart 1) (suc (suc (suc k)))) (2 * c)
+  pub tail-dv1 : (k c : ℕ) → 2 * r ≤ k * w → Rest w r k (6 * suc (suc (suc (suc k)))) c → (n : ℕ) → Near w
+      (exactTotal (exactTerm sigma z dxiPart 1) (suc (suc (suc k)) + n)) (exactTotal (exactTerm sigma z dxiPart 1) (suc (suc (suc k)))) (2 * c)
   unfolding exactTerm
   tail-dv1 k c h b n = tail-near (exactTerm sigma z dxiPart 1) w c (suc (suc (suc k))) at n
     where
       at : (i : ℕ) → AtMost (w * 2 ^ i) (exactTerm sigma z dxiPart 1 (suc (suc (suc k)) + i)) c
       at i =
           rw (suc-add, suc-add, suc-add) (dxi-most (w * 2 ^ i) c (k + i) (suc (suc (suc (k + i))) + 1)
-          (rw fact-dxi (weigh (w * 2 ^ i) c (6 * suc (suc (suc (suc k)))) (6 * suc (suc (suc (suc (k + i))))) (triples (k + i)) ((r * (sigma .d * z .d)) ^ (k + i)) ((sigma .d * z .d * w) ^ (k + i)) (factorial (k + i)) (shrinks w r sigma z wp sd zd ss zn delta k (c * (6 * suc (suc (suc (suc k))))) h b i) (omega arith))))
+          (rw fact-dxi (weigh (w * 2 ^ i) c (6 * suc (suc (suc (suc k)))) (6 * suc (suc (suc (suc (k + i))))) (triples (k + i))
+          ((r * (sigma .d * z .d)) ^ (k + i)) ((sigma .d * z .d * w) ^ (k + i)) (factorial (k + i))
+          (shrinks w r sigma z wp sd zd ss zn delta k (c * (6 * suc (suc (suc (suc k))))) h b i) (omega arith))))
 
   -- dv₂: the first term left out is the one of level k + 4
-  pub tail-dv2 : (k c : ℕ) → 2 * r ≤ k * w → Rest w r k (24 * suc (suc (suc (suc (suc k))))) c → (n : ℕ) → Near w (exactTotal (exactTerm sigma z dzetaPart 1) (suc (suc (suc (suc k))) + n)) (exactTotal (exactTerm sigma z dzetaPart 1) (suc (suc (suc (suc k))))) (2 * c)
+  pub tail-dv2 : (k c : ℕ) → 2 * r ≤ k * w → Rest w r k (24 * suc (suc (suc (suc (suc k))))) c → (n : ℕ) → Near w
+      (exactTotal (exactTerm sigma z dzetaPart 1) (suc (suc (suc (suc k))) + n))
+      (exactTotal (exactTerm sigma z dzetaPart 1) (suc (suc (suc (suc k))))) (2 * c)
   unfolding exactTerm
   tail-dv2 k c h b n = tail-near (exactTerm sigma z dzetaPart 1) w c (suc (suc (suc (suc k)))) at n
     where
       at : (i : ℕ) → AtMost (w * 2 ^ i) (exactTerm sigma z dzetaPart 1 (suc (suc (suc (suc k))) + i)) c
       at i =
           rw (suc-add, suc-add, suc-add, suc-add) (dzeta-most (w * 2 ^ i) c (k + i) (suc (suc (suc (suc (k + i)))) + 1)
-          (rw fact-dzeta (weigh (w * 2 ^ i) c (24 * suc (suc (suc (suc (suc k))))) (24 * suc (suc (suc (suc (suc (k + i)))))) (fours (k + i)) ((r * (sigma .d * z .d)) ^ (k + i)) ((sigma .d * z .d * w) ^ (k + i)) (factorial (k + i)) (shrinks w r sigma z wp sd zd ss zn delta k (c * (24 * suc (suc (suc (suc (suc k)))))) h b i) (omega arith))))
+          (rw fact-dzeta (weigh (w * 2 ^ i) c (24 * suc (suc (suc (suc (suc k))))) (24 * suc (suc (suc (suc (suc (k + i)))))) (fours (k + i))
+          ((r * (sigma .d * z .d)) ^ (k + i)) ((sigma .d * z .d * w) ^ (k + i)) (factorial (k + i))
+          (shrinks w r sigma z wp sd zd ss zn delta k (c * (24 * suc (suc (suc (suc (suc k)))))) h b i) (omega arith))))

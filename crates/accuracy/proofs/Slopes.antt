@@ -34,15 +34,18 @@ FirstIn y m p c d = 2 * (c .z + y * d .b) + m * p .x' ≡ 2 * (c .z' + y * d .b'
 abbrev Second : ℕ → ℕ → State → State → Slope → Type 0
 Second y m p c d = 2 * (y * d .a) + c .x + m * p .h' ≡ 2 * (y * d .a') + c .x' + m * p .h
 
-first-step : (s s' y m x x' h h' z z' a a' b b' : ℕ) → 2 * (z + y * b) + m * x' ≡ 2 * (z' + y * b') + m * x → 2 * (y * a) + (s * x + s' * x' + h) + m * h' ≡ 2 * (y * a') + (s * x' + s' * x + h') + m * h
-    → 2 * (s * z + s' * z' + (s * x + s' * x' + h) + y * (s * b + s' * b' + a)) + suc m * (s * x' + s' * x + h') ≡ 2 * (s * z' + s' * z + (s * x' + s' * x + h') + y * (s * b' + s' * b + a')) + suc m * (s * x + s' * x' + h)
+first-step : (s s' y m x x' h h' z z' a a' b b' : ℕ) → 2 * (z + y * b) + m * x' ≡ 2 * (z' + y * b') + m * x → 2 * (y * a) +
+    (s * x + s' * x' + h) + m * h' ≡ 2 * (y * a') + (s * x' + s' * x + h') + m * h
+    → 2 * (s * z + s' * z' + (s * x + s' * x' + h) + y * (s * b + s' * b' + a)) + suc m * (s * x' + s' * x + h') ≡ 2 *
+    (s * z' + s' * z + (s * x' + s' * x + h') + y * (s * b' + s' * b + a')) + suc m * (s * x + s' * x' + h)
 first-step s s' y m x x' h h' z z' a a' b b' i k =
     rw (suc-mul m (s * x' + s' * x + h'), suc-mul m (s * x + s' * x' + h))
     (go s s' y m x x' h h' z z' a a' b b' (ap (λ (c : ℕ). s * c) i) (ap (λ (c : ℕ). s' * c) i) k)
   where
     go : (s s' y m x x' h h' z z' a a' b b' : ℕ) → s * (2 * (z + y * b) + m * x') ≡ s * (2 * (z' + y * b') + m * x) → s' * (2 * (z + y * b) + m * x') ≡ s' * (2 * (z' + y * b') + m * x)
         → 2 * (y * a) + (s * x + s' * x' + h) + m * h' ≡ 2 * (y * a') + (s * x' + s' * x + h') + m * h
-        → 2 * (s * z + s' * z' + (s * x + s' * x' + h) + y * (s * b + s' * b' + a)) + (m * (s * x' + s' * x + h') + (s * x' + s' * x + h')) ≡ 2 * (s * z' + s' * z + (s * x' + s' * x + h') + y * (s * b' + s' * b + a')) + (m * (s * x + s' * x' + h) + (s * x + s' * x' + h))
+        → 2 * (s * z + s' * z' + (s * x + s' * x' + h) + y * (s * b + s' * b' + a)) + (m * (s * x' + s' * x + h') + (s * x' + s' * x + h')) ≡ 2 *
+        (s * z' + s' * z + (s * x' + s' * x + h') + y * (s * b' + s' * b + a')) + (m * (s * x + s' * x' + h) + (s * x + s' * x' + h))
     go s s' y m x x' h h' z z' a a' b b' i j k = simp expand (omega (arith, simp expand at i, simp expand at j, k))
 
 second-step : (s s' y m x x' h h' X X' a a' z z' b b' : ℕ) → 2 * (z + y * b) + m * x' ≡ 2 * (z' + y * b') + m * x → 2 * (y * a) + X + m * h' ≡ 2 * (y * a') + X' + m * h
@@ -52,7 +55,8 @@ second-step s s' y m x x' h h' X X' a a' z z' b b' i k =
     rw (suc-mul m (s * h' + s' * h + y * x), suc-mul m (s * h + s' * h' + y * x'))
     (go s s' y m x x' h h' X X' a a' z z' b b' (ap (λ (c : ℕ). y * c) i) (ap (λ (c : ℕ). s * c) k) (ap (λ (c : ℕ). s' * c) k))
   where
-    go : (s s' y m x x' h h' X X' a a' z z' b b' : ℕ) → y * (2 * (z + y * b) + m * x') ≡ y * (2 * (z' + y * b') + m * x) → s * (2 * (y * a) + X + m * h') ≡ s * (2 * (y * a') + X' + m * h) → s' * (2 * (y * a) + X + m * h') ≡ s' * (2 * (y * a') + X' + m * h)
+    go : (s s' y m x x' h h' X X' a a' z z' b b' : ℕ) → y * (2 * (z + y * b) + m * x') ≡ y * (2 * (z' + y * b') + m * x) → s *
+        (2 * (y * a) + X + m * h') ≡ s * (2 * (y * a') + X' + m * h) → s' * (2 * (y * a) + X + m * h') ≡ s' * (2 * (y * a') + X' + m * h)
         → 2 * (y * (s * a + s' * a' + z' + y * b')) + (s * X + s' * X' + (s * h + s' * h' + y * x')) + (m * (s * h' + s' * h + y * x) + (s * h' + s' * h + y * x))
         ≡ 2 * (y * (s * a' + s' * a + z + y * b)) + (s * X' + s' * X + (s * h' + s' * h + y * x)) + (m * (s * h + s' * h' + y * x') + (s * h + s' * h' + y * x'))
     go s s' y m x x' h h' X X' a a' z z' b b' i j k = simp expand (omega (arith, simp expand at i, simp expand at j, simp expand at k))
@@ -162,7 +166,9 @@ module _ (s s' y t r : ℕ) (e : s * s + s' * s' + y ≡ t + 2 * (s * s')) (b : 
       let c = state s s' y (suc (suc (suc j))) in
       let d = slope s s' y (suc (suc (suc j))) in
       rw pow-suc (regroup-size (s * d .a + s' * d .a') (c .z') (y * d .b') (s * d .a' + s' * d .a) (c .z) (y * d .b) ((triples j + pairs (suc j)) * (r ^ j * r))
-      (size-same (s * d .a + s' * d .a' + (c .z' + y * d .b')) (s * d .a' + s' * d .a + (c .z + y * d .b)) (r * (triples j * r ^ j) + pairs (suc j) * (r ^ j * r)) ((triples j + pairs (suc j)) * (r ^ j * r)) (grow (triples j) (pairs (suc j)) r (r ^ j))
+      (size-same (s * d .a + s' * d .a' + (c .z' + y * d .b')) (s * d .a' + s' * d .a + (c .z + y * d .b))
+      (r * (triples j * r ^ j) + pairs (suc j) * (r ^ j * r)) ((triples j + pairs (suc j)) * (r ^ j * r))
+      (grow (triples j) (pairs (suc j)) r (r ^ j))
       (size-sum (s * d .a + s' * d .a') (s * d .a' + s' * d .a) (c .z' + y * d .b') (c .z + y * d .b) (r * (triples j * r ^ j)) (pairs (suc j) * (r ^ j * r))
       (size-product s s' (d .a) (d .a') r (triples j * r ^ j) (s-size s s' y t r e b) (a-size j)) (rw pow-suc at (g-size (suc j))))))
 
@@ -183,6 +189,7 @@ module _ (s s' y t r : ℕ) (e : s * s + s' * s' + y ≡ t + 2 * (s * s')) (b : 
   b-size (suc j) =
       let d = slope s s' y (suc (suc (suc (suc j)))) in
       rw pow-suc
-      (size-same (s * d .b + s' * d .b' + d .a) (s * d .b' + s' * d .b + d .a') (r * (fours j * r ^ j) + triples (suc j) * (r ^ j * r)) ((fours j + triples (suc j)) * (r ^ j * r)) (grow (fours j) (triples (suc j)) r (r ^ j))
+      (size-same (s * d .b + s' * d .b' + d .a) (s * d .b' + s' * d .b + d .a') (r * (fours j * r ^ j) + triples (suc j) * (r ^ j * r))
+      ((fours j + triples (suc j)) * (r ^ j * r)) (grow (fours j) (triples (suc j)) r (r ^ j))
       (size-sum (s * d .b + s' * d .b') (s * d .b' + s' * d .b) (d .a) (d .a') (r * (fours j * r ^ j)) (triples (suc j) * (r ^ j * r))
       (size-product s s' (d .b) (d .b') r (fours j * r ^ j) (s-size s s' y t r e b) (b-size j)) (rw pow-suc at (a-size (suc j)))))

@@ -47,14 +47,17 @@ next-is s s' y d e sigma z l a pos hs hz i h =
     let zz = is-times z (l .zeta) y 0 (d * (d * a .z)) (d * (d * a .z')) (d * d) e hz (h .zeta) in
     let zc : Is (times z (l .zeta)) (y * (d * a .z)) (y * (d * a .z')) (d * e) =
     is-divided (times z (l .zeta)) (y * (d * a .z)) (y * (d * a .z')) (d * e) d pos
-    (rw mul-assoc at (is-shift (times z (l .zeta)) (y * (d * (d * a .z)) + 0 * (d * (d * a .z'))) (y * (d * (d * a .z')) + 0 * (d * (d * a .z))) (d * (y * (d * a .z))) (d * (y * (d * a .z'))) (d * d * e) (z-shift y d (a .z) (a .z')) zz)) in
+    (rw mul-assoc at (is-shift (times z (l .zeta)) (y * (d * (d * a .z)) + 0 * (d * (d * a .z'))) (y * (d * (d * a .z')) + 0 * (d * (d * a .z)))
+    (d * (y * (d * a .z))) (d * (y * (d * a .z'))) (d * d * e) (z-shift y d (a .z) (a .z')) zz)) in
     let sz = is-times sigma (l .zeta) s s' (d * (d * a .z)) (d * (d * a .z')) d e hs (h .zeta) in
     let dx = is-scaled (l .xi) (d * a .x) (d * a .x') e d (h .xi) in
     record {
-      p = rw (mul-comm e d) at (is-shift (times (l .p) sigma) _ _ (s * a .p + s' * a .p') (s * a .p' + s' * a .p) (e * d) (p-shift s s' (a .p) (a .p')) (is-times (l .p) sigma (a .p) (a .p') s s' e d (h .p) hs));
+      p = rw (mul-comm e d) at (is-shift (times (l .p) sigma) _ _ (s * a .p + s' * a .p') (s * a .p' + s' * a .p) (e * d)
+          (p-shift s s' (a .p) (a .p')) (is-times (l .p) sigma (a .p) (a .p') s s' e d (h .p) hs));
       xi = is-shift (minus (plus (times sigma (l .xi)) (l .p)) (times z (l .zeta))) _ _ (d * (s * a .x + s' * a .x' + a .h)) (d * (s * a .x' + s' * a .x + a .h')) (d * e)
           (xi-shift s s' y d (a .h) (a .h') (a .x) (a .x') (a .z) (a .z') (a .p) (a .p') i)
-          (is-plus (plus (times sigma (l .xi)) (l .p)) (opposite (times z (l .zeta))) _ _ _ _ (d * e) (is-plus (times sigma (l .xi)) (l .p) _ _ _ _ (d * e) sx dp) (is-opposite (times z (l .zeta)) _ _ (d * e) zc));
+          (is-plus (plus (times sigma (l .xi)) (l .p)) (opposite (times z (l .zeta))) _ _ _ _ (d * e)
+          (is-plus (times sigma (l .xi)) (l .p) _ _ _ _ (d * e) sx dp) (is-opposite (times z (l .zeta)) _ _ (d * e) zc));
       zeta = is-shift (plus (times sigma (l .zeta)) (l .xi)) _ _ (d * (d * (s * a .z + s' * a .z' + a .x))) (d * (d * (s * a .z' + s' * a .z + a .x'))) (d * e)
           (zeta-shift s s' d (a .z) (a .z') (a .x) (a .x')) (is-plus (times sigma (l .zeta)) (l .xi) _ _ _ _ (d * e) sz dx);
     }
@@ -156,9 +159,11 @@ module _ (t : ℕ → Value) (w c k : ℕ) (h : (i : ℕ) → AtMost (w * 2 ^ i)
   unfolding exactTotal grown
   tail-grown zero = rw add-zero (record { above = omega arith; below = omega arith })
   tail-grown (suc n) =
-      rw (add-suc, pow-suc, ← mul-assoc w (2 ^ n) 2) (near-scale (w * 2 ^ n) 2 (plus (exactTotal t (k + n)) (t (k + n))) (exactTotal t k) (grown c n + c) (near-more (w * 2 ^ n) (exactTotal t (k + n)) (exactTotal t k) (t (k + n)) (grown c n) c (tail-grown n) (h n)))
+      rw (add-suc, pow-suc, ← mul-assoc w (2 ^ n) 2) (near-scale (w * 2 ^ n) 2 (plus (exactTotal t (k + n)) (t (k + n))) (exactTotal t k)
+      (grown c n + c) (near-more (w * 2 ^ n) (exactTotal t (k + n)) (exactTotal t k) (t (k + n)) (grown c n) c (tail-grown n) (h n)))
 
   pub tail-near : (n : ℕ) → Near w (exactTotal t (k + n)) (exactTotal t k) (2 * c)
   tail-near n =
       let g = grown-is c n in
-      near-unscale w (2 ^ n) (exactTotal t (k + n)) (exactTotal t k) (2 * c) (pow-pos n) (near-wider (w * 2 ^ n) (exactTotal t (k + n)) (exactTotal t k) (grown c n) (2 ^ n * (2 * c)) (omega arith) (tail-grown n))
+      near-unscale w (2 ^ n) (exactTotal t (k + n)) (exactTotal t k) (2 * c) (pow-pos n)
+      (near-wider (w * 2 ^ n) (exactTotal t (k + n)) (exactTotal t k) (grown c n) (2 ^ n * (2 * c)) (omega arith) (tail-grown n))

@@ -99,7 +99,8 @@ module _ (w r : ℕ) (sigma z : Value) (wp : 0 < w) (sd : 0 < sigma .d) (zd : 0 
   pub dpos : 0 < sigma .d * z .d * w
   dpos = mul-pos (mul-pos sd zd) wp
 
-  pub is-level : (j : ℕ) → LevelIs (exactLevel sigma z j) (state (sigma .p * (z .d * w)) (sigma .n * (z .d * w)) (z .p * (sigma .d * (sigma .d * (z .d * (w * w))))) j) (sigma .d * z .d * w) ((sigma .d * z .d * w) ^ j)
+  pub is-level : (j : ℕ) → LevelIs (exactLevel sigma z j) (state (sigma .p * (z .d * w)) (sigma .n * (z .d * w))
+      (z .p * (sigma .d * (sigma .d * (z .d * (w * w))))) j) (sigma .d * z .d * w) ((sigma .d * z .d * w) ^ j)
   is-level j =
       let s = sigma .p * (z .d * w) in
       let s' = sigma .n * (z .d * w) in
@@ -139,44 +140,56 @@ module _ (w r : ℕ) (sigma z : Value) (wp : 0 < w) (sd : 0 < sigma .d) (zd : 0 
   shrinks k c h b i = decay w c (r * (sigma .d * z .d)) (sigma .d * z .d * w) k (half-whole r k w (sigma .d * z .d) h) (base-whole w c r (sigma .d * z .d) k (factorial k) b) i
 
   -- v₁: the first term left out is the one of level k + 1
-  pub tail-v1 : (k c : ℕ) → 2 * r ≤ k * w → Rest w r k (suc (suc k)) c → (n : ℕ) → Near w (exactTotal (exactTerm sigma z xiPart 1) (suc k + n)) (exactTotal (exactTerm sigma z xiPart 1) (suc k)) (2 * c)
+  pub tail-v1 : (k c : ℕ) → 2 * r ≤ k * w → Rest w r k (suc (suc k)) c → (n : ℕ) → Near w (exactTotal (exactTerm sigma z xiPart 1) (suc k + n))
+      (exactTotal (exactTerm sigma z xiPart 1) (suc k)) (2 * c)
   unfolding exactTerm
   tail-v1 k c h b n = tail-near (exactTerm sigma z xiPart 1) w c (suc k) at n
     where
       at : (i : ℕ) → AtMost (w * 2 ^ i) (exactTerm sigma z xiPart 1 (suc k + i)) c
       at i =
           rw suc-add (xi-most (w * 2 ^ i) c (k + i) (suc (k + i) + 1)
-          (rw fact-xi-1 (weigh (w * 2 ^ i) c (suc (suc k)) (suc (suc (k + i))) (suc (k + i)) ((r * (sigma .d * z .d)) ^ (k + i)) ((sigma .d * z .d * w) ^ (k + i)) (factorial (k + i)) (shrinks k (c * suc (suc k)) h b i) (omega arith))))
+          (rw fact-xi-1 (weigh (w * 2 ^ i) c (suc (suc k)) (suc (suc (k + i))) (suc (k + i)) ((r * (sigma .d * z .d)) ^ (k + i))
+          ((sigma .d * z .d * w) ^ (k + i)) (factorial (k + i)) (shrinks k (c * suc (suc k)) h b i) (omega arith))))
 
   -- w₁: the same over (j + 2)!
-  pub tail-w1 : (k c : ℕ) → 2 * r ≤ k * w → Rest w r k (suc (suc k) * suc (suc (suc k))) c → (n : ℕ) → Near w (exactTotal (exactTerm sigma z xiPart 2) (suc k + n)) (exactTotal (exactTerm sigma z xiPart 2) (suc k)) (2 * c)
+  pub tail-w1 : (k c : ℕ) → 2 * r ≤ k * w → Rest w r k (suc (suc k) * suc (suc (suc k))) c → (n : ℕ) → Near w
+      (exactTotal (exactTerm sigma z xiPart 2) (suc k + n)) (exactTotal (exactTerm sigma z xiPart 2) (suc k)) (2 * c)
   unfolding exactTerm
   tail-w1 k c h b n = tail-near (exactTerm sigma z xiPart 2) w c (suc k) at n
     where
       at : (i : ℕ) → AtMost (w * 2 ^ i) (exactTerm sigma z xiPart 2 (suc k + i)) c
       at i =
           rw suc-add (xi-most (w * 2 ^ i) c (k + i) (suc (k + i) + 2)
-          (rw fact-xi-2 (weigh (w * 2 ^ i) c (suc (suc k) * suc (suc (suc k))) (suc (suc (k + i)) * suc (suc (suc (k + i)))) (suc (k + i)) ((r * (sigma .d * z .d)) ^ (k + i)) ((sigma .d * z .d * w) ^ (k + i)) (factorial (k + i)) (shrinks k (c * (suc (suc k) * suc (suc (suc k)))) h b i) (mul-le-mul (omega arith) (omega arith)))))
+          (rw fact-xi-2 (weigh (w * 2 ^ i) c (suc (suc k) * suc (suc (suc k))) (suc (suc (k + i)) * suc (suc (suc (k + i)))) (suc (k + i))
+          ((r * (sigma .d * z .d)) ^ (k + i)) ((sigma .d * z .d * w) ^ (k + i)) (factorial (k + i))
+          (shrinks k (c * (suc (suc k) * suc (suc (suc k)))) h b i) (mul-le-mul (omega arith) (omega arith)))))
 
   -- v₂: the first term left out is the one of level k + 2
-  pub tail-v2 : (k c : ℕ) → 2 * r ≤ k * w → Rest w r k (2 * suc (suc (suc k))) c → (n : ℕ) → Near w (exactTotal (exactTerm sigma z zetaPart 1) (suc (suc k) + n)) (exactTotal (exactTerm sigma z zetaPart 1) (suc (suc k))) (2 * c)
+  pub tail-v2 : (k c : ℕ) → 2 * r ≤ k * w → Rest w r k (2 * suc (suc (suc k))) c → (n : ℕ) → Near w
+      (exactTotal (exactTerm sigma z zetaPart 1) (suc (suc k) + n)) (exactTotal (exactTerm sigma z zetaPart 1) (suc (suc k))) (2 * c)
   unfolding exactTerm
   tail-v2 k c h b n = tail-near (exactTerm sigma z zetaPart 1) w c (suc (suc k)) at n
     where
       at : (i : ℕ) → AtMost (w * 2 ^ i) (exactTerm sigma z zetaPart 1 (suc (suc k) + i)) c
       at i =
           rw (suc-add, suc-add) (zeta-most (w * 2 ^ i) c (k + i) (suc (suc (k + i)) + 1)
-          (rw fact-zeta-1 (weigh (w * 2 ^ i) c (2 * suc (suc (suc k))) (2 * suc (suc (suc (k + i)))) (pairs (k + i)) ((r * (sigma .d * z .d)) ^ (k + i)) ((sigma .d * z .d * w) ^ (k + i)) (factorial (k + i)) (shrinks k (c * (2 * suc (suc (suc k)))) h b i) (omega arith))))
+          (rw fact-zeta-1 (weigh (w * 2 ^ i) c (2 * suc (suc (suc k))) (2 * suc (suc (suc (k + i)))) (pairs (k + i))
+          ((r * (sigma .d * z .d)) ^ (k + i)) ((sigma .d * z .d * w) ^ (k + i)) (factorial (k + i))
+          (shrinks k (c * (2 * suc (suc (suc k)))) h b i) (omega arith))))
 
   -- w₂: the same over (j + 2)!
-  pub tail-w2 : (k c : ℕ) → 2 * r ≤ k * w → Rest w r k (2 * (suc (suc (suc k)) * suc (suc (suc (suc k))))) c → (n : ℕ) → Near w (exactTotal (exactTerm sigma z zetaPart 2) (suc (suc k) + n)) (exactTotal (exactTerm sigma z zetaPart 2) (suc (suc k))) (2 * c)
+  pub tail-w2 : (k c : ℕ) → 2 * r ≤ k * w → Rest w r k (2 * (suc (suc (suc k)) * suc (suc (suc (suc k))))) c → (n : ℕ) → Near w
+      (exactTotal (exactTerm sigma z zetaPart 2) (suc (suc k) + n)) (exactTotal (exactTerm sigma z zetaPart 2) (suc (suc k))) (2 * c)
   unfolding exactTerm
   tail-w2 k c h b n = tail-near (exactTerm sigma z zetaPart 2) w c (suc (suc k)) at n
     where
       at : (i : ℕ) → AtMost (w * 2 ^ i) (exactTerm sigma z zetaPart 2 (suc (suc k) + i)) c
       at i =
           rw (suc-add, suc-add) (zeta-most (w * 2 ^ i) c (k + i) (suc (suc (k + i)) + 2)
-          (rw fact-zeta-2 (weigh (w * 2 ^ i) c (2 * (suc (suc (suc k)) * suc (suc (suc (suc k))))) (2 * (suc (suc (suc (k + i))) * suc (suc (suc (suc (k + i)))))) (pairs (k + i)) ((r * (sigma .d * z .d)) ^ (k + i)) ((sigma .d * z .d * w) ^ (k + i)) (factorial (k + i)) (shrinks k (c * (2 * (suc (suc (suc k)) * suc (suc (suc (suc k)))))) h b i) (mul-le-mul-left 2 (mul-le-mul (omega arith) (omega arith))))))
+          (rw fact-zeta-2 (weigh (w * 2 ^ i) c (2 * (suc (suc (suc k)) * suc (suc (suc (suc k)))))
+          (2 * (suc (suc (suc (k + i))) * suc (suc (suc (suc (k + i)))))) (pairs (k + i)) ((r * (sigma .d * z .d)) ^ (k + i))
+          ((sigma .d * z .d * w) ^ (k + i)) (factorial (k + i)) (shrinks k (c * (2 * (suc (suc (suc k)) * suc (suc (suc (suc k)))))) h b i)
+          (mul-le-mul-left 2 (mul-le-mul (omega arith) (omega arith))))))
 
   -- ---- |sigma| is at most r / w
   sigma-most : AtMost w sigma r
@@ -191,5 +204,6 @@ module _ (w r : ℕ) (sigma z : Value) (wp : 0 < w) (sd : 0 < sigma .d) (zd : 0 
   -- v₀ and w₀: the first term left out is σ ^ k / (k + l)!
   pub tail-horner : (l k c : ℕ) → 2 * r ≤ k * w → w * r ^ k ≤ c * (w ^ k * factorial (k + l)) → (n : ℕ) → Near w (exactHorner sigma l (k + n)) (exactHorner sigma l k) (2 * c)
   tail-horner l k c h b n =
-      near-convert w (w ^ k * factorial (k + l)) (exactHorner sigma l (k + n)) (exactHorner sigma l k) (2 * c) (r ^ k * 2) (mul-pos (power-pos w k wp) (factorial-above (k + l))) (doubled w (r ^ k) c (w ^ k * factorial (k + l)) b)
+      near-convert w (w ^ k * factorial (k + l)) (exactHorner sigma l (k + n)) (exactHorner sigma l k) (2 * c) (r ^ k * 2)
+      (mul-pos (power-pos w k wp) (factorial-above (k + l))) (doubled w (r ^ k) c (w ^ k * factorial (k + l)) b)
       (horner-tail w r sigma wp sigma-most n k l (le-trans h (mul-le-mul-right w (omega arith))))

@@ -40,13 +40,15 @@ size-difference : (w x : ℕ) (s : Bool) (num p n den : ℕ) → IsDifference s 
 size-difference w x false num p n den h k = let a = rw h at (k .above) in omega (arith, simp expand at a)
 size-difference w x true num p n den h k = let a = rw h at (k .below) in omega (arith, simp expand at a)
 
-pub rounding-error-difference : (f : Format) (w x : ℕ) (s : Bool) (num p n den : ℕ) → 0 < den → IsDifference s num p n → AtMost w (of p n den) x → T (inRange f w x) → AbsoluteError w (round f s num den) (of p n den) (roundingError f w x)
+pub rounding-error-difference : (f : Format) (w x : ℕ) (s : Bool) (num p n den : ℕ) → 0 < den → IsDifference s num p n → AtMost w (of p n den) x → T
+    (inRange f w x) → AbsoluteError w (round f s num den) (of p n den) (roundingError f w x)
 rounding-error-difference f w x s num p n den z h k t =
     error-difference w (roundingError f w x) (round f s num den) s num p n den h
     (rounding-error f w x s num den z (size-difference w x s num p n den h k) (ltb→lt (x + roundingError f w x) (2 ^ suc (emax f) * w) t))
 
 -- ---- the exact sum of two floats, rounded
-rounded-sum : (f : Format) (w x : ℕ) (s : Bool) (a : ℕ) (t : Bool) (b c : ℕ) (p n : ℕ) → 0 < c → IsDifference s a p n → (q m : ℕ) → IsDifference t b q m → AtMost w (of (p + q) (n + m) c) x → T (inRange f w x)
+rounded-sum : (f : Format) (w x : ℕ) (s : Bool) (a : ℕ) (t : Bool) (b c : ℕ) (p n : ℕ) → 0 < c → IsDifference s a p n → (q m : ℕ)
+    → IsDifference t b q m → AtMost w (of (p + q) (n + m) c) x → T (inRange f w x)
     → AbsoluteError w (I.sum f s a t b c) (of (p + q) (n + m) c) (roundingError f w x)
 unfolding I.sum
 rounded-sum f w x false a false b c p n z h q m k s i = rounding-error-difference f w x false (a + b) (p + q) (n + m) c z (omega arith) s i
@@ -140,7 +142,8 @@ error-neg w (fin true i j) x' e h = near-opposite w (signed true (i * up j) (dow
 pub forward-opp : (w : ℕ) (x : Float) (v : Value) (a : Bound) → ForwardError w x v a → ForwardError w (neg x) (opposite v) a
 forward-opp w x v a h = record { close = error-neg w x v (a .error) (h .close); size = most-opposite w v (a .magnitude) (h .size); above = h .above }
 
-pub forward-sum : (f : Format) (w : ℕ) (x y : Float) (v u : Value) (a c : Bound) → 0 < w → ForwardError w x v a → ForwardError w y u c → T (inRange f w (sumReach a c)) → ForwardError w (add f x y) (plus v u) (sumBound f w a c)
+pub forward-sum : (f : Format) (w : ℕ) (x y : Float) (v u : Value) (a c : Bound) → 0 < w → ForwardError w x v a → ForwardError w y u c → T
+    (inRange f w (sumReach a c)) → ForwardError w (add f x y) (plus v u) (sumBound f w a c)
 forward-sum f w x y v u a c z p q i =
     record {
       close = error-add f w x y v u (a .magnitude) (c .magnitude) (a .error) (c .error) z (p .above) (q .above) (p .close) (q .close) (p .size) (q .size) i;
@@ -148,7 +151,8 @@ forward-sum f w x y v u a c z p q i =
       above = mul-pos (p .above) (q .above);
     }
 
-pub forward-prod : (f : Format) (w : ℕ) (x y : Float) (v u : Value) (a c : Bound) → 0 < w → ForwardError w x v a → ForwardError w y u c → T (inRange f w (prodReach w a c)) → ForwardError w (mul f x y) (times v u) (prodBound f w a c)
+pub forward-prod : (f : Format) (w : ℕ) (x y : Float) (v u : Value) (a c : Bound) → 0 < w → ForwardError w x v a → ForwardError w y u c → T
+    (inRange f w (prodReach w a c)) → ForwardError w (mul f x y) (times v u) (prodBound f w a c)
 forward-prod f w x y v u a c z p q i =
     record {
       close = error-mul f w x y v u (a .magnitude) (c .magnitude) (a .error) (c .error) z (p .above) (q .above) (p .close) (q .close) (p .size) (q .size) i;

@@ -117,11 +117,13 @@ over-times w x x' y y' a b e g k z hx hy sx sy l =
     products (w * (x .p * x' .d)) (w * (x .n * x' .d)) (w * (x' .p * x .d)) (w * (x' .n * x .d)) (w * (y .p * y' .d)) (w * (y .n * y' .d)) (w * (y' .p * y .d)) (w * (y' .n * y .d))
     (e * (x .d * x' .d)) (g * (y .d * y' .d)) (a * (x .d * x' .d)) (b * (y .d * y' .d))
     (omega (arith, simp expand at x1)) (omega (arith, simp expand at x2)) (omega (arith, simp expand at y1)) (omega (arith, simp expand at y2))
-    (simp expand (omega (arith, simp expand at s1))) (simp expand (omega (arith, simp expand at s2))) (simp expand (omega (arith, simp expand at r1))) (simp expand (omega (arith, simp expand at r2))) in
+    (simp expand (omega (arith, simp expand at s1))) (simp expand (omega (arith, simp expand at s2))) (simp expand (omega (arith, simp expand at r1)))
+    (simp expand (omega (arith, simp expand at r2))) in
     let u = mul-le-mul-right (x .d * x' .d * (y .d * y' .d)) l in
     le-of-mul-le-mul-right (divided w a b e g k (x .p) (x .n) (x .d) (x' .p) (x' .n) (x' .d) (y .p) (y .n) (y .d) (y' .p) (y' .n) (y' .d) t u) z
 
-flipped : (w k a b c d a' b' c' d' m m' : ℕ) → w * ((b + a) * m' + (d' + c') * m) ≤ w * ((d + c) * m' + (b' + a') * m) + k * (m * m') → w * ((c' + d') * m + (a + b) * m') ≤ w * ((a' + b') * m + (c + d) * m') + k * (m' * m)
+flipped : (w k a b c d a' b' c' d' m m' : ℕ) → w * ((b + a) * m' + (d' + c') * m) ≤ w * ((d + c) * m' + (b' + a') * m) + k * (m * m') → w *
+    ((c' + d') * m + (a + b) * m') ≤ w * ((a' + b') * m + (c + d) * m') + k * (m' * m)
 flipped w k a b c d a' b' c' d' m m' h = simp expand (omega (arith, simp expand at h))
 
 pub near-times : (w : ℕ) (x x' y y' : Value) (a b e g k : ℕ) → 0 < w → 0 < y .d → 0 < x' .d → Near w x x' e → Near w y y' g → AtMost w x' a → AtMost w y' b → (a + e) * g + e * b ≤ k * w
@@ -129,5 +131,6 @@ pub near-times : (w : ℕ) (x x' y y' : Value) (a b e g k : ℕ) → 0 < w → 0
 near-times w x x' y y' a b e g k z yd xd hx hy sx sy l =
     record {
       above = over-times w x x' y y' (a + e) b e g k z hx hy (most-near w x x' a e xd hx sx) sy l;
-      below = flipped w k _ _ _ _ _ _ _ _ _ _ (over-times w (opposite x) (opposite x') y y' (a + e) b e g k z (near-opposite w x x' e hx) hy (most-opposite w x (a + e) (most-near w x x' a e xd hx sx)) sy l);
+      below = flipped w k _ _ _ _ _ _ _ _ _ _ (over-times w (opposite x) (opposite x') y y' (a + e) b e g k z (near-opposite w x x' e hx) hy
+          (most-opposite w x (a + e) (most-near w x x' a e xd hx sx)) sy l);
     }

@@ -43,7 +43,8 @@ pub tree-error : (f : Format) (w : ℕ) (xs : List Float) (bs : List ℕ) (t : T
     → computed f (at xs) t ≡ y → exact (exactAt xs) t ≡ v → AbsoluteError w y v e
 tree-error f w xs bs t y v e z h k p q =
     let b = bound f w (sizes bs) t in
-    let c : AbsoluteError w (computed f (at xs) t) (exact (exactAt xs) t) (b .error) = forward-error f w (at xs) (exactAt xs) (sizes bs) z (leaves-forward w xs bs h) t (and-l (noOverflow f w (sizes bs) t) (leb (b .error) e) k) .close in
+    let c : AbsoluteError w (computed f (at xs) t) (exact (exactAt xs) t) (b .error) = forward-error f w (at xs) (exactAt xs) (sizes bs) z
+    (leaves-forward w xs bs h) t (and-l (noOverflow f w (sizes bs) t) (leb (b .error) e) k) .close in
     subst (λ (a : Float). AbsoluteError w a v e) p (subst (λ (a : Value). AbsoluteError w (computed f (at xs) t) a e) q
     (error-wider w (computed f (at xs) t) (exact (exactAt xs) t) (b .error) e (leb→le (b .error) e (and-r (noOverflow f w (sizes bs) t) (leb (b .error) e) k)) c))
 

@@ -108,7 +108,8 @@ core w g l k y p n c D' yz cz gl e h i j =
     let rd : r * y .d ≤ w * D = left-over w r (y .n) D (y .d) (subst (λ (q : ℕ). w * y .n + r * y .d ≤ w * q) is s) in
     let ap' : g * (y .d * c) ≤ k * (D * D') = apart w g l r k (y .d) D c D' (less g l gl) rz rd i j in
     let x1 = sides w g k (y .n) (y .d) D n c D' ap' (subst (λ (q : ℕ). w * (q * c + n * y .d) ≤ w * (y .n * c + (n + D') * y .d) + g * (y .d * c)) is ha) in
-    let x2 = sides w g k n c D' (y .n) (y .d) D (subst₂ (λ (q z : ℕ). g * q ≤ k * z) (mul-comm (y .d) c) (mul-comm D D') ap') (subst (λ (q : ℕ). w * ((n + D') * y .d + y .n * c) ≤ w * (n * y .d + q * c) + g * (c * y .d)) is hb) in
+    let x2 = sides w g k n c D' (y .n) (y .d) D (subst₂ (λ (q z : ℕ). g * q ≤ k * z) (mul-comm (y .d) c) (mul-comm D D') ap')
+    (subst (λ (q : ℕ). w * ((n + D') * y .d + y .n * c) ≤ w * (n * y .d + q * c) + g * (c * y .d)) is hb) in
     record { D = D; is = is; pos = diff-pos (y .p) (y .n) lt; near = near-inverse w g k (y .d) D c D' x1 (subst (λ (q : ℕ). w * (y .d * D') ≤ w * (c * D) + k * q) (mul-comm D' D) x2) }
   where
     from : (p n : ℕ) → n < p → p ≡ n + (p - n)
@@ -198,7 +199,8 @@ unfolding inverse
 float-pos false b c h = omega arith
 float-pos true b c h = omega arith
 
-div-round : (f : Format) (w u : ℕ) (s : Bool) (i : ℕ) (j : ℤ) (r : Bool) (l : ℕ) (o : ℤ) → 0 < l * up o → AtMost w (times (signed s (i * up j) (down j)) (signed r (down o) (l * up o))) u → T (inRange f w u)
+div-round : (f : Format) (w u : ℕ) (s : Bool) (i : ℕ) (j : ℤ) (r : Bool) (l : ℕ) (o : ℤ) → 0 < l * up o → AtMost w
+    (times (signed s (i * up j) (down j)) (signed r (down o) (l * up o))) u → T (inRange f w u)
     → AbsoluteError w (div f (fin s i j) (fin r l o)) (times (signed s (i * up j) (down j)) (signed r (down o) (l * up o))) (roundingError f w u)
 unfolding div
 div-round f w u s i j r l o z m t = go (eqb l 0) (eqb→eq l 0)
@@ -206,15 +208,19 @@ div-round f w u s i j r l o z m t = go (eqb l 0) (eqb→eq l 0)
     no : (x y : ℕ) → x ≡ 0 → 0 < x * y → ⊥
     no x y e h = let a : x * y ≡ 0 * y = ap (λ (q : ℕ). q * y) e in omega arith
 
-    go : (b : Bool) → (T b → l ≡ 0) → AbsoluteError w (cond b (cond (eqb i 0) nan (inf (unlike s r))) (round f (unlike s r) (i * up j * down o) (l * up o * down j))) (times (signed s (i * up j) (down j)) (signed r (down o) (l * up o))) (roundingError f w u)
+    go : (b : Bool) → (T b → l ≡ 0) → AbsoluteError w (cond b (cond (eqb i 0) nan (inf (unlike s r)))
+        (round f (unlike s r) (i * up j * down o) (l * up o * down j))) (times (signed s (i * up j) (down j)) (signed r (down o) (l * up o)))
+        (roundingError f w u)
     go true h = absurd (no l (up o) (h tt) z)
     go false h =
         let x : Value = signed s (i * up j) (down j) in
         let y : Value = signed r (down o) (l * up o) in
         subst (λ (d : ℕ). AbsoluteError w (round f (unlike s r) (i * up j * down o) d) (times x y) (roundingError f w u)) (mul-comm (down j) (l * up o))
-        (rounding-error-difference f w u (unlike s r) (i * up j * down o) (times x y .p) (times x y .n) (down j * (l * up o)) (mul-pos (down-pos j) z) (signs s r (i * up j) (down j) (down o) (l * up o)) m t)
+        (rounding-error-difference f w u (unlike s r) (i * up j * down o) (times x y .p) (times x y .n) (down j * (l * up o)) (mul-pos (down-pos j) z)
+        (signs s r (i * up j) (down j) (down o) (l * up o)) m t)
 
-error-div : (f : Format) (w l : ℕ) (x y : Float) (x' y' : Value) (a b : Bound) → 0 < w → 0 < x' .d → 0 < y' .d → b .error < l → AbsoluteError w x x' (a .error) → AbsoluteError w y y' (b .error) → AtMost w x' (a .magnitude) → AtLeast w y' l
+error-div : (f : Format) (w l : ℕ) (x y : Float) (x' y' : Value) (a b : Bound) → 0 < w → 0 < x' .d → 0 < y' .d → b .error < l → AbsoluteError w x x'
+    (a .error) → AbsoluteError w y y' (b .error) → AtMost w x' (a .magnitude) → AtLeast w y' l
     → T (inRange f w (prodReach w a (inverseBound w l (b .error)))) → AbsoluteError w (div f x y) (ratio x' y') (quotBound f w a (inverseBound w l (b .error)) .error)
 error-div f w l nan y x' y' a b z c d lt h k m n t = absurd h
 error-div f w l (inf s) y x' y' a b z c d lt h k m n t = absurd h
@@ -232,7 +238,8 @@ error-div f w l (fin s i j) (fin r o q) x' y' a b z c d lt h k m n t =
     let A = a .magnitude + a .error in
     let u = upward w (A * (B .magnitude + B .error)) in
     let near = upward w (A * B .error + a .error * B .magnitude) in
-    let magnitude : AtMost w (times x Y) u = most-times w x Y A (B .magnitude + B .error) u z (most-near w x x' (a .magnitude) (a .error) c h m) (most-near w Y (inverse y') (B .magnitude) (B .error) (I .above') nY (I .size)) (upward-enough w (A * (B .magnitude + B .error)) z) in
+    let magnitude : AtMost w (times x Y) u = most-times w x Y A (B .magnitude + B .error) u z (most-near w x x' (a .magnitude) (a .error) c h m)
+    (most-near w Y (inverse y') (B .magnitude) (B .error) (I .above') nY (I .size)) (upward-enough w (A * (B .magnitude + B .error)) z) in
     let v = div-round f w u s i j r o q bz magnitude t in
     error-wider w (div f (fin s i j) (fin r o q)) (ratio x' y') (roundingError f w u + near) (near + roundingError f w u) (omega arith)
     (error-trans w (div f (fin s i j) (fin r o q)) (times x Y) (ratio x' y') (roundingError f w u) near (mul-pos (down-pos j) bz) v
@@ -241,7 +248,8 @@ error-div f w l (fin s i j) (fin r o q) x' y' a b z c d lt h k m n t =
 inverse-size : (w : ℕ) (y : Value) (l : ℕ) → 0 < l → 0 < y .d → AtLeast w y l → AtMost w (inverse y) (upward l (w * w)) × (0 < inverse y .d)
 inverse-size w y l z d h = let I = inverses w 0 l y y d d z (record { above = omega arith; below = omega arith }) h in (I .size, I .above)
 
-pub forward-quot : (f : Format) (w l : ℕ) (x y : Float) (v u : Value) (a c : Bound) → 0 < w → ForwardError w x v a → ForwardError w y u c → c .error < l → AtLeast w u l → T (inRange f w (prodReach w a (inverseBound w l (c .error))))
+pub forward-quot : (f : Format) (w l : ℕ) (x y : Float) (v u : Value) (a c : Bound) → 0 < w → ForwardError w x v a → ForwardError w y u c
+    → c .error < l → AtLeast w u l → T (inRange f w (prodReach w a (inverseBound w l (c .error))))
     → ForwardError w (div f x y) (ratio v u) (quotBound f w a (inverseBound w l (c .error)))
 forward-quot f w l x y v u a c z p q lt h i =
     let I = inverse-size w u l (less (c .error) l lt) (q .above) h in
@@ -255,7 +263,8 @@ forward-quot f w l x y v u a c z p q lt h i =
     less g l h = omega arith
 
 -- ---- the theorem, with quotients
-pub forward-error-divided : (f : Format) (w : ℕ) (x : ℕ → Float) (v : ℕ → Value) (b : ℕ → Bound) → 0 < w → ((i : ℕ) → ForwardError w (x i) (v i) (b i)) → (t : Term) → T (wellDefined f w b t) → DivisorsAtLeast w v t
+pub forward-error-divided : (f : Format) (w : ℕ) (x : ℕ → Float) (v : ℕ → Value) (b : ℕ → Bound) → 0 < w →
+    ((i : ℕ) → ForwardError w (x i) (v i) (b i)) → (t : Term) → T (wellDefined f w b t) → DivisorsAtLeast w v t
     → ForwardError w (computed f x t) (exact v t) (bound f w b t)
 unfolding computed exact bound wellDefined DivisorsAtLeast
 forward-error-divided f w x v b z h (leaf i) s o = h i
@@ -264,12 +273,14 @@ forward-error-divided f w x v b z h (sum t u) s o =
     let i = inRange f w (sumReach (bound f w b t) (bound f w b u)) in
     let l : T (wellDefined f w b u && i) = and-r (wellDefined f w b t) (wellDefined f w b u && i) s in
     forward-sum f w (computed f x t) (computed f x u) (exact v t) (exact v u) (bound f w b t) (bound f w b u) z
-    (forward-error-divided f w x v b z h t (and-l (wellDefined f w b t) (wellDefined f w b u && i) s) (o .0)) (forward-error-divided f w x v b z h u (and-l (wellDefined f w b u) i l) (o .1)) (and-r (wellDefined f w b u) i l)
+    (forward-error-divided f w x v b z h t (and-l (wellDefined f w b t) (wellDefined f w b u && i) s) (o .0))
+    (forward-error-divided f w x v b z h u (and-l (wellDefined f w b u) i l) (o .1)) (and-r (wellDefined f w b u) i l)
 forward-error-divided f w x v b z h (prod t u) s o =
     let i = inRange f w (prodReach w (bound f w b t) (bound f w b u)) in
     let l : T (wellDefined f w b u && i) = and-r (wellDefined f w b t) (wellDefined f w b u && i) s in
     forward-prod f w (computed f x t) (computed f x u) (exact v t) (exact v u) (bound f w b t) (bound f w b u) z
-    (forward-error-divided f w x v b z h t (and-l (wellDefined f w b t) (wellDefined f w b u && i) s) (o .0)) (forward-error-divided f w x v b z h u (and-l (wellDefined f w b u) i l) (o .1)) (and-r (wellDefined f w b u) i l)
+    (forward-error-divided f w x v b z h t (and-l (wellDefined f w b t) (wellDefined f w b u && i) s) (o .0))
+    (forward-error-divided f w x v b z h u (and-l (wellDefined f w b u) i l) (o .1)) (and-r (wellDefined f w b u) i l)
 forward-error-divided f w x v b z h (quot m t u) s o =
     let e = bound f w b u .error in
     let i = inRange f w (prodReach w (bound f w b t) (inverseBound w m e)) in
@@ -277,10 +288,12 @@ forward-error-divided f w x v b z h (quot m t u) s o =
     let l : T (wellDefined f w b u && (j && i)) = and-r (wellDefined f w b t) (wellDefined f w b u && (j && i)) s in
     let k : T (j && i) = and-r (wellDefined f w b u) (j && i) l in
     forward-quot f w m (computed f x t) (computed f x u) (exact v t) (exact v u) (bound f w b t) (bound f w b u) z
-    (forward-error-divided f w x v b z h t (and-l (wellDefined f w b t) (wellDefined f w b u && (j && i)) s) (o .0)) (forward-error-divided f w x v b z h u (and-l (wellDefined f w b u) (j && i) l) (o .1 .0)) (ltb→lt e m (and-l j i k)) (o .1 .1) (and-r j i k)
+    (forward-error-divided f w x v b z h t (and-l (wellDefined f w b t) (wellDefined f w b u && (j && i)) s) (o .0))
+    (forward-error-divided f w x v b z h u (and-l (wellDefined f w b u) (j && i) l) (o .1 .0)) (ltb→lt e m (and-l j i k)) (o .1 .1) (and-r j i k)
 
 -- ---- for instance a quotient x / y of floats up to 16 in size, y at least 1 / 4, in units of 2 ^ -100: within 2 ^ -46
-pub quotient-binary64 : (x y : Float) → Bounded (2 ^ 100) x (2 ^ 104) → Bounded (2 ^ 100) y (2 ^ 104) → AtLeast (2 ^ 100) (valueOf y) (2 ^ 98) → AbsoluteError (2 ^ 100) (div binary64 x y) (ratio (valueOf x) (valueOf y)) (2 ^ 54)
+pub quotient-binary64 : (x y : Float) → Bounded (2 ^ 100) x (2 ^ 104) → Bounded (2 ^ 100) y (2 ^ 104) → AtLeast (2 ^ 100) (valueOf y) (2 ^ 98)
+    → AbsoluteError (2 ^ 100) (div binary64 x y) (ratio (valueOf x) (valueOf y)) (2 ^ 54)
 unfolding computed exact bound wellDefined DivisorsAtLeast
 quotient-binary64 x y hx hy h =
     let t = quot (2 ^ 98) (leaf 0) (leaf 1) in

@@ -46,7 +46,8 @@ pub record QuatForwardError (u : ℕ) (q : Quat) (t : Four Value) (b : Bound) : 
   pub y : ForwardError u (q .y) (t .y) b
   pub z : ForwardError u (q .z) (t .z) b
 
-pub join-shift : (f : Format) (u b s h : ℕ) (x : Sim3) (X : Exact) (j : Join) (p : PoseBound) → 0 < u → QuatForwardError u (x .q) (X .q) (p .rotation) → VecForwardError u (x .t) (X .t) (p .translation) → VecIn u b (j .pose .t)
+pub join-shift : (f : Format) (u b s h : ℕ) (x : Sim3) (X : Exact) (j : Join) (p : PoseBound) → 0 < u → QuatForwardError u (x .q) (X .q) (p .rotation)
+    → VecForwardError u (x .t) (X .t) (p .translation) → VecIn u b (j .pose .t)
     → AbsoluteError u (j .up) (j .scale) h → AtMost u (j .scale) s → 0 < j .scale .d → T (noOverflow f u (nth noBound (joinBounds u b s h p)) (treeAct .x))
     → VecForwardError u (poseAct f x (j .up) (j .pose .t)) (exactJoin X j .t) (bound f u (nth noBound (joinBounds u b s h p)) (treeAct .x))
 unfolding computed exact bound noOverflow treeAct poseAct so3Act vecScale vecCross vecAdd sub exactJoin
@@ -112,10 +113,30 @@ pub run-forward : (u m d : ℕ) (R : Quat) (Q : Four Value) → Above Q → Run 
 run-forward u m d R Q a k =
     let c = run-close u m d R Q k in
     record {
-      w = record { close = c .w; size = let t = long-w u (k .s) (k .e) m (k .magnitude) in is-most u m (Q .w) (k .s .w .p) (k .s .w .n) (k .e) (k .above) (k .exact .w) (t .above) (t .below); above = a .w };
-      x = record { close = c .x; size = let t = long-x u (k .s) (k .e) m (k .magnitude) in is-most u m (Q .x) (k .s .x .p) (k .s .x .n) (k .e) (k .above) (k .exact .x) (t .above) (t .below); above = a .x };
-      y = record { close = c .y; size = let t = long-y u (k .s) (k .e) m (k .magnitude) in is-most u m (Q .y) (k .s .y .p) (k .s .y .n) (k .e) (k .above) (k .exact .y) (t .above) (t .below); above = a .y };
-      z = record { close = c .z; size = let t = long-z u (k .s) (k .e) m (k .magnitude) in is-most u m (Q .z) (k .s .z .p) (k .s .z .n) (k .e) (k .above) (k .exact .z) (t .above) (t .below); above = a .z };
+      w = record {
+        close = c .w;
+        size = let t = long-w u (k .s) (k .e) m (k .magnitude) in is-most u m (Q .w) (k .s .w .p) (k .s .w .n) (k .e)
+            (k .above) (k .exact .w) (t .above) (t .below);
+        above = a .w;
+      };
+      x = record {
+        close = c .x;
+        size = let t = long-x u (k .s) (k .e) m (k .magnitude) in is-most u m (Q .x) (k .s .x .p) (k .s .x .n) (k .e)
+            (k .above) (k .exact .x) (t .above) (t .below);
+        above = a .x;
+      };
+      y = record {
+        close = c .y;
+        size = let t = long-y u (k .s) (k .e) m (k .magnitude) in is-most u m (Q .y) (k .s .y .p) (k .s .y .n) (k .e)
+            (k .above) (k .exact .y) (t .above) (t .below);
+        above = a .y;
+      };
+      z = record {
+        close = c .z;
+        size = let t = long-z u (k .s) (k .e) m (k .magnitude) in is-most u m (Q .z) (k .s .z .p) (k .s .z .n) (k .e)
+            (k .above) (k .exact .z) (t .above) (t .below);
+        above = a .z;
+      };
     }
 
 no-less : (n : ℕ) → suc n ≤ 0 → ⊥
@@ -147,7 +168,8 @@ module _ (u c g : ℕ) (p : PoseBound) (x : Sim3) (X : Exact) where
       )
 
 module _ (f : Format) (u v b s h : ℕ) (up : 0 < u) where
-  join-one : (p : PoseBound) (x : Sim3) (X : Exact) (j : Join) → T (joinNoOverflow f u v b s h p) → JoinIn u v b s h j → PoseRun u p x X → PoseRun u (nextPose f u v b s h p) (poseMul f x (j .pose) (j .up)) (exactJoin X j)
+  join-one : (p : PoseBound) (x : Sim3) (X : Exact) (j : Join) → T (joinNoOverflow f u v b s h p) → JoinIn u v b s h j → PoseRun u p x X → PoseRun u
+      (nextPose f u v b s h p) (poseMul f x (j .pose) (j .up)) (exactJoin X j)
   unfolding joinNoOverflow nextPose nextRotation poseMul exactJoin
   join-one p x X j t g k =
       let a = noOverflow f u (sizes (quatMulSizes (p .rotation .magnitude + p .rotation .error) v)) (treeQuatMul .w) in
@@ -155,7 +177,8 @@ module _ (f : Format) (u v b s h : ℕ) (up : 0 < u) where
       record {
         rotation = one-more f u v up (p .rotation .magnitude) (p .rotation .error) (x .q) (j .pose .q) (X .q) (and-l a c t) (g .q) (k .rotation);
         above = hamilton-above (X .q) (exactQuat (j .pose .q)) (k .above) (quat-values (j .pose .q));
-        translation = join-shift f u b s h x X j p up (run-forward u (p .rotation .magnitude) (p .rotation .error) (x .q) (X .q) (k .above) (k .rotation)) (k .translation) (g .t) (g .up) (g .scale) (g .above) (and-r a c t);
+        translation = join-shift f u b s h x X j p up (run-forward u (p .rotation .magnitude) (p .rotation .error) (x .q) (X .q) (k .above)
+            (k .rotation)) (k .translation) (g .t) (g .up) (g .scale) (g .above) (and-r a c t);
       }
 
   -- joins in a row: the bound after each is the next of the one before
@@ -188,4 +211,9 @@ joined-poses =
     all : (f : Format) (u v b s h c g N : ℕ) (x : Sim3) (l : List Join) → 0 < u → T (joinsHold f u v b s h c g (firstBound v b) N) → JoinedIn u v b s h c g N x l (joined f x l)
     all f u v b s h c g N x l up t n hq ht k =
         joins f u v b s h up c g l N n (firstBound v b) x (exactPose x) t k
-        (record { rotation = first u v (x .q) hq; above = quat-values (x .q); translation = record { x = leaf-forward u (x .t .x) b (ht .x); y = leaf-forward u (x .t .y) b (ht .y); z = leaf-forward u (x .t .z) b (ht .z) } })
+        (record {
+          rotation = first u v (x .q) hq;
+          above = quat-values (x .q);
+          translation = record
+              { x = leaf-forward u (x .t .x) b (ht .x); y = leaf-forward u (x .t .y) b (ht .y); z = leaf-forward u (x .t .z) b (ht .z) };
+        })

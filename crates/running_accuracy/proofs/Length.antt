@@ -28,7 +28,8 @@ squared-up q =
     four a a' b b' c c' d d' h i j k = omega arith
 
 -- ---- a product
-product-whole : (w p n q m a c : ℕ) → w * w * p * (w * w * q) + w * w * n * (w * w * m) ≤ w * w * p * (w * w * m) + w * w * n * (w * w * q) + a * c → w * w * (w * w * (p * q + n * m)) ≤ w * w * (w * w * (p * m + n * q)) + a * c
+product-whole : (w p n q m a c : ℕ) → w * w * p * (w * w * q) + w * w * n * (w * w * m) ≤ w * w * p * (w * w * m) + w * w * n * (w * w * q) + a * c
+    → w * w * (w * w * (p * q + n * m)) ≤ w * w * (w * w * (p * m + n * q)) + a * c
 product-whole w p n q m a c h = simp expand (omega (arith, simp expand at h))
 
 euler-whole : (v hp hn kp kn c : ℕ) → hp + kn ≡ hn + kp → v * kp ≤ v * kn + c → v * hp ≤ v * hn + c
@@ -53,11 +54,16 @@ long-product w a c e g b d h z la lc l =
     let v = w * w in
     let au = mul-le-mul-left v (squared-up a) in
     let cu = mul-le-mul-left v (squared-up c) in
-    let t = product (v * A .p) (v * A .n) (v * C .p) (v * C .n) (b * b * (e * e)) (d * d * (g * g)) (la .magnitude) (up (v * A .n) (v * A .p) (b * b * (e * e)) au) (lc .magnitude) (up (v * C .n) (v * C .p) (d * d * (g * g)) cu) in
+    let t = product (v * A .p) (v * A .n) (v * C .p) (v * C .n) (b * b * (e * e)) (d * d * (g * g)) (la .magnitude)
+    (up (v * A .n) (v * A .p) (b * b * (e * e)) au) (lc .magnitude) (up (v * C .n) (v * C .p) (d * d * (g * g)) cu) in
     let u = product-whole w (A .p) (A .n) (C .p) (C .n) (b * b * (e * e)) (d * d * (g * g)) t in
     let k : v * (v * squared (hamilton a c) .p) ≤ v * (v * squared (hamilton a c) .n) + b * b * (e * e) * (d * d * (g * g)) =
     two-euler v (squared (hamilton a c) .p) (squared (hamilton a c) .n) ((A ⊗ C) .p) ((A ⊗ C) .n) (b * b * (e * e) * (d * d * (g * g))) (euler a c) u in
-    record { magnitude = cancel-w w (squared (hamilton a c) .p) (squared (hamilton a c) .n) (h * h * (e * g * (e * g))) z (le-trans k (wider (v * (v * squared (hamilton a c) .n)) (b * b * (e * e) * (d * d * (g * g))) (v * (h * h * (e * g * (e * g)))) (factors w b d h e g l))) }
+    record {
+      magnitude = cancel-w w (squared (hamilton a c) .p) (squared (hamilton a c) .n) (h * h * (e * g * (e * g))) z
+          (le-trans k (wider (v * (v * squared (hamilton a c) .n)) (b * b * (e * e) * (d * d * (g * g))) (v * (h * h * (e * g * (e * g))))
+          (factors w b d h e g l)));
+    }
   where
     up : (n p c : ℕ) → n ≤ p → n ≤ p + c
     up n p c h = omega arith
@@ -80,7 +86,8 @@ square-shift p n q m h =
     let d = ap (λ (i : ℕ). i * m) h in
     simp expand (omega (arith, simp expand at a, simp expand at b, simp expand at c, simp expand at d))
 
-four-shift : (v c a a' b b' i i' j j' k k' l l' m m' n n' : ℕ) → a + b' ≡ a' + b → i + j' ≡ i' + j → k + l' ≡ k' + l → m + n' ≡ m' + n → v * (a + i + k + m) ≤ v * (a' + i' + k' + m') + c → v * (b + j + l + n) ≤ v * (b' + j' + l' + n') + c
+four-shift : (v c a a' b b' i i' j j' k k' l l' m m' n n' : ℕ) → a + b' ≡ a' + b → i + j' ≡ i' + j → k + l' ≡ k' + l → m + n' ≡ m' + n → v *
+    (a + i + k + m) ≤ v * (a' + i' + k' + m') + c → v * (b + j + l + n) ≤ v * (b' + j' + l' + n') + c
 four-shift v c a a' b b' i i' j j' k k' l l' m m' n n' h1 h2 h3 h4 h =
     translation v c (a + i + k + m) (a' + i' + k' + m') (b + j + l + n) (b' + j' + l' + n') (omega arith) h
   where
@@ -181,13 +188,16 @@ pub long-w : (w : ℕ) (a : Quad Gap) (e b : ℕ) → Long w a e b → Tall w (a
 long-w w a e b h = gap-tall w (a .w) (b * e) (rw (square-of b e) at (first-of (w * w) _ _ _ _ _ _ _ _ _ (square-up (a .x)) (square-up (a .y)) (square-up (a .z)) (h .magnitude)))
 
 pub long-x : (w : ℕ) (a : Quad Gap) (e b : ℕ) → Long w a e b → Tall w (a .x) (b * e)
-long-x w a e b h = gap-tall w (a .x) (b * e) (rw (square-of b e) at (first-of (w * w) _ _ _ _ _ _ _ _ _ (square-up (a .w)) (square-up (a .y)) (square-up (a .z)) (turn4 (w * w) _ _ _ _ _ _ _ _ _ (h .magnitude))))
+long-x w a e b h = gap-tall w (a .x) (b * e) (rw (square-of b e) at (first-of (w * w) _ _ _ _ _ _ _ _ _ (square-up (a .w)) (square-up (a .y))
+    (square-up (a .z)) (turn4 (w * w) _ _ _ _ _ _ _ _ _ (h .magnitude))))
 
 pub long-y : (w : ℕ) (a : Quad Gap) (e b : ℕ) → Long w a e b → Tall w (a .y) (b * e)
-long-y w a e b h = gap-tall w (a .y) (b * e) (rw (square-of b e) at (first-of (w * w) _ _ _ _ _ _ _ _ _ (square-up (a .w)) (square-up (a .x)) (square-up (a .z)) (turn4' (w * w) _ _ _ _ _ _ _ _ _ (h .magnitude))))
+long-y w a e b h = gap-tall w (a .y) (b * e) (rw (square-of b e) at (first-of (w * w) _ _ _ _ _ _ _ _ _ (square-up (a .w)) (square-up (a .x))
+    (square-up (a .z)) (turn4' (w * w) _ _ _ _ _ _ _ _ _ (h .magnitude))))
 
 pub long-z : (w : ℕ) (a : Quad Gap) (e b : ℕ) → Long w a e b → Tall w (a .z) (b * e)
-long-z w a e b h = gap-tall w (a .z) (b * e) (rw (square-of b e) at (first-of (w * w) _ _ _ _ _ _ _ _ _ (square-up (a .w)) (square-up (a .x)) (square-up (a .y)) (turn4'' (w * w) _ _ _ _ _ _ _ _ _ (h .magnitude))))
+long-z w a e b h = gap-tall w (a .z) (b * e) (rw (square-of b e) at (first-of (w * w) _ _ _ _ _ _ _ _ _ (square-up (a .w)) (square-up (a .x))
+    (square-up (a .y)) (turn4'' (w * w) _ _ _ _ _ _ _ _ _ (h .magnitude))))
 
 -- ---- a sum: 2 a b u v ≤ b² u² + a² v²
 mean : (a b p n q m : ℕ) → b * b * (p * n + n * p) + a * b * (2 * (p * q + n * m)) + a * a * (q * m + m * q) ≤ b * b * (p * p + n * n) + a * b * (2 * (p * m + n * q)) + a * a * (q * q + m * m)
@@ -201,14 +211,16 @@ add-means b c a xn zp yn xp zn yp xn' zp' yn' xp' zn' yp' h k = simp mul-add (om
 sum-whole : (v a b e xp xn yp yn zp zn : ℕ) → 0 < a → 0 < b → v * xp ≤ v * xn + a * a * (e * e) → v * yp ≤ v * yn + b * b * (e * e)
     → b * b * xn + a * b * zp + a * a * yn ≤ b * b * xp + a * b * zn + a * a * yp → v * (xp + zp + yp) ≤ v * (xn + zn + yn) + (a + b) * (a + b) * (e * e)
 sum-whole v a b e xp xn yp yn zp zn ap bp h k m =
-    let c : v * zp ≤ v * zn + 2 * (a * b * (e * e)) = le-of-mul-le-mul-right {k = a * b} (cancel v a b e xp xn yp yn zp zn (mul-le-mul-left (b * b) h) (mul-le-mul-left (a * a) k) (mul-le-mul-left v m)) (mul-pos ap bp) in
+    let c : v * zp ≤ v * zn + 2 * (a * b * (e * e)) = le-of-mul-le-mul-right {k = a * b}
+    (cancel v a b e xp xn yp yn zp zn (mul-le-mul-left (b * b) h) (mul-le-mul-left (a * a) k) (mul-le-mul-left v m)) (mul-pos ap bp) in
     last v a b e xp xn yp yn zp zn h k c
   where
     cancel : (v a b e xp xn yp yn zp zn : ℕ) → b * b * (v * xp) ≤ b * b * (v * xn + a * a * (e * e)) → a * a * (v * yp) ≤ a * a * (v * yn + b * b * (e * e))
         → v * (b * b * xn + a * b * zp + a * a * yn) ≤ v * (b * b * xp + a * b * zn + a * a * yp) → v * zp * (a * b) ≤ (v * zn + 2 * (a * b * (e * e))) * (a * b)
     cancel v a b e xp xn yp yn zp zn h k m = simp expand (omega (arith, simp expand at h, simp expand at k, simp expand at m))
 
-    last : (v a b e xp xn yp yn zp zn : ℕ) → v * xp ≤ v * xn + a * a * (e * e) → v * yp ≤ v * yn + b * b * (e * e) → v * zp ≤ v * zn + 2 * (a * b * (e * e)) → v * (xp + zp + yp) ≤ v * (xn + zn + yn) + (a + b) * (a + b) * (e * e)
+    last : (v a b e xp xn yp yn zp zn : ℕ) → v * xp ≤ v * xn + a * a * (e * e) → v * yp ≤ v * yn + b * b * (e * e) → v * zp ≤ v * zn + 2 *
+        (a * b * (e * e)) → v * (xp + zp + yp) ≤ v * (xn + zn + yn) + (a + b) * (a + b) * (e * e)
     last v a b e xp xn yp yn zp zn h k c = simp expand (omega (arith, simp expand at h, simp expand at k, simp expand at c))
 
 abbrev pub sum4 : Quad Gap → Quad Gap → Quad Gap
@@ -221,19 +233,25 @@ sum-square-p p n q m = simp expand (omega arith)
 sum-square-n : (p n q m : ℕ) → (p + q) * (n + m) + (n + m) * (p + q) ≡ p * n + n * p + 2 * (p * m + n * q) + (q * m + m * q)
 sum-square-n p n q m = simp expand (omega arith)
 
-regroup : (a z b a' z' b' a'' z'' b'' c y d s t u v : ℕ) → s ≡ a + z + b → t ≡ a' + z' + b' → u ≡ a'' + z'' + b'' → v ≡ c + y + d → s + t + u + v ≡ a + a' + a'' + c + (z + z' + z'' + y) + (b + b' + b'' + d)
+regroup : (a z b a' z' b' a'' z'' b'' c y d s t u v : ℕ) → s ≡ a + z + b → t ≡ a' + z' + b' → u ≡ a'' + z'' + b'' → v ≡ c + y + d → s + t + u + v
+    ≡ a + a' + a'' + c + (z + z' + z'' + y) + (b + b' + b'' + d)
 regroup a z b a' z' b' a'' z'' b'' c y d s t u v h i j k = omega arith
 
 pub long-sum : (w : ℕ) (a b : Quad Gap) (e g h : ℕ) → 0 < g → 0 < h → Long w a e g → Long w b e h → Long w (sum4 a b) e (g + h)
 long-sum w a b e g h gp hp la lb =
-    let m : (x y : Gap) → h * h * (x ⊗ x) .n + g * h * (2 * (x ⊗ y) .p) + g * g * (y ⊗ y) .n ≤ h * h * (x ⊗ x) .p + g * h * (2 * (x ⊗ y) .n) + g * g * (y ⊗ y) .p = λ x y. mean g h (x .p) (x .n) (y .p) (y .n) in
+    let m : (x y : Gap) → h * h * (x ⊗ x) .n + g * h * (2 * (x ⊗ y) .p) + g * g * (y ⊗ y) .n ≤ h * h * (x ⊗ x) .p + g * h * (2 * (x ⊗ y) .n) + g * g *
+    (y ⊗ y) .p = λ x y. mean g h (x .p) (x .n) (y .p) (y .n) in
     let mm =
     add-means (h * h) (g * h) (g * g) _ _ _ _ _ _ _ _ _ _ _ _
     (add-means (h * h) (g * h) (g * g) _ _ _ _ _ _ _ _ _ _ _ _ (add-means (h * h) (g * h) (g * g) _ _ _ _ _ _ _ _ _ _ _ _ (m (a .w) (b .w)) (m (a .x) (b .x))) (m (a .y) (b .y))) (m (a .z) (b .z)) in
     let p : squared (sum4 a b) .p ≡ squared a .p + (2 * (a .w ⊗ b .w) .p + 2 * (a .x ⊗ b .x) .p + 2 * (a .y ⊗ b .y) .p + 2 * (a .z ⊗ b .z) .p) + squared b .p =
-    regroup _ _ _ _ _ _ _ _ _ _ _ _ _ _ _ _ (sum-square-p (a .w .p) (a .w .n) (b .w .p) (b .w .n)) (sum-square-p (a .x .p) (a .x .n) (b .x .p) (b .x .n)) (sum-square-p (a .y .p) (a .y .n) (b .y .p) (b .y .n)) (sum-square-p (a .z .p) (a .z .n) (b .z .p) (b .z .n)) in
+    regroup _ _ _ _ _ _ _ _ _ _ _ _ _ _ _ _ (sum-square-p (a .w .p) (a .w .n) (b .w .p) (b .w .n))
+    (sum-square-p (a .x .p) (a .x .n) (b .x .p) (b .x .n)) (sum-square-p (a .y .p) (a .y .n) (b .y .p) (b .y .n))
+    (sum-square-p (a .z .p) (a .z .n) (b .z .p) (b .z .n)) in
     let n : squared (sum4 a b) .n ≡ squared a .n + (2 * (a .w ⊗ b .w) .n + 2 * (a .x ⊗ b .x) .n + 2 * (a .y ⊗ b .y) .n + 2 * (a .z ⊗ b .z) .n) + squared b .n =
-    regroup _ _ _ _ _ _ _ _ _ _ _ _ _ _ _ _ (sum-square-n (a .w .p) (a .w .n) (b .w .p) (b .w .n)) (sum-square-n (a .x .p) (a .x .n) (b .x .p) (b .x .n)) (sum-square-n (a .y .p) (a .y .n) (b .y .p) (b .y .n)) (sum-square-n (a .z .p) (a .z .n) (b .z .p) (b .z .n)) in
+    regroup _ _ _ _ _ _ _ _ _ _ _ _ _ _ _ _ (sum-square-n (a .w .p) (a .w .n) (b .w .p) (b .w .n))
+    (sum-square-n (a .x .p) (a .x .n) (b .x .p) (b .x .n)) (sum-square-n (a .y .p) (a .y .n) (b .y .p) (b .y .n))
+    (sum-square-n (a .z .p) (a .z .n) (b .z .p) (b .z .n)) in
     record {
       magnitude = subst₂ (λ (x y : ℕ). w * w * x ≤ w * w * y + (g + h) * (g + h) * (e * e)) (sym p) (sym n)
           (sum-whole (w * w) g h e (squared a .p) (squared a .n) (squared b .p) (squared b .n) _ _ gp hp (la .magnitude) (lb .magnitude) mm);

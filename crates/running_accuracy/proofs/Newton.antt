@@ -73,7 +73,13 @@ comboX =
     let r = quadX 2 in
     let s = quadX 6 in
     let a = subX4 r s in
-    let k : Quad Ex = record { w = subX (R.times c (a .w)) (R.times h (r .w)); x = subX (R.times c (a .x)) (R.times h (r .x)); y = subX (R.times c (a .y)) (R.times h (r .y)); z = subX (R.times c (a .z)) (R.times h (r .z)) } in
+    let k : Quad Ex = record {
+      w = subX (R.times c (a .w)) (R.times h (r .w));
+      x = subX (R.times c (a .x)) (R.times h (r .x));
+      y = subX
+          (R.times c (a .y)) (R.times h (r .y));
+      z = subX (R.times c (a .z)) (R.times h (r .z));
+    } in
     subX (squaredX k)
     (R.plus (subX (R.times (R.times c c) (squaredX a)) (R.times (R.times c h) (subX (R.plus (squaredX r) (squaredX a)) (squaredX s)))) (R.times (R.times h h) (squaredX r)))
 
@@ -120,7 +126,8 @@ under E C X P L k e h =
     subst (λ (l : ℕ). 2 * E * (C * C * X + C * k * (P + X) + k * k * P) ≤ 2 * E * (C * k * l) + 2 * E * (C * C * X) + C * X * (C * X)) (sym e)
     (go E C X P k (mul-le-mul-right (E * (k * k)) h) (twice-le (E * k) (C * X)))
   where
-    go : (E C X P k : ℕ) → (E + 2 * P) * (E * (k * k)) ≤ 2 * C * (E * (k * k)) → 2 * (E * k * (C * X)) ≤ E * k * (E * k) + C * X * (C * X) → 2 * E * (C * C * X + C * k * (P + X) + k * k * P) ≤ 2 * E * (C * k * (P + k)) + 2 * E * (C * C * X) + C * X * (C * X)
+    go : (E C X P k : ℕ) → (E + 2 * P) * (E * (k * k)) ≤ 2 * C * (E * (k * k)) → 2 * (E * k * (C * X)) ≤ E * k * (E * k) + C * X * (C * X) → 2 * E *
+        (C * C * X + C * k * (P + X) + k * k * P) ≤ 2 * E * (C * k * (P + k)) + 2 * E * (C * C * X) + C * X * (C * X)
     go E C X P k a b = simp expand (omega (arith, simp expand at a, simp expand at b))
 
 beyond : (E C X P L k : ℕ) → P ≡ L + k → P ≤ C → 2 * E * (C * C * X + C * k * L + k * k * P) ≤ 2 * E * (C * k * (P + X)) + 2 * E * (C * C * X) + C * X * (C * X)
@@ -132,10 +139,12 @@ beyond E C X P L k e h =
     go : (E C X P L k : ℕ) → P * (2 * E * (k * k)) ≤ C * (2 * E * (k * k)) → 2 * E * (C * C * X + C * k * L + k * k * P) ≤ 2 * E * (C * k * (L + k + X)) + 2 * E * (C * C * X) + C * X * (C * X)
     go E C X P L k a = simp expand (omega (arith, simp expand at a))
 
-canon-under : (C X P L k : ℕ) → (rest (whole C) (opp (whole k)) (whole X) (whole P) (whole L) .p ≡ C * C * X + C * k * (P + X) + k * k * P) × (rest (whole C) (opp (whole k)) (whole X) (whole P) (whole L) .n ≡ C * k * L)
+canon-under : (C X P L k : ℕ) → (rest (whole C) (opp (whole k)) (whole X) (whole P) (whole L) .p ≡ C * C * X + C * k * (P + X) + k * k * P) ×
+    (rest (whole C) (opp (whole k)) (whole X) (whole P) (whole L) .n ≡ C * k * L)
 canon-under C X P L k = (simp zeros (omega arith), simp zeros (omega arith))
 
-canon-beyond : (C X P L k : ℕ) → (rest (whole C) (whole k) (whole X) (whole P) (whole L) .p ≡ C * C * X + C * k * L + k * k * P) × (rest (whole C) (whole k) (whole X) (whole P) (whole L) .n ≡ C * k * (P + X))
+canon-beyond : (C X P L k : ℕ) → (rest (whole C) (whole k) (whole X) (whole P) (whole L) .p ≡ C * C * X + C * k * L + k * k * P) ×
+    (rest (whole C) (whole k) (whole X) (whole P) (whole L) .n ≡ C * k * (P + X))
 canon-beyond C X P L k = (simp zeros (omega arith), simp zeros (omega arith))
 
 to-whole : (a : Gap) (v : ℕ) → a .p ≡ a .n + v → Level a (whole v)
@@ -166,7 +175,8 @@ high : (P L k : ℕ) → P ≡ L + k → Level (whole P ⊖ whole L) (whole k)
 unfolding Level
 high P L k e = omega arith
 
-newton-square : (e : ℕ) (r s : Quad Gap) (X P L C : ℕ) → Level (squared (sub4 r s)) (whole X) → Level (squared r) (whole P) → Level (squared s) (whole L) → L + C ≡ e * e * 3 → 4 * L ≤ 5 * (e * e) → 4 * P ≤ 7 * (e * e)
+newton-square : (e : ℕ) (r s : Quad Gap) (X P L C : ℕ) → Level (squared (sub4 r s)) (whole X) → Level (squared r) (whole P) → Level (squared s)
+    (whole L) → L + C ≡ e * e * 3 → 4 * L ≤ 5 * (e * e) → 4 * P ≤ 7 * (e * e)
     → 2 * (e * e) * squared (combo (whole (e * e * 3) ⊖ squared s) (squared r ⊖ squared s) (sub4 r s) r) .p
     ≤ 2 * (e * e) * squared (combo (whole (e * e * 3) ⊖ squared s) (squared r ⊖ squared s) (sub4 r s) r) .n + (2 * (e * e) * (C * C * X) + C * X * (C * X))
 newton-square e r s X P L C hx hp hl lc l5 p7 = go (leb P L) (leb→le P L) (nleb→lt P L)
@@ -191,10 +201,12 @@ newton-square e r s X P L C hx hp hl lc l5 p7 = go (leb P L) (leb→le P L) (nle
     go true a b =
         let k = L - P in
         let e1 : L ≡ P + k = minus-is P L (a tt) in
-        let hh : Level (squared r ⊖ squared s) (opp (whole k)) = level-trans (squared r ⊖ squared s) (whole P ⊖ whole L) (opp (whole k)) (level-sub (squared r) (whole P) (squared s) (whole L) hp hl) (low P L k e1) in
+        let hh : Level (squared r ⊖ squared s) (opp (whole k)) = level-trans (squared r ⊖ squared s) (whole P ⊖ whole L) (opp (whole k))
+        (level-sub (squared r) (whole P) (squared s) (whole L) hp hl) (low P L k e1) in
         let t = rest (whole C) (opp (whole k)) (whole X) (whole P) (whole L) in
         let lv : Level (squared (combo (whole (e * e * 3) ⊖ squared s) (squared r ⊖ squared s) (sub4 r s) r)) t =
-        level-trans (squared (combo (whole (e * e * 3) ⊖ squared s) (squared r ⊖ squared s) (sub4 r s) r)) (rest (whole (e * e * 3) ⊖ squared s) (squared r ⊖ squared s) (squared (sub4 r s)) (squared r) (squared s)) t
+        level-trans (squared (combo (whole (e * e * 3) ⊖ squared s) (squared r ⊖ squared s) (sub4 r s) r))
+        (rest (whole (e * e * 3) ⊖ squared s) (squared r ⊖ squared s) (squared (sub4 r s)) (squared r) (squared s)) t
         (combo-square (whole (e * e * 3) ⊖ squared s) (squared r ⊖ squared s) r s)
         (level-rest (whole (e * e * 3) ⊖ squared s) (whole C) (squared r ⊖ squared s) (opp (whole k)) (squared (sub4 r s)) (whole X) (squared r) (whole P) (squared s) (whole L) cc hh hx hp hl) in
         let cn = canon-under C X P L k in
@@ -203,10 +215,12 @@ newton-square e r s X P L C hx hp hl lc l5 p7 = go (leb P L) (leb→le P L) (nle
     go false a b =
         let k = P - L in
         let e1 : P ≡ L + k = minus-is' P L (b tt) in
-        let hh : Level (squared r ⊖ squared s) (whole k) = level-trans (squared r ⊖ squared s) (whole P ⊖ whole L) (whole k) (level-sub (squared r) (whole P) (squared s) (whole L) hp hl) (high P L k e1) in
+        let hh : Level (squared r ⊖ squared s) (whole k) = level-trans (squared r ⊖ squared s) (whole P ⊖ whole L) (whole k)
+        (level-sub (squared r) (whole P) (squared s) (whole L) hp hl) (high P L k e1) in
         let t = rest (whole C) (whole k) (whole X) (whole P) (whole L) in
         let lv : Level (squared (combo (whole (e * e * 3) ⊖ squared s) (squared r ⊖ squared s) (sub4 r s) r)) t =
-        level-trans (squared (combo (whole (e * e * 3) ⊖ squared s) (squared r ⊖ squared s) (sub4 r s) r)) (rest (whole (e * e * 3) ⊖ squared s) (squared r ⊖ squared s) (squared (sub4 r s)) (squared r) (squared s)) t
+        level-trans (squared (combo (whole (e * e * 3) ⊖ squared s) (squared r ⊖ squared s) (sub4 r s) r))
+        (rest (whole (e * e * 3) ⊖ squared s) (squared r ⊖ squared s) (squared (sub4 r s)) (squared r) (squared s)) t
         (combo-square (whole (e * e * 3) ⊖ squared s) (squared r ⊖ squared s) r s)
         (level-rest (whole (e * e * 3) ⊖ squared s) (whole C) (squared r ⊖ squared s) (whole k) (squared (sub4 r s)) (whole X) (squared r) (whole P) (squared s) (whole L) cc hh hx hp hl) in
         let cn = canon-beyond C X P L k in
@@ -229,7 +243,8 @@ sum-three u c y E = simp expand refl
 sum-four : (u k E : ℕ) → 2 * u * k * (2 * u * k) * (2 * (u * u) * (E * E) * (E * E)) ≡ k * k * (4 * (E * (E * E))) * (2 * E * (u * u) * (u * u))
 sum-four u k E = simp expand (omega arith)
 
-sum-five : (u E sp sn Z : ℕ) → 2 * E * sp * (u * u * (u * u) * (u * u)) ≤ 2 * E * sn * (u * u * (u * u) * (u * u)) + Z → u * u * sp * (2 * E * (u * u) * (u * u)) ≤ u * u * sn * (2 * E * (u * u) * (u * u)) + Z
+sum-five : (u E sp sn Z : ℕ) → 2 * E * sp * (u * u * (u * u) * (u * u)) ≤ 2 * E * sn * (u * u * (u * u) * (u * u)) + Z → u * u * sp *
+    (2 * E * (u * u) * (u * u)) ≤ u * u * sn * (2 * E * (u * u) * (u * u)) + Z
 sum-five u E sp sn Z h = simp expand (simp expand at h)
 
 final-sum : (u c d y d' E C X sp sn : ℕ) → u * C * (u * C) * (2 * E * (u * u) * (u * u * X) + u * u * X * (u * u * X)) ≤ c * E * (c * E) * (2 * E * (u * u) * (d * d * E) + d * d * E * (d * d * E))
@@ -305,7 +320,8 @@ factor-most : (u c L C E : ℕ) → L + C ≡ E * 3 → u * E ≤ u * L + c * E 
 factor-most u c L C E e h = let a = ap (λ (x : ℕ). u * x) e in simp expand (omega (arith, h, simp expand at a))
 
 -- two Newton steps: no farther from one another than (1 + c / 2) times what they were, and the cube of it
-pub newton-apart : (u c b d g d' e : ℕ) (r s : Quad Gap) → 0 < u → 0 < e → 4 * c ≤ u → 4 * (b * b) ≤ 7 * (u * u) → d * d * d ≤ g * (u * u) → (2 * u + c) * (d + g) ≤ 2 * u * d' → Even u c s e → Long u r e b → Long u (sub4 r s) e d
+pub newton-apart : (u c b d g d' e : ℕ) (r s : Quad Gap) → 0 < u → 0 < e → 4 * c ≤ u → 4 * (b * b) ≤ 7 * (u * u) → d * d * d ≤ g * (u * u) →
+    (2 * u + c) * (d + g) ≤ 2 * u * d' → Even u c s e → Long u r e b → Long u (sub4 r s) e d
     → Long u (sub4 (newtonGap r e) (newtonGap s e)) (e * (e * e * 2)) d'
 newton-apart u c b d g d' e r s uz ez hc hb hg hd ev lr ld =
     let E = e * e in
@@ -323,7 +339,9 @@ newton-apart u c b d g d' e r s uz ez hc hb hg hd ev lr ld =
     let p7 : 4 * P ≤ 7 * E = seven u b P E uz hb (long-number (u * u) (squared r .p) (squared r .n) P (b * b * E) ep (lr .magnitude)) in
     let q = newton-square e r s X P L C (to-whole (squared (sub4 r s)) X ex) (to-whole (squared r) P ep) (to-whole (squared s) L el) lc l5 p7 in
     let S = squared (combo (whole (e * e * 3) ⊖ squared s) (squared r ⊖ squared s) (sub4 r s) r) in
-    let f = final u (2 * u + c) d g d' E C X (S .p) (S .n) uz (mul-pos ez ez) (long-number (u * u) (squared (sub4 r s) .p) (squared (sub4 r s) .n) X (d * d * E) ex (ld .magnitude)) (factor-most u c L C E lc l2) hg hd q in
+    let f = final u (2 * u + c) d g d' E C X (S .p) (S .n) uz (mul-pos ez ez)
+    (long-number (u * u) (squared (sub4 r s) .p) (squared (sub4 r s) .n) X (d * d * E) ex (ld .magnitude))
+    (factor-most u c L C E lc l2) hg hd q in
     let lg : Long u (combo (whole (e * e * 3) ⊖ squared s) (squared r ⊖ squared s) (sub4 r s) r) (e * (e * e * 2)) d' =
     record { magnitude = subst (λ (x : ℕ). u * u * S .p ≤ u * u * S .n + d' * d' * x) (den-square e) f } in
     long-shift u (moved e r s) (sub4 (newtonGap r e) (newtonGap s e)) (e * (e * e * 2)) d' (split-w e r s) (split-x e r s) (split-y e r s) (split-z e r s)
@@ -359,7 +377,8 @@ newton-value e s L C h lc =
     let f = factor s e in
     let ff : Level f (whole C) = one-level (whole (e * e * 3) ⊖ squared s) C (factor-whole (e * e * 3) (squared s) L C h lc) in
     level-trans (squared (newtonGap s e)) (squared s ⊗ (f ⊗ f)) (whole (L * (C * C))) (times-square s f)
-    (level-trans (squared s ⊗ (f ⊗ f)) (whole L ⊗ (whole C ⊗ whole C)) (whole (L * (C * C))) (level-mul (squared s) (whole L) (f ⊗ f) (whole C ⊗ whole C) h (level-mul f (whole C) f (whole C) ff ff)) (whole-mul L C))
+    (level-trans (squared s ⊗ (f ⊗ f)) (whole L ⊗ (whole C ⊗ whole C)) (whole (L * (C * C)))
+    (level-mul (squared s) (whole L) (f ⊗ f) (whole C ⊗ whole C) h (level-mul f (whole C) f (whole C) ff ff)) (whole-mul L C))
 
 square-side : (u c k h E : ℕ) → 0 < u → c * c ≤ k * u → u * h ≤ c * E → u * (h * h) ≤ k * (E * E)
 square-side u c k h E z l i =
@@ -367,23 +386,33 @@ square-side u c k h E z l i =
     let b = mul-le-mul-right (E * E) l in
     le-of-mul-le-mul-right {k = u} (simp expand (omega (arith, simp expand at a, simp expand at b))) z
 
-longer : (u k h E C : ℕ) → C + h ≡ 2 * E → h ≤ E → u * (h * h) ≤ k * (E * E) → (u * ((E + h) * (C * C)) ≤ (u + k) * (4 * (E * (E * E)))) × (u * (4 * (E * (E * E))) ≤ u * ((E + h) * (C * C)) + k * (4 * (E * (E * E))))
+longer : (u k h E C : ℕ) → C + h ≡ 2 * E → h ≤ E → u * (h * h) ≤ k * (E * E) → (u * ((E + h) * (C * C)) ≤ (u + k) * (4 * (E * (E * E)))) ×
+    (u * (4 * (E * (E * E))) ≤ u * ((E + h) * (C * C)) + k * (4 * (E * (E * E))))
 longer u k h E C e l i = go u k h (E - h) E C (omega arith) (omega arith) (mul-le-mul-right E i)
   where
-    go : (u k h j E C : ℕ) → E ≡ h + j → C ≡ E + j → u * (h * h) * E ≤ k * (E * E) * E → (u * ((E + h) * (C * C)) ≤ (u + k) * (4 * (E * (E * E)))) × (u * (4 * (E * (E * E))) ≤ u * ((E + h) * (C * C)) + k * (4 * (E * (E * E))))
+    go : (u k h j E C : ℕ) → E ≡ h + j → C ≡ E + j → u * (h * h) * E ≤ k * (E * E) * E → (u * ((E + h) * (C * C)) ≤ (u + k) * (4 * (E * (E * E)))) ×
+        (u * (4 * (E * (E * E))) ≤ u * ((E + h) * (C * C)) + k * (4 * (E * (E * E))))
     go u k h j E C p q i =
         subst (λ (c : ℕ). (u * ((E + h) * (c * c)) ≤ (u + k) * (4 * (E * (E * E)))) × (u * (4 * (E * (E * E))) ≤ u * ((E + h) * (c * c)) + k * (4 * (E * (E * E))))) (sym q)
-        (subst (λ (E : ℕ). u * (h * h) * E ≤ k * (E * E) * E → (u * ((E + h) * ((E + j) * (E + j))) ≤ (u + k) * (4 * (E * (E * E)))) × (u * (4 * (E * (E * E))) ≤ u * ((E + h) * ((E + j) * (E + j))) + k * (4 * (E * (E * E))))) (sym p) (last u k h j) i)
+        (subst (λ (E : ℕ). u * (h * h) * E ≤ k * (E * E) * E → (u * ((E + h) * ((E + j) * (E + j))) ≤ (u + k) * (4 * (E * (E * E)))) ×
+        (u * (4 * (E * (E * E))) ≤ u * ((E + h) * ((E + j) * (E + j))) + k * (4 * (E * (E * E))))) (sym p) (last u k h j) i)
       where
-        last : (u k h j : ℕ) → u * (h * h) * (h + j) ≤ k * ((h + j) * (h + j)) * (h + j) → (u * ((h + j + h) * ((h + j + j) * (h + j + j))) ≤ (u + k) * (4 * ((h + j) * ((h + j) * (h + j))))) × (u * (4 * ((h + j) * ((h + j) * (h + j)))) ≤ u * ((h + j + h) * ((h + j + j) * (h + j + j))) + k * (4 * ((h + j) * ((h + j) * (h + j)))))
+        last : (u k h j : ℕ) → u * (h * h) * (h + j) ≤ k * ((h + j) * (h + j)) * (h + j) →
+            (u * ((h + j + h) * ((h + j + j) * (h + j + j))) ≤ (u + k) * (4 * ((h + j) * ((h + j) * (h + j))))) ×
+            (u * (4 * ((h + j) * ((h + j) * (h + j)))) ≤ u * ((h + j + h) * ((h + j + j) * (h + j + j))) + k * (4 * ((h + j) * ((h + j) * (h + j)))))
         last u k h j i = (simp expand (omega arith), simp expand (omega (arith, simp expand at i)))
 
-shorter : (u k h L C : ℕ) → C ≡ 2 * L + 3 * h → u * (h * h) ≤ k * ((L + h) * (L + h)) → (u * (L * (C * C)) ≤ (u + k) * (4 * ((L + h) * ((L + h) * (L + h))))) × (u * (4 * ((L + h) * ((L + h) * (L + h)))) ≤ u * (L * (C * C)) + k * (4 * ((L + h) * ((L + h) * (L + h)))))
+shorter : (u k h L C : ℕ) → C ≡ 2 * L + 3 * h → u * (h * h) ≤ k * ((L + h) * (L + h)) →
+    (u * (L * (C * C)) ≤ (u + k) * (4 * ((L + h) * ((L + h) * (L + h))))) ×
+    (u * (4 * ((L + h) * ((L + h) * (L + h)))) ≤ u * (L * (C * C)) + k * (4 * ((L + h) * ((L + h) * (L + h)))))
 shorter u k h L C e i =
-    subst (λ (c : ℕ). (u * (L * (c * c)) ≤ (u + k) * (4 * ((L + h) * ((L + h) * (L + h))))) × (u * (4 * ((L + h) * ((L + h) * (L + h)))) ≤ u * (L * (c * c)) + k * (4 * ((L + h) * ((L + h) * (L + h)))))) (sym e)
+    subst (λ (c : ℕ). (u * (L * (c * c)) ≤ (u + k) * (4 * ((L + h) * ((L + h) * (L + h))))) ×
+    (u * (4 * ((L + h) * ((L + h) * (L + h)))) ≤ u * (L * (c * c)) + k * (4 * ((L + h) * ((L + h) * (L + h)))))) (sym e)
     (go u k h L (mul-le-mul-right (L + h) i))
   where
-    go : (u k h L : ℕ) → u * (h * h) * (L + h) ≤ k * ((L + h) * (L + h)) * (L + h) → (u * (L * ((2 * L + 3 * h) * (2 * L + 3 * h))) ≤ (u + k) * (4 * ((L + h) * ((L + h) * (L + h))))) × (u * (4 * ((L + h) * ((L + h) * (L + h)))) ≤ u * (L * ((2 * L + 3 * h) * (2 * L + 3 * h))) + k * (4 * ((L + h) * ((L + h) * (L + h)))))
+    go : (u k h L : ℕ) → u * (h * h) * (L + h) ≤ k * ((L + h) * (L + h)) * (L + h) →
+        (u * (L * ((2 * L + 3 * h) * (2 * L + 3 * h))) ≤ (u + k) * (4 * ((L + h) * ((L + h) * (L + h))))) ×
+        (u * (4 * ((L + h) * ((L + h) * (L + h)))) ≤ u * (L * ((2 * L + 3 * h) * (2 * L + 3 * h))) + k * (4 * ((L + h) * ((L + h) * (L + h)))))
     go u k h L i = (simp expand (omega arith), simp expand (omega (arith, simp expand at i)))
 
 even-from : (u k : ℕ) (a : Gap) (W D : ℕ) → Level a (whole W) → u * W ≤ (u + k) * D → u * D ≤ u * W + k * D → (u * a .p ≤ u * a .n + (u + k) * D) × (u * D + u * a .n ≤ u * a .p + k * D)
@@ -455,7 +484,8 @@ product-above u c t o L M E G z k h i =
     let b = mul-le-mul-right (E * G) k in
     le-of-mul-le-mul-right {k = u} (simp expand (omega (arith, simp expand at a, simp expand at b))) z
 
-product-below : (u c t o L M E G : ℕ) → 0 < u → c * t ≤ o * u → u * L ≤ (u + c) * E → u * M ≤ (u + t) * G → u * E ≤ u * L + c * E → u * G ≤ u * M + t * G → u * (E * G) ≤ u * (L * M) + (c + t + 3 * o) * (E * G)
+product-below : (u c t o L M E G : ℕ) → 0 < u → c * t ≤ o * u → u * L ≤ (u + c) * E → u * M ≤ (u + t) * G → u * E ≤ u * L + c * E
+    → u * G ≤ u * M + t * G → u * (E * G) ≤ u * (L * M) + (c + t + 3 * o) * (E * G)
 product-below u c t o L M E G z k h i j l =
     let a : u * E * (u * G) ≤ (u * L + c * E) * (u * M + t * G) = mul-le-mul j l in
     let b = mul-le-mul-right (E * G) k in
@@ -470,7 +500,9 @@ whole-product L M = simp zeros (omega arith)
 hamilton-value : (a b : Quad Gap) (L M : ℕ) → Level (squared a) (whole L) → Level (squared b) (whole M) → Level (squared (hamilton a b)) (whole (L * M))
 unfolding Level
 hamilton-value a b L M h k =
-    level-trans (squared (hamilton a b)) (squared a ⊗ squared b) (whole (L * M)) (euler a b) (level-trans (squared a ⊗ squared b) (whole L ⊗ whole M) (whole (L * M)) (level-mul (squared a) (whole L) (squared b) (whole M) h k) (whole-product L M))
+    level-trans (squared (hamilton a b)) (squared a ⊗ squared b) (whole (L * M)) (euler a b)
+    (level-trans (squared a ⊗ squared b) (whole L ⊗ whole M) (whole (L * M)) (level-mul (squared a) (whole L) (squared b) (whole M) h k)
+    (whole-product L M))
 
 den-product : (e g : ℕ) → e * e * (g * g) ≡ e * g * (e * g)
 den-product e g = simp expand refl

@@ -50,7 +50,13 @@ abbrev pub den : Four Value → ℕ
 den q = q .w .d * (q .x .d * (q .y .d * q .z .d))
 
 abbrev pub clear : Four Value → Quad Gap
-clear q = record { w = gap (q .w) (q .x .d * (q .y .d * q .z .d)); x = gap (q .x) (q .w .d * (q .y .d * q .z .d)); y = gap (q .y) (q .w .d * (q .x .d * q .z .d)); z = gap (q .z) (q .w .d * (q .x .d * q .y .d)) }
+clear q = record {
+  w = gap (q .w) (q .x .d * (q .y .d * q .z .d));
+  x = gap (q .x) (q .w .d * (q .y .d * q .z .d));
+  y = gap (q .y)
+      (q .w .d * (q .x .d * q .z .d));
+  z = gap (q .z) (q .w .d * (q .x .d * q .y .d));
+}
 
 swap-x : (a b c d : ℕ) → b * (a * (c * d)) ≡ a * (b * (c * d))
 swap-x a b c d = simp expand
@@ -84,10 +90,18 @@ pub hamilton-is : (p q : Four Value) (a b : Quad Gap) (e g : ℕ) → Is4 p a e 
 unfolding exactHamilton
 hamilton-is p q a b e g h k =
     record {
-      w = is-sub _ _ _ _ (e * g) (is-sub _ _ _ _ (e * g) (is-sub _ _ _ _ (e * g) (is-mul (p .w) (q .w) (a .w) (b .w) e g (h .w) (k .w)) (is-mul (p .x) (q .x) (a .x) (b .x) e g (h .x) (k .x))) (is-mul (p .y) (q .y) (a .y) (b .y) e g (h .y) (k .y))) (is-mul (p .z) (q .z) (a .z) (b .z) e g (h .z) (k .z));
-      x = is-sub _ _ _ _ (e * g) (is-add _ _ _ _ (e * g) (is-add _ _ _ _ (e * g) (is-mul (p .w) (q .x) (a .w) (b .x) e g (h .w) (k .x)) (is-mul (p .x) (q .w) (a .x) (b .w) e g (h .x) (k .w))) (is-mul (p .y) (q .z) (a .y) (b .z) e g (h .y) (k .z))) (is-mul (p .z) (q .y) (a .z) (b .y) e g (h .z) (k .y));
-      y = is-add _ _ _ _ (e * g) (is-add _ _ _ _ (e * g) (is-sub _ _ _ _ (e * g) (is-mul (p .w) (q .y) (a .w) (b .y) e g (h .w) (k .y)) (is-mul (p .x) (q .z) (a .x) (b .z) e g (h .x) (k .z))) (is-mul (p .y) (q .w) (a .y) (b .w) e g (h .y) (k .w))) (is-mul (p .z) (q .x) (a .z) (b .x) e g (h .z) (k .x));
-      z = is-add _ _ _ _ (e * g) (is-sub _ _ _ _ (e * g) (is-add _ _ _ _ (e * g) (is-mul (p .w) (q .z) (a .w) (b .z) e g (h .w) (k .z)) (is-mul (p .x) (q .y) (a .x) (b .y) e g (h .x) (k .y))) (is-mul (p .y) (q .x) (a .y) (b .x) e g (h .y) (k .x))) (is-mul (p .z) (q .w) (a .z) (b .w) e g (h .z) (k .w));
+      w = is-sub _ _ _ _ (e * g) (is-sub _ _ _ _ (e * g) (is-sub _ _ _ _ (e * g) (is-mul (p .w) (q .w) (a .w) (b .w) e g (h .w) (k .w))
+          (is-mul (p .x) (q .x) (a .x) (b .x) e g (h .x) (k .x))) (is-mul (p .y) (q .y) (a .y) (b .y) e g (h .y) (k .y)))
+          (is-mul (p .z) (q .z) (a .z) (b .z) e g (h .z) (k .z));
+      x = is-sub _ _ _ _ (e * g) (is-add _ _ _ _ (e * g) (is-add _ _ _ _ (e * g) (is-mul (p .w) (q .x) (a .w) (b .x) e g (h .w) (k .x))
+          (is-mul (p .x) (q .w) (a .x) (b .w) e g (h .x) (k .w))) (is-mul (p .y) (q .z) (a .y) (b .z) e g (h .y) (k .z)))
+          (is-mul (p .z) (q .y) (a .z) (b .y) e g (h .z) (k .y));
+      y = is-add _ _ _ _ (e * g) (is-add _ _ _ _ (e * g) (is-sub _ _ _ _ (e * g) (is-mul (p .w) (q .y) (a .w) (b .y) e g (h .w) (k .y))
+          (is-mul (p .x) (q .z) (a .x) (b .z) e g (h .x) (k .z))) (is-mul (p .y) (q .w) (a .y) (b .w) e g (h .y) (k .w)))
+          (is-mul (p .z) (q .x) (a .z) (b .x) e g (h .z) (k .x));
+      z = is-add _ _ _ _ (e * g) (is-sub _ _ _ _ (e * g) (is-add _ _ _ _ (e * g) (is-mul (p .w) (q .z) (a .w) (b .z) e g (h .w) (k .z))
+          (is-mul (p .x) (q .y) (a .x) (b .y) e g (h .x) (k .y))) (is-mul (p .y) (q .x) (a .y) (b .x) e g (h .y) (k .x)))
+          (is-mul (p .z) (q .w) (a .z) (b .w) e g (h .z) (k .w));
     }
 
 -- ---- over another denominator
@@ -107,7 +121,9 @@ side-least u b xp xn xd p n e z h k =
 short-long : (u v : ℕ) (q : Four Value) (a : Quad Gap) (e : ℕ) → 0 < exactSquared q .d → Is4 q a e → AtMost (u * u) (exactSquared q) (v * v) → Long u a e v
 short-long u v q a e z h k =
     let i =
-    is-add _ _ _ _ (e * e) (is-add _ _ _ _ (e * e) (is-add _ _ _ _ (e * e) (is-mul (q .w) (q .w) (a .w) (a .w) e e (h .w) (h .w)) (is-mul (q .x) (q .x) (a .x) (a .x) e e (h .x) (h .x))) (is-mul (q .y) (q .y) (a .y) (a .y) e e (h .y) (h .y))) (is-mul (q .z) (q .z) (a .z) (a .z) e e (h .z) (h .z)) in
+    is-add _ _ _ _ (e * e) (is-add _ _ _ _ (e * e) (is-add _ _ _ _ (e * e) (is-mul (q .w) (q .w) (a .w) (a .w) e e (h .w) (h .w))
+    (is-mul (q .x) (q .x) (a .x) (a .x) e e (h .x) (h .x))) (is-mul (q .y) (q .y) (a .y) (a .y) e e (h .y) (h .y)))
+    (is-mul (q .z) (q .z) (a .z) (a .z) e e (h .z) (h .z)) in
     record { magnitude = side-least (u * u) (v * v) (exactSquared q .p) (exactSquared q .n) (exactSquared q .d) (squared a .p) (squared a .n) (e * e) z (i .equal) (k .above) }
 
 -- a difference of two values over one denominator
@@ -128,7 +144,8 @@ near-tall w c x y a b e g xz yz h k l =
     let lb = l .below in
     record {
       above = wholes w (a .p) (a .n) e (b .p) (b .n) g (c * (g * e)) (near-whole w c (x .p) (x .n) (x .d) (y .p) (y .n) (y .d) (a .p) (a .n) e (b .p) (b .n) g xz yz (h .equal) (k .equal) (l .above));
-      below = wholes w (a .n) (a .p) e (b .n) (b .p) g (c * (g * e)) (near-whole w c (x .n) (x .p) (x .d) (y .n) (y .p) (y .d) (a .n) (a .p) e (b .n) (b .p) g xz yz (sym (h .equal)) (sym (k .equal)) (rotation w (y .p) (x .d) (x .n) (y .d) (y .n) (x .p) c lb));
+      below = wholes w (a .n) (a .p) e (b .n) (b .p) g (c * (g * e)) (near-whole w c (x .n) (x .p) (x .d) (y .n) (y .p) (y .d) (a .n) (a .p) e (b .n)
+          (b .p) g xz yz (sym (h .equal)) (sym (k .equal)) (rotation w (y .p) (x .d) (x .n) (y .d) (y .n) (x .p) c lb));
     }
   where
     rotation : (u a b c d e f g : ℕ) → u * (a * b + c * d) ≤ u * (e * b + f * d) + g * (d * b) → u * (c * d + a * b) ≤ u * (f * d + e * b) + g * (b * d)
@@ -253,19 +270,23 @@ squared-above q =
 
 above-w : (p q : Quat) → 0 < exactHamilton (exactQuat p) (exactQuat q) .w .d
 unfolding exactHamilton
-above-w p q = pos4 _ _ _ _ _ _ _ _ (value-above (p .w)) (value-above (q .w)) (value-above (p .x)) (value-above (q .x)) (value-above (p .y)) (value-above (q .y)) (value-above (p .z)) (value-above (q .z))
+above-w p q = pos4 _ _ _ _ _ _ _ _ (value-above (p .w)) (value-above (q .w)) (value-above (p .x)) (value-above (q .x)) (value-above (p .y))
+    (value-above (q .y)) (value-above (p .z)) (value-above (q .z))
 
 above-x : (p q : Quat) → 0 < exactHamilton (exactQuat p) (exactQuat q) .x .d
 unfolding exactHamilton
-above-x p q = pos4 _ _ _ _ _ _ _ _ (value-above (p .w)) (value-above (q .x)) (value-above (p .x)) (value-above (q .w)) (value-above (p .y)) (value-above (q .z)) (value-above (p .z)) (value-above (q .y))
+above-x p q = pos4 _ _ _ _ _ _ _ _ (value-above (p .w)) (value-above (q .x)) (value-above (p .x)) (value-above (q .w)) (value-above (p .y))
+    (value-above (q .z)) (value-above (p .z)) (value-above (q .y))
 
 above-y : (p q : Quat) → 0 < exactHamilton (exactQuat p) (exactQuat q) .y .d
 unfolding exactHamilton
-above-y p q = pos4 _ _ _ _ _ _ _ _ (value-above (p .w)) (value-above (q .y)) (value-above (p .x)) (value-above (q .z)) (value-above (p .y)) (value-above (q .w)) (value-above (p .z)) (value-above (q .x))
+above-y p q = pos4 _ _ _ _ _ _ _ _ (value-above (p .w)) (value-above (q .y)) (value-above (p .x)) (value-above (q .z)) (value-above (p .y))
+    (value-above (q .w)) (value-above (p .z)) (value-above (q .x))
 
 above-z : (p q : Quat) → 0 < exactHamilton (exactQuat p) (exactQuat q) .z .d
 unfolding exactHamilton
-above-z p q = pos4 _ _ _ _ _ _ _ _ (value-above (p .w)) (value-above (q .z)) (value-above (p .x)) (value-above (q .y)) (value-above (p .y)) (value-above (q .x)) (value-above (p .z)) (value-above (q .w))
+above-z p q = pos4 _ _ _ _ _ _ _ _ (value-above (p .w)) (value-above (q .z)) (value-above (p .x)) (value-above (q .y)) (value-above (p .y))
+    (value-above (q .x)) (value-above (p .z)) (value-above (q .w))
 
 pub error-above : (f : Format) (u v a : ℕ) → 0 < 2 * productError f u v a
 unfolding productError bound treeQuatMul
@@ -301,7 +322,8 @@ module _ (f : Format) (u v : ℕ) (up : 0 < u) where
       let hs = hamilton-is Q (exactQuat q) (k .s) c (k .e) g (k .exact) ci in
       let n' = scaled eg n in
       let s' = scaled e' (hamilton (k .s) c) in
-      let si : Is4 (exactHamilton Q (exactQuat q)) s' E = subst (λ (i : ℕ). Is4 (exactHamilton Q (exactQuat q)) s' i) (mul-comm e' eg) (scaled-is (exactHamilton Q (exactQuat q)) (hamilton (k .s) c) eg e' hs) in
+      let si : Is4 (exactHamilton Q (exactQuat q)) s' E = subst (λ (i : ℕ). Is4 (exactHamilton Q (exactQuat q)) s' i) (mul-comm e' eg)
+      (scaled-is (exactHamilton Q (exactQuat q)) (hamilton (k .s) c) eg e' hs) in
       let nn : Is4 (exactQuat N) n' E = scaled-is (exactQuat N) n e' eg ni in
       let one : Long u (sub4 n' (scaled e' (hamilton (k .r) c))) E (2 * err) =
       tall-long u (sub4 n' (scaled e' (hamilton (k .r) c))) E err
@@ -311,7 +333,8 @@ module _ (f : Format) (u v : ℕ) (up : 0 < u) where
       (near-tall u err (valueOf (N .z)) (H .z) (n .z) (hamilton (k .r) c .z) e' eg (value-above (N .z)) (above-z R q) (ni .z) (hr .z) (error-near u (N .z) (H .z) err (near .z))) in
       let two : Long u (scaled e' (hamilton (sub4 (k .r) (k .s)) c)) E (upward u (d * v)) =
       subst (λ (i : ℕ). Long u (scaled e' (hamilton (sub4 (k .r) (k .s)) c)) i (upward u (d * v))) (mul-comm e' eg)
-      (long-scaled u e' (hamilton (sub4 (k .r) (k .s)) c) eg (upward u (d * v)) (long-product u (sub4 (k .r) (k .s)) c (k .e) g d v (upward u (d * v)) up (k .error) cl (upward-enough u (d * v) up))) in
+      (long-scaled u e' (hamilton (sub4 (k .r) (k .s)) c) eg (upward u (d * v))
+      (long-product u (sub4 (k .r) (k .s)) c (k .e) g d v (upward u (d * v)) up (k .error) cl (upward-enough u (d * v) up))) in
       let error : Long u (sub4 n' s') E (2 * err + upward u (d * v)) =
       long-shift u (sum4 (sub4 n' (scaled e' (hamilton (k .r) c))) (scaled e' (hamilton (sub4 (k .r) (k .s)) c))) (sub4 n' s') E (2 * err + upward u (d * v))
       (split-w eg e' n (k .r) (k .s) c) (split-x eg e' n (k .r) (k .s) c) (split-y eg e' n (k .r) (k .s) c) (split-z eg e' n (k .r) (k .s) c)
@@ -346,11 +369,13 @@ tall-near w c x y a b e z h k t =
       below = rotation w (x .n) (y .d) (y .p) (x .d) (x .p) (y .n) c (go w c (x .n) (x .p) (x .d) (y .n) (y .p) (y .d) (a .n) (a .p) (b .n) (b .p) e z (sym (h .equal)) (sym (k .equal)) (t .below));
     }
   where
-    go : (w c xp xn xd yp yn yd p n q m e : ℕ) → 0 < e → xp * e + n * xd ≡ xn * e + p * xd → yp * e + m * yd ≡ yn * e + q * yd → w * (p + m) ≤ w * (n + q) + c * e → w * (xp * yd + yn * xd) ≤ w * (xn * yd + yp * xd) + c * (xd * yd)
+    go : (w c xp xn xd yp yn yd p n q m e : ℕ) → 0 < e → xp * e + n * xd ≡ xn * e + p * xd → yp * e + m * yd ≡ yn * e + q * yd → w * (p + m) ≤ w *
+        (n + q) + c * e → w * (xp * yd + yn * xd) ≤ w * (xn * yd + yp * xd) + c * (xd * yd)
     go w c xp xn xd yp yn yd p n q m e z h k l =
         le-of-mul-le-mul-right {k = e} (last w c xp xn xd yp yn yd p n q m e (ap (λ (i : ℕ). w * yd * i) h) (ap (λ (i : ℕ). w * xd * i) k) (mul-le-mul-right (xd * yd) l)) z
       where
-        last : (w c xp xn xd yp yn yd p n q m e : ℕ) → w * yd * (xp * e + n * xd) ≡ w * yd * (xn * e + p * xd) → w * xd * (yp * e + m * yd) ≡ w * xd * (yn * e + q * yd) → w * (p + m) * (xd * yd) ≤ (w * (n + q) + c * e) * (xd * yd)
+        last : (w c xp xn xd yp yn yd p n q m e : ℕ) → w * yd * (xp * e + n * xd) ≡ w * yd * (xn * e + p * xd) → w * xd * (yp * e + m * yd) ≡ w * xd *
+            (yn * e + q * yd) → w * (p + m) * (xd * yd) ≤ (w * (n + q) + c * e) * (xd * yd)
             → w * (xp * yd + yn * xd) * e ≤ (w * (xn * yd + yp * xd) + c * (xd * yd)) * e
         last w c xp xn xd yp yn yd p n q m e h k l = simp expand (omega (arith, simp expand at h, simp expand at k, simp expand at l))
 
@@ -362,10 +387,14 @@ run-close u m d R Q k =
     let a = k .r in
     let b = k .s in
     record {
-      w = near-error u (R .w) (m + d) (Q .w) d (k .sizes .w) (tall-near u d (valueOf (R .w)) (Q .w) (a .w) (b .w) (k .e) (k .above) (k .computed .w) (k .exact .w) (long-w u (sub4 a b) (k .e) d (k .error)));
-      x = near-error u (R .x) (m + d) (Q .x) d (k .sizes .x) (tall-near u d (valueOf (R .x)) (Q .x) (a .x) (b .x) (k .e) (k .above) (k .computed .x) (k .exact .x) (long-x u (sub4 a b) (k .e) d (k .error)));
-      y = near-error u (R .y) (m + d) (Q .y) d (k .sizes .y) (tall-near u d (valueOf (R .y)) (Q .y) (a .y) (b .y) (k .e) (k .above) (k .computed .y) (k .exact .y) (long-y u (sub4 a b) (k .e) d (k .error)));
-      z = near-error u (R .z) (m + d) (Q .z) d (k .sizes .z) (tall-near u d (valueOf (R .z)) (Q .z) (a .z) (b .z) (k .e) (k .above) (k .computed .z) (k .exact .z) (long-z u (sub4 a b) (k .e) d (k .error)));
+      w = near-error u (R .w) (m + d) (Q .w) d (k .sizes .w) (tall-near u d (valueOf (R .w)) (Q .w) (a .w) (b .w) (k .e) (k .above) (k .computed .w)
+          (k .exact .w) (long-w u (sub4 a b) (k .e) d (k .error)));
+      x = near-error u (R .x) (m + d) (Q .x) d (k .sizes .x) (tall-near u d (valueOf (R .x)) (Q .x) (a .x) (b .x) (k .e) (k .above) (k .computed .x)
+          (k .exact .x) (long-x u (sub4 a b) (k .e) d (k .error)));
+      y = near-error u (R .y) (m + d) (Q .y) d (k .sizes .y) (tall-near u d (valueOf (R .y)) (Q .y) (a .y) (b .y) (k .e) (k .above) (k .computed .y)
+          (k .exact .y) (long-y u (sub4 a b) (k .e) d (k .error)));
+      z = near-error u (R .z) (m + d) (Q .z) d (k .sizes .z) (tall-near u d (valueOf (R .z)) (Q .z) (a .z) (b .z) (k .e) (k .above) (k .computed .z)
+          (k .exact .z) (long-z u (sub4 a b) (k .e) d (k .error)));
     }
 
 self-level : (a : Gap) → ((a ⊖ a) ⊗ (a ⊖ a)) .p ≡ ((a ⊖ a) ⊗ (a ⊖ a)) .n

@@ -44,7 +44,9 @@ use Rattle.running_accuracy.proofs.Joins.{VecForwardError, join-shift, 
 -- ---- the length of values, and over a denominator
 squared-is : (q : Four Value) (a : Quad Gap) (e : ℕ) → Is4 q a e → Is (exactSquared q) (squared a .p) (squared a .n) (e * e)
 squared-is q a e h =
-    is-add _ _ _ _ (e * e) (is-add _ _ _ _ (e * e) (is-add _ _ _ _ (e * e) (is-mul (q .w) (q .w) (a .w) (a .w) e e (h .w) (h .w)) (is-mul (q .x) (q .x) (a .x) (a .x) e e (h .x) (h .x))) (is-mul (q .y) (q .y) (a .y) (a .y) e e (h .y) (h .y))) (is-mul (q .z) (q .z) (a .z) (a .z) e e (h .z) (h .z))
+    is-add _ _ _ _ (e * e) (is-add _ _ _ _ (e * e) (is-add _ _ _ _ (e * e) (is-mul (q .w) (q .w) (a .w) (a .w) e e (h .w) (h .w))
+    (is-mul (q .x) (q .x) (a .x) (a .x) e e (h .x) (h .x))) (is-mul (q .y) (q .y) (a .y) (a .y) e e (h .y) (h .y)))
+    (is-mul (q .z) (q .z) (a .z) (a .z) e e (h .z) (h .z))
 
 square-positive : (q : Four Value) → Above q → 0 < exactSquared q .d
 square-positive q a = pos4 _ _ _ _ _ _ _ _ (a .w) (a .w) (a .x) (a .x) (a .y) (a .y) (a .z) (a .z)
@@ -91,7 +93,8 @@ half-is = record { equal = refl }
 newton-is : (q : Four Value) (a : Quad Gap) (e : ℕ) → Is4 q a e → Is4 (exactNewton q) (newtonGap a e) (e * (e * e * 2))
 unfolding exactNewton
 newton-is q a e h =
-    let k = is-mul _ _ (whole (e * e * 3) ⊖ squared a) (whole 1) (e * e) 2 (is-sub (valueOf f3) (exactSquared q) (whole (e * e * 3)) (squared a) (e * e) (three-is (e * e)) (squared-is q a e h)) half-is in
+    let k = is-mul _ _ (whole (e * e * 3) ⊖ squared a) (whole 1) (e * e) 2 (is-sub (valueOf f3) (exactSquared q) (whole (e * e * 3)) (squared a)
+    (e * e) (three-is (e * e)) (squared-is q a e h)) half-is in
     record {
       w = is-mul (q .w) _ (a .w) (factor a e) e (e * e * 2) (h .w) k;
       x = is-mul (q .x) _ (a .x) (factor a e) e (e * e * 2) (h .x) k;
@@ -162,7 +165,8 @@ reset u m m' d d' c R Q l h a n k =
     }
 
 -- ---- one product
-normal-product : (u c t o : ℕ) (Q P : Four Value) (a : Quad Gap) (e : ℕ) → 0 < u → 0 < e → c * t ≤ o * u → Is4 Q a e → Above Q → Above P → Normal u c Q → Normal u t P → Normal u (c + t + 3 * o) (exactHamilton Q P)
+normal-product : (u c t o : ℕ) (Q P : Four Value) (a : Quad Gap) (e : ℕ) → 0 < u → 0 < e → c * t ≤ o * u → Is4 Q a e → Above Q → Above P
+    → Normal u c Q → Normal u t P → Normal u (c + t + 3 * o) (exactHamilton Q P)
 normal-product u c t o Q P a e uz ez ho h aq ap' nq np =
     let b = clear P in
     let g = den P in
@@ -170,12 +174,15 @@ normal-product u c t o Q P a e uz ez ho h aq ap' nq np =
     even-normal u (c + t + 3 * o) (exactHamilton Q P) (hamilton a b) (e * g) (mul-pos ez gz) (hamilton-is Q P a b e g h (clear-is P))
     (even-hamilton u c t o e g a b uz ho (normal-even u c Q a e aq h nq) (normal-even u t P b g ap' (clear-is P) np))
 
-turn-product : (f : Format) (u v m d c t o k : ℕ) (R q : Quat) (Q : Four Value) → 0 < u → T (noOverflow f u (sizes (quatMulSizes (m + d) v)) (treeQuatMul .w)) → LengthAtMost u v q → Normal u t (exactQuat q) → c * t ≤ o * u → c + t + 3 * o ≤ k → u * (u + k) ≤ m * m → Turn u m d c R Q
+turn-product : (f : Format) (u v m d c t o k : ℕ) (R q : Quat) (Q : Four Value) → 0 < u → T
+    (noOverflow f u (sizes (quatMulSizes (m + d) v)) (treeQuatMul .w)) → LengthAtMost u v q → Normal u t (exactQuat q) → c * t ≤ o * u
+    → c + t + 3 * o ≤ k → u * (u + k) ≤ m * m → Turn u m d c R Q
     → Turn u m (2 * productError f u v (m + d) + upward u (d * v)) k (quatMul f R q) (exactHamilton Q (exactQuat q))
 turn-product f u v m d c t o k R q Q uz safeq hs hn ho hk hm h =
     let D = 2 * productError f u v (m + d) + upward u (d * v) in
     let H = exactHamilton Q (exactQuat q) in
-    let nn : Normal u k H = normal-wider u (c + t + 3 * o) k H hk (normal-product u c t o Q (exactQuat q) (h .run .s) (h .run .e) uz (h .run .above) ho (h .run .exact) (h .above) (quat-values q) (h .normal) hn) in
+    let nn : Normal u k H = normal-wider u (c + t + 3 * o) k H hk (normal-product u c t o Q (exactQuat q) (h .run .s) (h .run .e) uz
+    (h .run .above) ho (h .run .exact) (h .above) (quat-values q) (h .normal) hn) in
     reset u (upward u (m * v)) m D D k (quatMul f R q) H (le-refl D) hm (hamilton-above Q (exactQuat q) (h .above) (quat-values q)) nn (one-more f u v uz m d R q Q safeq hs (h .run))
 
 -- ---- one Newton step
@@ -204,14 +211,17 @@ bridge : (k l : ℕ) (n a b : Gap) → Level ((whole k ⊗ n ⊖ whole l ⊗ a) 
 unfolding Level
 bridge k l n a b = go k l (n .p) (n .n) (a .p) (a .n) (b .p) (b .n)
   where
-    go : (k l np nn p n q m : ℕ) → k * np + 0 * nn + (l * n + 0 * p) + (l * (p + m) + 0 * (n + q)) + (k * nn + 0 * np + (l * q + 0 * m)) ≡ k * nn + 0 * np + (l * p + 0 * n) + (l * (n + q) + 0 * (p + m)) + (k * np + 0 * nn + (l * m + 0 * q))
+    go : (k l np nn p n q m : ℕ) → k * np + 0 * nn + (l * n + 0 * p) + (l * (p + m) + 0 * (n + q)) + (k * nn + 0 * np + (l * q + 0 * m))
+        ≡ k * nn + 0 * np + (l * p + 0 * n) + (l * (n + q) + 0 * (p + m)) + (k * np + 0 * nn + (l * m + 0 * q))
     go k l np nn p n q m = simp mul-add (omega arith)
 
 back : (a b : Gap) → Level ((a ⊖ b) ⊕ b) a
 unfolding Level
 back a b = omega arith
 
-turn-newton : (f : Format) (u m d c k : ℕ) (R : Quat) (Q : Four Value) → 0 < u → 0 < m → 0 < d → T (noOverflow f u (sizes (newtonSizes u (m + d))) (treeNewton .w)) → 4 * c ≤ u → 4 * ((m + d) * (m + d)) ≤ 7 * (u * u) → upward u (c * c) ≤ k → u * (u + k) ≤ m * m → Turn u m d c R Q
+turn-newton : (f : Format) (u m d c k : ℕ) (R : Quat) (Q : Four Value) → 0 < u → 0 < m → 0 < d → T
+    (noOverflow f u (sizes (newtonSizes u (m + d))) (treeNewton .w)) → 4 * c ≤ u → 4 * ((m + d) * (m + d)) ≤ 7 * (u * u) → upward u (c * c) ≤ k → u *
+    (u + k) ≤ m * m → Turn u m d c R Q
     → Turn u m (2 * newtonError f u (m + d) + upward (2 * u) ((2 * u + c) * (d + cube u d))) k (quatRenormalized f R) (exactNewton Q)
 turn-newton f u m d c k R Q uz mz dz st hc hb hk hm h =
     let K = h .run in
@@ -247,11 +257,13 @@ turn-newton f u m d c k R Q uz mz dz st hc hb hk hm h =
     (near-tall u err (valueOf (N .x)) (H .x) (n .x) (Nr .x) e' E2 (value-above (N .x)) (ha .x) (ni .x) (hr .x) (error-near u (N .x) (H .x) err (near .x)))
     (near-tall u err (valueOf (N .y)) (H .y) (n .y) (Nr .y) e' E2 (value-above (N .y)) (ha .y) (ni .y) (hr .y) (error-near u (N .y) (H .y) err (near .y)))
     (near-tall u err (valueOf (N .z)) (H .z) (n .z) (Nr .z) e' E2 (value-above (N .z)) (ha .z) (ni .z) (hr .z) (error-near u (N .z) (H .z) err (near .z))) in
-    let lr : Long u r e (d + m) = long-shift u (sum4 (sub4 r s) s) r e (d + m) (back (r .w) (s .w)) (back (r .x) (s .x)) (back (r .y) (s .y)) (back (r .z) (s .z)) (long-sum u (sub4 r s) s e d m dz mz (K .error) (K .magnitude)) in
+    let lr : Long u r e (d + m) = long-shift u (sum4 (sub4 r s) s) r e (d + m) (back (r .w) (s .w)) (back (r .x) (s .x)) (back (r .y) (s .y))
+    (back (r .z) (s .z)) (long-sum u (sub4 r s) s e d m dz mz (K .error) (K .magnitude)) in
     let lr' : Long u r e (m + d) = subst (λ (i : ℕ). Long u r e i) (add-comm d m) lr in
     let D2 = upward (2 * u) ((2 * u + c) * (d + cube u d)) in
     let ap' : Long u (sub4 Nr Ns) E2 D2 =
-    newton-apart u c (m + d) d (cube u d) D2 e r s uz ez hc hb (upward-enough (u * u) (d * d * d) (mul-pos uz uz)) (turned-over (2 * u) ((2 * u + c) * (d + cube u d)) (twice-pos u uz)) ev lr' (K .error) in
+    newton-apart u c (m + d) d (cube u d) D2 e r s uz ez hc hb (upward-enough (u * u) (d * d * d) (mul-pos uz uz))
+    (turned-over (2 * u) ((2 * u + c) * (d + cube u d)) (twice-pos u uz)) ev lr' (K .error) in
     let two : Long u (scaled e' (sub4 Nr Ns)) E D2 = subst (λ (i : ℕ). Long u (scaled e' (sub4 Nr Ns)) i D2) (mul-comm e' E2) (long-scaled u e' (sub4 Nr Ns) E2 D2 ap') in
     let D = 2 * err + D2 in
     let error : Long u (sub4 n' s') E D =
@@ -350,11 +362,14 @@ module _ (f : Format) (L : JoinBox) (F : Fine L) where
           mul-suc' : (c k : ℕ) → c * suc k ≡ c + c * k
           mul-suc' c k = omega arith
 
-  module _ (d : ℕ) (w : Bound) (x : Sim3) (X : Exact) (y : Pose) (up : Float) (s : Value) (k : ℕ) (kl : k < L .every) (h : PoseTurn L d w (L .drift * suc k) x X) (g : StepIn L y up s) (t : T (stepNoOverflow f L (boundAt L d w))) where
+  module _ (d : ℕ) (w : Bound) (x : Sim3) (X : Exact) (y : Pose) (up : Float) (s : Value) (k : ℕ) (kl : k < L .every)
+      (h : PoseTurn L d w (L .drift * suc k) x X) (g : StepIn L y up s) (t : T (stepNoOverflow f L (boundAt L d w))) where
     next : Bound
     next = bound f (L .unit) (nth noBound (joinBounds (L .unit) (L .translation) (L .scale) (L .scaleError) (boundAt L d w))) (treeAct .x)
 
-    parts : T (noOverflow f (L .unit) (sizes (quatMulSizes (L .longest + d) (L .length))) (treeQuatMul .w)) × T (noOverflow f (L .unit) (nth noBound (joinBounds (L .unit) (L .translation) (L .scale) (L .scaleError) (boundAt L d w))) (treeAct .x)) × T (newtonNoOverflow f L (productFar f L d))
+    parts : T (noOverflow f (L .unit) (sizes (quatMulSizes (L .longest + d) (L .length))) (treeQuatMul .w)) × T
+        (noOverflow f (L .unit) (nth noBound (joinBounds (L .unit) (L .translation) (L .scale) (L .scaleError) (boundAt L d w))) (treeAct .x)) × T
+        (newtonNoOverflow f L (productFar f L d))
     unfolding stepNoOverflow joinNoOverflow
     parts =
         let a = noOverflow f (L .unit) (sizes (quatMulSizes (L .longest + d) (L .length))) (treeQuatMul .w) in
@@ -363,7 +378,9 @@ module _ (f : Format) (L : JoinBox) (F : Fine L) where
         let ab : T (a && b) = and-l (a && b) c t in
         (and-l a b ab, and-r a b ab, and-r (a && b) c t)
 
-    newton-parts : T (noOverflow f (L .unit) (sizes (newtonSizes (L .unit) (L .longest + productFar f L d))) (treeNewton .w)) × (productFar f L d ≤ newtonFar f L (productFar f L d)) × (4 * ((L .longest + productFar f L d) * (L .longest + productFar f L d)) ≤ 7 * (L .unit * L .unit))
+    newton-parts : T (noOverflow f (L .unit) (sizes (newtonSizes (L .unit) (L .longest + productFar f L d))) (treeNewton .w)) ×
+        (productFar f L d ≤ newtonFar f L (productFar f L d)) × (4 * ((L .longest + productFar f L d) * (L .longest + productFar f L d)) ≤ 7 *
+        (L .unit * L .unit))
     unfolding newtonNoOverflow
     newton-parts =
         let D = productFar f L d in
@@ -377,12 +394,16 @@ module _ (f : Format) (L : JoinBox) (F : Fine L) where
     shifted : VecForwardError (L .unit) (poseMul f x (y .sim3) up .t) (exactJoin X (joinAt y up s) .t) next
     unfolding poseMul next
     shifted =
-        join-shift f (L .unit) (L .translation) (L .scale) (L .scaleError) x X (joinAt y up s) (boundAt L d w) (F .positive) (run-forward (L .unit) (L .longest) d (x .q) (X .q) (h .rotation .above) (h .rotation .run)) (h .translation) (g .fit .t) (g .fit .up) (g .fit .scale) (g .fit .above) (parts .1)
+        join-shift f (L .unit) (L .translation) (L .scale) (L .scaleError) x X (joinAt y up s) (boundAt L d w) (F .positive)
+        (run-forward (L .unit) (L .longest) d (x .q) (X .q) (h .rotation .above) (h .rotation .run)) (h .translation) (g .fit .t) (g .fit .up)
+        (g .fit .scale) (g .fit .above) (parts .1)
 
-    turning : (j : ℕ) → L .drift * suc (suc k) ≤ j → L .unit * (L .unit + j) ≤ L .longest * L .longest → Turn (L .unit) (L .longest) (productFar f L d) j (poseMul f x (y .sim3) up .q) (exactJoin X (joinAt y up s) .q)
+    turning : (j : ℕ) → L .drift * suc (suc k) ≤ j → L .unit * (L .unit + j) ≤ L .longest * L .longest → Turn (L .unit) (L .longest)
+        (productFar f L d) j (poseMul f x (y .sim3) up .q) (exactJoin X (joinAt y up s) .q)
     unfolding poseMul exactJoin productFar
     turning j l r =
-        turn-product f (L .unit) (L .length) (L .longest) d (L .drift * suc k) (L .square) (upward (L .unit) (L .drift * L .every * L .square)) j (x .q) (y .sim3 .q) (X .q) (F .positive) (parts .0) (g .fit .q) (g .normal) (small k kl) (le-trans (one-step k) l) r (h .rotation)
+        turn-product f (L .unit) (L .length) (L .longest) d (L .drift * suc k) (L .square) (upward (L .unit) (L .drift * L .every * L .square)) j
+        (x .q) (y .sim3 .q) (X .q) (F .positive) (parts .0) (g .fit .q) (g .normal) (small k kl) (le-trans (one-step k) l) r (h .rotation)
 
     far-above : 0 < productFar f L d
     unfolding productFar
@@ -397,7 +418,8 @@ module _ (f : Format) (L : JoinBox) (F : Fine L) where
         let r : L .unit * (L .unit + L .drift * suc (suc k)) ≤ L .longest * L .longest = room (suc k) kl in
         let a = turning (L .drift * suc (suc k)) (le-refl (L .drift * suc (suc k))) r in
         record {
-          rotation = reset (L .unit) (L .longest) (L .longest) (productFar f L d) (newtonFar f L (productFar f L d)) (L .drift * suc (suc k)) (poseMul f x (y .sim3) up .q) (exactJoin X (joinAt y up s) .q) (newton-parts .1) r (a .above) (a .normal) (a .run);
+          rotation = reset (L .unit) (L .longest) (L .longest) (productFar f L d) (newtonFar f L (productFar f L d)) (L .drift * suc (suc k))
+              (poseMul f x (y .sim3) up .q) (exactJoin X (joinAt y up s) .q) (newton-parts .1) r (a .above) (a .normal) (a .run);
           translation = shifted;
         }
 
@@ -407,7 +429,9 @@ module _ (f : Format) (L : JoinBox) (F : Fine L) where
     joined-renormalized =
         let a = turning (away L) (mul-le-mul-left (L .drift) (up' k (L .every) kl)) (F .length) in
         record {
-          rotation = turn-newton f (L .unit) (L .longest) (productFar f L d) (away L) (L .drift * suc 0) (poseMul f x (y .sim3) up .q) (exactJoin X (joinAt y up s) .q) (F .positive) (F .some) far-above (newton-parts .0) (F .quarter) (newton-parts .2) (le-trans (F .again) (le-of-eq (one (L .drift)))) (room 0 (zero-le (L .every))) a;
+          rotation = turn-newton f (L .unit) (L .longest) (productFar f L d) (away L) (L .drift * suc 0) (poseMul f x (y .sim3) up .q)
+              (exactJoin X (joinAt y up s) .q) (F .positive) (F .some) far-above (newton-parts .0) (F .quarter) (newton-parts .2)
+              (le-trans (F .again) (le-of-eq (one (L .drift)))) (room 0 (zero-le (L .every))) a;
           translation = shifted;
         }
       where
@@ -443,39 +467,45 @@ suc-le k m h = omega arith
 plus-one : (k : ℕ) → k + 1 ≡ suc k
 plus-one k = omega arith
 
-module _ (f : Format) (L : JoinBox) (F : Fine L) (e : PoseBound → Bool) (P : Start → Exact → Type 0) (done : (d : ℕ) (w : Bound) (k : ℕ) (p : Pose) (X : Exact) → k ≤ away L → T (e (boundAt L d w)) → PoseTurn L d w k (p .sim3) X → P (Posed p) X) where
-  running : (l : List Step) (N n k d : ℕ) (w : Bound) (p : Pose) (X : Exact) → count l ≤ N → T (runHolds f L e (boundAt L d w) N) → AllStepsIn L l → 0 < n → n ≤ L .every → k < L .every → PoseTurn L d w (L .drift * suc k) (p .sim3) X
-      → P (ran f (Posed p) n k (events l)) (exactRan n k (p .from) X l)
-  unfolding events count exactRan AllStepsIn ran runHolds stepBound next
-  running [] zero n k d w p X h t a nz nm km q = done d w (L .drift * suc k) p X (mul-le-mul-left (L .drift) (suc-le k (L .every) km)) t q
-  running [] (suc N) n k d w p X h t a nz nm km q = done d w (L .drift * suc k) p X (mul-le-mul-left (L .drift) (suc-le k (L .every) km)) (and-l (e (boundAt L d w)) (stepNoOverflow f L (boundAt L d w) && runHolds f L e (stepBound f L (boundAt L d w)) N) t) q
-  running (renews m ∷ l) N n k d w p X h t a nz nm km q = running l N m k d w p X h t (a .1) (a .0 .0) (a .0 .1) km q
-  running (joins x up s ∷ l) zero n k d w p X h t a nz nm km q = absurd (no-less (count l) h)
-    where
-      no-less : (n : ℕ) → suc n ≤ 0 → ⊥
-      no-less n h = omega arith
-  running (joins x up s ∷ l) (suc N) n k d w p X h t a nz nm km q =
-      let st = stepNoOverflow f L (boundAt L d w) in
-      let rest = runHolds f L e (stepBound f L (boundAt L d w)) N in
-      let r : T (st && rest) = and-r (e (boundAt L d w)) (st && rest) t in
-      let ts : T st = and-l st rest r in
-      let tr : T rest = and-r st rest r in
-      let cl : count l ≤ N = lower (count l) N h in
-      pick P (eqb (p .from) (x .to)) _ _ _ _
-      (λ yes. pick P (due n (k + 1)) _ _ _ _
-      (λ is. running l N n 0 (newtonFar f L (productFar f L d)) _ _ _ cl tr (a .1) nz nm (pos-of k (L .every) km) (joined-renormalized f L F d w (p .sim3) X x up s k km q (a .0) ts))
-      (λ not. running l N n (k + 1) (newtonFar f L (productFar f L d)) _ _ _ cl tr (a .1) nz nm (le-trans (not-due n (k + 1) nz not) nm)
-      (subst (λ (j : ℕ). PoseTurn L (newtonFar f L (productFar f L d)) (next f L F d w (p .sim3) X x up s k km q (a .0) ts) (L .drift * suc j) (poseMul f (p .sim3) (x .sim3) up) (exactJoin X (joinAt x up s))) (sym (plus-one k)) (joined-plain f L F d w (p .sim3) X x up s k km q (a .0) ts))))
-      (λ no. running l (suc N) n k d w p X (weaker (count l) N cl) t (a .1) nz nm km q)
-    where
-      lower : (n N : ℕ) → suc n ≤ suc N → n ≤ N
-      lower n N h = omega arith
+module _ (f : Format) (L : JoinBox) (F : Fine L) (e : PoseBound → Bool) (P : Start → Exact → Type 0)
+    (done : (d : ℕ) (w : Bound) (k : ℕ) (p : Pose) (X : Exact) → k ≤ away L → T (e (boundAt L d w)) → PoseTurn L d w k (p .sim3) X → P (Posed p) X)
+  where
+    running : (l : List Step) (N n k d : ℕ) (w : Bound) (p : Pose) (X : Exact) → count l ≤ N → T (runHolds f L e (boundAt L d w) N) → AllStepsIn L l
+        → 0 < n → n ≤ L .every → k < L .every → PoseTurn L d w (L .drift * suc k) (p .sim3) X
+        → P (ran f (Posed p) n k (events l)) (exactRan n k (p .from) X l)
+    unfolding events count exactRan AllStepsIn ran runHolds stepBound next
+    running [] zero n k d w p X h t a nz nm km q = done d w (L .drift * suc k) p X (mul-le-mul-left (L .drift) (suc-le k (L .every) km)) t q
+    running [] (suc N) n k d w p X h t a nz nm km q = done d w (L .drift * suc k) p X (mul-le-mul-left (L .drift) (suc-le k (L .every) km))
+        (and-l (e (boundAt L d w)) (stepNoOverflow f L (boundAt L d w) && runHolds f L e (stepBound f L (boundAt L d w)) N) t) q
+    running (renews m ∷ l) N n k d w p X h t a nz nm km q = running l N m k d w p X h t (a .1) (a .0 .0) (a .0 .1) km q
+    running (joins x up s ∷ l) zero n k d w p X h t a nz nm km q = absurd (no-less (count l) h)
+      where
+        no-less : (n : ℕ) → suc n ≤ 0 → ⊥
+        no-less n h = omega arith
+    running (joins x up s ∷ l) (suc N) n k d w p X h t a nz nm km q =
+        let st = stepNoOverflow f L (boundAt L d w) in
+        let rest = runHolds f L e (stepBound f L (boundAt L d w)) N in
+        let r : T (st && rest) = and-r (e (boundAt L d w)) (st && rest) t in
+        let ts : T st = and-l st rest r in
+        let tr : T rest = and-r st rest r in
+        let cl : count l ≤ N = lower (count l) N h in
+        pick P (eqb (p .from) (x .to)) _ _ _ _
+        (λ yes. pick P (due n (k + 1)) _ _ _ _
+        (λ is. running l N n 0 (newtonFar f L (productFar f L d)) _ _ _ cl tr (a .1) nz nm (pos-of k (L .every) km) (joined-renormalized f L F d w (p .sim3) X x up s k km q (a .0) ts))
+        (λ not. running l N n (k + 1) (newtonFar f L (productFar f L d)) _ _ _ cl tr (a .1) nz nm (le-trans (not-due n (k + 1) nz not) nm)
+        (subst (λ (j : ℕ). PoseTurn L (newtonFar f L (productFar f L d)) (next f L F d w (p .sim3) X x up s k km q (a .0) ts) (L .drift * suc j)
+        (poseMul f (p .sim3) (x .sim3) up) (exactJoin X (joinAt x up s))) (sym (plus-one k))
+        (joined-plain f L F d w (p .sim3) X x up s k km q (a .0) ts))))
+        (λ no. running l (suc N) n k d w p X (weaker (count l) N cl) t (a .1) nz nm km q)
+      where
+        lower : (n N : ℕ) → suc n ≤ suc N → n ≤ N
+        lower n N h = omega arith
 
-      pos-of : (k m : ℕ) → k < m → 0 < m
-      pos-of k m h = omega arith
+        pos-of : (k m : ℕ) → k < m → 0 < m
+        pos-of k m h = omega arith
 
-      weaker : (n N : ℕ) → n ≤ N → n ≤ suc N
-      weaker n N h = omega arith
+        weaker : (n N : ℕ) → n ≤ N → n ≤ suc N
+        weaker n N h = omega arith
 
 -- ---- from the first pose on
 small-events : (L : JoinBox) (l : List Step) → L .every < 65536 → AllStepsIn L l → Small (events l)
@@ -490,9 +520,16 @@ small-events L (renews n ∷ l) h a = (below n (L .every) (a .0 .1) h, small-eve
 starts : (L : JoinBox) (F : Fine L) (p : Pose) → FirstIn L p → PoseTurn L 0 (plain (L .translation)) (L .drift * suc 0) (p .sim3) (exactPose (p .sim3))
 starts L F p h =
     record {
-      rotation = reset (L .unit) (L .length) (L .longest) 0 0 (L .drift * suc 0) (p .sim3 .q) (exactQuat (p .sim3 .q)) (le-refl 0) (le-trans (mul-le-mul-left (L .unit) (more (L .unit) (L .drift) (L .every))) (F .length)) (quat-values (p .sim3 .q))
-          (normal-wider (L .unit) (L .square) (L .drift * suc 0) (exactQuat (p .sim3 .q)) (le-trans (F .start) (le-of-eq (one (L .drift)))) (h .normal)) (first (L .unit) (L .length) (p .sim3 .q) (h .q));
-      translation = record { x = leaf-forward (L .unit) (p .sim3 .t .x) (L .translation) (h .t .x); y = leaf-forward (L .unit) (p .sim3 .t .y) (L .translation) (h .t .y); z = leaf-forward (L .unit) (p .sim3 .t .z) (L .translation) (h .t .z) };
+      rotation = reset (L .unit) (L .length) (L .longest) 0 0 (L .drift * suc 0) (p .sim3 .q) (exactQuat (p .sim3 .q)) (le-refl 0)
+          (le-trans (mul-le-mul-left (L .unit) (more (L .unit) (L .drift) (L .every))) (F .length)) (quat-values (p .sim3 .q))
+          (normal-wider (L .unit) (L .square) (L .drift * suc 0) (exactQuat (p .sim3 .q)) (le-trans (F .start) (le-of-eq (one (L .drift))))
+          (h .normal)) (first (L .unit) (L .length) (p .sim3 .q) (h .q));
+      translation = record {
+        x = leaf-forward (L .unit) (p .sim3 .t .x) (L .translation) (h .t .x);
+        y = leaf-forward (L .unit) (p .sim3 .t .y)
+            (L .translation) (h .t .y);
+        z = leaf-forward (L .unit) (p .sim3 .t .z) (L .translation) (h .t .z);
+      };
     }
   where
     one : (c : ℕ) → c ≡ c * suc 0
@@ -501,33 +538,39 @@ starts L F p h =
     more : (u c m : ℕ) → u + c * suc 0 ≤ u + c * suc m
     more u c m = let a : c * suc 0 ≤ c * suc m = mul-le-mul-left c (omega arith) in omega arith
 
-module _ (f : Format) (L : JoinBox) (e : PoseBound → Bool) (P : Start → Exact → Type 0) (done : (d : ℕ) (w : Bound) (k : ℕ) (p : Pose) (X : Exact) → k ≤ away L → T (e (boundAt L d w)) → PoseTurn L d w k (p .sim3) X → P (Posed p) X) where
-  told : (N n : ℕ) (p : Pose) (up : Float) (l : List Step) → T (boxHolds L) → T (ltb (L .every) 65536) → T (runHolds f L e (boundAt L 0 (plain (L .translation))) N) → count l ≤ N → 0 < n → n ≤ L .every → FirstIn L p → AllStepsIn L l
-      → P (poseAfter f n p up l) (exactRan n 0 (p .from) (exactPose (p .sim3)) l)
-  told N n p up l tl tm t h nz nm hp a =
-      let F = fine L tl in
-      let lm : L .every < 65536 = ltb→lt (L .every) 65536 tm in
-      subst (λ (s : Start). P s (exactRan n 0 (p .from) (exactPose (p .sim3)) l)) (sym (history f (historyOf n p up l) (small-story n (L .every) nm lm (small-events L l lm a))))
-      (through (running f L F e P done l N n 0 0 (plain (L .translation)) p (exactPose (p .sim3)) h t a nz nm (le-trans nz nm) (starts L F p hp)))
-    where
-      through : P (ran f (Posed p) n 0 (events l)) (exactRan n 0 (p .from) (exactPose (p .sim3)) l) → P (ran f Unset 0 0 (historyOf n p up l)) (exactRan n 0 (p .from) (exactPose (p .sim3)) l)
-      through h = unfold ran in h
+module _ (f : Format) (L : JoinBox) (e : PoseBound → Bool) (P : Start → Exact → Type 0)
+    (done : (d : ℕ) (w : Bound) (k : ℕ) (p : Pose) (X : Exact) → k ≤ away L → T (e (boundAt L d w)) → PoseTurn L d w k (p .sim3) X → P (Posed p) X)
+  where
+    told : (N n : ℕ) (p : Pose) (up : Float) (l : List Step) → T (boxHolds L) → T (ltb (L .every) 65536) → T
+        (runHolds f L e (boundAt L 0 (plain (L .translation))) N) → count l ≤ N → 0 < n → n ≤ L .every → FirstIn L p → AllStepsIn L l
+        → P (poseAfter f n p up l) (exactRan n 0 (p .from) (exactPose (p .sim3)) l)
+    told N n p up l tl tm t h nz nm hp a =
+        let F = fine L tl in
+        let lm : L .every < 65536 = ltb→lt (L .every) 65536 tm in
+        subst (λ (s : Start). P s (exactRan n 0 (p .from) (exactPose (p .sim3)) l)) (sym (history f (historyOf n p up l) (small-story n (L .every) nm lm (small-events L l lm a))))
+        (through (running f L F e P done l N n 0 0 (plain (L .translation)) p (exactPose (p .sim3)) h t a nz nm (le-trans nz nm) (starts L F p hp)))
+      where
+        through : P (ran f (Posed p) n 0 (events l)) (exactRan n 0 (p .from) (exactPose (p .sim3)) l) → P (ran f Unset 0 0 (historyOf n p up l)) (exactRan n 0 (p .from) (exactPose (p .sim3)) l)
+        through h = unfold ran in h
 
-      small-story : (n m : ℕ) → n ≤ m → m < 65536 → Small (events l) → Small (historyOf n p up l)
-      small-story n m h k s = unfold Small in (below n m h k, s)
-        where
-          below : (n m : ℕ) → n ≤ m → m < 65536 → n < 65536
-          below n m h k = omega arith
+        small-story : (n m : ℕ) → n ≤ m → m < 65536 → Small (events l) → Small (historyOf n p up l)
+        small-story n m h k s = unfold Small in (below n m h k, s)
+          where
+            below : (n m : ℕ) → n ≤ m → m < 65536 → n < 65536
+            below n m h k = omega arith
 
 pub running-accurate : (f : Format) (n : ℕ) (p : Pose) (up : Float) (l : List Step) → RunningAccurate f n p l (poseAfter f n p up l)
 unfolding RunningError
 running-accurate f n p up l L c g N tl tm t h nz nm hp a =
     told f L (closeTest c g) (RunningError (L .unit) c g)
-    (λ d w k q X i o r. ends′ (L .unit) c g (boundAt L d w) (q .sim3) X (and-l (leb d c) (leb (w .error) g) o) (and-r (leb d c) (leb (w .error) g) o) (record { rotation = r .rotation .run; above = r .rotation .above; translation = r .translation }))
+    (λ d w k q X i o r. ends′ (L .unit) c g (boundAt L d w) (q .sim3) X (and-l (leb d c) (leb (w .error) g) o) (and-r (leb d c) (leb (w .error) g) o)
+    (record { rotation = r .rotation .run; above = r .rotation .above; translation = r .translation }))
     N n p up l tl tm t h nz nm hp a
 
 -- and its action on a point
-act-done : (f : Format) (L : JoinBox) (b s h e : ℕ) (d : ℕ) (w : Bound) (k : ℕ) (q : Pose) (X : Exact) (up : Float) (z : Value) (pt : Vec3) → 0 < L .unit → VecIn (L .unit) b pt → AbsoluteError (L .unit) up z h → AtMost (L .unit) z s → 0 < z .d → T (actTest f (L .unit) b s h e (boundAt L d w)) → PoseTurn L d w k (q .sim3) X
+act-done : (f : Format) (L : JoinBox) (b s h e : ℕ) (d : ℕ) (w : Bound) (k : ℕ) (q : Pose) (X : Exact) (up : Float) (z : Value) (pt : Vec3)
+    → 0 < L .unit → VecIn (L .unit) b pt → AbsoluteError (L .unit) up z h → AtMost (L .unit) z s → 0 < z .d → T
+    (actTest f (L .unit) b s h e (boundAt L d w)) → PoseTurn L d w k (q .sim3) X
     → ActionError f (L .unit) e up z pt (Posed q) X
 unfolding ActionError exactActBy actTest exactJoin
 act-done f L b s h e d w k q X up z pt uz hb hu hs ha o r =
@@ -536,7 +579,8 @@ act-done f L b s h e d w k q X up z pt uz hb hu hs ha o r =
     let sf = noOverflow f u B (treeAct .x) in
     let E = bound f u B (treeAct .x) .error in
     let j : Join = record { pose = record { q = q .sim3 .q; t = pt; sigma = q .sim3 .sigma }; up = up; scale = z } in
-    let a = join-shift f u b s h (q .sim3) X j (boundAt L d w) uz (run-forward u (L .longest) d (q .sim3 .q) (X .q) (r .rotation .above) (r .rotation .run)) (r .translation) hb hu hs ha (and-l sf (leb E e) o) in
+    let a = join-shift f u b s h (q .sim3) X j (boundAt L d w) uz (run-forward u (L .longest) d (q .sim3 .q) (X .q) (r .rotation .above)
+    (r .rotation .run)) (r .translation) hb hu hs ha (and-l sf (leb E e) o) in
     let l : E ≤ e = leb→le E e (and-r sf (leb E e) o) in
     let P = poseAct f (q .sim3) up pt in
     let Y = exactActBy X z pt in
@@ -549,7 +593,9 @@ page-accurate f n p up l L b s h e N scale z pt tl tm t c nz nm hp a hb hu hs ha
     N n p up l tl tm t c nz nm hp a
 
 -- and its length: the exact rotation keeps a length near 1, within a bound that does not grow with the products
-pub length-accurate : (f : Format) (L : JoinBox) (e : PoseBound → Bool) (N n : ℕ) (p : Pose) (up : Float) (l : List Step) → T (boxHolds L) → T (ltb (L .every) 65536) → T (runHolds f L e (boundAt L 0 (plain (L .translation))) N) → count l ≤ N → 0 < n → n ≤ L .every → FirstIn L p → AllStepsIn L l
+pub length-accurate : (f : Format) (L : JoinBox) (e : PoseBound → Bool) (N n : ℕ) (p : Pose) (up : Float) (l : List Step) → T (boxHolds L) → T
+    (ltb (L .every) 65536) → T (runHolds f L e (boundAt L 0 (plain (L .translation))) N) → count l ≤ N → 0 < n → n ≤ L .every → FirstIn L p
+    → AllStepsIn L l
     → Normal (L .unit) (away L) (exactRan n 0 (p .from) (exactPose (p .sim3)) l .q)
 length-accurate f L e N n p up l tl tm t h nz nm hp a =
     told f L e (λ s X. Normal (L .unit) (away L) (X .q)) (λ d w k q X i o r. normal-wider (L .unit) k (away L) (X .q) i (r .rotation .normal)) N n p up l tl tm t h nz nm hp a
