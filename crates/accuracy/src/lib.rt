@@ -4,3 +4,4 @@
 // greater length: the nine coefficients on the four arms of the series (CoefficientsTheorem), and the exponential
 // below the limits (ExponentialTheorem). No functions: crate error_bounds has them, and docs/ACCURACY.md the
 // numbers.
+#![tactic(auto)]

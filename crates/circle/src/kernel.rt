@@ -16,7 +16,7 @@ use linalg::vector::Vec3;
 use tables::Row;
 
 // sin(x/2)/x and cos(x/2): the exponential's quaternion is (cos_half, k phi).
-#[derive(Drop)]
+#[derive(Clone, Copy)]
 pub struct ExpCoeffs {
     pub k: f64,
     pub cos_half: f64,
@@ -25,7 +25,7 @@ pub struct ExpCoeffs {
 // (1 - cos x)/x^2, (x - sin x)/x^3, sin x/x, (x^2/2 - 1 + cos x)/x^4. PERF (D122): a and b stand together
 // because the compiler forms and stores them as one vector: read as halves of other vectors, which
 // another order brings about, they would have to wait for the store.
-#[derive(Drop)]
+#[derive(Clone, Copy)]
 pub struct SincABD {
     pub a: f64,
     pub b: f64,
@@ -34,35 +34,35 @@ pub struct SincABD {
 }
 
 // sin x/x and (1 - cos x)/x^2 alone.
-#[derive(Drop)]
+#[derive(Clone, Copy)]
 pub struct SincA {
     pub sinc: f64,
     pub a: f64,
 }
 
 // The coefficients, or refusal 1.
-#[derive(Drop)]
+#[derive(Clone, Copy)]
 pub enum ExpCoeffsAnswer {
     Coeffs(ExpCoeffs),
     Refused(u8),
 }
 
 // The coefficients, or refusal 1.
-#[derive(Drop)]
+#[derive(Clone, Copy)]
 pub enum SincABDAnswer {
     Coeffs(SincABD),
     Refused(u8),
 }
 
 // The coefficients, or refusal 1.
-#[derive(Drop)]
+#[derive(Clone, Copy)]
 pub enum SincAAnswer {
     Coeffs(SincA),
     Refused(u8),
 }
 
 // A number, or refusal 1.
-#[derive(Drop)]
+#[derive(Clone, Copy)]
 pub enum SincAnswer {
     Number(f64),
     Refused(u8),

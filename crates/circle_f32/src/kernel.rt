@@ -20,7 +20,7 @@ use linalg_f32::vector::Vec3;
 use tables::Row;
 
 // sin(x/2)/x and cos(x/2): the exponential's quaternion is (cos_half, k phi).
-#[derive(Drop)]
+#[derive(Clone, Copy)]
 pub struct ExpCoeffs {
     pub k: f32,
     pub cos_half: f32,
@@ -29,7 +29,7 @@ pub struct ExpCoeffs {
 // (1 - cos x)/x^2, (x - sin x)/x^3, sin x/x, (x^2/2 - 1 + cos x)/x^4. PERF (D122): a and b stand together
 // because the compiler forms and stores them as one vector: read as halves of other vectors, which
 // another order brings about, they would have to wait for the store.
-#[derive(Drop)]
+#[derive(Clone, Copy)]
 pub struct SincABD {
     pub a: f32,
     pub b: f32,
@@ -38,35 +38,35 @@ pub struct SincABD {
 }
 
 // sin x/x and (1 - cos x)/x^2 alone.
-#[derive(Drop)]
+#[derive(Clone, Copy)]
 pub struct SincA {
     pub sinc: f32,
     pub a: f32,
 }
 
 // The coefficients, or refusal 1.
-#[derive(Drop)]
+#[derive(Clone, Copy)]
 pub enum ExpCoeffsAnswer {
     Coeffs(ExpCoeffs),
     Refused(u8),
 }
 
 // The coefficients, or refusal 1.
-#[derive(Drop)]
+#[derive(Clone, Copy)]
 pub enum SincABDAnswer {
     Coeffs(SincABD),
     Refused(u8),
 }
 
 // The coefficients, or refusal 1.
-#[derive(Drop)]
+#[derive(Clone, Copy)]
 pub enum SincAAnswer {
     Coeffs(SincA),
     Refused(u8),
 }
 
 // A number, or refusal 1.
-#[derive(Drop)]
+#[derive(Clone, Copy)]
 pub enum SincAnswer {
     Number(f32),
     Refused(u8),

@@ -7,7 +7,7 @@ ghost use Rattle.closed_f32.specs.As.{as_values};
 // Any ten numbers. A host gives the root of z, sine and cosine of half the root, the sine of the
 // root, e^t and e^t - 1 at t = -|sigma| (t = sigma where sigma is a zero or a NaN), the same two at
 // -sigma (read only where sigma is a zero), e^sigma and e^-sigma.
-#[derive(Drop)]
+#[derive(Clone, Copy)]
 pub struct Values {
     pub root: f32,
     pub sin_half: f32,

@@ -54,7 +54,7 @@ fn v_from(sigma: f64, z: f64, t: SincABD, e: f64, m1: f64, v0: f64, form_b: bool
 }
 
 // w1 and w2.
-#[derive(Drop)]
+#[derive(Clone, Copy)]
 pub struct Ws {
     pub w1: f64,
     pub w2: f64,
@@ -73,7 +73,7 @@ fn w_from(sigma: f64, z: f64, v: Coeffs4, w0: f64) -> Ws
 }
 
 // The z-derivatives of v1 and v2.
-#[derive(Drop)]
+#[derive(Clone, Copy)]
 pub struct Dvs {
     pub dv1: f64,
     pub dv2: f64,
@@ -111,7 +111,7 @@ fn nine(v: Coeffs4, w0: f64, w: Ws, d: Dvs) -> Sim3Coeffs
 }
 
 // e^t and e^t - 1 at t = -|sigma|.
-#[derive(Drop)]
+#[derive(Clone, Copy)]
 pub struct EtMt {
     pub et: f64,
     pub mt: f64,
@@ -119,7 +119,7 @@ pub struct EtMt {
 
 // The exponential's numbers at one sign, from e^t and e^t - 1 at t = -|sigma|: e is e^sigma and m1 is
 // e^sigma - 1, both scaled by e^-sigma where 0 < sigma, and g is the scale, e^-sigma or 1.
-#[derive(Drop)]
+#[derive(Clone, Copy)]
 pub struct Exps {
     pub e: f64,
     pub m1: f64,
@@ -188,7 +188,7 @@ pub fn closed_from(
 }
 
 // v0 and w0 at both signs.
-#[derive(Drop)]
+#[derive(Clone, Copy)]
 pub struct Ends {
     pub v0: f64,
     pub w0: f64,

@@ -58,7 +58,7 @@ fn v_from(sigma: f32, z: f32, t: SincABD, e: f32, m1: f32, v0: f32, form_b: bool
 }
 
 // w1 and w2.
-#[derive(Drop)]
+#[derive(Clone, Copy)]
 pub struct Ws {
     pub w1: f32,
     pub w2: f32,
@@ -77,7 +77,7 @@ fn w_from(sigma: f32, z: f32, v: Coeffs4, w0: f32) -> Ws
 }
 
 // The z-derivatives of v1 and v2.
-#[derive(Drop)]
+#[derive(Clone, Copy)]
 pub struct Dvs {
     pub dv1: f32,
     pub dv2: f32,
@@ -115,7 +115,7 @@ fn nine(v: Coeffs4, w0: f32, w: Ws, d: Dvs) -> Sim3Coeffs
 }
 
 // e^t and e^t - 1 at t = -|sigma|.
-#[derive(Drop)]
+#[derive(Clone, Copy)]
 pub struct EtMt {
     pub et: f32,
     pub mt: f32,
@@ -123,7 +123,7 @@ pub struct EtMt {
 
 // The exponential's numbers at one sign, from e^t and e^t - 1 at t = -|sigma|: e is e^sigma and m1 is
 // e^sigma - 1, both scaled by e^-sigma where 0 < sigma, and g is the scale, e^-sigma or 1.
-#[derive(Drop)]
+#[derive(Clone, Copy)]
 pub struct Exps {
     pub e: f32,
     pub m1: f32,
@@ -192,7 +192,7 @@ pub fn closed_from(
 }
 
 // v0 and w0 at both signs.
-#[derive(Drop)]
+#[derive(Clone, Copy)]
 pub struct Ends {
     pub v0: f32,
     pub w0: f32,

@@ -25,21 +25,21 @@ use linalg_f32::vector::Vec3;
 use series_f32::sim3::{Coeffs4, SeriesAnswer, SeriesPairAnswer, SeriesVAnswer, Sim3Coeffs};
 
 // The coefficients as their arm forms them: scaled by e^-sigma where `scaled`.
-#[derive(Drop)]
+#[derive(Clone, Copy)]
 pub struct Scaled {
     pub c: Sim3Coeffs,
     pub scaled: bool,
 }
 
 // v and chi_delta alone, as their arm forms them.
-#[derive(Drop)]
+#[derive(Clone, Copy)]
 pub struct VScaled {
     pub c: Coeffs4,
     pub scaled: bool,
 }
 
 // The coefficients at sigma and at -sigma.
-#[derive(Drop)]
+#[derive(Clone, Copy)]
 pub struct ScaledPair {
     pub pos: Scaled,
     pub neg: Scaled,
@@ -47,7 +47,7 @@ pub struct ScaledPair {
 
 // The coefficients with the arm that formed them, 1 to 4 for the series with more and more terms and 5
 // for the closed one; `ends` says whether v0 and w0 of the closed arm come from series of their own.
-#[derive(Drop)]
+#[derive(Clone, Copy)]
 pub struct Armed {
     pub s: Scaled,
     pub arm: u8,
@@ -55,50 +55,50 @@ pub struct Armed {
 }
 
 // The same at sigma and at -sigma.
-#[derive(Drop)]
+#[derive(Clone, Copy)]
 pub struct ArmedPair {
     pub pos: Armed,
     pub neg: Armed,
 }
 
 // The answers of the entries: the coefficients, or refusal 1.
-#[derive(Drop)]
+#[derive(Clone, Copy)]
 pub enum ScaledAnswer {
     Coeffs(Scaled),
     Refused(u8),
 }
 
-#[derive(Drop)]
+#[derive(Clone, Copy)]
 pub enum CoeffsAnswer {
     Coeffs(Sim3Coeffs),
     Refused(u8),
 }
 
-#[derive(Drop)]
+#[derive(Clone, Copy)]
 pub enum VAnswer {
     Coeffs(Coeffs4),
     Refused(u8),
 }
 
-#[derive(Drop)]
+#[derive(Clone, Copy)]
 pub enum VScaledAnswer {
     Coeffs(VScaled),
     Refused(u8),
 }
 
-#[derive(Drop)]
+#[derive(Clone, Copy)]
 pub enum PairAnswer {
     Coeffs(ScaledPair),
     Refused(u8),
 }
 
-#[derive(Drop)]
+#[derive(Clone, Copy)]
 pub enum ArmedAnswer {
     Coeffs(Armed),
     Refused(u8),
 }
 
-#[derive(Drop)]
+#[derive(Clone, Copy)]
 pub enum ArmedPairAnswer {
     Coeffs(ArmedPair),
     Refused(u8),

@@ -4,6 +4,8 @@
 // them. The third demand: the paired evaluation gives for both signs what the one-sign functions give.
 // And of the arms: the flags that are told with them are those by which the block pair scales. Of a
 // tangent with its translation turned round: module ways.
+#![tactic(auto)]
+
 ghost use Rattle.std.specs.Float.{binary32};
 ghost use Rattle.coeffs_f32.specs.Told.{armed_pair_told};
 ghost use Rattle.demands.specs.Demand3.{Demand3};
@@ -26,7 +28,7 @@ pub mod ways; // both ways along rho
 
 // What the eight calls return: the pair of coefficients, and those of each sign apart; the pair of
 // blocks, and those of each sign apart; the exponential of the tangent and of its negative.
-#[derive(Drop)]
+#[derive(Clone, Copy)]
 pub struct BothSigns {
     pub pair: PairAnswer,
     pub plus: ScaledAnswer,
@@ -69,7 +71,7 @@ pub fn both_signs(tau: Sim3Tangent, z: f32, v: Values, jl: Mat3, jl_inv: Mat3) -
 }
 
 // What the two calls return: the coefficients with their arms and flags, and the pair of blocks.
-#[derive(Drop)]
+#[derive(Clone, Copy)]
 pub struct Flagged {
     pub armed: ArmedPairAnswer,
     pub block: BlockPair,

@@ -34,7 +34,7 @@ pub fn turned_round(tau: Sim3Tangent) -> Sim3Tangent
 // What the ten calls return: the exponential with its frames, the left Jacobian, both from one
 // evaluation, the left Jacobian with its inverse, and the block pair; each of the tangent, and of the
 // tangent turned round.
-#[derive(Drop)]
+#[derive(Clone, Copy)]
 pub struct BothWays {
     pub exp: Pose,
     pub exp_turned: Pose,

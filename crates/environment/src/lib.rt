@@ -1,5 +1,7 @@
 // Whether the machine computes as the proofs say: with rounding to nearest, and with nothing flushed to
 // zero. Two products of numbers that come from outside, so that no compiler works them out beforehand.
+#![tactic(auto)]
+
 ghost use Rattle.std.specs.Prelude.{◌≡◌};
 ghost use Rattle.environment.specs.Environment.{product_is_due};
 

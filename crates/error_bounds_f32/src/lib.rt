@@ -3,6 +3,8 @@
 // and its contract is what is proved of that call's rounding and truncation errors. It rests on the call's own
 // contract and on nothing else, so a weaker contract there would leave it unproved. The running join's stands
 // in crate running_accuracy.
+#![tactic(auto)]
+
 ghost use Rattle.std.specs.Float.{binary32};
 ghost use Rattle.accuracy.specs.Action.{ActionAccurate};
 ghost use Rattle.accuracy.specs.Exponential.{ExponentialAccurate};

@@ -4,6 +4,8 @@
 // leaves: a product that begins with 0 is NaN exactly where a factor is not finite. Several short products
 // wait less than a long one, and the numbers at even and at odd places stand in memory in twos: so their
 // products are formed apart, two by an instruction.
+#![tactic(auto)]
+
 ghost use Rattle.std.specs.Prelude.{◌≡◌};
 ghost use Rattle.ieee.specs.Finite.{ZeroIf};
 ghost use Rattle.layout.specs.Layout.{pose_numbers};

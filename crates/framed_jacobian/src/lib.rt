@@ -1,5 +1,7 @@
 // The exponential beside its left Jacobian, as a pose with its frames. It starts from no pose, so both
 // frames are given; the Jacobian reads none. The numbers are those of crate sides.
+#![tactic(auto)]
+
 ghost use Rattle.std.specs.Prelude.{◌≡◌};
 ghost use Rattle.std.specs.Float.{binary64};
 ghost use Rattle.framed_jacobian.specs.ExpAndJl.{framed_exp_and_jl};
@@ -10,7 +12,7 @@ use jacobian::jac::Sim3Jac;
 use linalg::matrix::Mat3;
 use sim3::tangent::Sim3Tangent;
 
-#[derive(Drop)]
+#[derive(Clone, Copy)]
 pub struct PoseAndJl {
     pub x: Pose,
     pub jl: Sim3Jac,

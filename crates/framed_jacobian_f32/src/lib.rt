@@ -1,6 +1,8 @@
 // Written by tools/widths from crates/framed_jacobian/src/lib.rt: edit that one. Digest 80ea8dd4e558d0cf.
 // The exponential beside its left Jacobian, as a pose with its frames. It starts from no pose, so both
 // frames are given; the Jacobian reads none. The numbers are those of crate sides.
+#![tactic(auto)]
+
 ghost use Rattle.std.specs.Prelude.{◌≡◌};
 ghost use Rattle.std.specs.Float.{binary32};
 ghost use Rattle.framed_jacobian.specs.ExpAndJl.{framed_exp_and_jl};
@@ -15,7 +17,7 @@ use jacobian_f32::jac::Sim3Jac;
 use linalg_f32::matrix::Mat3;
 use sim3_f32::tangent::Sim3Tangent;
 
-#[derive(Drop)]
+#[derive(Clone, Copy)]
 pub struct PoseAndJl {
     pub x: Pose,
     pub jl: Sim3Jac,

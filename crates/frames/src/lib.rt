@@ -2,6 +2,8 @@
 // are joined only where the frames meet. The numbers are those of crate sim3, whose functions these
 // call and whose argument orders they keep; the action and the Jacobians read no frame, and take
 // `x.sim3`.
+#![tactic(auto)]
+
 ghost use Rattle.std.specs.Prelude.{◌≡◌};
 ghost use Rattle.std.specs.Float.{binary64};
 ghost use Rattle.sim3.specs.Pose.{pose};
@@ -14,7 +16,7 @@ use sim3::sim3::Sim3;
 use sim3::tangent::Sim3Tangent;
 use so3::quat::Quat;
 
-#[derive(Drop)]
+#[derive(Clone, Copy)]
 pub struct Pose {
     pub sim3: Sim3,
     pub from: u16,
@@ -22,7 +24,7 @@ pub struct Pose {
 }
 
 // The pose, or refusal 9 where the frames do not meet.
-#[derive(Drop)]
+#[derive(Clone, Copy)]
 pub enum PoseAnswer {
     Pose(Pose),
     Refused(u8),

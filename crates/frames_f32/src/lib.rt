@@ -3,6 +3,8 @@
 // are joined only where the frames meet. The numbers are those of crate sim3, whose functions these
 // call and whose argument orders they keep; the action and the Jacobians read no frame, and take
 // `x.sim3`.
+#![tactic(auto)]
+
 ghost use Rattle.std.specs.Prelude.{◌≡◌};
 ghost use Rattle.std.specs.Float.{binary32};
 ghost use Rattle.sim3.specs.Pose.{pose};
@@ -21,7 +23,7 @@ use sim3_f32::sim3_f32::Sim3;
 use sim3_f32::tangent::Sim3Tangent;
 use so3_f32::quat::Quat;
 
-#[derive(Drop)]
+#[derive(Clone, Copy)]
 pub struct Pose {
     pub sim3: Sim3,
     pub from: u16,
@@ -29,7 +31,7 @@ pub struct Pose {
 }
 
 // The pose, or refusal 9 where the frames do not meet.
-#[derive(Drop)]
+#[derive(Clone, Copy)]
 pub enum PoseAnswer {
     Pose(Pose),
     Refused(u8),

@@ -1,5 +1,7 @@
 // The things that stand in the numbers of a list that a C function is lent; Wrong where the list has
 // another length. Matrices go column by column.
+#![tactic(auto)]
+
 ghost use Rattle.std.specs.Prelude.{◌≡◌, ◌+◌, ◌≤◌, length};
 ghost use Rattle.layout.specs.Layout.{vec_in, mat_in, pose_in};
 ghost use Rattle.from_lists.specs.Lists.{number_in, vec_from, mat_from, pose_from, tangent_from, values_from, block_from, pose_lists, frames_from, framed_from};
@@ -21,56 +23,56 @@ pub const LIST_LENGTH: u32 = 100;
 // A pose's frames: from, to.
 pub const FRAMES: usize = 2;
 
-#[derive(Drop)]
+#[derive(Clone, Copy)]
 pub enum VecRead {
     Got(Vec3),
     Wrong,
 }
 
-#[derive(Drop)]
+#[derive(Clone, Copy)]
 pub enum MatRead {
     Got(Mat3),
     Wrong,
 }
 
-#[derive(Drop)]
+#[derive(Clone, Copy)]
 pub enum PoseRead {
     Got(Sim3),
     Wrong,
 }
 
 // The frames of a pose, as they stand in a list.
-#[derive(Drop)]
+#[derive(Clone, Copy)]
 pub struct Frames {
     pub from: u16,
     pub to: u16,
 }
 
-#[derive(Drop)]
+#[derive(Clone, Copy)]
 pub enum FramesRead {
     Got(Frames),
     Wrong,
 }
 
-#[derive(Drop)]
+#[derive(Clone, Copy)]
 pub enum FramedRead {
     Got(Pose),
     Wrong,
 }
 
-#[derive(Drop)]
+#[derive(Clone, Copy)]
 pub enum TangentRead {
     Got(Sim3Tangent),
     Wrong,
 }
 
-#[derive(Drop)]
+#[derive(Clone, Copy)]
 pub enum ValuesRead {
     Got(Values),
     Wrong,
 }
 
-#[derive(Drop)]
+#[derive(Clone, Copy)]
 pub enum BlockRead {
     Got(Sim3Jac),
     Wrong,

@@ -1,6 +1,8 @@
 // IEEE 754 doubles: bit patterns both ways on every input, and a select. `specs` has the notions of
 // a value up to the sign of a zero, of a value that is not -0, and of a table that follows a rule;
 // `proofs` has the laws of the operations, over any format, that the crates above cite.
+#![tactic(auto)]
+
 ghost use Rattle.std.specs.Prelude.{◌≡◌, cond};
 ghost use Rattle.std.specs.Float.Ieee.{of_bits, to_bits};
 ghost use Rattle.std.specs.Float.{binary64};

@@ -1,5 +1,7 @@
 // IEEE 754 singles: bit patterns both ways on every input, and a select. The laws stand in `ieee`,
 // over any format.
+#![tactic(auto)]
+
 ghost use Rattle.std.specs.Prelude.{◌≡◌, cond};
 ghost use Rattle.std.specs.Float.Ieee.{of_bits, to_bits};
 ghost use Rattle.std.specs.Float.{binary32};

@@ -12,7 +12,7 @@ use linalg::vector::Vec3;
 use sim3::tangent::Sim3Tangent;
 
 // Seven columns of seven numbers, each held as a tangent.
-#[derive(Drop)]
+#[derive(Clone, Copy)]
 pub struct Seven {
     pub c0: Sim3Tangent,
     pub c1: Sim3Tangent,
@@ -103,7 +103,7 @@ fn flat(m: Seven) -> [f64; 49]
 }
 
 // The numbers x, y and z of seven vectors, in a row each.
-#[derive(Drop)]
+#[derive(Clone, Copy)]
 pub struct Rows {
     pub x: Sim3Tangent,
     pub y: Sim3Tangent,

@@ -8,7 +8,7 @@ use linalg::matrix::Mat3;
 use linalg::vector::Vec3;
 use sim3::tangent::Sim3Tangent;
 
-#[derive(Drop)]
+#[derive(Clone, Copy)]
 pub struct Sim3Jac {
     pub a: Mat3,
     pub b: Mat3,
@@ -18,7 +18,7 @@ pub struct Sim3Jac {
 }
 
 // The inverse, or refusal 2 where e is a zero.
-#[derive(Drop)]
+#[derive(Clone, Copy)]
 pub enum JacAnswer {
     Block(Sim3Jac),
     Refused(u8),

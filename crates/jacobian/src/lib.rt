@@ -1,3 +1,5 @@
 // Block Jacobians of Sim(3): their structure and algebra.
+#![tactic(auto)]
+
 pub mod jac; // Sim3Jac: the block structure and its algebra
 pub mod dense; // 7x7 matrices, and the sandwich

@@ -13,7 +13,7 @@ use linalg_f32::matrix::Mat3;
 use linalg_f32::vector::Vec3;
 use sim3_f32::tangent::Sim3Tangent;
 
-#[derive(Drop)]
+#[derive(Clone, Copy)]
 pub struct Sim3Jac {
     pub a: Mat3,
     pub b: Mat3,
@@ -23,7 +23,7 @@ pub struct Sim3Jac {
 }
 
 // The inverse, or refusal 2 where e is a zero.
-#[derive(Drop)]
+#[derive(Clone, Copy)]
 pub enum JacAnswer {
     Block(Sim3Jac),
     Refused(u8),

@@ -1,6 +1,8 @@
 // The job: records are read and answered one after another until the input ends, a mark is unknown,
 // a record is cut or the limit is met; then the counts are written. `feed` does this with the bytes
 // at hand, so that a program may read its input in any pieces.
+#![tactic(auto)]
+
 ghost use Rattle.std.specs.Prelude.{◌≡◌, true, false, cond, ◌++◌, ◌+◌, ◌*◌, ◌≤◌, ◌<◌, length, drop, eqb};
 ghost use Rattle.std.proofs.lemmas.List.Edits.{sets};
 ghost use Rattle.wire.specs.Wire.{count_bytes};
@@ -33,7 +35,7 @@ const TRAILER: usize = 2 + 4 * 4 + 4 * ROWS;
 // refused, and were answered with a NaN or an infinity. An unknown mark, a half mark and a cut record
 // count as begun and refused. Then how many were begun of each mark, a cut record among them, and last
 // how many unknown and half marks.
-#[derive(Drop)]
+#[derive(Clone, Copy)]
 pub struct Counts {
     pub begun: u32,
     pub answered: u32,
@@ -44,7 +46,7 @@ pub struct Counts {
 
 // The counts without those by mark. The record loop keeps the two apart: these four go through a
 // function by value at each record, and those stay where they are.
-#[derive(Drop)]
+#[derive(Clone, Copy)]
 struct Four {
     begun: u32,
     answered: u32,
@@ -56,7 +58,7 @@ struct Four {
 // may come. `Room`: the output has no room for the longest answer. `Bad`: the counts handed in are
 // not those of a job, or the bytes lent for the state are not as many as it has. The other four end
 // the job: the limit, the end of the input, an unknown mark, a cut record.
-#[derive(Drop)]
+#[derive(Clone, Copy)]
 pub enum Reason {
     More,
     Room,
@@ -69,7 +71,7 @@ pub enum Reason {
 
 // What a call did: why it stopped, the counts, how many bytes of the input it is done with, and how
 // many it wrote.
-#[derive(Drop)]
+#[derive(Clone, Copy)]
 pub struct Fed {
     pub reason: Reason,
     pub counts: Counts,

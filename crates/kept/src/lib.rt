@@ -1,5 +1,7 @@
 // The records that read or move what a job keeps between records: CH and RN the running join, SH and SQ
 // the retaken sheets. What is kept stands in bytes that the caller lends.
+#![tactic(auto)]
+
 ghost use Rattle.std.specs.Prelude.{◌≡◌, cond};
 ghost use Rattle.kept.specs.State.{state_none, state_of, holds, fresh_of};
 

@@ -1,5 +1,7 @@
 // How many numbers a thing has where it stands in a record of the job or in a list of a call; their
 // order is in specs/Layout.antt.
+#![tactic(auto)]
+
 pub const VEC: usize = 3;
 
 pub const MAT: usize = 3 * VEC;

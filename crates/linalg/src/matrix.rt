@@ -6,7 +6,7 @@ ghost use Rattle.linalg.specs.Matrix.{entry_told, vec_told, mat_told, mat_of_row
 
 use crate::vector::Vec3;
 
-#[derive(Drop)]
+#[derive(Clone, Copy)]
 pub struct Mat3 {
     pub c0: Vec3,
     pub c1: Vec3,
@@ -14,28 +14,28 @@ pub struct Mat3 {
 }
 
 // The adjugate over the determinant, and the determinant.
-#[derive(Drop)]
+#[derive(Clone, Copy)]
 pub struct Inverse {
     pub inv: Mat3,
     pub det: f64,
 }
 
 // An entry of a matrix, or refusal 3.
-#[derive(Drop)]
+#[derive(Clone, Copy)]
 pub enum Entry {
     Number(f64),
     Refused(u8),
 }
 
 // A row or a column, or refusal 3.
-#[derive(Drop)]
+#[derive(Clone, Copy)]
 pub enum VecAnswer {
     Vector(Vec3),
     Refused(u8),
 }
 
 // A matrix, or refusal 3.
-#[derive(Drop)]
+#[derive(Clone, Copy)]
 pub enum MatAnswer {
     Matrix(Mat3),
     Refused(u8),

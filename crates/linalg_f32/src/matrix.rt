@@ -9,7 +9,7 @@ ghost use Rattle.linalg_f32.specs.As.{as_inverse, as_mat3, as_vec3};
 
 use crate::vector::Vec3;
 
-#[derive(Drop)]
+#[derive(Clone, Copy)]
 pub struct Mat3 {
     pub c0: Vec3,
     pub c1: Vec3,
@@ -17,28 +17,28 @@ pub struct Mat3 {
 }
 
 // The adjugate over the determinant, and the determinant.
-#[derive(Drop)]
+#[derive(Clone, Copy)]
 pub struct Inverse {
     pub inv: Mat3,
     pub det: f32,
 }
 
 // An entry of a matrix, or refusal 3.
-#[derive(Drop)]
+#[derive(Clone, Copy)]
 pub enum Entry {
     Number(f32),
     Refused(u8),
 }
 
 // A row or a column, or refusal 3.
-#[derive(Drop)]
+#[derive(Clone, Copy)]
 pub enum VecAnswer {
     Vector(Vec3),
     Refused(u8),
 }
 
 // A matrix, or refusal 3.
-#[derive(Drop)]
+#[derive(Clone, Copy)]
 pub enum MatAnswer {
     Matrix(Mat3),
     Refused(u8),

@@ -5,7 +5,7 @@ ghost use Rattle.std.specs.Float.{binary32};
 ghost use Rattle.linalg.specs.Vector.{vec_scale, vec_dot, vec_norm_sq, vec_cross, vec_add, vec_sub, vec_neg, vec_over};
 ghost use Rattle.linalg_f32.specs.As.{as_vec3};
 
-#[derive(Drop)]
+#[derive(Clone, Copy)]
 pub struct Vec3 {
     pub x: f32,
     pub y: f32,

@@ -1,4 +1,6 @@
 // The table of marks, and what stands at the head of the input.
+#![tactic(auto)]
+
 ghost use Rattle.std.specs.Prelude.{◌≡◌, ◌+◌, ◌*◌, length};
 ghost use Rattle.std.proofs.lemmas.List.Edits.{sets};
 ghost use Rattle.outcome.specs.Outcome.{step_told};
@@ -19,7 +21,7 @@ const UNLISTED: usize = ROWS - 1;
 
 // What a mark asks for: an entry of the engine, on doubles or on singles, the running join, or the
 // retaken sheets.
-#[derive(Drop)]
+#[derive(Clone, Copy)]
 pub enum Mark {
     Double(Entry),
     Single(Entry),
@@ -30,14 +32,14 @@ pub enum Mark {
 }
 
 // A mark of the table, with its place among the counts by mark; or none.
-#[derive(Drop)]
+#[derive(Clone, Copy)]
 pub enum Look {
     Known(Mark, usize),
     Unknown,
 }
 
 // What stands at the head of the input, and in which of the counts by mark it counts.
-#[derive(Drop)]
+#[derive(Clone, Copy)]
 pub struct Heard {
     pub step: Step,
     pub row: usize,

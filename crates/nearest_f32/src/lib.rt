@@ -2,6 +2,8 @@
 // How near another arm of the coefficients is: the fewest neighbouring values that z must move, down
 // or up, for the arm at (sigma, z) to change. Neighbouring values have neighbouring bit patterns, and
 // the arm does not fall as z grows; so the two ends of z's arm are found by halving the patterns.
+#![tactic(auto)]
+
 ghost use Rattle.std.specs.Prelude.{◌≡◌, ◌&&◌, ◌+◌, ◌-◌, ◌<◌, ◌≤◌};
 ghost use Rattle.std.specs.Float.{binary32};
 ghost use Rattle.ieee.specs.Finite.{is_finite};
@@ -15,14 +17,14 @@ use crate::width::{END, pattern, value};
 
 mod width; // what the width of the numbers decides
 
-#[derive(Drop)]
+#[derive(Clone, Copy)]
 pub enum Direction {
     Down,
     Up,
 }
 
 // The least number of neighbouring values to another arm, the direction, and the arm there.
-#[derive(Drop)]
+#[derive(Clone, Copy)]
 pub struct Step {
     pub count: u64,
     pub direction: Direction,
@@ -31,7 +33,7 @@ pub struct Step {
 
 // `OneArm`: every permitted z has the same arm. Refusal 1 for z < 0, then 8 where sigma or z is a NaN
 // or an infinity.
-#[derive(Drop)]
+#[derive(Clone, Copy)]
 pub enum NearestAnswer {
     Found(Step),
     OneArm,

@@ -1,6 +1,8 @@
 // The action of a pose on a list of points, three numbers each, into another list. Two entries:
 // act_many has the bits of the Rust's act_many, which forms the matrix s R once; act_each moves each
 // point as Sim3::act and the mark AC do. The two differ in the last bits.
+#![tactic(auto)]
+
 ghost use Rattle.std.specs.Prelude.{◌≡◌, ◌+◌, ◌*◌, ◌≤◌, ◌++◌, length, drop};
 ghost use Rattle.std.specs.Float.{binary64};
 ghost use Rattle.point_lists.specs.Points.{point_at, points_moved, points_accepted, list_told, points_answer, points_out, mat_act, pose_act_many, pose_act_each};
@@ -15,7 +17,7 @@ use sim3::sim3::Sim3;
 mod many; // every point by a matrix
 
 // Every point moved, or refusal 5 and nothing written.
-#[derive(Drop)]
+#[derive(Clone, Copy)]
 pub enum Listed {
     Written,
     Refused(u8),

@@ -1,5 +1,7 @@
 // The entries of the engine behind the marks, on doubles: how many bytes a record has behind its mark,
 // and what it is answered.
+#![tactic(auto)]
+
 ghost use Rattle.std.specs.Prelude.{◌≡◌, ◌+◌, ◌≤◌, length};
 ghost use Rattle.std.specs.Float.{binary64};
 ghost use Rattle.std.proofs.lemmas.List.Edits.{sets};

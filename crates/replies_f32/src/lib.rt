@@ -1,6 +1,8 @@
 // Written by tools/widths from crates/replies/src/lib.rt: edit that one. Digest fff057d299bfa458.
 // The entries of the engine behind the marks, on singles: how many bytes a record has behind its mark,
 // and what it is answered.
+#![tactic(auto)]
+
 ghost use Rattle.std.specs.Prelude.{◌≡◌, ◌+◌, ◌≤◌, length};
 ghost use Rattle.std.specs.Float.{binary32};
 ghost use Rattle.std.proofs.lemmas.List.Edits.{sets};

@@ -3,6 +3,8 @@
 // s; and the double nearest to the root. The root of m is found by halves: the root of the upper
 // half of its digits, and one division for the lower half. m is a number c below 2^54 times 2^52, so
 // that c is all that is held of it.
+#![tactic(auto)]
+
 ghost use Rattle.std.specs.Prelude.{◌≡◌, ◌+◌, ◌*◌, ◌^◌, ◌<◌, ◌≤◌};
 ghost use Rattle.std.specs.Float.{binary64};
 ghost use Rattle.ieee.specs.Patterns.{patterns, pattern_units};
@@ -21,7 +23,7 @@ const BASE_13: u64 = 0x2000;
 const BASE_26: u64 = 0x400_0000;
 
 // r, the remainder, s, and the double nearest to the root.
-#[derive(Drop)]
+#[derive(Clone, Copy)]
 pub struct RootParts {
     pub root: u64,
     pub remainder: u64,
@@ -30,21 +32,21 @@ pub struct RootParts {
 }
 
 // The root with what is left, or refusal 1 for z < 0, or 8 for a NaN or +infinity.
-#[derive(Drop)]
+#[derive(Clone, Copy)]
 pub enum RootAnswer {
     Parts(RootParts),
     Refused(u8),
 }
 
 // A whole root and its remainder.
-#[derive(Drop)]
+#[derive(Clone, Copy)]
 struct Whole {
     root: u64,
     remainder: u64,
 }
 
 // A number n as digits * 2^power / 2^52, where digits has 53 binary digits.
-#[derive(Drop)]
+#[derive(Clone, Copy)]
 struct Scaled {
     digits: u64,
     power: u64,

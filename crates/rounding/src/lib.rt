@@ -5,3 +5,4 @@
 // value is finite and within the computed bound of the exact one, where the leaves are within theirs, no node can
 // overflow and each divisor is away from zero (ForwardErrorTheorem). No functions: what is said is in specs/, and
 // laws of fractions, of squares and of polynomials in proofs/.
+#![tactic(auto)]

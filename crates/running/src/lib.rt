@@ -1,6 +1,8 @@
 // A running join: poses are joined as they come, each with the running pose as the left one, and the
 // running pose's quaternion is renormalised after every nth product. And the quaternions of a whole list
 // of poses renormalised.
+#![tactic(auto)]
+
 ghost use Rattle.std.specs.Prelude.{◌≡◌};
 ghost use Rattle.std.specs.Float.{binary64};
 ghost use Rattle.frames.specs.Joins.{pose_told, framed_mul};
@@ -10,7 +12,7 @@ use frames::{Pose, PoseAnswer};
 use sim3::sim3::Sim3;
 
 // The running pose; none before the first pose comes.
-#[derive(Drop)]
+#[derive(Clone, Copy)]
 pub enum Start {
     Unset,
     Posed(Pose),
@@ -18,7 +20,7 @@ pub enum Start {
 
 // The running pose; n, after every how many products it is renormalised, 0 for never; and how many
 // products there were since it was. 65535 of them are that many or more.
-#[derive(Drop)]
+#[derive(Clone, Copy)]
 pub struct Running {
     pub pose: Start,
     pub every: u16,
@@ -26,7 +28,7 @@ pub struct Running {
 }
 
 // What a pose leaves, and the running pose with which it is answered, or the refusal.
-#[derive(Drop)]
+#[derive(Clone, Copy)]
 pub struct Joined {
     pub running: Running,
     pub answer: PoseAnswer,

@@ -2,6 +2,8 @@
 // against the same history in exact arithmetic, with the renormalisations where the running join does them; and
 // the action of the running pose on a point (RunningTheorem). Without renormalisation: JoinedTheorem. The one
 // function here joins a pose, and its contract is what is proved of the running pose then.
+#![tactic(auto)]
+
 ghost use Rattle.running_accuracy.specs.Join.{JoinAccurate};
 
 use frames::Pose;

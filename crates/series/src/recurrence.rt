@@ -8,7 +8,7 @@ ghost use Rattle.series.specs.Private.{sums_none, sums_gain, tail_terms, sums_la
 use crate::sim3::Sim3Coeffs;
 
 // Level j: p = sigma^j, xi and zeta, and the z-derivatives of these two.
-#[derive(Drop)]
+#[derive(Clone, Copy)]
 pub struct Level {
     pub xi: f64,
     pub dxi: f64,
@@ -18,7 +18,7 @@ pub struct Level {
 }
 
 // The six sums over the levels, or the six terms that one level gives them.
-#[derive(Drop)]
+#[derive(Clone, Copy)]
 pub struct Sums {
     pub v1: f64,
     pub dv1: f64,
@@ -29,7 +29,7 @@ pub struct Sums {
 }
 
 // The terms that the sums take after level k: one for v2 and for w2, two for dv1, three for dv2.
-#[derive(Drop)]
+#[derive(Clone, Copy)]
 pub struct Tail {
     pub v2: f64,
     pub w2: f64,
@@ -41,14 +41,14 @@ pub struct Tail {
 }
 
 // A loop for one sign after some levels: the next level, and the sums so far.
-#[derive(Drop)]
+#[derive(Clone, Copy)]
 pub struct Turns {
     pub level: Level,
     pub sums: Sums,
 }
 
 // A loop for v alone: what v reads of the next level, and its two sums.
-#[derive(Drop)]
+#[derive(Clone, Copy)]
 pub struct TurnsV {
     pub p: f64,
     pub xi: f64,
@@ -58,7 +58,7 @@ pub struct TurnsV {
 }
 
 // The loop for both signs: the next level at sigma, and the sums at sigma and at -sigma.
-#[derive(Drop)]
+#[derive(Clone, Copy)]
 pub struct TurnsPair {
     pub level: Level,
     pub pos: Sums,
@@ -66,7 +66,7 @@ pub struct TurnsPair {
 }
 
 // The sums at sigma and at -sigma.
-#[derive(Drop)]
+#[derive(Clone, Copy)]
 pub struct SumsPair {
     pub pos: Sums,
     pub neg: Sums,

@@ -32,7 +32,7 @@ pub fn g2(sigma: f64) -> f64
 }
 
 // The sum of v0 at both signs after each of its 16 entries, the reciprocals 16 down to 1.
-#[derive(Drop)]
+#[derive(Clone, Copy)]
 pub struct Pass {
     pub after1: GPair,
     pub after2: GPair,

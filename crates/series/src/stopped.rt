@@ -10,7 +10,7 @@ use crate::small;
 
 // v0 and w0 of the series arm and of the closed arm at small sigma, from the pass and from each sign
 // alone.
-#[derive(Drop)]
+#[derive(Clone, Copy)]
 pub struct Stopped {
     pub series: Horner,
     pub series_alone: Horner,
@@ -19,7 +19,7 @@ pub struct Stopped {
 }
 
 // The partial sums, or refusal 4.
-#[derive(Drop)]
+#[derive(Clone, Copy)]
 pub enum StoppedAnswer {
     Sums(Stopped),
     Refused(u8),

@@ -1,6 +1,8 @@
 // Written by tools/widths from crates/series/src/lib.rt: edit that one. Digest 62c2e0e068926df2.
 // The Sim(3) coefficients by their total-degree series, at up to 28 terms, and 30 for v alone: at one
 // sign of sigma, and at both from one recurrence.
+#![tactic(auto)]
+
 pub mod sim3; // the coefficients and their series at one sign of sigma: coeffs/sim3.rs
 pub mod pair; // the series at both signs: the pair of coeffs/sim3.rs
 pub mod stopped; // one pass over the reciprocals, stopped after any number of entries

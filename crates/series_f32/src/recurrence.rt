@@ -10,7 +10,7 @@ ghost use Rattle.series_f32.specs.As.{as_level, as_sim3_coeffs, as_sums, as_tail
 use crate::sim3::Sim3Coeffs;
 
 // Level j: p = sigma^j, xi and zeta, and the z-derivatives of these two.
-#[derive(Drop)]
+#[derive(Clone, Copy)]
 pub struct Level {
     pub xi: f32,
     pub dxi: f32,
@@ -20,7 +20,7 @@ pub struct Level {
 }
 
 // The six sums over the levels, or the six terms that one level gives them.
-#[derive(Drop)]
+#[derive(Clone, Copy)]
 pub struct Sums {
     pub v1: f32,
     pub dv1: f32,
@@ -31,7 +31,7 @@ pub struct Sums {
 }
 
 // The terms that the sums take after level k: one for v2 and for w2, two for dv1, three for dv2.
-#[derive(Drop)]
+#[derive(Clone, Copy)]
 pub struct Tail {
     pub v2: f32,
     pub w2: f32,
@@ -43,14 +43,14 @@ pub struct Tail {
 }
 
 // A loop for one sign after some levels: the next level, and the sums so far.
-#[derive(Drop)]
+#[derive(Clone, Copy)]
 pub struct Turns {
     pub level: Level,
     pub sums: Sums,
 }
 
 // A loop for v alone: what v reads of the next level, and its two sums.
-#[derive(Drop)]
+#[derive(Clone, Copy)]
 pub struct TurnsV {
     pub p: f32,
     pub xi: f32,
@@ -60,7 +60,7 @@ pub struct TurnsV {
 }
 
 // The loop for both signs: the next level at sigma, and the sums at sigma and at -sigma.
-#[derive(Drop)]
+#[derive(Clone, Copy)]
 pub struct TurnsPair {
     pub level: Level,
     pub pos: Sums,
@@ -68,7 +68,7 @@ pub struct TurnsPair {
 }
 
 // The sums at sigma and at -sigma.
-#[derive(Drop)]
+#[derive(Clone, Copy)]
 pub struct SumsPair {
     pub pos: Sums,
     pub neg: Sums,

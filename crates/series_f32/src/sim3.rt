@@ -16,7 +16,7 @@ use crate::{recurrence, shortest};
 
 // v0, v1, v2 of V, w0, w1, w2 of Gamma_2(M), the z-derivatives of v1 and v2, and chi times delta,
 // where chi = v0 - z v2 and delta = sigma^2 + z.
-#[derive(Drop)]
+#[derive(Clone, Copy)]
 pub struct Sim3Coeffs {
     pub v0: f32,
     pub v1: f32,
@@ -30,7 +30,7 @@ pub struct Sim3Coeffs {
 }
 
 // v alone, with chi times delta.
-#[derive(Drop)]
+#[derive(Clone, Copy)]
 pub struct Coeffs4 {
     pub v0: f32,
     pub v1: f32,
@@ -39,42 +39,42 @@ pub struct Coeffs4 {
 }
 
 // The coefficients at sigma and at -sigma.
-#[derive(Drop)]
+#[derive(Clone, Copy)]
 pub struct CoeffsPair {
     pub pos: Sim3Coeffs,
     pub neg: Sim3Coeffs,
 }
 
 // A Horner sum at sigma and at -sigma.
-#[derive(Drop)]
+#[derive(Clone, Copy)]
 pub struct GPair {
     pub pos: f32,
     pub neg: f32,
 }
 
 // v0 and w0, each at sigma and at -sigma.
-#[derive(Drop)]
+#[derive(Clone, Copy)]
 pub struct Horner {
     pub v0: GPair,
     pub w0: GPair,
 }
 
 // The coefficients, or refusal 1 or 4.
-#[derive(Drop)]
+#[derive(Clone, Copy)]
 pub enum SeriesAnswer {
     Coeffs(Sim3Coeffs),
     Refused(u8),
 }
 
 // v alone, or refusal 1 or 4.
-#[derive(Drop)]
+#[derive(Clone, Copy)]
 pub enum SeriesVAnswer {
     Coeffs(Coeffs4),
     Refused(u8),
 }
 
 // The coefficients at both signs, or refusal 1 or 4.
-#[derive(Drop)]
+#[derive(Clone, Copy)]
 pub enum SeriesPairAnswer {
     Coeffs(CoeffsPair),
     Refused(u8),

@@ -34,7 +34,7 @@ pub fn g2(sigma: f32) -> f32
 }
 
 // The sum of v0 at both signs after each of its 9 entries, the reciprocals 9 down to 1.
-#[derive(Drop)]
+#[derive(Clone, Copy)]
 pub struct Pass {
     pub after1: GPair,
     pub after2: GPair,

@@ -4,6 +4,8 @@
 // whatever bytes are lent are a store, and only the last two must be set before the first use. Nothing
 // is searched but where all slots are in use and a sheet without one comes: then for a slot that is no
 // sheet's own, which bytes that no store of ours left may have.
+#![tactic(auto)]
+
 ghost use Rattle.std.specs.Prelude.{◌≡◌, cond, ◌+◌, ◌*◌, ◌≤◌, ◌<◌, length};
 ghost use Rattle.std.proofs.lemmas.List.Edits.{sets};
 ghost use Rattle.sheets.specs.Sheets.{no_sheets, most};
@@ -32,7 +34,7 @@ const TAIL: usize = SLOTS + 512 * SLOT;
 pub const STORE: usize = TAIL + 2;
 
 // A sheet as it was photographed: the number of the take, and its pose.
-#[derive(Drop)]
+#[derive(Clone, Copy)]
 pub struct Shot {
     pub take: u16,
     pub pose: Pose,
@@ -41,7 +43,7 @@ pub struct Shot {
 // What became of a shot: the first of its sheet; kept instead of the take named; not kept, being older
 // than the take named; refused, with 10 where its take is the one kept, with 11 where its sheet would
 // be the 513th; or the bytes lent are no store.
-#[derive(Drop)]
+#[derive(Clone, Copy)]
 pub enum PutAnswer {
     New,
     Replaced(u16),
@@ -51,7 +53,7 @@ pub enum PutAnswer {
 }
 
 // What is kept of a sheet; refusal 12 where nothing is; or the bytes lent are no store.
-#[derive(Drop)]
+#[derive(Clone, Copy)]
 pub enum GetAnswer {
     Kept(Shot),
     Refused(u8),

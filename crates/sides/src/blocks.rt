@@ -12,14 +12,14 @@ use linalg::vector::Vec3;
 use series::sim3::Sim3Coeffs;
 
 // The coefficients of I, W and W^2.
-#[derive(Drop)]
+#[derive(Clone, Copy)]
 pub struct Three {
     pub x0: f64,
     pub x1: f64,
     pub x2: f64,
 }
 
-#[derive(Drop)]
+#[derive(Clone, Copy)]
 pub struct JacAndInverse {
     pub j: Sim3Jac,
     pub inv: Sim3Jac,

@@ -11,7 +11,7 @@ use linalg::matrix::Mat3;
 use sim3::tangent::Sim3Tangent;
 
 // J_l, its inverse, J_r and its inverse.
-#[derive(Drop)]
+#[derive(Clone, Copy)]
 pub struct BlockPair {
     pub left: Sim3Jac,
     pub left_inv: Sim3Jac,

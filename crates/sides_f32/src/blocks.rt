@@ -18,14 +18,14 @@ use linalg_f32::vector::Vec3;
 use series_f32::sim3::Sim3Coeffs;
 
 // The coefficients of I, W and W^2.
-#[derive(Drop)]
+#[derive(Clone, Copy)]
 pub struct Three {
     pub x0: f32,
     pub x1: f32,
     pub x2: f32,
 }
 
-#[derive(Drop)]
+#[derive(Clone, Copy)]
 pub struct JacAndInverse {
     pub j: Sim3Jac,
     pub inv: Sim3Jac,

@@ -1,6 +1,8 @@
 // Written by tools/widths from crates/sides/src/lib.rt: edit that one. Digest 018f4a3d1a97093b.
 // The Jacobians of Sim(3) by blocks: those of the exponential, both sides of the action, composition
 // and inverse, and the pair that serves both sides at once.
+#![tactic(auto)]
+
 pub mod blocks; // the left Jacobian of the exponential and its inverse, by blocks
 pub mod side; // both sides' Jacobians
 pub mod pair; // the block pair

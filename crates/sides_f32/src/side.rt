@@ -21,7 +21,7 @@ use sim3_f32::sim3_f32::Sim3;
 use sim3_f32::tangent::Sim3Tangent;
 
 // The Jacobian of the action by the tangent, three rows of (rot, trans, scale), and by the point.
-#[derive(Drop)]
+#[derive(Clone, Copy)]
 pub struct ActJacobians {
     pub rot: Mat3,
     pub trans: Mat3,
@@ -30,13 +30,13 @@ pub struct ActJacobians {
 }
 
 // The Jacobians by the first and by the second operand.
-#[derive(Drop)]
+#[derive(Clone, Copy)]
 pub struct TwoJacobians {
     pub first: Sim3Jac,
     pub second: Sim3Jac,
 }
 
-#[derive(Drop)]
+#[derive(Clone, Copy)]
 pub struct ExpAndJl {
     pub x: Sim3,
     pub jl: Sim3Jac,

@@ -5,7 +5,7 @@ ghost use Rattle.sim3.specs.Tangent.{tangent_zero, tangent_add, tangent_sub, tan
 
 use linalg::vector::Vec3;
 
-#[derive(Drop)]
+#[derive(Clone, Copy)]
 pub struct Sim3Tangent {
     pub phi: Vec3,
     pub rho: Vec3,

@@ -20,7 +20,7 @@ use to_lists::{put_pose, renormalize_pose};
 
 const STATE: usize = 5;
 
-#[derive(Drop)]
+#[derive(Clone, Copy)]
 pub enum RunningRead {
     Got(Running),
     Wrong,

@@ -1,6 +1,8 @@
 // The C functions that answer records of the job too: each is what a C caller has, and what the entry of a mark asks.
 // And two functions on lists that a mark has and C callers do not. Each returns 0, or the number of a refusal, where
 // the lists that it is lent to write to stay as they were. include/sim3.h has the order of every number.
+#![tactic(auto)]
+
 ghost use Rattle.std.specs.Prelude.{◌≡◌};
 ghost use Rattle.std.specs.Float.{binary64};
 ghost use Rattle.linalg.specs.Vector.{vec_numbers};

@@ -4,6 +4,8 @@
 // own (crate from_lists), the others are the engine's. Here are those that exist at both widths, but for
 // those that records of the job have too, in crate sim3_c_entries; sim3_c_doubles has those for singles
 // alone. include/sim3.h has the order of every number.
+#![tactic(auto)]
+
 pub mod pose; // compositions with an inverse, with the frames; renormalising
 pub mod points; // the action on lists of points
 pub mod arms; // the coefficients with their arms

@@ -19,7 +19,7 @@ use so3_f32::quat::Quat;
 
 // The numbers of a pose. A pose with the frames between which it maps is `frames_f32::Pose`, and what gives
 // one is there, over the functions here.
-#[derive(Drop)]
+#[derive(Clone, Copy)]
 pub struct Sim3 {
     pub q: Quat,
     pub t: Vec3,

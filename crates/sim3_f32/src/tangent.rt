@@ -7,7 +7,7 @@ ghost use Rattle.sim3_f32.specs.As.{as_sim3_tangent};
 
 use linalg_f32::vector::Vec3;
 
-#[derive(Drop)]
+#[derive(Clone, Copy)]
 pub struct Sim3Tangent {
     pub phi: Vec3,
     pub rho: Vec3,

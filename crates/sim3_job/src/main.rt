@@ -6,6 +6,8 @@
 // sink. It is proved that the sink then holds what the job writes for the tape. `live` goes to `fill`
 // and `put` alone: there one call of C reads where `read_tape` copies from the tape, and one writes
 // where `put` copies to the sink.
+#![tactic(auto)]
+
 ghost use Rattle.std.specs.Prelude.{◌≡◌, true, false, ◌++◌, ◌+◌, ◌-◌, ◌≤◌, ◌<◌, min, length, take, drop, get_or};
 ghost use Rattle.std.proofs.Math.Seq.{paste};
 ghost use Rattle.job.specs.Counts.{counts_sound};
@@ -25,21 +27,21 @@ mod probe; // whether the process computes as the proofs say
 
 // What a read gave: how many bytes, whether they are the last, and where the tape then stands; or it
 // failed.
-#[derive(Drop)]
+#[derive(Clone, Copy)]
 pub enum Filled {
     Bytes(usize, bool, usize),
     Failed,
 }
 
 // What became of a write: all was taken, and where the sink then stands; or it failed.
-#[derive(Drop)]
+#[derive(Clone, Copy)]
 pub enum Sent {
     All(usize),
     Failed,
 }
 
 // How a run ended.
-#[derive(Drop)]
+#[derive(Clone, Copy)]
 pub enum Outcome {
     Done,
     Unread,
@@ -47,7 +49,7 @@ pub enum Outcome {
 }
 
 // How a run ended, and how many bytes stand in the sink.
-#[derive(Drop)]
+#[derive(Clone, Copy)]
 pub struct Ran {
     pub outcome: Outcome,
     pub sent: usize,

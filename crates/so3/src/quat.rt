@@ -7,7 +7,7 @@ ghost use Rattle.so3.specs.Quat.{quat, quat_identity, quat_normalized, quat_of_x
 use linalg::matrix::Mat3;
 use linalg::vector::Vec3;
 
-#[derive(Drop)]
+#[derive(Clone, Copy)]
 pub struct Quat {
     pub w: f64,
     pub x: f64,

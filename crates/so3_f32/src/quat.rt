@@ -10,7 +10,7 @@ ghost use Rattle.so3_f32.specs.As.{as_quat};
 use linalg_f32::matrix::Mat3;
 use linalg_f32::vector::Vec3;
 
-#[derive(Drop)]
+#[derive(Clone, Copy)]
 pub struct Quat {
     pub w: f32,
     pub x: f32,

@@ -8,7 +8,7 @@ ghost use Rattle.tables.specs.Found.{recip_single_told};
 use crate::Row;
 
 // What the table of reciprocals has at an index: a number, or none.
-#[derive(Drop)]
+#[derive(Clone, Copy)]
 pub enum Recip {
     Number(f32),
     None,

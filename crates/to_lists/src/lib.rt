@@ -1,5 +1,7 @@
 // The numbers of a thing, written to a list that a C function is lent and that has just their length:
 // 0, or LIST_LENGTH and nothing written.
+#![tactic(auto)]
+
 ghost use Rattle.std.specs.Prelude.{◌≡◌, ◌+◌, ◌≤◌, length};
 ghost use Rattle.std.specs.Float.{binary64};
 ghost use Rattle.std.proofs.lemmas.List.Edits.{sets};

@@ -1,6 +1,8 @@
 // Written by tools/widths from crates/to_lists/src/lib.rt: edit that one. Digest 19b88194b7ae052f.
 // The numbers of a thing, written to a list that a C function is lent and that has just their length:
 // 0, or LIST_LENGTH and nothing written.
+#![tactic(auto)]
+
 ghost use Rattle.std.specs.Prelude.{◌≡◌, ◌+◌, ◌≤◌, length};
 ghost use Rattle.std.specs.Float.{binary32};
 ghost use Rattle.std.proofs.lemmas.List.Edits.{sets};

@@ -1,5 +1,7 @@
 // Doubles, counts and numbers of 16 bits as little-endian bytes: one value and an array of its bytes, and whole lists,
 // `decode` and `encode`. Each public function is total; those on lists go as far as the bytes and the list both do.
+#![tactic(auto)]
+
 ghost use Rattle.std.specs.Prelude.{◌≡◌, true, ◌+◌, ◌*◌, ◌/◌, ◌≤◌, ◌<◌, length, take};
 ghost use Rattle.std.specs.Float.{binary64};
 ghost use Rattle.std.proofs.lemmas.List.Edits.{sets};
