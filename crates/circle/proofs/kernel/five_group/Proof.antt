@@ -2,13 +2,13 @@
 use borrow.Author.Rules.{rules}
 use lib.Ieee.{binary64}
 use Rattle.tables.specs.Tables.{k_row, a_row, b_row, d_row}
-use Rattle.circle.specs.Kernel.{row_short, row_own, row_member, circle_sinc_a_b_d}
+use Rattle.circle.specs.Kernel.{row_short, row_own, row_member, circle_sinc_abd}
 use Rattle.circle.proofs.Rows.{below_all}
 use Rattle.circle.proofs.kernel.five_group.Statement.{statement}
 use Rattle.circle.proofs.kernel.five_group.Tie as tie
 
 returns : tie.Need-returns
-unfolding circle_sinc_a_b_d row_member row_short
+unfolding circle_sinc_abd row_member row_short
 returns c = simp (
   c.series5.ensures,
   c.before.series4.ensures,
@@ -20,7 +20,7 @@ returns c = simp (
 )
 
 returns-2 : tie.Need-returns-2
-unfolding circle_sinc_a_b_d row_member row_own
+unfolding circle_sinc_abd row_member row_own
 returns-2 c =
     let t = c.before.before.before.before.before.before.if2.true in
     simp (
@@ -39,7 +39,7 @@ returns-2 c =
     )
 
 returns-3 : tie.Need-returns-3
-unfolding circle_sinc_a_b_d row_member row_own
+unfolding circle_sinc_abd row_member row_own
 returns-3 c = simp (
   c.own-arm4.ensures,
   c.before.d-from.ensures,

@@ -2,17 +2,17 @@
 use borrow.Author.Rules.{rules}
 use lib.Ieee.{binary64}
 use Rattle.tables.specs.Tables.{k_row, a_row}
-use Rattle.circle.specs.Kernel.{row_short, row_own, row_member, circle_sinc_a_b_d, circle_sinc_a}
+use Rattle.circle.specs.Kernel.{row_short, row_own, row_member, circle_sinc_abd, circle_sinc_a}
 use Rattle.circle.proofs.Rows.{below_all}
 use Rattle.circle.proofs.kernel.two_group.Statement.{statement}
 use Rattle.circle.proofs.kernel.two_group.Tie as tie
 
 returns : tie.Need-returns
-unfolding circle_sinc_a circle_sinc_a_b_d row_member row_short
+unfolding circle_sinc_a circle_sinc_abd row_member row_short
 returns c = simp (c.series3.ensures, c.before.sinc-from.ensures, c.before.before.series2.ensures, c.before.before.before.series.ensures, c.before.before.before.before.if1.true)
 
 returns-2 : tie.Need-returns-2
-unfolding circle_sinc_a circle_sinc_a_b_d row_member row_own
+unfolding circle_sinc_a circle_sinc_abd row_member row_own
 returns-2 c =
     let t = c.before.before.before.before.if2.true in
     simp (
@@ -27,7 +27,7 @@ returns-2 c =
     )
 
 returns-3 : tie.Need-returns-3
-unfolding circle_sinc_a circle_sinc_a_b_d row_member row_own
+unfolding circle_sinc_a circle_sinc_abd row_member row_own
 returns-3 c = simp (
   c.own-arm2.ensures,
   c.before.a-from.ensures,

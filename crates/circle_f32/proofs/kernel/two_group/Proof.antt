@@ -3,7 +3,7 @@
 use borrow.Author.Rules.{rules}
 use lib.Ieee.{binary32}
 use Rattle.tables.specs.Tables.{k_row, a_row}
-use Rattle.circle.specs.Kernel.{row_short, row_own, row_member, circle_sinc_a_b_d, circle_sinc_a}
+use Rattle.circle.specs.Kernel.{row_short, row_own, row_member, circle_sinc_abd, circle_sinc_a}
 use Rattle.circle.proofs.Rows.{below_all}
 use Rattle.circle_f32.proofs.kernel.two_group.Statement.{statement}
 use Rattle.circle_f32.proofs.kernel.two_group.Tie as tie
@@ -11,7 +11,7 @@ use Rattle.linalg_f32.proofs.As.{linalg_singles}
 use Rattle.circle_f32.proofs.As.{circle-singles}
 
 returns : tie.Need-returns
-unfolding circle_sinc_a circle_sinc_a_b_d row_member row_short
+unfolding circle_sinc_a circle_sinc_abd row_member row_short
 returns c = simp (
   linalg_singles,
   circle-singles,
@@ -23,7 +23,7 @@ returns c = simp (
 )
 
 returns-2 : tie.Need-returns-2
-unfolding circle_sinc_a circle_sinc_a_b_d row_member row_own
+unfolding circle_sinc_a circle_sinc_abd row_member row_own
 returns-2 c =
     let t = c.before.before.before.before.if2.true in
     simp (
@@ -40,7 +40,7 @@ returns-2 c =
     )
 
 returns-3 : tie.Need-returns-3
-unfolding circle_sinc_a circle_sinc_a_b_d row_member row_own
+unfolding circle_sinc_a circle_sinc_abd row_member row_own
 returns-3 c = simp (
   linalg_singles,
   circle-singles,

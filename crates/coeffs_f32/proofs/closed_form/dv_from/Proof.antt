@@ -6,11 +6,11 @@ use Rattle.closed.specs.Limits.{coeffs_delta}
 use lib.Ieee.{of_bits}
 use Rattle.coeffs_f32.proofs.closed_form.dv_from.Statement.{statement}
 use Rattle.coeffs_f32.proofs.closed_form.dv_from.Tie as tie
-use Rattle.circle_f32.specs.As.{as_sinc_a_b_d}
+use Rattle.circle_f32.specs.As.{as_sinc_abd}
 use Rattle.coeffs_f32.specs.As.{as_dvs}
 
 returns : tie.Need-returns
-unfolding closed_dvs coeffs_delta of_bits as_dvs as_sinc_a_b_d
+unfolding closed_dvs coeffs_delta of_bits as_dvs as_sinc_abd
 returns c = refl
 
 pub dv_from_spec : {M : Type 1} → statement M

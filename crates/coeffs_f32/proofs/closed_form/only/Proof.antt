@@ -5,10 +5,10 @@ use Rattle.coeffs.specs.Closed.{closed_only}
 use lib.Ieee.{of_bits}
 use Rattle.coeffs_f32.proofs.closed_form.only.Statement.{statement}
 use Rattle.coeffs_f32.proofs.closed_form.only.Tie as tie
-use Rattle.circle_f32.specs.As.{as_sinc_a, as_sinc_a_b_d}
+use Rattle.circle_f32.specs.As.{as_sinc_a, as_sinc_abd}
 
 returns : tie.Need-returns
-unfolding closed_only of_bits as_sinc_a as_sinc_a_b_d
+unfolding closed_only of_bits as_sinc_a as_sinc_abd
 returns c = refl
 
 pub only_spec : {M : Type 1} → statement M

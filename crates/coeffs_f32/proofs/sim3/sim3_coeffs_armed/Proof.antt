@@ -16,13 +16,13 @@ use Rattle.closed.proofs.Arm.{ends-series, ends-closed}
 use Rattle.coeffs.proofs.Arms.{by_series, by_closed, closed-refuses, armed-told, armed-refuses, told_at}
 use Rattle.coeffs_f32.proofs.sim3.sim3_coeffs_armed.Statement.{statement}
 use Rattle.coeffs_f32.proofs.sim3.sim3_coeffs_armed.Tie as tie
-use Rattle.circle_f32.specs.As.{as_sinc_a_b_d}
+use Rattle.circle_f32.specs.As.{as_sinc_abd}
 use Rattle.series_f32.specs.As.{as_sim3_coeffs}
 use Rattle.closed_f32.specs.As.{as_values}
 use Rattle.coeffs_f32.specs.As.{as_armed, as_scaled}
 
 returns : tie.Need-returns
-unfolding coeffs_delta as_armed as_scaled as_sim3_coeffs as_sinc_a_b_d as_values
+unfolding coeffs_delta as_armed as_scaled as_sim3_coeffs as_sinc_abd as_values
 returns c =
     let a = c.before.before.before.before.args in
     let e = c.before.before.before.arm.ensures in
@@ -33,7 +33,7 @@ returns c =
     ∙ sym (armed-told binary32 a.sigma a.z (as_values a.v))
 
 returns-2 : tie.Need-returns-2
-unfolding scaled_told coeffs_delta sinc_abd_told circle_sinc_abd_answer as_armed as_scaled as_sim3_coeffs as_sinc_a_b_d as_values
+unfolding scaled_told coeffs_delta sinc_abd_told circle_sinc_abd_answer as_armed as_scaled as_sim3_coeffs as_sinc_abd as_values
 returns-2 c =
     let c1 = c.before.before.before.before.before in
     let a = c1.before.before.before.before.args in
@@ -47,7 +47,7 @@ returns-2 c =
     ∙ sym (armed-told binary32 a.sigma a.z (as_values a.v))
 
 returns-3 : tie.Need-returns-3
-unfolding armed_told sinc_abd_told circle_sinc_abd_answer as_armed as_scaled as_sim3_coeffs as_sinc_a_b_d as_values
+unfolding armed_told sinc_abd_told circle_sinc_abd_answer as_armed as_scaled as_sim3_coeffs as_sinc_abd as_values
 returns-3 c =
     let c1 = c.before.before.before.before.before in
     let a = c1.before.args in

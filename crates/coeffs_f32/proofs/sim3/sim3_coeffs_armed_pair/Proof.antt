@@ -16,13 +16,13 @@ use Rattle.closed.proofs.Arm.{ends-series, ends-closed}
 use Rattle.coeffs.proofs.Even.{pair_by_series, pair_by_closed, pair-closed-refuses, armed-pair-told, armed-pair-refuses, told_both}
 use Rattle.coeffs_f32.proofs.sim3.sim3_coeffs_armed_pair.Statement.{statement}
 use Rattle.coeffs_f32.proofs.sim3.sim3_coeffs_armed_pair.Tie as tie
-use Rattle.circle_f32.specs.As.{as_sinc_a_b_d}
+use Rattle.circle_f32.specs.As.{as_sinc_abd}
 use Rattle.series_f32.specs.As.{as_sim3_coeffs}
 use Rattle.closed_f32.specs.As.{as_values}
 use Rattle.coeffs_f32.specs.As.{as_armed, as_armed_pair, as_scaled, as_scaled_pair}
 
 returns : tie.Need-returns
-unfolding coeffs_delta as_armed as_armed_pair as_scaled as_scaled_pair as_sim3_coeffs as_sinc_a_b_d as_values
+unfolding coeffs_delta as_armed as_armed_pair as_scaled as_scaled_pair as_sim3_coeffs as_sinc_abd as_values
 returns c =
     let a = c.before.before.before.before.args in
     let e = c.before.before.before.arm.ensures in
@@ -33,7 +33,7 @@ returns c =
     ∙ sym (armed-pair-told binary32 a.sigma a.z (as_values a.v))
 
 returns-2 : tie.Need-returns-2
-unfolding pair_told coeffs_delta sinc_abd_told circle_sinc_abd_answer as_armed as_armed_pair as_scaled as_scaled_pair as_sim3_coeffs as_sinc_a_b_d as_values
+unfolding pair_told coeffs_delta sinc_abd_told circle_sinc_abd_answer as_armed as_armed_pair as_scaled as_scaled_pair as_sim3_coeffs as_sinc_abd as_values
 returns-2 c =
     let c1 = c.before.before.before.before.before in
     let c2 = c1.before.before.before.before.before in
@@ -48,7 +48,7 @@ returns-2 c =
     ∙ sym (armed-pair-told binary32 a.sigma a.z (as_values a.v))
 
 returns-3 : tie.Need-returns-3
-unfolding armed_pair_told sinc_abd_told circle_sinc_abd_answer as_armed as_armed_pair as_scaled as_scaled_pair as_sim3_coeffs as_sinc_a_b_d as_values
+unfolding armed_pair_told sinc_abd_told circle_sinc_abd_answer as_armed as_armed_pair as_scaled as_scaled_pair as_sim3_coeffs as_sinc_abd as_values
 returns-3 c =
     let c1 = c.before.before.before.before.before in
     let a = c1.before.before.before.args in

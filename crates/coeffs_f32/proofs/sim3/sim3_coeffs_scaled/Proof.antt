@@ -13,7 +13,7 @@ use Rattle.coeffs_f32.specs.Told.{scaled_told}
 use Rattle.coeffs.proofs.Arms.{by_series, by_closed, closed-refuses}
 use Rattle.coeffs_f32.proofs.sim3.sim3_coeffs_scaled.Statement.{statement}
 use Rattle.coeffs_f32.proofs.sim3.sim3_coeffs_scaled.Tie as tie
-use Rattle.circle_f32.specs.As.{as_sinc_a_b_d}
+use Rattle.circle_f32.specs.As.{as_sinc_abd}
 use Rattle.series_f32.specs.As.{as_sim3_coeffs}
 use Rattle.closed_f32.specs.As.{as_values}
 use Rattle.coeffs_f32.specs.As.{as_scaled}
@@ -24,7 +24,7 @@ use Rattle.closed_f32.proofs.As.{closed-singles}
 use Rattle.coeffs_f32.proofs.As.{coeffs_singles}
 
 returns : tie.Need-returns
-unfolding coeffs_delta as_scaled as_sim3_coeffs as_sinc_a_b_d as_values
+unfolding coeffs_delta as_scaled as_sim3_coeffs as_sinc_abd as_values
 returns c =
     let a = c.before.before.before.args in
     let e = c.before.before.arm.ensures in
@@ -42,7 +42,7 @@ returns-2 c =
     (sym c1.sinc-a-b-d.ensures ∙ ap sinc_abd_told c.before.before.before.t.given.1)))
 
 returns-3 : tie.Need-returns-3
-unfolding scaled_told sinc_abd_told circle_sinc_abd_answer as_scaled as_sim3_coeffs as_sinc_a_b_d as_values
+unfolding scaled_told sinc_abd_told circle_sinc_abd_answer as_scaled as_sim3_coeffs as_sinc_abd as_values
 returns-3 c =
     let c1 = c.before.before.before.before.before in
     let a = c1.before.args in
