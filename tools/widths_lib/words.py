@@ -1,7 +1,7 @@
 """Names at the other width: words, crates, modules and imports."""
 import re
 
-WORDS = {"f64": "f32", "binary64": "binary32", "doubles": "singles", "double": "single", "recipTold": "recipSingleTold"}
+WORDS = {"f64": "f32", "binary64": "binary32", "doubles": "singles", "double": "single", "recip_told": "recip_single_told"}
 
 
 def twin(crate):
@@ -9,8 +9,8 @@ def twin(crate):
 
 
 def width(text):
-    """The text with each word of a width replaced."""
-    return re.sub(rf"\b({'|'.join(WORDS)})\b", lambda m: WORDS[m.group(1)], text)
+    """The text with each word of a width replaced, and the format in the name of a clause."""
+    return re.sub(rf"\b(?:({'|'.join(WORDS)})\b|binary64(?=_))", lambda m: WORDS[m.group(1) or m.group(0)], text)
 
 
 def place(crate, path):
@@ -19,48 +19,44 @@ def place(crate, path):
     return (twin(head) if head == crate else head) + dot + rest
 
 
-def home(own, crate, kind):
-    """Where the twin `own` finds the specs or the proofs of the crate `crate`: its own files do not go through its facade."""
-    return f"Rattle·{crate}·{kind}.{kind}" if own == crate else f"Rattle·{crate}.{kind}"
+def reading(name):
+    """The name of the reading of a struct as the definitions' record: of SincABD, as_sinc_abd."""
+    return f"as_{snake(name)}"
+
+
+def snake(name):
+    """A type's name in snake case. Capitals at its end stay together."""
+    return re.sub(r"(?<=[a-z0-9])(?=[A-Z])|(?<=[A-Z])(?=[A-Z][a-z])", "_", name).lower()
 
 
 def as_lines(sources, crate, names, start="use ", end=""):
     """The imports of the records' readings `asT`, for these structs."""
     lines = []
     for c in sources.twins:
-        held = sorted(f"as{name}" for name in names if sources.types[name].crate == c)
+        held = sorted(reading(name) for name in names if sources.types[name].crate == c)
         if held:
-            lines.append(f"{start}{home(twin(crate), twin(c), 'specs')}.As.{{{', '.join(held)}}}{end}")
+            lines.append(f"{start}Rattle.{twin(c)}.specs.As.{{{', '.join(held)}}}{end}")
     return lines
 
 
-IMPORT = re.compile(r"^(\s*(?:ghost )?use )Rattle·(\w+?)(·specs\.specs|·proofs\.proofs|\.specs|\.proofs)\.([\w.·-]+?)(\.\{(.*)\}| as [^\s;]+)?(;?)\s*$")
+IMPORT = re.compile(r"^(\s*(?:ghost )?use )Rattle\.(\w+)\.specs\.([\w.]+)\.\{(.*)\}(;?)\s*$")
 
 
-def imported(sources, crate, line, walk=False):
-    """An import of the crate at f64 as imports of its twin. Definitions and laws stay those of the f64 crate; what is about the code is the twin's, and so are
-    the definitions that tell what its types say. A walk by hand speaks of the code's own structs."""
+def imported(sources, line):
+    """An import of the crate at f64 as imports of its twin. Definitions and laws stay those of the f64 crate, and the definitions that tell what its types say
+    are the twin's."""
     found = IMPORT.match(line)
-    if not found or found.group(2) not in sources.twins:
+    if not found or found.group(2) not in sources.twins or found.group(3).startswith("declared."):
         return [line]
-    start, c, where, path, tail, names, end = found.groups()
-    tail = tail or ""
-    if "proofs" in where and (sources.top / "crates" / c / "proofs" / f"{path.split('.')[0]}.antt").exists():
-        return [f"{start}Rattle·{c}.proofs.{path}{tail}{end}"]
-    if "proofs" in where:
-        return [f"{start}Rattle·{twin(c)}·proofs.proofs.{place(c, path)}{tail}{end}"]
-    if path.startswith("declared.") and walk:
-        return [f"{start}Rattle·{twin(c)}·specs.specs.declared.{place(c, path[9:])}{tail}{end}"]
-    if names is None or path.startswith("declared."):
-        return [f"{start}Rattle·{c}.specs.{path}{tail}{end}"]
+    start, c, path, names, end = found.groups()
     names = [name.strip() for name in names.split(",")]
     kept, told = [n for n in names if n not in sources.told], [n for n in names if n in sources.told]
-    lines = [f"{start}Rattle·{c}.specs.{path}.{{{', '.join(kept)}}}{end}"] if kept else []
-    return lines + ([f"{start}{home(twin(crate), twin(c), 'specs')}.Told.{{{', '.join(told)}}}{end}"] if told else [])
+    lines = [f"{start}Rattle.{c}.specs.{path}.{{{', '.join(kept)}}}{end}"] if kept else []
+    return lines + ([f"{start}Rattle.{twin(c)}.specs.Told.{{{', '.join(told)}}}{end}"] if told else [])
 
 
-def imports(sources, crate, text, walk=False):
-    return "\n".join(line for old in text.split("\n") for line in imported(sources, crate, old, walk))
+def imports(sources, text):
+    return "\n".join(line for old in text.split("\n") for line in imported(sources, old))
 
 
 def after_uses(text, lines, start):
