@@ -1,6 +1,8 @@
 """What a twin has of definitions: how its structs are the definitions' records, and what its enums say."""
 import re
 
+from proofs_lib.lines import USUAL
+
 from .words import as_lines, imports, place, reading, twin
 
 
@@ -34,8 +36,11 @@ def as_file(sources, crate):
         lines.append(f"use Rattle.{twin(crate)}.specs.declared.{module_of(t)}{t.name}.{{{t.name}}}")
     lines += as_lines(sources, crate, {held for t in structs for _, held in t.fields if sources.floating(held) and sources.types[held].crate != crate})
     for t in structs:
-        fields = "; ".join(f"{n} = {read(sources, n, held, f'a.{n}')}" for n, held in t.fields)
-        lines += ["", f"unfoldable pub {reading(t.name)} : {t.name} → Wide{t.name}.{t.name}", f"{reading(t.name)} a = record {{ {fields} }}"]
+        fields = [f"{n} = {read(sources, n, held, f'a.{n}')}" for n, held in t.fields]
+        line = f"{reading(t.name)} a = record {{ {'; '.join(fields)} }}"
+        if len(line) > USUAL:
+            line = "\n".join([f"{reading(t.name)} a = record {{", *(f"  {field};" for field in fields), "}"])
+        lines += ["", f"unfoldable pub {reading(t.name)} : {t.name} → Wide{t.name}.{t.name}", line]
     return "\n".join(lines) + "\n"
 
 
