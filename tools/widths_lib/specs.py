@@ -1,7 +1,7 @@
 """What a twin has of definitions: how its structs are the definitions' records, and what its enums say."""
 import re
 
-from proofs_lib.lines import USUAL
+from proofs_lib.lines import LONGEST
 
 from .words import as_lines, imports, place, reading, twin
 
@@ -38,7 +38,7 @@ def as_file(sources, crate):
     for t in structs:
         fields = [f"{n} = {read(sources, n, held, f'a.{n}')}" for n, held in t.fields]
         line = f"{reading(t.name)} a = record {{ {'; '.join(fields)} }}"
-        if len(line) > USUAL:
+        if len(line) > LONGEST:
             line = "\n".join([f"{reading(t.name)} a = record {{", *(f"  {field};" for field in fields), "}"])
         lines += ["", f"unfoldable pub {reading(t.name)} : {t.name} → Wide{t.name}.{t.name}", line]
     return "\n".join(lines) + "\n"
