@@ -1,8 +1,7 @@
 """What a twin has of definitions: how its structs are the definitions' records, and what its enums say."""
 import re
 
-from proofs_lib.lines import LONGEST
-
+from .lines import LONGEST
 from .words import as_lines, imports, place, reading, twin
 
 
