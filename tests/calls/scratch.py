@@ -4,6 +4,7 @@ rt takes no file of Rattle outside the listed crates and follows no link, so tha
 while rt works in it: the wrapper's source, copies of the crates that it rests on, and what tools/prove has rt make of
 those in this repository. rt names what it has made by the texts that it was made from, so it finds it made there.
 """
+import hashlib
 import os
 import pathlib
 import shutil
@@ -39,9 +40,13 @@ def reached(names):
     return sorted(found)
 
 
-def sources(names):
-    """The folders of all that a wrapper over these crates is made from."""
-    return [TOP / "crates" / crate / part for crate in reached(names) for part in PARTS]
+def digest(source, names):
+    """A hash of all that an archive is made from: rt, the wrapper's source, and the crates below."""
+    found = hashlib.sha256(subprocess.run(["rt", "version"], capture_output=True).stdout + source.encode())
+    folders = [TOP / "crates" / crate / part for crate in reached(names) for part in PARTS]
+    for file in sorted(f for folder in folders for f in folder.rglob("*") if f.is_file()):
+        found.update(f"{file.relative_to(TOP)}\0".encode() + hashlib.sha256(file.read_bytes()).digest())
+    return found.hexdigest()
 
 
 def same_file(made, to):
@@ -70,10 +75,18 @@ def ran(words, folder):
         raise NotProved(done.stdout)
 
 
+def is_made(source, names, to):
+    """Whether the archive is there, and was made from all this as it now is."""
+    stamp = to.with_suffix(".sum")
+    return to.exists() and stamp.exists() and stamp.read_text() == digest(source, names)
+
+
 def archive(name, names, source, to):
     """Proves the wrapper crate with this source, over the crates of these names, and builds its archive to a path."""
+    stamp, now = to.with_suffix(".sum"), digest(source, names)
+    to.parent.mkdir(parents=True, exist_ok=True)
+    stamp.unlink(missing_ok=True)  # while the archive is not whole, nothing vouches for it
     ran([TOP / "tools/prove", *names], TOP)
-    (TOP / "target").mkdir(exist_ok=True)
     listed = lines()[0]
     with tempfile.TemporaryDirectory(prefix="sim3-wrappers-") as folder:
         room = pathlib.Path(folder).resolve()
@@ -84,7 +97,6 @@ def archive(name, names, source, to):
         (crate / "src").mkdir(parents=True)
         (crate / "src/lib.rt").write_text(source, encoding="utf-8")
         ran(["rt", "lib"], crate)
-        to.parent.mkdir(parents=True, exist_ok=True)
-        new = to.with_name(to.name + ".new")
-        shutil.copyfile(crate / "out" / f"lib{name}.a", new)
-        os.replace(new, to)
+        shutil.copyfile(crate / "out" / f"lib{name}.a", to)
+    if digest(source, names) == now:
+        stamp.write_text(now)
