@@ -4,10 +4,11 @@ numbers, its frames and the poses behind the list are as they were, to the bit.
 A program does it, renormalize_all.txt, and not a wrapper: an exported function is lent no struct of the port. It is a
 test driver without a proof of its own, and rt takes no file of Rattle outside the listed crates, so it is kept as text
 and written as main.rt into a repository of its own. `rt try` runs it there over the crates' sources: on an interpreter,
-and compiled with checks. The interpreter takes no number from the bits of a NaN, so lists with NaNs among the stored
-numbers run compiled alone. A NaN that is computed is any NaN, as the scope has it, and the program writes the job's;
-one that is not computed keeps its bits.
+and compiled with checks. No number of Rattle is taken from a NaN's bits: the program reads any as the NaN, and writes
+the job's. So whether a NaN that is not computed keeps its bits is asked of the C function, on the same lists without
+their frames.
 """
+import ctypes
 import pathlib
 import random
 import re
@@ -21,6 +22,7 @@ import scratch
 NAME = "renormalize_all"
 USES = "ieee linalg so3 sim3 frames running wire".split()
 STEPS = 200_000_000  # of the interpreter, for one run
+LIBRARY = scratch.TOP / "target/bindings/libsim3.so"
 
 POSE = struct.Struct("<8Q2H")  # quaternion, translation and sigma by their bits; from and to
 MOST = 48                      # poses of the program's array; the list is the first part of it
@@ -68,7 +70,12 @@ def stepped(x):
 
 def written(x):
     """A pose as the program writes it."""
-    return POSE.pack(*(NAN if is_nan(word) else word for word in x[:4]), *x[4:])
+    return POSE.pack(*(NAN if is_nan(word) else word for word in x[:8]), *x[8:])
+
+
+def told(x, computed):
+    """A pose's numbers as the C function leaves them; of a NaN that is computed nothing is said but that."""
+    return (*(NAN if computed and is_nan(word) else word for word in x[:4]), *x[4:8])
 
 
 def arrays(special):
@@ -90,14 +97,14 @@ def lay_out(room):
     return crate
 
 
-def wrong(crate, special, runners):
-    """What is wrong with what the program writes for the arrays of some special numbers, as so many runs, or None."""
+def wrong(crate, special):
+    """What is wrong with what the program writes for the arrays of some special numbers, or None."""
     given = list(arrays(special))
     stdin = b"".join(bytes([n]) + b"".join(POSE.pack(*x) for x in poses) for n, poses in given)
     due = b"".join(written(x) for n, poses in given for x in (*map(stepped, poses[:n]), *poses[n:]))
     ran = subprocess.run(["rt", "try", "--steps", str(STEPS)], cwd=crate, input=stdin, capture_output=True)
     text = ran.stderr.decode(errors="replace")
-    if ran.returncode or (runners == 2) != (re.search(r"\brunners=1\b", text) is None):
+    if ran.returncode or re.search(r"\brunners=1\b", text):
         return f"rt try ended with status {ran.returncode}: {text[-2000:]}"
     if ran.stdout != due:
         at = next((i for i, pair in enumerate(zip(ran.stdout, due)) if pair[0] != pair[1]), min(len(ran.stdout), len(due)))
@@ -105,12 +112,25 @@ def wrong(crate, special, runners):
     return None
 
 
+def wrong_in_c(special):
+    """The same of the C function, which is lent the numbers of the first poses of each array: those behind it keep every bit."""
+    function = ctypes.CDLL(str(LIBRARY)).sim3_renormalize_all
+    for n, poses in arrays(special):
+        words = (ctypes.c_uint64 * (8 * MOST))(*(word for x in poses for word in x[:8]))
+        status = function(words, ctypes.c_size_t(8 * n))
+        found = [tuple(words[8 * i:8 * i + 8]) for i in range(MOST)]
+        due = [told(stepped(x), True) for x in poses[:n]] + [told(x, False) for x in poses[n:]]
+        if status or [told(x, i < n) for i, x in enumerate(found)] != due:
+            return f"sim3_renormalize_all of {n} poses: status {status}, or a number is not what is due"
+    return None
+
+
 def fails():
-    """What is wrong with what the program writes, or None."""
+    """What is wrong with what the program writes and the C function leaves, or None."""
     with tempfile.TemporaryDirectory(prefix="sim3-lent-") as folder:
         crate = lay_out(pathlib.Path(folder).resolve())
-        for what, special, runners in (("numbers without a NaN", NUMBERS, 2), ("NaNs too", NUMBERS + NANS, 1)):
-            found = wrong(crate, special, runners)
+        for what, special in (("numbers without a NaN", NUMBERS), ("NaNs too", NUMBERS + NANS)):
+            found = wrong(crate, special) or wrong_in_c(special)
             if found:
                 return f"on {what}: {found}"
     return None
