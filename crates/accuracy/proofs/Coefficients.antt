@@ -9,7 +9,7 @@ use lib.Ieee.{Float, Format, binary32, binary64, lt}
 use Rattle.ieee.specs.Numbers.{f0}
 use Rattle.series.specs.Series.{coeffs_delta, series_full}
 use Rattle.series.specs.declared.sim3.Sim3Coeffs.{Sim3Coeffs}
-use Rattle.circle.specs.Kernel.{circle_sinc_a_b_d}
+use Rattle.circle.specs.Kernel.{circle_sinc_abd}
 use Rattle.closed.specs.Limits.{short_below, mid_below, upper_below, series_below}
 use Rattle.closed.specs.Arm.{coeffs_arm, arm_terms, arm_ends}
 use Rattle.closed.specs.declared.values.Values.{Values}
@@ -53,7 +53,7 @@ abbrev coeffs_at : Format → Float → Float → Values → ℕ → Sim3Coeffs
 coeffs_at f sigma z v arm =
     (cond (ltb arm 5)
     (record { c = series_full f sigma z (arm_terms f arm); scaled = false })
-    (closed_scaled f sigma z (circle_sinc_a_b_d f z v.root v.sin_half v.cos_half v.sin) v.e v.m (arm_ends f sigma arm))).c
+    (closed_scaled f sigma z (circle_sinc_abd f z v.root v.sin_half v.cos_half v.sin) v.e v.m (arm_ends f sigma arm))).c
 
 pub by_arm : (P : ℕ → Type 0) (a b c d : Bool) → (T a → P 1) → (T b → P 2) → (T c → P 3) → (T d → P 4) → T d → P (cond a 1 (cond b 2 (cond c 3 (cond d 4 5))))
 by_arm P true b c d h1 h2 h3 h4 t = h1 tt

@@ -14,7 +14,7 @@ use Rattle.ieee.specs.Table.{factorial}
 use Rattle.linalg.specs.Vector.{vec_scale, vec_cross, vec_add, vec_norm_sq}
 use Rattle.linalg.specs.declared.vector.Vec3.{Vec3}
 use Rattle.tables.specs.Tables.{recip_fact, b_row}
-use Rattle.circle.specs.Kernel.{circle_sinc_a_b_d}
+use Rattle.circle.specs.Kernel.{circle_sinc_abd}
 use Rattle.circle.specs.Limits.{row_limit}
 use Rattle.series.specs.Series.{series_sum, series_level, coeffs_delta, series_full, coeffs4}
 use Rattle.series.specs.declared.sim3.Sim3Coeffs.{Sim3Coeffs}
@@ -215,7 +215,7 @@ unfolding coeffs_scaled coeffs_arm
 not_scaled f sigma z v t =
     let d = coeffs_delta f sigma z in
     by_arm (λ (arm : ℕ). (cond (ltb arm 5) (record { c = series_full f sigma z (arm_terms f arm); scaled = false })
-    (closed_scaled f sigma z (circle_sinc_a_b_d f z v.root v.sin_half v.cos_half v.sin) v.e v.m (arm_ends f sigma arm))).scaled
+    (closed_scaled f sigma z (circle_sinc_abd f z v.root v.sin_half v.cos_half v.sin) v.e v.m (arm_ends f sigma arm))).scaled
     ≡ false)
     (lt d (short_below f)) (lt d (mid_below f)) (lt d (upper_below f)) (lt d (series_below f)) (λ h. refl) (λ h. refl) (λ h. refl) (λ h. refl) t
 

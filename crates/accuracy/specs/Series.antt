@@ -100,13 +100,13 @@ level_no_overflow f w a b (suc j) = level_no_overflow f w a b j && next_no_overf
 
 -- ---- the terms
 pub data Part : Type 0 where
-  xiPart zetaPart dxiPart dzetaPart : Part
+  xi_part zeta_part dxi_part dzeta_part : Part
 
 abbrev pub part : {A : Type 0} → Part → Five A → A
-part xiPart l = l.xi
-part zetaPart l = l.zeta
-part dxiPart l = l.dxi
-part dzetaPart l = l.dzeta
+part xi_part l = l.xi
+part zeta_part l = l.zeta
+part dxi_part l = l.dxi
+part dzeta_part l = l.dzeta
 
 -- the part of level j over (j + o)!
 unfoldable pub exact_term : Value → Value → Part → ℕ → ℕ → Value
@@ -175,8 +175,8 @@ chi_leaves sigma z v0 v2 = sigma ∷ z ∷ v0 ∷ v2 ∷ []
 unfoldable pub chi_holds : Format → ℕ → Bound → Bound → ℕ → ℕ → Bool
 unfolding no_overflow bound tree_chi bound_horner bound_total bound_term horner_no_overflow total_no_overflow term_no_overflow
 chi_holds f w a b k e =
-    let l = nth no_bound (chi_leaves a b (bound_horner f w a 1 k) (bound_total f w (bound_term f w a b zetaPart 1) (k + 2))) in
-    horner_no_overflow f w a 1 k && (total_no_overflow f w (term_no_overflow f w a b zetaPart 1) (bound_term f w a b zetaPart 1) (k + 2) && (no_overflow f w l tree_chi && leb (bound f w l tree_chi).error e))
+    let l = nth no_bound (chi_leaves a b (bound_horner f w a 1 k) (bound_total f w (bound_term f w a b zeta_part 1) (k + 2))) in
+    horner_no_overflow f w a 1 k && (total_no_overflow f w (term_no_overflow f w a b zeta_part 1) (bound_term f w a b zeta_part 1) (k + 2) && (no_overflow f w l tree_chi && leb (bound f w l tree_chi).error e))
 
 -- ---- with the truncation: each coefficient is finite, and within its e / w of every sum of k terms or more
 pub record Eight (A : Type 0) : Type 0 where
@@ -191,29 +191,29 @@ pub record Eight (A : Type 0) : Type 0 where
 
 pub record Accurate (w : ℕ) (c : Sim3Coeffs) (s t : Value) (k : ℕ) (e : Eight ℕ) : Type 0 where
   pub v0 : (n : ℕ) → AbsoluteError w c.v0 (exact_horner s 1 (k + n)) e.v0
-  pub v1 : (n : ℕ) → AbsoluteError w c.v1 (exact_total (exact_term s t xiPart 1) (suc k + n)) e.v1
-  pub v2 : (n : ℕ) → AbsoluteError w c.v2 (exact_total (exact_term s t zetaPart 1) (suc (suc k) + n)) e.v2
+  pub v1 : (n : ℕ) → AbsoluteError w c.v1 (exact_total (exact_term s t xi_part 1) (suc k + n)) e.v1
+  pub v2 : (n : ℕ) → AbsoluteError w c.v2 (exact_total (exact_term s t zeta_part 1) (suc (suc k) + n)) e.v2
   pub w0 : (n : ℕ) → AbsoluteError w c.w0 (exact_horner s 2 (k + n)) e.w0
-  pub w1 : (n : ℕ) → AbsoluteError w c.w1 (exact_total (exact_term s t xiPart 2) (suc k + n)) e.w1
-  pub w2 : (n : ℕ) → AbsoluteError w c.w2 (exact_total (exact_term s t zetaPart 2) (suc (suc k) + n)) e.w2
-  pub dv1 : (n : ℕ) → AbsoluteError w c.dv1 (exact_total (exact_term s t dxiPart 1) (suc (suc (suc k)) + n)) e.dv1
-  pub dv2 : (n : ℕ) → AbsoluteError w c.dv2 (exact_total (exact_term s t dzetaPart 1) (suc (suc (suc (suc k))) + n)) e.dv2
+  pub w1 : (n : ℕ) → AbsoluteError w c.w1 (exact_total (exact_term s t xi_part 2) (suc k + n)) e.w1
+  pub w2 : (n : ℕ) → AbsoluteError w c.w2 (exact_total (exact_term s t zeta_part 2) (suc (suc k) + n)) e.w2
+  pub dv1 : (n : ℕ) → AbsoluteError w c.dv1 (exact_total (exact_term s t dxi_part 1) (suc (suc (suc k)) + n)) e.dv1
+  pub dv2 : (n : ℕ) → AbsoluteError w c.dv2 (exact_total (exact_term s t dzeta_part 1) (suc (suc (suc (suc k))) + n)) e.dv2
 
 -- the same against every sum of m terms or more
 pub record AccurateFrom (w : ℕ) (c : Sim3Coeffs) (s t : Value) (m : ℕ) (e : Eight ℕ) : Type 0 where
   pub v0 : (n : ℕ) → AbsoluteError w c.v0 (exact_horner s 1 (m + n)) e.v0
-  pub v1 : (n : ℕ) → AbsoluteError w c.v1 (exact_total (exact_term s t xiPart 1) (m + n)) e.v1
-  pub v2 : (n : ℕ) → AbsoluteError w c.v2 (exact_total (exact_term s t zetaPart 1) (m + n)) e.v2
+  pub v1 : (n : ℕ) → AbsoluteError w c.v1 (exact_total (exact_term s t xi_part 1) (m + n)) e.v1
+  pub v2 : (n : ℕ) → AbsoluteError w c.v2 (exact_total (exact_term s t zeta_part 1) (m + n)) e.v2
   pub w0 : (n : ℕ) → AbsoluteError w c.w0 (exact_horner s 2 (m + n)) e.w0
-  pub w1 : (n : ℕ) → AbsoluteError w c.w1 (exact_total (exact_term s t xiPart 2) (m + n)) e.w1
-  pub w2 : (n : ℕ) → AbsoluteError w c.w2 (exact_total (exact_term s t zetaPart 2) (m + n)) e.w2
-  pub dv1 : (n : ℕ) → AbsoluteError w c.dv1 (exact_total (exact_term s t dxiPart 1) (m + n)) e.dv1
-  pub dv2 : (n : ℕ) → AbsoluteError w c.dv2 (exact_total (exact_term s t dzetaPart 1) (m + n)) e.dv2
+  pub w1 : (n : ℕ) → AbsoluteError w c.w1 (exact_total (exact_term s t xi_part 2) (m + n)) e.w1
+  pub w2 : (n : ℕ) → AbsoluteError w c.w2 (exact_total (exact_term s t zeta_part 2) (m + n)) e.w2
+  pub dv1 : (n : ℕ) → AbsoluteError w c.dv1 (exact_total (exact_term s t dxi_part 1) (m + n)) e.dv1
+  pub dv2 : (n : ℕ) → AbsoluteError w c.dv2 (exact_total (exact_term s t dzeta_part 1) (m + n)) e.dv2
 
 -- χΔ is finite, and within e / w of (v₀ - z v₂) Δ with every v₀ of k terms or more and every v₂ of l or more
 pub record ChiAccurate (w : ℕ) (x : Float) (s t : Value) (k l e : ℕ) : Type 0 where
   pub chi : (n i : ℕ) →
-      AbsoluteError w x (exact_chi s t (exact_horner s 1 (k + n)) (exact_total (exact_term s t zetaPart 1) (l + i))) e
+      AbsoluteError w x (exact_chi s t (exact_horner s 1 (k + n)) (exact_total (exact_term s t zeta_part 1) (l + i))) e
 
 -- ---- what is proved, in units of 2^-100
 -- the bounds on the four arms, from the fewest terms to the most

@@ -93,8 +93,8 @@ module _ (f : Format) where
       let c = circle_exp z root sh ch in
       sinc_from c.k c.cos_half
 
-  unfoldable pub circle_sinc_a_b_d : Float → Float → Float → Float → Float → SincABD
-  circle_sinc_a_b_d z root sh ch s =
+  unfoldable pub circle_sinc_abd : Float → Float → Float → Float → Float → SincABD
+  circle_sinc_abd z root sh ch s =
       let short = lt z (five_short_limit f) in
       let a = exact_a z sh in
       record {
@@ -107,7 +107,7 @@ module _ (f : Format) where
   -- sinc and a of these, which do not read s
   unfoldable pub circle_sinc_a : Float → Float → Float → Float → SincA
   circle_sinc_a z root sh ch =
-      let c = circle_sinc_a_b_d z root sh ch f0 in
+      let c = circle_sinc_abd z root sh ch f0 in
       record { sinc = c.sinc; a = c.a }
 
 -- ---- the entries
@@ -121,7 +121,7 @@ unfoldable pub circle_sinc_answer : Format → Float → Float → Float → Flo
 circle_sinc_answer f z root sh ch = not_below_zero z (circle_sinc f z root sh ch)
 
 unfoldable pub circle_sinc_abd_answer : Format → Float → Float → Float → Float → Float → Answer SincABD
-circle_sinc_abd_answer f z root sh ch s = not_below_zero z (circle_sinc_a_b_d f z root sh ch s)
+circle_sinc_abd_answer f z root sh ch s = not_below_zero z (circle_sinc_abd f z root sh ch s)
 
 unfoldable pub circle_sinc_a_answer : Format → Float → Float → Float → Float → Answer SincA
 circle_sinc_a_answer f z root sh ch = not_below_zero z (circle_sinc_a f z root sh ch)

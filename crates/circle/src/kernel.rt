@@ -6,10 +6,10 @@ ghost use Rattle.std.specs.Float.{binary64};
 ghost use Rattle.std.specs.Float.Ieee.{lt};
 ghost use Rattle.ieee.specs.Numbers.{f0};
 ghost use Rattle.linalg.specs.Vector.{vec_norm_sq};
-ghost use Rattle.tables.specs.Tables.{bRow};
+ghost use Rattle.tables.specs.Tables.{b_row};
 ghost use Rattle.tables.specs.Rows.{row_named};
 ghost use Rattle.circle.specs.Limits.{row_limit};
-ghost use Rattle.circle.specs.Kernel.{exp_coeffs_told, sinc_abd_told, sinc_a_told, sinc_told, horner_sum, row_series, row_whole, row_own, exact_a, exact_b, exact_d, sinc_from, circle_exp, circle_sinc_a_b_d, circle_sinc_a, circle_exp_answer, circle_sinc_answer, circle_sinc_abd_answer, circle_sinc_a_answer};
+ghost use Rattle.circle.specs.Kernel.{exp_coeffs_told, sinc_abd_told, sinc_a_told, sinc_told, horner_sum, row_series, row_whole, row_own, exact_a, exact_b, exact_d, sinc_from, circle_exp, circle_sinc_abd, circle_sinc_a, circle_exp_answer, circle_sinc_answer, circle_sinc_abd_answer, circle_sinc_a_answer};
 
 use crate::generated;
 use linalg::vector::Vec3;
@@ -174,7 +174,7 @@ pub fn sinc_value(z: f64, root: f64, sin_half: f64, cos_half: f64) -> SincAnswer
 
 // The group of five, k and cos_half as sin x/x.
 fn five_group(z: f64, root: f64, sin_half: f64, cos_half: f64, sin: f64) -> SincABD
-    ensures { result ≡ circle_sinc_a_b_d binary64 z root sin_half cos_half sin }
+    ensures { result ≡ circle_sinc_abd binary64 z root sin_half cos_half sin }
 {
     if z < generated::FIVE_SHORT_BELOW {
         let n = generated::SHORT_TERMS;
@@ -205,7 +205,7 @@ fn five_group(z: f64, root: f64, sin_half: f64, cos_half: f64, sin: f64) -> Sinc
 // Whether b is on its exact arm at the squared norm of a rotation vector, which a NaN is: nothing is
 // worked. For a caller that forms sin x/x, which is 1 - b z, another way there.
 pub fn b_takes_exact_arm_of(phi: Vec3) -> bool
-    ensures { result ≡ not (lt (vec_norm_sq binary64 phi) (row_limit binary64 bRow)) }
+    ensures { result ≡ not (lt (vec_norm_sq binary64 phi) (row_limit binary64 b_row)) }
 {
     !(phi.norm_sq() < generated::below(Row::B))
 }

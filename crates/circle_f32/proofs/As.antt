@@ -5,7 +5,7 @@ use lib.Ieee.{Float}
 use Rattle.circle_f32.specs.declared.kernel.ExpCoeffs.{ExpCoeffs}
 use Rattle.circle_f32.specs.declared.kernel.SincABD.{SincABD}
 use Rattle.circle_f32.specs.declared.kernel.SincA.{SincA}
-use Rattle.circle_f32.specs.As.{as_exp_coeffs, as_sinc_a, as_sinc_a_b_d}
+use Rattle.circle_f32.specs.As.{as_exp_coeffs, as_sinc_a, as_sinc_abd}
 
 pub k_of-ExpCoeffs : (a : ExpCoeffs) → a.k ≡ (as_exp_coeffs a).k
 unfolding as_exp_coeffs
@@ -19,24 +19,24 @@ pub made-ExpCoeffs : (k : Float) (cos_half : Float) → as_exp_coeffs (record { 
 unfolding as_exp_coeffs
 made-ExpCoeffs k cos_half = refl
 
-pub a_of-SincABD : (a : SincABD) → a.a ≡ (as_sinc_a_b_d a).a
-unfolding as_sinc_a_b_d
+pub a_of-SincABD : (a : SincABD) → a.a ≡ (as_sinc_abd a).a
+unfolding as_sinc_abd
 a_of-SincABD a = refl
 
-pub b_of-SincABD : (a : SincABD) → a.b ≡ (as_sinc_a_b_d a).b
-unfolding as_sinc_a_b_d
+pub b_of-SincABD : (a : SincABD) → a.b ≡ (as_sinc_abd a).b
+unfolding as_sinc_abd
 b_of-SincABD a = refl
 
-pub sinc_of-SincABD : (a : SincABD) → a.sinc ≡ (as_sinc_a_b_d a).sinc
-unfolding as_sinc_a_b_d
+pub sinc_of-SincABD : (a : SincABD) → a.sinc ≡ (as_sinc_abd a).sinc
+unfolding as_sinc_abd
 sinc_of-SincABD a = refl
 
-pub d_of-SincABD : (a : SincABD) → a.d ≡ (as_sinc_a_b_d a).d
-unfolding as_sinc_a_b_d
+pub d_of-SincABD : (a : SincABD) → a.d ≡ (as_sinc_abd a).d
+unfolding as_sinc_abd
 d_of-SincABD a = refl
 
-pub made-SincABD : (a : Float) (b : Float) (sinc : Float) (d : Float) → as_sinc_a_b_d (record { a = a; b = b; sinc = sinc; d = d }) ≡ record { a = a; b = b; sinc = sinc; d = d }
-unfolding as_sinc_a_b_d
+pub made-SincABD : (a : Float) (b : Float) (sinc : Float) (d : Float) → as_sinc_abd (record { a = a; b = b; sinc = sinc; d = d }) ≡ record { a = a; b = b; sinc = sinc; d = d }
+unfolding as_sinc_abd
 made-SincABD a b sinc d = refl
 
 pub sinc_of-SincA : (a : SincA) → a.sinc ≡ (as_sinc_a a).sinc

@@ -7,13 +7,13 @@ ghost use Rattle.std.specs.Float.{binary32};
 ghost use Rattle.std.specs.Float.Ieee.{lt};
 ghost use Rattle.ieee.specs.Numbers.{f0};
 ghost use Rattle.linalg.specs.Vector.{vec_norm_sq};
-ghost use Rattle.tables.specs.Tables.{bRow};
+ghost use Rattle.tables.specs.Tables.{b_row};
 ghost use Rattle.tables.specs.Rows.{row_named};
 ghost use Rattle.circle.specs.Limits.{row_limit};
-ghost use Rattle.circle.specs.Kernel.{horner_sum, row_series, row_whole, row_own, exact_a, exact_b, exact_d, sinc_from, circle_exp, circle_sinc_a_b_d, circle_sinc_a, circle_exp_answer, circle_sinc_answer, circle_sinc_abd_answer, circle_sinc_a_answer};
+ghost use Rattle.circle.specs.Kernel.{horner_sum, row_series, row_whole, row_own, exact_a, exact_b, exact_d, sinc_from, circle_exp, circle_sinc_abd, circle_sinc_a, circle_exp_answer, circle_sinc_answer, circle_sinc_abd_answer, circle_sinc_a_answer};
 ghost use Rattle.circle_f32.specs.Told.{exp_coeffs_told, sinc_abd_told, sinc_a_told, sinc_told};
 ghost use Rattle.linalg_f32.specs.As.{as_vec3};
-ghost use Rattle.circle_f32.specs.As.{as_exp_coeffs, as_sinc_a, as_sinc_a_b_d};
+ghost use Rattle.circle_f32.specs.As.{as_exp_coeffs, as_sinc_a, as_sinc_abd};
 
 use crate::generated;
 use linalg_f32::vector::Vec3;
@@ -178,7 +178,7 @@ pub fn sinc_value(z: f32, root: f32, sin_half: f32, cos_half: f32) -> SincAnswer
 
 // The group of five, k and cos_half as sin x/x.
 fn five_group(z: f32, root: f32, sin_half: f32, cos_half: f32, sin: f32) -> SincABD
-    ensures { as_sinc_a_b_d result ≡ circle_sinc_a_b_d binary32 z root sin_half cos_half sin }
+    ensures { as_sinc_abd result ≡ circle_sinc_abd binary32 z root sin_half cos_half sin }
 {
     if z < generated::FIVE_SHORT_BELOW {
         let n = generated::SHORT_TERMS;
@@ -209,7 +209,7 @@ fn five_group(z: f32, root: f32, sin_half: f32, cos_half: f32, sin: f32) -> Sinc
 // Whether b is on its exact arm at the squared norm of a rotation vector, which a NaN is: nothing is
 // worked. For a caller that forms sin x/x, which is 1 - b z, another way there.
 pub fn b_takes_exact_arm_of(phi: Vec3) -> bool
-    ensures { result ≡ not (lt (vec_norm_sq binary32 (as_vec3 phi)) (row_limit binary32 bRow)) }
+    ensures { result ≡ not (lt (vec_norm_sq binary32 (as_vec3 phi)) (row_limit binary32 b_row)) }
 {
     !(phi.norm_sq() < generated::below(Row::B))
 }

@@ -11,7 +11,7 @@ use Rattle.linalg.specs.Answer.{answers, refuses, and_then}
 use Rattle.linalg.specs.Vector.{vec_norm_sq}
 use Rattle.linalg.specs.declared.vector.Vec3.{Vec3}
 use Rattle.linalg.proofs.Answers.{refused_as, answered_as, answered-at, not_refused}
-use Rattle.circle.specs.Kernel.{not_below_zero, circle_sinc_a_b_d, circle_sinc_a}
+use Rattle.circle.specs.Kernel.{not_below_zero, circle_sinc_abd, circle_sinc_a}
 use Rattle.circle.specs.declared.kernel.SincABD.{SincABD}
 use Rattle.circle.specs.declared.kernel.SincA.{SincA}
 use Rattle.circle.proofs.Angle.{norm_not_below}
@@ -69,7 +69,7 @@ small f sigma = lt (mul f sigma sigma) (w0_below f)
 
 pub scaled-closed :
     (f : Format) (sigma z : Float) (v : Values) → ltb (coeffs_arm f (coeffs_delta f sigma z)) 5 ≡ false →
-    coeffs_scaled f sigma z v ≡ closed_scaled f sigma z (circle_sinc_a_b_d f z v.root v.sin_half v.cos_half v.sin) v.e v.m (small f sigma)
+    coeffs_scaled f sigma z v ≡ closed_scaled f sigma z (circle_sinc_abd f z v.root v.sin_half v.cos_half v.sin) v.e v.m (small f sigma)
 unfolding coeffs_scaled
 scaled-closed f sigma z v t = rw (t, ends-closed f sigma (coeffs_arm f (coeffs_delta f sigma z)) t) refl
 
@@ -82,7 +82,7 @@ by_series f sigma z v t = ap (not_below_zero z) (scaled-series f sigma z v _ t r
 
 pub by_closed :
     (f : Format) (sigma z : Float) (v : Values) (t : SincABD) → ltb (coeffs_arm f (coeffs_delta f sigma z)) 5 ≡ false →
-    not_below_zero z (circle_sinc_a_b_d f z v.root v.sin_half v.cos_half v.sin) ≡ answers t →
+    not_below_zero z (circle_sinc_abd f z v.root v.sin_half v.cos_half v.sin) ≡ answers t →
     scaled_answer f sigma z v ≡ answers (closed_one f sigma z (coeffs_delta f sigma z) (small f sigma) t v)
 unfolding scaled_answer closed_one
 by_closed f sigma z v t h r = arm-answers z _ t _ (λ x. closed_one f sigma z (coeffs_delta f sigma z) (small f sigma) x v) (scaled-closed f sigma z v h) r
@@ -140,7 +140,7 @@ v-scaled f sigma z v t =
 pub v-closed :
     (f : Format) (sigma z : Float) (v : Values) → ltb (coeffs_arm f (coeffs_delta f sigma z)) 5 ≡ false →
     coeffs_v_scaled f sigma z v ≡ v-scaled f sigma z v (circle_sinc_a f z v.root v.sin_half v.cos_half)
-unfolding coeffs_v_scaled coeffs4 closed_from closed_nine closed_joined closed_v_from closed_v closed_only circle_sinc_a circle_sinc_a_b_d
+unfolding coeffs_v_scaled coeffs4 closed_from closed_nine closed_joined closed_v_from closed_v closed_only circle_sinc_a circle_sinc_abd
 v-closed f sigma z v t = rw (scaled-closed f sigma z v t) refl
 
 -- ---- the closed arm, from what the circle functions answer

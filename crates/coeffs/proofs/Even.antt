@@ -9,7 +9,7 @@ use Rattle.linalg.specs.Answer.{Answer, answers, refuses, and_then}
 use Rattle.linalg.specs.Vector.{vec_norm_sq}
 use Rattle.linalg.specs.declared.vector.Vec3.{Vec3}
 use Rattle.linalg.proofs.Answers.{never, answers-is, both_as}
-use Rattle.circle.specs.Kernel.{not_below_zero, circle_sinc_a_b_d}
+use Rattle.circle.specs.Kernel.{not_below_zero, circle_sinc_abd}
 use Rattle.circle.specs.declared.kernel.SincABD.{SincABD}
 use Rattle.series.specs.Series.{series_full}
 use Rattle.ieee.proofs.Sign.{mul-neg-neg}
@@ -40,7 +40,7 @@ pair-series f sigma z v k t e =
 pub pair-closed :
     (f : Format) (sigma z : Float) (v : Values) → ltb (coeffs_arm f (coeffs_delta f sigma z)) 5 ≡ false →
     coeffs_pair f sigma z v
-    ≡ closed_pair f sigma z (coeffs_delta f sigma z) (pair_ends f sigma (lt (mul f sigma sigma) (w0_below f)) v) (circle_sinc_a_b_d f z v.root v.sin_half v.cos_half v.sin) v
+    ≡ closed_pair f sigma z (coeffs_delta f sigma z) (pair_ends f sigma (lt (mul f sigma sigma) (w0_below f)) v) (circle_sinc_abd f z v.root v.sin_half v.cos_half v.sin) v
 unfolding coeffs_pair closed_pair mirrored pair_ends minus_et_mt closed_with closed_exps closed_ends closed_from closed_v_from
 pair-closed f sigma z v t =
     let p = scaled-closed f sigma z v t in
@@ -62,7 +62,7 @@ pair_by_series f sigma z v t = pair-answer-is f sigma z v ∙ ap (not_below_zero
 
 pub pair_by_closed :
     (f : Format) (sigma z : Float) (v : Values) (t : SincABD) → ltb (coeffs_arm f (coeffs_delta f sigma z)) 5 ≡ false →
-    not_below_zero z (circle_sinc_a_b_d f z v.root v.sin_half v.cos_half v.sin) ≡ answers t →
+    not_below_zero z (circle_sinc_abd f z v.root v.sin_half v.cos_half v.sin) ≡ answers t →
     pair_answer f sigma z v ≡ answers (closed_pair f sigma z (coeffs_delta f sigma z) (pair_ends f sigma (lt (mul f sigma sigma) (w0_below f)) v) t v)
 pair_by_closed f sigma z v t h r =
     pair-answer-is f sigma z v ∙ arm-answers z _ t _ (λ x. closed_pair f sigma z (coeffs_delta f sigma z) (pair_ends f sigma (lt (mul f sigma sigma) (w0_below f)) v) x v) (pair-closed f sigma z v h) r

@@ -7,7 +7,7 @@ use Rattle.ieee.specs.Infix.{operations}
 use Rattle.series.specs.Series.{series_full, coeffs4}
 use Rattle.series.specs.declared.sim3.Sim3Coeffs.{Sim3Coeffs}
 use Rattle.series.specs.declared.sim3.Coeffs4.{Coeffs4}
-use Rattle.circle.specs.Kernel.{circle_sinc_a_b_d}
+use Rattle.circle.specs.Kernel.{circle_sinc_abd}
 use Rattle.circle.specs.declared.kernel.SincABD.{SincABD}
 use Rattle.closed.specs.Values.{mirrored}
 use Rattle.closed.specs.Limits.{coeffs_delta, form_b_below}
@@ -32,7 +32,7 @@ coeffs_scaled f sigma z v =
     let arm = coeffs_arm f (coeffs_delta f sigma z) in
     cond (ltb arm 5)
     (record { c = series_full f sigma z (arm_terms f arm); scaled = false })
-    (closed_scaled f sigma z (circle_sinc_a_b_d f z v.root v.sin_half v.cos_half v.sin) v.e v.m (arm_ends f sigma arm))
+    (closed_scaled f sigma z (circle_sinc_abd f z v.root v.sin_half v.cos_half v.sin) v.e v.m (arm_ends f sigma arm))
 
 -- the same with the arm, and with whether v₀ and w₀ come from series of their own
 unfoldable pub coeffs_armed : Format → Float → Float → Values → Armed

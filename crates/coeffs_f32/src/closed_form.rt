@@ -6,7 +6,7 @@ ghost use Rattle.std.specs.Float.{binary32};
 ghost use Rattle.std.specs.Float.Ieee.{neg};
 ghost use Rattle.coeffs.specs.Closed.{closed_v0, closed_w0, closed_v, closed_ws, closed_dvs, closed_joined, closed_v_from, closed_only, closed_from};
 ghost use Rattle.coeffs.specs.Private.{closed_exps, closed_ends, closed_with};
-ghost use Rattle.circle_f32.specs.As.{as_sinc_a, as_sinc_a_b_d};
+ghost use Rattle.circle_f32.specs.As.{as_sinc_a, as_sinc_abd};
 ghost use Rattle.series_f32.specs.As.{as_coeffs4, as_coeffs_pair, as_sim3_coeffs};
 ghost use Rattle.coeffs_f32.specs.As.{as_dvs, as_ends, as_et_mt, as_exps, as_ws};
 
@@ -39,7 +39,7 @@ fn w0_of(sigma: f32, g: f32, m1: f32, small: bool) -> f32
 
 // v1, v2 and chi_delta from v0.
 fn v_from(sigma: f32, z: f32, t: SincABD, e: f32, m1: f32, v0: f32, form_b: bool) -> Coeffs4
-    ensures { as_coeffs4 result ≡ closed_v binary32 sigma z (as_sinc_a_b_d t) e m1 v0 form_b }
+    ensures { as_coeffs4 result ≡ closed_v binary32 sigma z (as_sinc_abd t) e m1 v0 form_b }
 {
     let sinc = t.sinc;
     let a = t.a;
@@ -85,7 +85,7 @@ pub struct Dvs {
 
 // The derivatives from v2 and those of the circle functions.
 fn dv_from(sigma: f32, z: f32, t: SincABD, e: f32, v2: f32) -> Dvs
-    ensures { as_dvs result ≡ closed_dvs binary32 sigma z (as_sinc_a_b_d t) e v2 }
+    ensures { as_dvs result ≡ closed_dvs binary32 sigma z (as_sinc_abd t) e v2 }
 {
     let delta = sigma * sigma + z;
     let da = -(0.5 * (t.b - 2.0 * t.d));
@@ -143,7 +143,7 @@ fn exps_of(sigma: f32, et: f32, mt: f32) -> Exps
 
 // The circle functions from those that v reads: b and d are left zero.
 fn only(t: SincA) -> SincABD
-    ensures { as_sinc_a_b_d result ≡ closed_only (as_sinc_a t) }
+    ensures { as_sinc_abd result ≡ closed_only (as_sinc_a t) }
 {
     SincABD {
         a: t.a,
@@ -180,7 +180,7 @@ pub fn closed_from(
     form_b: bool,
     small: bool,
 ) -> Sim3Coeffs
-    ensures { as_sim3_coeffs result ≡ closed_from binary32 sigma z (as_sinc_a_b_d t) et mt form_b small }
+    ensures { as_sim3_coeffs result ≡ closed_from binary32 sigma z (as_sinc_abd t) et mt form_b small }
 {
     let x = exps_of(sigma, et, mt);
     let v0 = v0_of(sigma, x.g, x.m1, small);
@@ -244,7 +244,7 @@ pub fn closed_both(
     h: Ends,
     form_b: bool,
 ) -> CoeffsPair
-    ensures { as_coeffs_pair result ≡ record { pos = closed_with binary32 sigma z (as_sinc_a_b_d t) (as_et_mt x).et (as_et_mt x).mt (as_ends h).v0 (as_ends h).w0 form_b; neg = closed_with binary32 (neg sigma) z (as_sinc_a_b_d t) (as_et_mt y).et (as_et_mt y).mt (as_ends h).v0_neg (as_ends h).w0_neg form_b } }
+    ensures { as_coeffs_pair result ≡ record { pos = closed_with binary32 sigma z (as_sinc_abd t) (as_et_mt x).et (as_et_mt x).mt (as_ends h).v0 (as_ends h).w0 form_b; neg = closed_with binary32 (neg sigma) z (as_sinc_abd t) (as_et_mt y).et (as_et_mt y).mt (as_ends h).v0_neg (as_ends h).w0_neg form_b } }
 {
     let minus = -sigma;
     let p = exps_of(sigma, x.et, x.mt);

@@ -12,7 +12,7 @@ ghost use Rattle.coeffs_f32.specs.Told.{scaled_told, coeffs_told, v_told, v_scal
 ghost use Rattle.coeffs.specs.Entries.{armed_answer, armed_pair_answer};
 ghost use Rattle.coeffs_f32.specs.Told.{armed_told, armed_pair_told};
 ghost use Rattle.linalg_f32.specs.As.{as_vec3};
-ghost use Rattle.circle_f32.specs.As.{as_sinc_a_b_d};
+ghost use Rattle.circle_f32.specs.As.{as_sinc_abd};
 ghost use Rattle.series_f32.specs.As.{as_coeffs4, as_sim3_coeffs};
 ghost use Rattle.closed_f32.specs.As.{as_values};
 ghost use Rattle.coeffs_f32.specs.As.{as_ends, as_et_mt, as_scaled, as_scaled_pair};
@@ -117,7 +117,7 @@ fn by_series(sigma: f32, z: f32, arm: u8) -> ScaledAnswer
 // The coefficients by the closed arm from the circle functions t, v0 and w0 by their series where
 // `small`.
 fn closed_one(sigma: f32, z: f32, delta: f32, small: bool, t: SincABD, v: Values) -> Scaled
-    ensures { as_scaled result ≡ closed_one binary32 sigma z delta small (as_sinc_a_b_d t) (as_values v) }
+    ensures { as_scaled result ≡ closed_one binary32 sigma z delta small (as_sinc_abd t) (as_values v) }
 {
     let c = closed_from(sigma, z, t, v.e, v.m, on_form_b(delta), small);
     Scaled {
@@ -287,7 +287,7 @@ fn pair_ends(sigma: f32, small: bool, v: Values) -> Ends
 // The closed arm at sigma and at -sigma, from the same circle functions t and from v0 and w0 of
 // both: delta and form b are even in sigma.
 fn closed_pair(sigma: f32, z: f32, delta: f32, h: Ends, t: SincABD, v: Values) -> ScaledPair
-    ensures { as_scaled_pair result ≡ closed_pair binary32 sigma z delta (as_ends h) (as_sinc_a_b_d t) (as_values v) }
+    ensures { as_scaled_pair result ≡ closed_pair binary32 sigma z delta (as_ends h) (as_sinc_abd t) (as_values v) }
 {
     let c = closed_both(
         sigma,

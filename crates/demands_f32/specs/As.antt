@@ -1,12 +1,12 @@
 -- Written by tools/widths from crates/demands: edit that one. Digest bae5ff89c1fe9b75.
 -- The structs of demands_f32 as the records that the definitions speak of, number by number: a float of either width is one type of the logic.
-use Rattle.demands.specs.declared.ways.BothWays as wideBothWays
+use Rattle.demands.specs.declared.ways.BothWays as WideBothWays
 use Rattle.demands_f32.specs.declared.ways.BothWays.{BothWays}
 use Rattle.jacobian_f32.specs.As.{as_sim3_jac}
 use Rattle.sides_f32.specs.As.{as_block_pair, as_exp_and_jl, as_jac_and_inverse}
 use Rattle.frames_f32.specs.As.{as_pose}
 
-unfoldable pub as_both_ways : BothWays → wideBothWays.BothWays
+unfoldable pub as_both_ways : BothWays → WideBothWays.BothWays
 as_both_ways a = record {
   exp = as_pose a.exp;
   exp_turned = as_pose a.exp_turned;

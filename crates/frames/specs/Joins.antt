@@ -6,12 +6,12 @@ use Rattle.sim3.specs.Pose.{pose_mul, pose_mul_inv, pose_inv_mul}
 use Rattle.frames.specs.Pose.{framed}
 use Rattle.frames.specs.declared.Pose.{Pose}
 use Rattle.frames.specs.declared.PoseAnswer.{PoseAnswer}
-use Rattle.frames.specs.declared.PoseAnswer.TheVariants as poseAnswer
+use Rattle.frames.specs.declared.PoseAnswer.TheVariants as PoseAnswer
 
 -- what each case of an answer says
 unfoldable pub pose_told : PoseAnswer → Answer Pose
-pose_told (poseAnswer.Pose x) = answers x
-pose_told (poseAnswer.Refused n) = refuses n
+pose_told (PoseAnswer.Pose x) = answers x
+pose_told (PoseAnswer.Refused n) = refuses n
 
 -- x, where the frames a and b are one and the same
 abbrev pub meets : ℕ → ℕ → Pose → Answer Pose

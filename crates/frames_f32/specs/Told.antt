@@ -1,11 +1,11 @@
 -- Written by tools/widths from crates/frames: edit that one. Digest 39e3d8259fe30ca8.
 -- What each answer of frames_f32 says.
-use Rattle.frames_f32.specs.declared.PoseAnswer as codePoseAnswer
-use Rattle.frames_f32.specs.declared.PoseAnswer.TheVariants as inPoseAnswer
+use Rattle.frames_f32.specs.declared.PoseAnswer as CodePoseAnswer
+use Rattle.frames_f32.specs.declared.PoseAnswer.TheVariants as InPoseAnswer
 use Rattle.linalg.specs.Answer.{Answer, answers, refuses}
 use Rattle.frames.specs.declared.Pose.{Pose}
 use Rattle.frames_f32.specs.As.{as_pose}
 
-unfoldable pub pose_told : codePoseAnswer.PoseAnswer → Answer Pose
-pose_told (inPoseAnswer.Pose x) = answers (as_pose x)
-pose_told (inPoseAnswer.Refused n) = refuses n
+unfoldable pub pose_told : CodePoseAnswer.PoseAnswer → Answer Pose
+pose_told (InPoseAnswer.Pose x) = answers (as_pose x)
+pose_told (InPoseAnswer.Refused n) = refuses n

@@ -21,7 +21,7 @@ use Rattle.from_lists.specs.declared.Frames.{Frames}
 use Rattle.from_lists.specs.declared.FramesRead.{FramesRead}
 use Rattle.from_lists.specs.declared.FramesRead.TheVariants as pairs
 use Rattle.from_lists.specs.declared.FramedRead.{FramedRead}
-use Rattle.from_lists.specs.declared.FramedRead.TheVariants as framedPoses
+use Rattle.from_lists.specs.declared.FramedRead.TheVariants as FramedPoses
 use Rattle.from_lists.specs.declared.TangentRead.{TangentRead}
 use Rattle.from_lists.specs.declared.TangentRead.TheVariants as tangents
 use Rattle.from_lists.specs.declared.ValuesRead.{ValuesRead}
@@ -95,8 +95,8 @@ frames_read_told (pairs.Got k) = answers k
 frames_read_told pairs.Wrong = refuses wrong_length
 
 unfoldable pub framed_read_told : FramedRead → Answer Pose
-framed_read_told (framedPoses.Got x) = answers x
-framed_read_told framedPoses.Wrong = refuses wrong_length
+framed_read_told (FramedPoses.Got x) = answers x
+framed_read_told FramedPoses.Wrong = refuses wrong_length
 
 unfoldable pub tangent_read_told : TangentRead → Answer Sim3Tangent
 tangent_read_told (tangents.Got t) = answers t

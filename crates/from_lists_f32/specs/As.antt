@@ -1,7 +1,7 @@
 -- Written by tools/widths from crates/from_lists: edit that one. Digest 506c0a84eefb2d2e.
 -- The structs of from_lists_f32 as the records that the definitions speak of, number by number: a float of either width is one type of the logic.
-use Rattle.from_lists.specs.declared.Frames as wideFrames
+use Rattle.from_lists.specs.declared.Frames as WideFrames
 use Rattle.from_lists_f32.specs.declared.Frames.{Frames}
 
-unfoldable pub as_frames : Frames → wideFrames.Frames
+unfoldable pub as_frames : Frames → WideFrames.Frames
 as_frames a = record { from = a.from; to = a.to }

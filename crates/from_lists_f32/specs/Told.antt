@@ -1,21 +1,21 @@
 -- Written by tools/widths from crates/from_lists: edit that one. Digest 05ac6eb1618c5d11.
 -- What each answer of from_lists_f32 says.
-use Rattle.from_lists_f32.specs.declared.VecRead as codeVecRead
-use Rattle.from_lists_f32.specs.declared.VecRead.TheVariants as inVecRead
-use Rattle.from_lists_f32.specs.declared.MatRead as codeMatRead
-use Rattle.from_lists_f32.specs.declared.MatRead.TheVariants as inMatRead
-use Rattle.from_lists_f32.specs.declared.PoseRead as codePoseRead
-use Rattle.from_lists_f32.specs.declared.PoseRead.TheVariants as inPoseRead
-use Rattle.from_lists_f32.specs.declared.FramesRead as codeFramesRead
-use Rattle.from_lists_f32.specs.declared.FramesRead.TheVariants as inFramesRead
-use Rattle.from_lists_f32.specs.declared.FramedRead as codeFramedRead
-use Rattle.from_lists_f32.specs.declared.FramedRead.TheVariants as inFramedRead
-use Rattle.from_lists_f32.specs.declared.TangentRead as codeTangentRead
-use Rattle.from_lists_f32.specs.declared.TangentRead.TheVariants as inTangentRead
-use Rattle.from_lists_f32.specs.declared.ValuesRead as codeValuesRead
-use Rattle.from_lists_f32.specs.declared.ValuesRead.TheVariants as inValuesRead
-use Rattle.from_lists_f32.specs.declared.BlockRead as codeBlockRead
-use Rattle.from_lists_f32.specs.declared.BlockRead.TheVariants as inBlockRead
+use Rattle.from_lists_f32.specs.declared.VecRead as CodeVecRead
+use Rattle.from_lists_f32.specs.declared.VecRead.TheVariants as InVecRead
+use Rattle.from_lists_f32.specs.declared.MatRead as CodeMatRead
+use Rattle.from_lists_f32.specs.declared.MatRead.TheVariants as InMatRead
+use Rattle.from_lists_f32.specs.declared.PoseRead as CodePoseRead
+use Rattle.from_lists_f32.specs.declared.PoseRead.TheVariants as InPoseRead
+use Rattle.from_lists_f32.specs.declared.FramesRead as CodeFramesRead
+use Rattle.from_lists_f32.specs.declared.FramesRead.TheVariants as InFramesRead
+use Rattle.from_lists_f32.specs.declared.FramedRead as CodeFramedRead
+use Rattle.from_lists_f32.specs.declared.FramedRead.TheVariants as InFramedRead
+use Rattle.from_lists_f32.specs.declared.TangentRead as CodeTangentRead
+use Rattle.from_lists_f32.specs.declared.TangentRead.TheVariants as InTangentRead
+use Rattle.from_lists_f32.specs.declared.ValuesRead as CodeValuesRead
+use Rattle.from_lists_f32.specs.declared.ValuesRead.TheVariants as InValuesRead
+use Rattle.from_lists_f32.specs.declared.BlockRead as CodeBlockRead
+use Rattle.from_lists_f32.specs.declared.BlockRead.TheVariants as InBlockRead
 use Rattle.linalg.specs.Answer.{Answer, answers, refuses}
 use Rattle.linalg.specs.declared.vector.Vec3.{Vec3}
 use Rattle.linalg.specs.declared.matrix.Mat3.{Mat3}
@@ -33,34 +33,34 @@ use Rattle.jacobian_f32.specs.As.{as_sim3_jac}
 use Rattle.frames_f32.specs.As.{as_pose}
 use Rattle.from_lists_f32.specs.As.{as_frames}
 
-unfoldable pub vec_read_told : codeVecRead.VecRead → Answer Vec3
-vec_read_told (inVecRead.Got v) = answers (as_vec3 v)
-vec_read_told inVecRead.Wrong = refuses wrong_length
+unfoldable pub vec_read_told : CodeVecRead.VecRead → Answer Vec3
+vec_read_told (InVecRead.Got v) = answers (as_vec3 v)
+vec_read_told InVecRead.Wrong = refuses wrong_length
 
-unfoldable pub mat_read_told : codeMatRead.MatRead → Answer Mat3
-mat_read_told (inMatRead.Got m) = answers (as_mat3 m)
-mat_read_told inMatRead.Wrong = refuses wrong_length
+unfoldable pub mat_read_told : CodeMatRead.MatRead → Answer Mat3
+mat_read_told (InMatRead.Got m) = answers (as_mat3 m)
+mat_read_told InMatRead.Wrong = refuses wrong_length
 
-unfoldable pub pose_read_told : codePoseRead.PoseRead → Answer Sim3
-pose_read_told (inPoseRead.Got x) = answers (as_sim3 x)
-pose_read_told inPoseRead.Wrong = refuses wrong_length
+unfoldable pub pose_read_told : CodePoseRead.PoseRead → Answer Sim3
+pose_read_told (InPoseRead.Got x) = answers (as_sim3 x)
+pose_read_told InPoseRead.Wrong = refuses wrong_length
 
-unfoldable pub frames_read_told : codeFramesRead.FramesRead → Answer Frames
-frames_read_told (inFramesRead.Got k) = answers (as_frames k)
-frames_read_told inFramesRead.Wrong = refuses wrong_length
+unfoldable pub frames_read_told : CodeFramesRead.FramesRead → Answer Frames
+frames_read_told (InFramesRead.Got k) = answers (as_frames k)
+frames_read_told InFramesRead.Wrong = refuses wrong_length
 
-unfoldable pub framed_read_told : codeFramedRead.FramedRead → Answer Pose
-framed_read_told (inFramedRead.Got x) = answers (as_pose x)
-framed_read_told inFramedRead.Wrong = refuses wrong_length
+unfoldable pub framed_read_told : CodeFramedRead.FramedRead → Answer Pose
+framed_read_told (InFramedRead.Got x) = answers (as_pose x)
+framed_read_told InFramedRead.Wrong = refuses wrong_length
 
-unfoldable pub tangent_read_told : codeTangentRead.TangentRead → Answer Sim3Tangent
-tangent_read_told (inTangentRead.Got t) = answers (as_sim3_tangent t)
-tangent_read_told inTangentRead.Wrong = refuses wrong_length
+unfoldable pub tangent_read_told : CodeTangentRead.TangentRead → Answer Sim3Tangent
+tangent_read_told (InTangentRead.Got t) = answers (as_sim3_tangent t)
+tangent_read_told InTangentRead.Wrong = refuses wrong_length
 
-unfoldable pub values_read_told : codeValuesRead.ValuesRead → Answer Values
-values_read_told (inValuesRead.Got v) = answers (as_values v)
-values_read_told inValuesRead.Wrong = refuses wrong_length
+unfoldable pub values_read_told : CodeValuesRead.ValuesRead → Answer Values
+values_read_told (InValuesRead.Got v) = answers (as_values v)
+values_read_told InValuesRead.Wrong = refuses wrong_length
 
-unfoldable pub block_read_told : codeBlockRead.BlockRead → Answer Sim3Jac
-block_read_told (inBlockRead.Got j) = answers (as_sim3_jac j)
-block_read_told inBlockRead.Wrong = refuses wrong_length
+unfoldable pub block_read_told : CodeBlockRead.BlockRead → Answer Sim3Jac
+block_read_told (InBlockRead.Got j) = answers (as_sim3_jac j)
+block_read_told InBlockRead.Wrong = refuses wrong_length

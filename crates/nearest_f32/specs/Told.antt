@@ -1,22 +1,22 @@
 -- Written by tools/widths from crates/nearest: edit that one. Digest 3243e432840bd36d.
 -- What each answer of nearest_f32 says.
-use Rattle.nearest_f32.specs.declared.Direction as codeDirection
-use Rattle.nearest_f32.specs.declared.Direction.TheVariants as inDirection
-use Rattle.nearest_f32.specs.declared.Step as codeStep
-use Rattle.nearest_f32.specs.declared.NearestAnswer as codeNearestAnswer
-use Rattle.nearest_f32.specs.declared.NearestAnswer.TheVariants as inNearestAnswer
+use Rattle.nearest_f32.specs.declared.Direction as CodeDirection
+use Rattle.nearest_f32.specs.declared.Direction.TheVariants as InDirection
+use Rattle.nearest_f32.specs.declared.Step as CodeStep
+use Rattle.nearest_f32.specs.declared.NearestAnswer as CodeNearestAnswer
+use Rattle.nearest_f32.specs.declared.NearestAnswer.TheVariants as InNearestAnswer
 use Rattle.linalg.specs.Answer.{Answer, answers, refuses}
 use Rattle.nearest.specs.Nearest.{Way, down, up}
 use Rattle.nearest.specs.Nearest.{Near, step, none}
 
-unfoldable pub way_told : codeDirection.Direction → Way
-way_told inDirection.Down = down
-way_told inDirection.Up = up
+unfoldable pub way_told : CodeDirection.Direction → Way
+way_told InDirection.Down = down
+way_told InDirection.Up = up
 
-unfoldable pub step_told : codeStep.Step → Near
+unfoldable pub step_told : CodeStep.Step → Near
 step_told s = step s.count (way_told s.direction) s.arm
 
-unfoldable pub nearest_told : codeNearestAnswer.NearestAnswer → Answer Near
-nearest_told (inNearestAnswer.Found s) = answers (step_told s)
-nearest_told inNearestAnswer.OneArm = answers none
-nearest_told (inNearestAnswer.Refused n) = refuses n
+unfoldable pub nearest_told : CodeNearestAnswer.NearestAnswer → Answer Near
+nearest_told (InNearestAnswer.Found s) = answers (step_told s)
+nearest_told InNearestAnswer.OneArm = answers none
+nearest_told (InNearestAnswer.Refused n) = refuses n

@@ -1,9 +1,9 @@
 -- Written by tools/widths from crates/point_lists: edit that one. Digest c8ed0bf25cfc1061.
 -- What each answer of point_lists_f32 says.
-use Rattle.point_lists_f32.specs.declared.Listed as codeListed
-use Rattle.point_lists_f32.specs.declared.Listed.TheVariants as inListed
+use Rattle.point_lists_f32.specs.declared.Listed as CodeListed
+use Rattle.point_lists_f32.specs.declared.Listed.TheVariants as InListed
 use Rattle.linalg.specs.Answer.{Answer, answers, refuses}
 
-unfoldable pub list_told : codeListed.Listed → Answer (Unit {0})
-list_told inListed.Written = answers tt
-list_told (inListed.Refused n) = refuses n
+unfoldable pub list_told : CodeListed.Listed → Answer (Unit {0})
+list_told InListed.Written = answers tt
+list_told (InListed.Refused n) = refuses n

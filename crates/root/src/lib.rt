@@ -8,7 +8,7 @@
 ghost use Rattle.std.specs.Prelude.{◌≡◌, ◌+◌, ◌*◌, ◌^◌, ◌<◌, ◌≤◌};
 ghost use Rattle.std.specs.Float.{binary64};
 ghost use Rattle.ieee.specs.Patterns.{patterns, pattern_units};
-ghost use Rattle.root.specs.Root.{root_told, root_of, root_parts, nearer as nearerOf};
+ghost use Rattle.root.specs.Root.{root_told, root_of, root_parts, nearer as nearer_of};
 ghost use Rattle.root.specs.Private.{ScaledTo};
 
 const HIDDEN: u64 = 0x10_0000_0000_0000; // 2^52: the weight of a pattern's exponent field
@@ -148,7 +148,7 @@ fn digits_of(b: u64) -> Scaled
 // r or r + 1, whichever is nearer to the root.
 fn nearer(r: u64, remainder: u64) -> u64
     requires { r < 2 ^ 53 }
-    ensures { result ≡ nearerOf r remainder }
+    ensures { result ≡ nearer_of r remainder }
 {
     if remainder <= r { r } else { r + 1 }
 }

@@ -10,7 +10,7 @@ use lib.Ieee.Fits.{and_l, and_r}
 use Rattle.ieee.specs.Table.{factorial, rounded, entries}
 use Rattle.tables.specs.Tables.{row_rule, row_table, recip_rule, recip_fact}
 use Rattle.linalg.specs.Vector.{vec_scale, vec_dot, vec_norm_sq, vec_cross, vec_add}
-use Rattle.circle.specs.Kernel.{horner_sum, row_series, row_short, row_member, row_own, row_whole, exact_a, exact_b, exact_d, sinc_from, circle_exp, circle_sinc_a_b_d}
+use Rattle.circle.specs.Kernel.{horner_sum, row_series, row_short, row_member, row_own, row_whole, exact_a, exact_b, exact_d, sinc_from, circle_exp, circle_sinc_abd}
 use Rattle.series.specs.Series.{series_first, series_next, series_level, level_terms, series_sum, series_sums, g_series, coeffs_delta, series_chi, series_coeffs, series_full, coeffs4}
 use Rattle.series.specs.Series.{series_answer, series_v_answer, series_pair_answer}
 use Rattle.closed.specs.Arm.{coeffs_arm, arm_ends}
@@ -49,6 +49,6 @@ pub single_examples : SinglesHold
 unfolding singles same all_same to_bits of_bits is_nan add sub mul div lt le neg round rounded entries factorial recip_rule recip_fact
     series_first series_next series_level level_terms series_sum series_sums g_series series_chi series_coeffs series_full coeffs4 series_answer series_v_answer series_pair_answer
     coeffs_delta coeffs_arm arm_ends coeffs_scaled coeffs_unscale coeffs_plain coeffs_v row_rule row_table horner_sum row_series row_short row_whole row_own row_member
-    circle_exp circle_sinc_a_b_d sinc_from exact_a exact_b exact_d at_zero closed_v0 closed_w0 closed_v closed_ws closed_dvs closed_joined closed_nine closed_v_from closed_from
+    circle_exp circle_sinc_abd sinc_from exact_a exact_b exact_d at_zero closed_v0 closed_w0 closed_v closed_ws closed_dvs closed_joined closed_nine closed_v_from closed_from
     quat_norm_sq quat_renormalized so3_exp poly_apply v_apply pose_exp vec_scale vec_dot vec_norm_sq vec_cross vec_add
 single_examples v z = refl

@@ -5,7 +5,7 @@ use Rattle.ieee.specs.Table.{factorial, Rational, rounded, entries}
 
 -- the rows of the circle functions
 pub data Row : Type 0 where
-  cosHalfRow kRow aRow bRow dRow : Row
+  cos_half_row k_row a_row b_row d_row : Row
 
 -- (-1)^i / n
 abbrev pub alternating : ℕ → ℕ → Rational
@@ -13,11 +13,11 @@ alternating i n = record { negative = eqb (i % 2) 1; num = 1; den = n }
 
 -- entry i, exact
 unfoldable pub row_rule : Row → ℕ → Rational
-row_rule cosHalfRow i = alternating i (4 ^ i * factorial (2 * i))
-row_rule kRow i = alternating i (2 * (4 ^ i * factorial (2 * i + 1)))
-row_rule aRow i = alternating i (factorial (2 * i + 2))
-row_rule bRow i = alternating i (factorial (2 * i + 3))
-row_rule dRow i = alternating i (factorial (2 * i + 4))
+row_rule cos_half_row i = alternating i (4 ^ i * factorial (2 * i))
+row_rule k_row i = alternating i (2 * (4 ^ i * factorial (2 * i + 1)))
+row_rule a_row i = alternating i (factorial (2 * i + 2))
+row_rule b_row i = alternating i (factorial (2 * i + 3))
+row_rule d_row i = alternating i (factorial (2 * i + 4))
 
 -- 1 / n!, exact
 unfoldable pub recip_rule : ℕ → Rational

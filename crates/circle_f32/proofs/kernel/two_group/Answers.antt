@@ -1,0 +1,51 @@
+-- `circle_f32::kernel::two_group` meets its contract: by what its calls ensure and its tests say; below the limit of cos_half all members are on their series. Assumes nothing.
+use borrow.Author.Rules.{rules}
+use lib.Ieee.{binary32}
+use Rattle.tables.specs.Tables.{k_row, a_row}
+use Rattle.circle.specs.Kernel.{row_short, row_own, row_member, circle_sinc_abd, circle_sinc_a}
+use Rattle.circle.proofs.Rows.{below_all}
+use Rattle.linalg_f32.proofs.As.{linalg_singles}
+use Rattle.circle_f32.proofs.As.{circle-singles}
+use Rattle.circle_f32.proofs.kernel.two_group.Goals as goal
+
+pub returns-then-z : goal.returns-then-z
+unfolding circle_sinc_a circle_sinc_abd row_member row_short
+returns-then-z c = simp (
+  linalg_singles,
+  circle-singles,
+  c.series-a.ensures,
+  c.sinc_from-sinc.ensures,
+  c.series-then-z.ensures,
+  c.series.ensures,
+  c.if-z.true,
+)
+
+pub returns-then-z-2 : goal.returns-then-z-2
+unfolding circle_sinc_a circle_sinc_abd row_member row_own
+returns-then-z-2 c =
+    let t = c.if-z-2.true in
+    simp (
+      linalg_singles,
+      circle-singles,
+      c.whole-a.ensures,
+      c.sinc_from-sinc-then-z-2.ensures,
+      c.whole-then-z-2.ensures,
+      c.whole.ensures,
+      t,
+      below_all binary32 k_row _ t,
+      below_all binary32 a_row _ t,
+      c.if-z.false,
+    )
+
+pub returns : goal.returns
+unfolding circle_sinc_a circle_sinc_abd row_member row_own
+returns c = simp (
+  linalg_singles,
+  circle-singles,
+  c.own_arm-a.ensures,
+  c.a_from.ensures,
+  c.sinc_from-sinc-2.ensures,
+  c.own_arm.ensures,
+  c.if-z-2.false,
+  c.if-z.false,
+)

@@ -1,0 +1,9 @@
+-- `coeffs::closed_form::exps_of` meets its contract: by what its calls ensure. Assumes nothing.
+use borrow.Author.Rules.{rules}
+use Rattle.coeffs.specs.Private.{closed_exps}
+use lib.Ieee.{of_bits}
+use Rattle.coeffs.proofs.closed_form.exps_of.Goals as goal
+
+pub returns : goal.returns
+unfolding closed_exps of_bits
+returns c = simp (c.pick-3.ensures, c.pick-2.ensures, c.pick.ensures)

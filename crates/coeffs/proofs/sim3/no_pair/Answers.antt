@@ -1,0 +1,11 @@
+-- `coeffs::sim3::no_pair` meets its contract: nobody calls it. Assumes nothing.
+use Rattle.coeffs.proofs.sim3.no_pair.Goals as goal
+
+pub loop-init : goal.loop-init
+loop-init c = c.requires
+
+pub loop-smaller : goal.loop-smaller
+loop-smaller c = absurd c.loop.invariant
+
+pub loop-preserved : goal.loop-preserved
+loop-preserved c = absurd c.loop.invariant

@@ -1,0 +1,31 @@
+-- `coeffs_f32::closed_form::closed_both` meets its contract: by what its calls ensure. Assumes nothing.
+use borrow.Author.Rules.{rules}
+use Rattle.coeffs.specs.Closed.{closed_nine}
+use Rattle.coeffs.specs.Private.{closed_exps, closed_with}
+use Rattle.linalg_f32.proofs.As.{linalg_singles}
+use Rattle.circle_f32.proofs.As.{circle-singles}
+use Rattle.series_f32.proofs.As.{series-singles}
+use Rattle.closed_f32.proofs.As.{closed-singles}
+use Rattle.coeffs_f32.proofs.As.{coeffs_singles}
+use Rattle.coeffs_f32.proofs.closed_form.closed_both.Goals as goal
+
+pub returns : goal.returns
+unfolding closed_nine closed_exps closed_with
+returns c =
+    simp (
+      linalg_singles,
+      circle-singles,
+      series-singles,
+      closed-singles,
+      coeffs_singles,
+      c.nine-2.ensures,
+      c.nine.ensures,
+      c.dv_from-db.ensures,
+      c.dv_from-da.ensures,
+      c.w_from-wb.ensures,
+      c.w_from-wa.ensures,
+      c.v_from-b.ensures,
+      c.v_from-a.ensures,
+      c.exps_of-n.ensures,
+      c.exps_of-p.ensures,
+    )

@@ -1,0 +1,27 @@
+use borrow.Author.Rules.{rules}
+use Rattle.coeffs.specs.Closed.{closed_from, closed_v_from, closed_nine}
+use Rattle.coeffs.specs.Private.{closed_exps}
+use Rattle.linalg_f32.proofs.As.{linalg_singles}
+use Rattle.circle_f32.proofs.As.{circle-singles}
+use Rattle.series_f32.proofs.As.{series-singles}
+use Rattle.closed_f32.proofs.As.{closed-singles}
+use Rattle.coeffs_f32.proofs.As.{coeffs_singles}
+use Rattle.coeffs_f32.proofs.closed_form.closed_from.Goals as goal
+
+pub returns : goal.returns
+unfolding closed_from closed_v_from closed_nine closed_exps
+returns c =
+    simp (
+      linalg_singles,
+      circle-singles,
+      series-singles,
+      closed-singles,
+      coeffs_singles,
+      c.nine.ensures,
+      c.dv_from-d.ensures,
+      c.w_from-w.ensures,
+      c.v_from-v.ensures,
+      c.w0_of-w0.ensures,
+      c.v0_of-v0.ensures,
+      c.exps_of-x.ensures,
+    )

@@ -1,0 +1,14 @@
+-- `coeffs_f32::closed_form::exps_of` meets its contract: by what its calls ensure. Assumes nothing.
+use borrow.Author.Rules.{rules}
+use Rattle.coeffs.specs.Private.{closed_exps}
+use lib.Ieee.{of_bits}
+use Rattle.linalg_f32.proofs.As.{linalg_singles}
+use Rattle.circle_f32.proofs.As.{circle-singles}
+use Rattle.series_f32.proofs.As.{series-singles}
+use Rattle.closed_f32.proofs.As.{closed-singles}
+use Rattle.coeffs_f32.proofs.As.{coeffs_singles}
+use Rattle.coeffs_f32.proofs.closed_form.exps_of.Goals as goal
+
+pub returns : goal.returns
+unfolding closed_exps of_bits
+returns c = simp (linalg_singles, circle-singles, series-singles, closed-singles, coeffs_singles, c.pick-3.ensures, c.pick-2.ensures, c.pick.ensures)

@@ -1,0 +1,18 @@
+-- `coeffs_f32::closed_form::w0_of` meets its contract: by what its calls ensure and its tests say. Assumes nothing.
+use borrow.Author.Rules.{rules}
+use Rattle.coeffs.specs.Closed.{closed_w0}
+use lib.Ieee.{of_bits}
+use Rattle.linalg_f32.proofs.As.{linalg_singles}
+use Rattle.circle_f32.proofs.As.{circle-singles}
+use Rattle.series_f32.proofs.As.{series-singles}
+use Rattle.closed_f32.proofs.As.{closed-singles}
+use Rattle.coeffs_f32.proofs.As.{coeffs_singles}
+use Rattle.coeffs_f32.proofs.closed_form.w0_of.Goals as goal
+
+pub returns-then-small : goal.returns-then-small
+unfolding closed_w0 of_bits
+returns-then-small c = simp (linalg_singles, circle-singles, series-singles, closed-singles, coeffs_singles, c.g2.ensures, c.if-small.true)
+
+pub returns : goal.returns
+unfolding closed_w0 of_bits
+returns c = simp (linalg_singles, circle-singles, series-singles, closed-singles, coeffs_singles, c.pick-ss.ensures, c.at_zero.ensures, c.if-small.false)

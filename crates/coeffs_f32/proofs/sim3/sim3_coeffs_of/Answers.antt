@@ -1,0 +1,28 @@
+-- `coeffs_f32::sim3::sim3_coeffs_of` meets its contract: |phi|² is not below zero, so the entry answers. Assumes nothing.
+use borrow.Author.Rules.{rules}
+use mathlib.Core.Path.{sym, ap, ◌∙◌}
+use lib.Ieee.{binary32}
+use Rattle.coeffs.specs.Entries.{coeffs_answer}
+use Rattle.coeffs_f32.specs.Told.{coeffs_told}
+use Rattle.coeffs.proofs.Arms.{angle_answers, angle_refuses}
+use Rattle.linalg_f32.specs.As.{as_vec3}
+use Rattle.series_f32.specs.As.{as_sim3_coeffs}
+use Rattle.closed_f32.specs.As.{as_values}
+use Rattle.coeffs_f32.proofs.sim3.sim3_coeffs_of.Goals as goal
+
+pub no_coeffs-requires : goal.no_coeffs-requires
+unfolding coeffs_told coeffs_answer as_sim3_coeffs as_values as_vec3
+no_coeffs-requires c =
+    let a = c.args in
+    let r = sym (c.sim3_coeffs.ensures ∙ ap (λ z. coeffs_answer binary32 a.sigma z (as_values a.v)) c.norm_sq.ensures) in
+    angle_refuses binary32 (as_vec3 a.phi) _ _ (r ∙ ap coeffs_told c.in-Refused.is)
+
+pub returns-in-Coeffs : goal.returns-in-Coeffs
+unfolding coeffs_told coeffs_answer as_sim3_coeffs as_values as_vec3
+returns-in-Coeffs c =
+    let a = c.args in
+    let r = sym (c.sim3_coeffs.ensures ∙ ap (λ z. coeffs_answer binary32 a.sigma z (as_values a.v)) c.norm_sq.ensures) in
+    angle_answers binary32 (as_vec3 a.phi) _ _ (r ∙ ap coeffs_told c.in-Coeffs.is)
+
+pub returns-in-Refused : goal.returns-in-Refused
+returns-in-Refused c = absurd c.no_coeffs.ensures

@@ -1,0 +1,28 @@
+-- `coeffs_f32::sim3::sim3_v_of` meets its contract: |phi|² is not below zero, so the entry answers. Assumes nothing.
+use borrow.Author.Rules.{rules}
+use mathlib.Core.Path.{sym, ap, ◌∙◌}
+use lib.Ieee.{binary32}
+use Rattle.coeffs.specs.Entries.{v_answer}
+use Rattle.coeffs_f32.specs.Told.{v_told}
+use Rattle.coeffs.proofs.Arms.{angle_answers, angle_refuses}
+use Rattle.linalg_f32.specs.As.{as_vec3}
+use Rattle.series_f32.specs.As.{as_coeffs4}
+use Rattle.closed_f32.specs.As.{as_values}
+use Rattle.coeffs_f32.proofs.sim3.sim3_v_of.Goals as goal
+
+pub no_v-requires : goal.no_v-requires
+unfolding v_told v_answer as_coeffs4 as_values as_vec3
+no_v-requires c =
+    let a = c.args in
+    let r = sym (c.sim3_v.ensures ∙ ap (λ z. v_answer binary32 a.sigma z (as_values a.v)) c.norm_sq.ensures) in
+    angle_refuses binary32 (as_vec3 a.phi) _ _ (r ∙ ap v_told c.in-Refused.is)
+
+pub returns-in-Coeffs : goal.returns-in-Coeffs
+unfolding v_told v_answer as_coeffs4 as_values as_vec3
+returns-in-Coeffs c =
+    let a = c.args in
+    let r = sym (c.sim3_v.ensures ∙ ap (λ z. v_answer binary32 a.sigma z (as_values a.v)) c.norm_sq.ensures) in
+    angle_answers binary32 (as_vec3 a.phi) _ _ (r ∙ ap v_told c.in-Coeffs.is)
+
+pub returns-in-Refused : goal.returns-in-Refused
+returns-in-Refused c = absurd c.no_v.ensures

@@ -1,0 +1,7 @@
+use borrow.Author.Rules.{rules}
+use Rattle.demands.specs.Turned.{turned_round}
+use Rattle.demands.proofs.ways.turned_round.Goals as goal
+
+pub returns : goal.returns
+unfolding turned_round
+returns c = simp c.neg.ensures

@@ -1,0 +1,11 @@
+-- `error_bounds_f32::coefficients` meets its contract: by what its call ensures. Assumes nothing.
+use borrow.Author.Rules.{rules}
+use lib.Ieee.{binary32}
+use Rattle.error_bounds.proofs.Holds.{coefficients_hold}
+use Rattle.closed_f32.specs.As.{as_values}
+use Rattle.error_bounds_f32.proofs.coefficients.Goals as goal
+
+pub returns : goal.returns
+returns c =
+    let a = c.args in
+    coefficients_hold binary32 a.sigma a.z (as_values a.v) _ c.sim3_coeffs_scaled.ensures

@@ -1,0 +1,11 @@
+-- `error_bounds_f32::mul` meets its contract: by what its call ensures. Assumes nothing.
+use borrow.Author.Rules.{rules}
+use lib.Ieee.{binary32}
+use Rattle.error_bounds.proofs.Holds.{mul_holds}
+use Rattle.sim3_f32.specs.As.{as_sim3}
+use Rattle.error_bounds_f32.proofs.mul.Goals as goal
+
+pub returns : goal.returns
+returns c =
+    let a = c.args in
+    mul_holds binary32 (as_sim3 a.x) (as_sim3 a.y) a.up _ c.mul.ensures

@@ -1,0 +1,7 @@
+use borrow.Author.Rules.{rules}
+use Rattle.frames.specs.Pose.{framed_exp}
+use Rattle.frames.proofs.Pose.exp.Goals as goal
+
+pub returns : goal.returns
+unfolding framed_exp
+returns c = simp (c.between.ensures, c.exp.ensures)

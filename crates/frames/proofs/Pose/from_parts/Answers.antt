@@ -1,0 +1,5 @@
+use borrow.Author.Rules.{rules}
+use Rattle.frames.proofs.Pose.from_parts.Goals as goal
+
+pub returns : goal.returns
+returns c = simp (c.between.ensures, c.from_parts.ensures)

@@ -1,0 +1,7 @@
+use borrow.Author.Rules.{rules}
+use Rattle.frames.specs.Pose.{framed_lplus}
+use Rattle.frames.proofs.Pose.lplus.Goals as goal
+
+pub returns : goal.returns
+unfolding framed_lplus
+returns c = simp (c.between.ensures, c.lplus.ensures)

@@ -1,0 +1,10 @@
+use mathlib.Core.Path.{refl}
+use Rattle.linalg_f32.specs.As.{as_vec3}
+use Rattle.so3_f32.specs.As.{as_quat}
+use Rattle.sim3_f32.specs.As.{as_sim3}
+use Rattle.frames_f32.specs.As.{as_pose}
+use Rattle.frames_f32.proofs.between.Goals as goal
+
+pub returns : goal.returns
+unfolding as_pose as_quat as_sim3 as_vec3
+returns c = refl

@@ -1,0 +1,17 @@
+-- `from_lists_f32::tangent_from` meets its contract: a list of the length that is due is read, and any other is told. Assumes nothing.
+use borrow.Author.Rules.{rules}
+use mathlib.Core.Path.{sym}
+use Rattle.layout.specs.Layout.{tangent_in}
+use Rattle.from_lists.specs.Lists.{tangent_from}
+use Rattle.from_lists_f32.specs.Told.{tangent_read_told}
+use Rattle.from_lists.proofs.Lists.{sized-right, sized_wrong}
+use Rattle.sim3_f32.specs.As.{as_sim3_tangent}
+use Rattle.from_lists_f32.proofs.tangent_from.Goals as goal
+
+pub returns-then-l-ne-TANGENT : goal.returns-then-l-ne-TANGENT
+unfolding tangent_from tangent_read_told as_sim3_tangent
+returns-then-l-ne-TANGENT c = sym (sized_wrong _ _ _ c.if-l-ne-TANGENT.true)
+
+pub returns : goal.returns
+unfolding tangent_in tangent_from tangent_read_told as_sim3_tangent
+returns c = rw (c.vec_in-2.ensures, c.vec_in.ensures) (sym (sized-right _ _ _ c.if-l-ne-TANGENT.false))

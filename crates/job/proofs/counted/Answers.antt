@@ -1,0 +1,16 @@
+-- `job::counted` meets its contract: by how the record counts. Assumes nothing.
+use borrow.Author.Rules.{rules}
+use Rattle.job.specs.Private.{four_more}
+use Rattle.job.proofs.counted.Goals as goal
+
+pub returns-in-Answered : goal.returns-in-Answered
+unfolding four_more
+returns-in-Answered c = rw c.in-Answered.is
+
+pub returns-in-Refused : goal.returns-in-Refused
+unfolding four_more
+returns-in-Refused c = rw c.in-Refused.is
+
+pub returns-in-Unusable : goal.returns-in-Unusable
+unfolding four_more
+returns-in-Unusable c = rw c.in-Unusable.is

@@ -1,0 +1,6 @@
+-- `job::lose` meets its contract: by what its calls ensure. Assumes nothing.
+use borrow.Author.Rules.{rules}
+use Rattle.job.proofs.lose.Goals as goal
+
+pub returns : goal.returns
+returns c = simp (c.stop.ensures, c.refused-more.ensures, c.with_rows-here.ensures)

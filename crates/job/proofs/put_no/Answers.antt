@@ -1,0 +1,20 @@
+-- `job::put_no` meets its contract: the three stores are the run of three bytes. Assumes nothing.
+use borrow.Author.Rules.{rules}
+use native.Mathlib.Omega.{arith}
+use lib.ListN.{length-set}
+use native.Mathlib.Numerals.{towards_suc}
+use Rattle.outcome.specs.Outcome.{no_bytes}
+use Rattle.job.proofs.put_no.Goals as goal
+
+pub returns : goal.returns
+unfolding no_bytes
+returns c = simp towards_suc
+
+pub bounds-out-at-2 : goal.bounds-out-at-2
+bounds-out-at-2 c = simp length-set (omega arith)
+
+pub bounds-out-at-3 : goal.bounds-out-at-3
+bounds-out-at-3 c = simp length-set (omega arith)
+
+pub shape_of-out : goal.shape_of-out
+shape_of-out c = simp length-set

@@ -1,0 +1,18 @@
+-- `job::put_rows` meets its contract: i turns have stored the first i counts. Assumes nothing.
+use borrow.Author.Rules.{rules}
+use native.Mathlib.Omega.{arith}
+use mathlib.Core.Path.{◌≡◌, refl, ap, ◌∙◌}
+use Prim.Native.Nat.{ℕ, ◌+◌, ◌-◌, ◌≤◌}
+use mathlib.Core.List.{List}
+use lib.ListN.{length, take}
+use lib.Seq.{sets, take_all}
+use Rattle.marks.specs.Rows.{row_count}
+use Rattle.job.specs.Counts.{rows_bytes}
+use Rattle.job.proofs.Rows.{stored_none, stored_more}
+use Rattle.job.proofs.put_rows.Given as goal
+
+abbrev pub invariant-loop-i : goal.invariant-loop-i
+invariant-loop-i l = (l.i ≤ row_count) × (l.out ≡ sets l.initial.out l.at (rows_bytes (take l.i l.rows))) × (length l.out ≡ length l.initial.out) × (length l.rows ≡ row_count)
+
+abbrev pub decreases-loop-i : goal.decreases-loop-i
+decreases-loop-i l = row_count - l.i

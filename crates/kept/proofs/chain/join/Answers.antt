@@ -1,0 +1,55 @@
+-- `kept::chain::join` meets its contract: the state is read and joined, what is answered is written, and the answer told; a refusal writes no byte of the state. Assumes nothing.
+use borrow.Author.Rules.{rules}
+use native.Mathlib.Omega.{arith}
+use mathlib.Core.Path.{◌≡◌, refl, sym, ap, ◌∙◌}
+use lib.Seq.{sets}
+use Rattle.frames.specs.Joins.{pose_told}
+use Rattle.running.specs.Running.{Joint}
+use Rattle.running.specs.declared.Start.TheVariants.{Posed}
+use Rattle.running.specs.declared.Running.{Running}
+use Rattle.kept.specs.State.{running_of, posed_bytes}
+use Rattle.kept.specs.Chain.{joint_bytes}
+use Rattle.kept.proofs.Lent.{ch-joined, ch_stood, ch-kept}
+use Rattle.kept.proofs.chain.join.Goals as goal
+
+pub put_posed-requires : goal.put_posed-requires
+put_posed-requires c =
+    c.requires.mem_len
+
+pub tell-requires : goal.tell-requires
+tell-requires c =
+    c.requires.longest_in_bounds
+
+pub refuse-requires : goal.refuse-requires
+refuse-requires c =
+    c.requires.longest_in_bounds
+
+pub returns-in-Pose : goal.returns-in-Pose
+unfolding joint_bytes pose_told
+returns-in-Pose c =
+    let a = c.args in
+    let p = c.in-Pose.p in
+    let j = ch-joined a.mem.now a.b.now _ _ _ _ c.Framed-at.ensures c.number_at-up.ensures
+    c.running_at.ensures c.join-j.ensures in
+    let e = sym (ap (λ (j : Joint). j.answer) j) ∙ ap pose_told c.in-Pose.is in
+    let k = c.put_posed.ensures in
+    let left : Joint → Running = λ j. record { pose = Posed p; every = j.running.every; since = j.running.since } in
+    rw e (
+      c.tell.ensures.result_value,
+      (
+        c.tell.ensures.out_after,
+        (
+          k.mem_after ∙ ap (λ (j : Joint). sets a.mem.now 0 (posed_bytes p j.running.every j.running.since)) j,
+          k.mem_after_2 ∙ ap left j ∙ sym (ch_stood (running_of a.mem.now) a.b.now p e),
+        ),
+      ),
+    )
+
+pub returns-in-Refused : goal.returns-in-Refused
+unfolding joint_bytes pose_told
+returns-in-Refused c =
+    let a = c.args in
+    let j = ch-joined a.mem.now a.b.now _ _ _ _ c.Framed-at.ensures c.number_at-up.ensures
+    c.running_at.ensures c.join-j.ensures in
+    let e = sym (ap (λ (j : Joint). j.answer) j) ∙ ap pose_told c.in-Refused.is in
+    rw e (c.refuse.ensures.result_value, (c.refuse.ensures.out_after, (refl, sym (ch-kept (running_of a.mem.now) a.b.now c.in-Refused.number e))))

@@ -1,0 +1,41 @@
+-- `kept::chain::put_posed` meets its contract: the stores are the whole state, and a pose of doubles reads back. Assumes nothing.
+-- the numbers are doubles, and the frames have 16 bits
+use borrow.Author.Rules.{rules}
+use native.Mathlib.Omega.{arith}
+use mathlib.Core.Path.{◌∙◌, ap}
+use lib.ListN.{length-set}
+use Rattle.kept.specs.State.{running_of}
+use Rattle.sheets.proofs.Framed.{Fit}
+use Rattle.kept.proofs.Lent.{posed_stores, posed_stored}
+use Rattle.kept.proofs.chain.put_posed.Goals as goal
+
+fit : (c : goal.After-put_short) → Fit c.args.x
+fit c = record {
+  w = search rules;
+  x₁ = search rules;
+  y₁ = search rules;
+  z₁ = search rules;
+  x₂ = search rules;
+  y₂ = search rules;
+  z₂ = search rules;
+  s = search rules;
+  from = search rules;
+  to = search rules;
+}
+
+pub put_framed-requires : goal.put_framed-requires
+put_framed-requires c =
+    simp length-set (omega (arith, c.put_short-2.auto.out, c.put_short.auto.out, c.requires))
+
+pub shape_of-mem : goal.shape_of-mem
+shape_of-mem c =
+    c.put_framed.auto.out ∙ length-set c.put_short-2.new.out 4 1 ∙ c.put_short-2.auto.out ∙ c.put_short.auto.out
+
+pub returns : goal.returns
+returns c =
+    let a = c.args in
+    let w = (rw (c.put_short-2.ensures, c.put_short.ensures) at c.put_framed.ensures) ∙ posed_stores a.x a.n a.k a.mem.now in
+    record {
+      mem_after = w;
+      mem_after_2 = ap running_of w ∙ posed_stored a.x a.n a.k a.mem.now c.requires (search rules) (search rules) (fit (c));
+    }

@@ -1,0 +1,13 @@
+-- `kept::chain::running_at` meets its contract: by the byte that says whether there is a pose. Assumes nothing.
+use borrow.Author.Rules.{rules}
+use borrow.Author.Tests.{eq-eqb, ne_eqb}
+use Rattle.kept.specs.State.{start_of, running_of}
+use Rattle.kept.proofs.chain.running_at.Goals as goal
+
+pub returns-then-mem-eq1 : goal.returns-then-mem-eq1
+unfolding running_of start_of
+returns-then-mem-eq1 c = simp (c.Framed-at.ensures, eq-eqb _ _ c.if-mem-eq1.true, c.short_at-since.ensures, c.short_at-every.ensures)
+
+pub returns : goal.returns
+unfolding running_of start_of
+returns c = simp (ne_eqb _ _ c.if-mem-eq1.false, c.short_at-since.ensures, c.short_at-every.ensures)

@@ -1,0 +1,7 @@
+use borrow.Author.Rules.{rules}
+use Rattle.linalg.specs.Matrix.{mat_scale}
+use Rattle.linalg.proofs.matrix.Mat3.scale.Goals as goal
+
+pub returns : goal.returns
+unfolding mat_scale
+returns c = simp (c.scale-3.ensures, c.scale-2.ensures, c.scale.ensures)

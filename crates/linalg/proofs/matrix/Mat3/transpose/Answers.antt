@@ -1,0 +1,7 @@
+use borrow.Author.Rules.{rules}
+use Rattle.linalg.specs.Matrix.{mat_transpose}
+use Rattle.linalg.proofs.matrix.Mat3.transpose.Goals as goal
+
+pub returns : goal.returns
+unfolding mat_transpose
+returns c = simp c.from_rows.ensures

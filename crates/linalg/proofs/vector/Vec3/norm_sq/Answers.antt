@@ -1,0 +1,7 @@
+use borrow.Author.Rules.{rules}
+use Rattle.linalg.specs.Vector.{vec_norm_sq}
+use Rattle.linalg.proofs.vector.Vec3.norm_sq.Goals as goal
+
+pub returns : goal.returns
+unfolding vec_norm_sq
+returns c = simp c.dot.ensures

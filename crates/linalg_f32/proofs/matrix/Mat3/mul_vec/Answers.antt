@@ -1,0 +1,8 @@
+use mathlib.Core.Path.{refl}
+use Rattle.linalg.specs.Matrix.{mat_mul_vec}
+use Rattle.linalg_f32.specs.As.{as_mat3, as_vec3}
+use Rattle.linalg_f32.proofs.matrix.Mat3.mul_vec.Goals as goal
+
+pub returns : goal.returns
+unfolding mat_mul_vec as_mat3 as_vec3
+returns c = refl

@@ -1,0 +1,8 @@
+use borrow.Author.Rules.{rules}
+use Rattle.linalg.specs.Matrix.{mat_neg}
+use Rattle.linalg_f32.proofs.As.{linalg_singles}
+use Rattle.linalg_f32.proofs.matrix.Mat3.neg.Goals as goal
+
+pub returns : goal.returns
+unfolding mat_neg
+returns c = simp (linalg_singles, c.neg-3.ensures, c.neg-2.ensures, c.neg.ensures)

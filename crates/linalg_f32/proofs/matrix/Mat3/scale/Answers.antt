@@ -1,0 +1,8 @@
+use borrow.Author.Rules.{rules}
+use Rattle.linalg.specs.Matrix.{mat_scale}
+use Rattle.linalg_f32.proofs.As.{linalg_singles}
+use Rattle.linalg_f32.proofs.matrix.Mat3.scale.Goals as goal
+
+pub returns : goal.returns
+unfolding mat_scale
+returns c = simp (linalg_singles, c.scale-3.ensures, c.scale-2.ensures, c.scale.ensures)

@@ -1,0 +1,8 @@
+use borrow.Author.Rules.{rules}
+use Rattle.linalg.specs.Matrix.{mat_sub}
+use Rattle.linalg_f32.proofs.As.{linalg_singles}
+use Rattle.linalg_f32.proofs.matrix.Mat3.sub.Goals as goal
+
+pub returns : goal.returns
+unfolding mat_sub
+returns c = simp (linalg_singles, c.sub-3.ensures, c.sub-2.ensures, c.sub.ensures)

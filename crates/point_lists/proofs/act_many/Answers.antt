@@ -1,0 +1,33 @@
+-- `point_lists::act_many` meets its contract: lists that are accepted have every triple moved, and others are left as they were. Assumes nothing.
+use borrow.Author.Rules.{rules}
+use mathlib.Core.Path.{◌≡◌, sym, ◌∙◌}
+use mathlib.Core.Bool.{true, false}
+use lib.ListN.{length}
+use Rattle.point_lists.specs.Points.{points_accepted, list_told, points_answer, points_out}
+use Rattle.point_lists.proofs.Lists.{accepted_thirds}
+use Rattle.point_lists.proofs.act_many.Goals as goal
+
+pub many-requires : goal.many-requires
+many-requires c =
+    let a = c.args in
+    accepted_thirds (length a.pts.now) (length a.out.now) (sym c.accepted.ensures ∙ c.if-accepted.true)
+
+pub returns-then-accepted : goal.returns-then-accepted
+unfolding list_told points_answer points_out
+returns-then-accepted c =
+    let a = c.args in
+    let h : points_accepted (length a.pts.now) (length a.out.now) ≡ true = sym c.accepted.ensures ∙ c.if-accepted.true in
+    record {
+      result_value = simp h;
+      out_after = simp (h, c.many.ensures, c.scale-m.ensures, c.to_matrix.ensures);
+    }
+
+pub returns : goal.returns
+unfolding list_told points_answer points_out
+returns c =
+    let a = c.args in
+    let h : points_accepted (length a.pts.now) (length a.out.now) ≡ false = sym c.accepted.ensures ∙ c.if-accepted.false in
+    record {
+      result_value = simp h;
+      out_after = simp h;
+    }

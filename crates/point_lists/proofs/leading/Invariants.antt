@@ -1,0 +1,19 @@
+-- `point_lists::leading` meets its contract: after i turns the first i triples are moved and the rest is as it was, and what is left to read begins at triple i. Assumes nothing.
+use borrow.Author.Rules.{rules}
+use Prim.Native.Nat.{ℕ, ◌+◌, ◌*◌, ◌-◌, ◌≤◌}
+use mathlib.Core.Path.{◌≡◌, refl, ap, ◌∙◌}
+use mathlib.Core.List.{◌++◌}
+use native.Mathlib.Omega.{arith}
+use lib.ListN.{length, drop}
+use lib.Ieee.{binary64}
+use Rattle.point_lists.specs.Points.{points_moved, mat_act}
+use Rattle.point_lists.proofs.Lists.{moved_more, left-first, left-next, left-length}
+use Rattle.point_lists.proofs.leading.Given as goal
+
+abbrev pub invariant-loop-i : goal.invariant-loop-i
+invariant-loop-i l =
+    (l.i ≤ l.e) × (l.out ≡ points_moved (mat_act binary64 l.m l.t) l.pts l.i ++ drop (l.i * 3) l.initial.out)
+    × (length l.out ≡ length l.initial.out) × (l.rest ≡ drop (l.i * 3) l.pts) × (length l.rest + l.i * 3 ≡ length l.pts)
+
+abbrev pub decreases-loop-i : goal.decreases-loop-i
+decreases-loop-i l = l.e - l.i

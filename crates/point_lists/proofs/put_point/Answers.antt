@@ -1,0 +1,17 @@
+-- `point_lists::put_point` meets its contract: three stores, one after another. Assumes nothing.
+use borrow.Author.Rules.{rules}
+use mathlib.Core.Path.{refl}
+use native.Mathlib.Omega.{arith}
+use lib.ListN.{length-set}
+use Rattle.point_lists.specs.Private.{put_point}
+use Rattle.point_lists.proofs.put_point.Goals as goal
+
+pub returns : goal.returns
+unfolding put_point
+returns c = refl
+
+pub bounds-out-at-2 : goal.bounds-out-at-2
+bounds-out-at-2 c = simp length-set (omega arith)
+
+pub bounds-out-at-3 : goal.bounds-out-at-3
+bounds-out-at-3 c = simp length-set (omega arith)

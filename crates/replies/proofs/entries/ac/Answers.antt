@@ -1,0 +1,39 @@
+-- `replies::entries::ac` meets its contract: the call on lists is what the job asks for. Assumes nothing.
+-- a list of n zeros, as it is made
+use borrow.Author.Rules.{rules}
+use native.Mathlib.Omega.{arith}
+use mathlib.Core.Path.{◌≡◌, refl, sym, ap, ◌∙◌}
+use Prim.Native.Nat.{ℕ, ◌+◌, ◌*◌, ◌≤◌}
+use mathlib.Core.List.{List}
+use lib.ListN.{length, drop, replicate, length-drop}
+use lib.Seq.{sets}
+use lib.Ieee.{Float, binary64, of_bits}
+use Rattle.linalg.specs.Answer.{Answer}
+use Rattle.wire.specs.Wire.{Item, width, firsts, numbers_at, words_at}
+use Rattle.wire.proofs.Lists.{decoded, shorts_decoded}
+use Rattle.outcome.specs.Outcome.{gave_of, gave_bytes}
+use Rattle.from_lists.specs.Lists.{pose_lists}
+use Rattle.sim3_c_entries.specs.Calls.{arm_lists}
+use Rattle.replies.specs.Table.{framed_width}
+use Rattle.replies.proofs.Calls.{ac_told}
+use Rattle.replies.proofs.entries.ac.Goals as goal
+
+abbrev zeros : ℕ → List Float
+zeros n = replicate n (of_bits binary64 0)
+
+pub told-requires : goal.told-requires
+told-requires c =
+    let k : length c.act_point-n.new.out ≡ 3 = c.act_point-n.auto.out in omega (arith, c.requires.longest_bound, k)
+
+pub returns : goal.returns
+unfolding firsts
+returns c =
+    let b = c.args.b.now in
+    let x = c.decode.ensures ∙ decoded binary64 b (zeros 8) 8 (omega (arith, c.requires.b_len)) refl in
+    let p = c.decode-2.ensures ∙ decoded binary64 (drop (framed_width binary64) b) (zeros 4) 4 (rw (length-drop (framed_width binary64) b) (omega (arith, c.requires.b_len))) refl in
+    let s = c.act_point-n.ensures in
+    let t = ac_told binary64 b _ _ (zeros 3) _ _ _ x (rw p refl) (rw p refl) refl s.value s.out_after in
+    record {
+      value = c.told.ensures.value ∙ ap (gave_of binary64) t;
+      out_after = c.told.ensures.out_after ∙ ap (λ (a : Answer (List Item)). sets c.args.out.now 0 (gave_bytes binary64 a)) t;
+    }

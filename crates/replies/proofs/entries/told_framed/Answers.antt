@@ -1,0 +1,25 @@
+-- `replies::entries::told_framed` meets its contract: a refusal is handed on, and the numbers and frames are written at the front. Assumes nothing.
+use borrow.Author.Rules.{rules}
+use native.Mathlib.Omega.{arith}
+use mathlib.Core.Path.{◌≡◌, refl, sym, ap, ◌∙◌}
+use borrow.Author.Tests.{eq-eqb, ne_eqb}
+use lib.Ieee.{binary64}
+use Rattle.outcome.specs.Outcome.{gave_of, gave_bytes}
+use Rattle.replies.proofs.Told.{ending_framed}
+use Rattle.replies.proofs.entries.told_framed.Goals as goal
+
+pub returns-then-status-ne0 : goal.returns-then-status-ne0
+unfolding gave_of gave_bytes
+returns-then-status-ne0 c = rw (ne_eqb c.args.status 0 c.if-status-ne0.true)
+    (record {
+      value = refl;
+      out_after = refl;
+    })
+
+pub returns : goal.returns
+returns c =
+    rw (eq-eqb c.args.status 0 c.if-status-ne0.false)
+    (ending_framed binary64 c.args.out.now _ _ c.args.y.now
+    c.args.k.now _ _ c.requires.y_len c.requires.k_len
+    c.requires.binary64_in_bounds
+    c.encode-finite.ensures.value c.encode-finite.ensures.out_after c.encode_shorts.ensures c.gave.ensures)

@@ -1,0 +1,48 @@
+-- `replies_f32::entries::mu` meets its contract: the call on lists is what the job asks for. Assumes nothing.
+-- a list of n zeros, as it is made
+use borrow.Author.Rules.{rules}
+use native.Mathlib.Omega.{arith}
+use mathlib.Core.Path.{◌≡◌, refl, sym, ap, ◌∙◌}
+use Prim.Native.Nat.{ℕ, ◌+◌, ◌*◌, ◌≤◌}
+use mathlib.Core.List.{List}
+use lib.ListN.{length, drop, replicate, length-drop}
+use lib.Seq.{sets}
+use lib.Ieee.{Float, binary32, of_bits}
+use Rattle.linalg.specs.Answer.{Answer}
+use Rattle.wire.specs.Wire.{Item, width, firsts, numbers_at, words_at}
+use Rattle.wire.proofs.Lists.{decoded, shorts_decoded}
+use Rattle.outcome.specs.Outcome.{gave_of, gave_bytes}
+use Rattle.from_lists.specs.Lists.{pose_lists}
+use Rattle.sim3_c_entries.specs.Calls.{arm_lists}
+use Rattle.replies.specs.Table.{framed_width}
+use Rattle.replies.proofs.Calls.{mu_told}
+use Rattle.replies_f32.proofs.entries.mu.Goals as goal
+
+abbrev zeros : ℕ → List Float
+zeros n = replicate n (of_bits binary32 0)
+
+pub told_framed-requires : goal.told_framed-requires
+told_framed-requires c = record {
+  y_len = c.sim3_mul_f32-n.auto.out;
+  k_len = c.sim3_mul_f32-n.auto.out_frames;
+  binary32_in_bounds = omega (arith, c.requires.longest_bound);
+}
+
+pub returns : goal.returns
+unfolding firsts
+returns c =
+    let b = c.args.b.now in
+    let at = 8 * width binary32 in
+    let w = framed_width binary32 in
+    let x = c.decode.ensures ∙ decoded binary32 b (zeros 8) 8 (omega (arith, c.requires.b_len)) refl in
+    let k = c.decode_shorts.ensures ∙ shorts_decoded (drop at b) (replicate 2 0) 2 (rw (length-drop at b) (omega (arith, c.requires.b_len))) refl in
+    let y = c.decode-2.ensures ∙ decoded binary32 (drop w b) (zeros 8) 8 (rw (length-drop w b) (omega (arith, c.requires.b_len))) refl in
+    let l = c.decode_shorts-2.ensures ∙ shorts_decoded (drop (w + at) b) (replicate 2 0) 2 (rw (length-drop (w + at) b) (omega (arith, c.requires.b_len))) refl in
+    let u = c.decode-3.ensures ∙ decoded binary32 (drop (2 * w) b) (zeros 1) 1 (rw (length-drop (2 * w) b) (omega (arith, c.requires.b_len))) refl in
+    let s = c.sim3_mul_f32-n.ensures in
+    let t = mu_told binary32 b _ _ (pose_lists (zeros 8) (replicate 2 0)) _ _ _ (rw (x, k) refl) (rw (y, l) refl) (rw u refl) refl refl s.value s.out_frames_after in
+    record {
+      value = c.told_framed.ensures.value ∙ ap (gave_of binary32) t;
+      out_after = c.told_framed.ensures.out_after ∙ ap
+          (λ (a : Answer (List Item)). sets c.args.out.now 0 (gave_bytes binary32 a)) t;
+    }

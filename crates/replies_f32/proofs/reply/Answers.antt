@@ -1,0 +1,230 @@
+-- `replies_f32::reply` meets its contract: a cut record and an output without room are told; else the mark or NO is stored before what the entry wrote. Assumes nothing.
+-- what is known where the entry has answered
+use borrow.Author.Rules.{rules}
+use native.Mathlib.Omega.{arith}
+use Prim.Native.Nat.{◌+◌, ◌-◌, ◌≤◌, ◌<◌}
+use mathlib.Core.Path.{◌≡◌, refl, sym, ap, ◌∙◌}
+use mathlib.Core.Bool.{true, false}
+use lib.Ieee.{binary32}
+use lib.ListN.{length, take, drop, length-drop, length-set}
+use lib.Seq.{sets, length-take-le}
+use Rattle.outcome.proofs.Record.{reply-cut, reply-roomless}
+use Rattle.replies.specs.Table.{width_of, entry_reply}
+use Rattle.replies.proofs.Replies.{width-most, Given, given_length, given_most, given_wrote, given_refused}
+use Rattle.linalg_f32.proofs.As.{linalg_singles}
+use Rattle.circle_f32.proofs.As.{circle-singles}
+use Rattle.series_f32.proofs.As.{series-singles}
+use Rattle.closed_f32.proofs.As.{closed-singles}
+use Rattle.coeffs_f32.proofs.As.{coeffs_singles}
+use Rattle.so3_f32.proofs.As.{so3_singles}
+use Rattle.sim3_f32.proofs.As.{sim3-singles}
+use Rattle.jacobian_f32.proofs.As.{jacobian_singles}
+use Rattle.sides_f32.proofs.As.{sides_singles}
+use Rattle.frames_f32.proofs.As.{frames-singles}
+use Rattle.from_lists_f32.proofs.As.{from_lists_singles}
+use Rattle.replies_f32.proofs.reply.Goals as goal
+
+given : (c : goal.After-give) → let a =
+    c.args in Given binary32 a.e a.s.now a.out.now c.give.result c.give.new.out
+given c =
+    let a = c.args in
+    let w : c.width-end.result ≡ width_of binary32 a.e = c.width-end.ensures in
+    let n : 2 + c.width-end.result - 2 ≡ width_of binary32 a.e = omega arith in
+    record {
+      whole = omega (arith, c.if-s-end.false);
+      room = c.if-out-lt-LONGEST.false;
+      told = rw n at c.give.ensures.value;
+      stored = rw n at c.give.ensures.out_after;
+    }
+
+pub bounds-s-0 : goal.bounds-s-0
+bounds-s-0 c =
+    omega (arith, c.if-s-end.false)
+
+pub bounds-s-1 : goal.bounds-s-1
+bounds-s-1 c =
+    omega (arith, c.if-s-end.false)
+
+pub bounds-s-0-in-Unusable : goal.bounds-s-0-in-Unusable
+bounds-s-0-in-Unusable c =
+    omega (arith, c.if-s-end.false)
+
+pub bounds-s-1-in-Unusable : goal.bounds-s-1-in-Unusable
+bounds-s-1-in-Unusable c =
+    omega (arith, c.if-s-end.false)
+
+pub bounds-out-0 : goal.bounds-out-0
+bounds-out-0 c =
+    let room = c.if-out-lt-LONGEST.false in (omega (arith, given_length (given c)))
+
+pub bounds-out-1 : goal.bounds-out-1
+bounds-out-1 c =
+    let room = c.if-out-lt-LONGEST.false in simp (
+      linalg_singles,
+      circle-singles,
+      series-singles,
+      closed-singles,
+      coeffs_singles,
+      so3_singles,
+      sim3-singles,
+      jacobian_singles,
+      sides_singles,
+      frames-singles,
+      from_lists_singles,
+      length-set,
+    ) (omega (arith, given_length (given c)))
+
+pub bounds-out-0-in-Unusable : goal.bounds-out-0-in-Unusable
+bounds-out-0-in-Unusable c =
+    let room = c.if-out-lt-LONGEST.false in (omega (arith, given_length (given c)))
+
+pub bounds-out-1-in-Unusable : goal.bounds-out-1-in-Unusable
+bounds-out-1-in-Unusable c =
+    let room = c.if-out-lt-LONGEST.false in simp (
+      linalg_singles,
+      circle-singles,
+      series-singles,
+      closed-singles,
+      coeffs_singles,
+      so3_singles,
+      sim3-singles,
+      jacobian_singles,
+      sides_singles,
+      frames-singles,
+      from_lists_singles,
+      length-set,
+    ) (omega (arith, given_length (given c)))
+
+pub bounds-out-0-in-Refused : goal.bounds-out-0-in-Refused
+bounds-out-0-in-Refused c =
+    let room = c.if-out-lt-LONGEST.false in (omega (arith, given_length (given (c))))
+
+pub bounds-out-1-in-Refused : goal.bounds-out-1-in-Refused
+bounds-out-1-in-Refused c =
+    let room = c.if-out-lt-LONGEST.false in simp (
+      linalg_singles,
+      circle-singles,
+      series-singles,
+      closed-singles,
+      coeffs_singles,
+      so3_singles,
+      sim3-singles,
+      jacobian_singles,
+      sides_singles,
+      frames-singles,
+      from_lists_singles,
+      length-set,
+    )
+    (omega (arith, given_length (given (c))))
+
+pub bounds-out-2 : goal.bounds-out-2
+bounds-out-2 c =
+    let room = c.if-out-lt-LONGEST.false in simp (
+      linalg_singles,
+      circle-singles,
+      series-singles,
+      closed-singles,
+      coeffs_singles,
+      so3_singles,
+      sim3-singles,
+      jacobian_singles,
+      sides_singles,
+      frames-singles,
+      from_lists_singles,
+      length-set,
+    )
+    (omega (arith, given_length (given (c))))
+
+pub shape_of-out-in-Wrote : goal.shape_of-out-in-Wrote
+shape_of-out-in-Wrote c =
+    simp (
+      linalg_singles,
+      circle-singles,
+      series-singles,
+      closed-singles,
+      coeffs_singles,
+      so3_singles,
+      sim3-singles,
+      jacobian_singles,
+      sides_singles,
+      frames-singles,
+      from_lists_singles,
+      length-set,
+    ) (given_length (given c))
+
+pub shape_of-out-in-Unusable : goal.shape_of-out-in-Unusable
+shape_of-out-in-Unusable c =
+    simp (
+      linalg_singles,
+      circle-singles,
+      series-singles,
+      closed-singles,
+      coeffs_singles,
+      so3_singles,
+      sim3-singles,
+      jacobian_singles,
+      sides_singles,
+      frames-singles,
+      from_lists_singles,
+      length-set,
+    ) (given_length (given c))
+
+pub shape_of-out-in-Refused : goal.shape_of-out-in-Refused
+shape_of-out-in-Refused c =
+    simp (
+      linalg_singles,
+      circle-singles,
+      series-singles,
+      closed-singles,
+      coeffs_singles,
+      so3_singles,
+      sim3-singles,
+      jacobian_singles,
+      sides_singles,
+      frames-singles,
+      from_lists_singles,
+      length-set,
+    ) (given_length (given (c)))
+
+pub overflow_add-result : goal.overflow_add-result
+overflow_add-result c =
+    omega (arith, given_most (given c) true c.in-Wrote.n c.in-Wrote.is)
+
+pub overflow_add-result-in-Unusable : goal.overflow_add-result-in-Unusable
+overflow_add-result-in-Unusable c =
+    omega (arith, given_most (given c) false c.in-Unusable.n c.in-Unusable.is)
+
+pub overflow_add-end : goal.overflow_add-end
+overflow_add-end c = omega (arith, c.width-end.ensures, width-most binary32 c.args.e)
+
+pub returns-then-s-end : goal.returns-then-s-end
+returns-then-s-end c =
+    let a = c.args in
+    let h : length a.s.now < 2 + width_of binary32 a.e = omega (arith, c.width-end.ensures, c.if-s-end.true) in
+    let t = reply-cut (length a.out.now) (2 + width_of binary32 a.e) (entry_reply binary32 a.e) a.s.now h in
+    record {
+      result_value = t.0;
+      out_after = ap (sets a.out.now 0) t.1;
+    }
+
+pub returns-then-out-lt-LONGEST : goal.returns-then-out-lt-LONGEST
+returns-then-out-lt-LONGEST c =
+    let a = c.args in
+    let h : 2 + width_of binary32 a.e ≤ length a.s.now = omega (arith, c.width-end.ensures, c.if-s-end.false) in
+    let t = reply-roomless (length a.out.now) (2 + width_of binary32 a.e) (entry_reply binary32 a.e) a.s.now h c.if-out-lt-LONGEST.true in
+    record {
+      result_value = t.0;
+      out_after = ap (sets a.out.now 0) t.1;
+    }
+
+pub returns-in-Wrote : goal.returns-in-Wrote
+returns-in-Wrote c =
+    rw c.width-end.ensures (given_wrote (given c) true c.in-Wrote.n c.in-Wrote.is)
+
+pub returns-in-Unusable : goal.returns-in-Unusable
+returns-in-Unusable c =
+    rw c.width-end.ensures (given_wrote (given c) false c.in-Unusable.n c.in-Unusable.is)
+
+pub returns-in-Refused : goal.returns-in-Refused
+returns-in-Refused c =
+    rw c.width-end.ensures (given_refused (given (c)) c.in-Refused.number c.in-Refused.is)

@@ -1,0 +1,12 @@
+-- `series::horner::entries_read` meets its contract: by its test. Assumes nothing.
+use borrow.Author.Rules.{rules}
+use mathlib.Core.Path.{refl}
+use native.Mathlib.Omega.{arith}
+use borrow.Author.Tests.{lt-ltb, le-ltb}
+use Rattle.series.proofs.horner.entries_read.Goals as goal
+
+pub returns-then-terms-stop : goal.returns-then-terms-stop
+returns-then-terms-stop c = (rw (lt-ltb _ _ c.if-terms-stop.true) refl, omega arith)
+
+pub returns : goal.returns
+returns c = (rw (le-ltb _ _ c.if-terms-stop.false) refl, omega arith)

@@ -1,0 +1,11 @@
+-- `series::reciprocal::never` meets its contract: nobody calls it. Assumes nothing.
+use Rattle.series.proofs.reciprocal.never.Goals as goal
+
+pub loop-init : goal.loop-init
+loop-init c = c.requires
+
+pub loop-smaller : goal.loop-smaller
+loop-smaller c = absurd c.loop.invariant
+
+pub loop-preserved : goal.loop-preserved
+loop-preserved c = absurd c.loop.invariant

@@ -1,0 +1,5 @@
+use borrow.Author.Rules.{rules}
+use Rattle.series.proofs.reciprocal.recip.Goals as goal
+
+pub returns : goal.returns
+returns c = simp c.table_entry.ensures

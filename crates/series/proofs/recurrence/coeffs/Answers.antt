@@ -1,0 +1,7 @@
+use borrow.Author.Rules.{rules}
+use Rattle.series.specs.Series.{series_coeffs}
+use Rattle.series.proofs.recurrence.coeffs.Goals as goal
+
+pub returns : goal.returns
+unfolding series_coeffs
+returns c = simp c.chi_delta.ensures

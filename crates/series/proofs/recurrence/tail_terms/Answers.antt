@@ -1,0 +1,8 @@
+use borrow.Author.Rules.{rules}
+use Rattle.series.specs.Private.{tail_terms}
+use Rattle.series.proofs.recurrence.tail_terms.Goals as goal
+
+pub returns : goal.returns
+unfolding tail_terms
+returns c =
+    simp (c.next-n.ensures, c.next-m.ensures)

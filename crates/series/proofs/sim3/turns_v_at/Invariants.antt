@@ -1,0 +1,14 @@
+-- `series::sim3::turns_v_at` meets its contract: the shortest arm's turns are written out; after j turns the loop holds `v_turns` at j, and it stops at k + 1. Assumes nothing.
+use mathlib.Core.Path.{◌≡◌}
+use Prim.Native.Nat.{◌+◌, ◌-◌, ◌≤◌}
+use native.Mathlib.Omega.{arith}
+use lib.Ieee.{binary64}
+use Rattle.series.specs.Private.{v_turns}
+use Rattle.series.proofs.Solo.{v_more}
+use Rattle.series.proofs.sim3.turns_v_at.Given as goal
+
+abbrev pub invariant-loop-j : goal.invariant-loop-j
+invariant-loop-j l = (l.j ≤ l.k + 1) × (l.s ≡ v_turns binary64 l.sigma l.z l.j)
+
+abbrev pub decreases-loop-j : goal.decreases-loop-j
+decreases-loop-j l = l.k + 1 - l.j

@@ -1,0 +1,21 @@
+-- `series_f32::horner::horner_stopped` meets its contract: after i turns each of the four sums is the partial sum that its sign alone has after i entries.
+use mathlib.Core.Path.{◌≡◌, refl}
+use Prim.Native.Nat.{◌+◌, ◌-◌, ◌≤◌}
+use native.Mathlib.Omega.{arith}
+use borrow.Author.Rules.{rules}
+use lib.Ieee.{binary32, of_bits, neg}
+use Rattle.series.specs.Pass.{g_stopped}
+use Rattle.series.proofs.PartialSums.{stopped_more}
+use Rattle.series_f32.specs.As.{as_g_pair, as_horner}
+use Rattle.series_f32.proofs.horner.horner_stopped.Given as goal
+
+abbrev pub invariant-loop-i : goal.invariant-loop-i
+invariant-loop-i l =
+    (l.i ≤ l.n)
+    × (l.v ≡ g_stopped binary32 l.sigma 1 l.k l.i)
+    × (l.v_neg ≡ g_stopped binary32 (neg l.sigma) 1 l.k l.i)
+    × (l.w ≡ g_stopped binary32 l.sigma 2 l.k l.i)
+    × (l.w_neg ≡ g_stopped binary32 (neg l.sigma) 2 l.k l.i)
+
+abbrev pub decreases-loop-i : goal.decreases-loop-i
+decreases-loop-i l = l.n - l.i

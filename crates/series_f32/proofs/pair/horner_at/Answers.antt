@@ -1,0 +1,13 @@
+-- `series_f32::pair::horner_at` meets its contract: after all entries the partial sums are Horner's sums.
+use borrow.Author.Rules.{rules}
+use mathlib.Core.Path.{◌∙◌}
+use lib.Ieee.{binary32}
+use Rattle.series.proofs.PartialSums.{both_last}
+use Rattle.series_f32.specs.As.{as_g_pair, as_horner}
+use Rattle.series_f32.proofs.pair.horner_at.Goals as goal
+
+pub returns : goal.returns
+unfolding as_g_pair as_horner
+returns c =
+    let a = c.args in
+    c.horner_stopped.ensures ∙ (λ i. record { v0 = both_last binary32 a.sigma 1 a.k i; w0 = both_last binary32 a.sigma 2 a.k i })

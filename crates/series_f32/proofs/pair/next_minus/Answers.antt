@@ -1,0 +1,13 @@
+-- `series_f32::pair::next_minus` meets its contract: subtracting p is adding -p, and the product with -p is that with p turned. Assumes nothing.
+use borrow.Author.Rules.{rules}
+use lib.Ieee.{sub}
+use Rattle.ieee.proofs.Sign.{neg-neg, mul-neg_l}
+use Rattle.series.specs.Series.{series_next}
+use Rattle.series.specs.Private.{level_minus}
+use Rattle.linalg_f32.proofs.As.{linalg_singles}
+use Rattle.series_f32.proofs.As.{series-singles}
+use Rattle.series_f32.proofs.pair.next_minus.Goals as goal
+
+pub returns : goal.returns
+unfolding level_minus series_next sub
+returns c = simp (linalg_singles, series-singles, mul-neg_l, neg-neg)

@@ -1,0 +1,20 @@
+use borrow.Author.Rules.{rules}
+use Rattle.series.specs.Private.{pair_sums}
+use Rattle.linalg_f32.proofs.As.{linalg_singles}
+use Rattle.series_f32.proofs.As.{series-singles}
+use Rattle.series_f32.proofs.pair.sums_pair_at.Goals as goal
+
+pub returns : goal.returns
+unfolding pair_sums
+returns c =
+    simp (
+      linalg_singles,
+      series-singles,
+      c.last_mirrored.ensures,
+      c.last.ensures,
+      c.tail_terms-t.ensures,
+      c.recip-3.ensures,
+      c.recip-2.ensures,
+      c.recip.ensures,
+      c.turns_at-s.ensures,
+    )

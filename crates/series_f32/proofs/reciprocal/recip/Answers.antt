@@ -1,0 +1,7 @@
+use borrow.Author.Rules.{rules}
+use Rattle.linalg_f32.proofs.As.{linalg_singles}
+use Rattle.series_f32.proofs.As.{series-singles}
+use Rattle.series_f32.proofs.reciprocal.recip.Goals as goal
+
+pub returns : goal.returns
+returns c = simp (linalg_singles, series-singles, c.table_entry.ensures)

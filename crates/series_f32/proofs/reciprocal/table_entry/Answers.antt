@@ -1,0 +1,20 @@
+-- `series_f32::reciprocal::table_entry` meets its contract: the table has the index, so it gives the number. Assumes nothing.
+use mathlib.Core.Path.{sym, ap, ◌∙◌}
+use borrow.Author.Rules.{rules}
+use lib.Ieee.{binary32}
+use Rattle.tables.specs.Found.{recip_single_told}
+use Rattle.tables.proofs.Every.{recip_number, recip_not_none}
+use Rattle.series_f32.proofs.reciprocal.table_entry.Goals as goal
+
+pub never-requires : goal.never-requires
+unfolding recip_single_told
+never-requires c = recip_not_none binary32 c.args.n c.requires
+    (sym (ap recip_single_told c.in-None.is) ∙ c.recip_fact.ensures)
+
+pub returns-in-Number : goal.returns-in-Number
+unfolding recip_single_told
+returns-in-Number c = recip_number binary32 c.args.n _ c.requires
+    (sym (ap recip_single_told c.in-Number.is) ∙ c.recip_fact.ensures)
+
+pub returns-in-None : goal.returns-in-None
+returns-in-None c = absurd c.never.ensures

@@ -1,0 +1,7 @@
+use mathlib.Core.Path.{refl}
+use Rattle.series.specs.Series.{series_chi, coeffs_delta}
+use Rattle.series_f32.proofs.recurrence.chi_delta.Goals as goal
+
+pub returns : goal.returns
+unfolding series_chi coeffs_delta
+returns c = refl

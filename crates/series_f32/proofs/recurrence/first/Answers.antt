@@ -1,0 +1,9 @@
+use mathlib.Core.Path.{refl}
+use Rattle.series.specs.Series.{series_first}
+use lib.Ieee.{of_bits}
+use Rattle.series_f32.specs.As.{as_level}
+use Rattle.series_f32.proofs.recurrence.first.Goals as goal
+
+pub returns : goal.returns
+unfolding series_first of_bits as_level
+returns c = refl

@@ -1,0 +1,9 @@
+use mathlib.Core.Path.{refl}
+use Rattle.series.specs.Private.{sums_none}
+use lib.Ieee.{of_bits}
+use Rattle.series_f32.specs.As.{as_sums}
+use Rattle.series_f32.proofs.recurrence.none.Goals as goal
+
+pub returns : goal.returns
+unfolding sums_none of_bits as_sums
+returns c = refl

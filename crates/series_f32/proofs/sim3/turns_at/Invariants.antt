@@ -1,0 +1,17 @@
+-- `series_f32::sim3::turns_at` meets its contract: after j turns the loop holds `solo_turns` at j, and it stops at k + 1. Assumes nothing.
+use mathlib.Core.Path.{◌≡◌}
+use Prim.Native.Nat.{◌+◌, ◌-◌, ◌≤◌}
+use native.Mathlib.Omega.{arith}
+use lib.Ieee.{binary32}
+use Rattle.series.specs.Private.{solo_turns}
+use Rattle.series.proofs.Solo.{solo_more}
+use Rattle.series_f32.specs.As.{as_turns}
+use Rattle.linalg_f32.proofs.As.{linalg_singles}
+use Rattle.series_f32.proofs.As.{series-singles}
+use Rattle.series_f32.proofs.sim3.turns_at.Given as goal
+
+abbrev pub invariant-loop-j : goal.invariant-loop-j
+invariant-loop-j l = (l.j ≤ l.k + 1) × (as_turns l.s ≡ solo_turns binary32 l.sigma l.z l.j)
+
+abbrev pub decreases-loop-j : goal.decreases-loop-j
+decreases-loop-j l = l.k + 1 - l.j

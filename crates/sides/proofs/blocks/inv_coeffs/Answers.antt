@@ -1,0 +1,8 @@
+use mathlib.Core.Path.{refl}
+use Rattle.sides.specs.Blocks.{inv_coeffs}
+use lib.Ieee.{of_bits}
+use Rattle.sides.proofs.blocks.inv_coeffs.Goals as goal
+
+pub returns : goal.returns
+unfolding inv_coeffs of_bits
+returns c = refl

@@ -1,0 +1,11 @@
+-- `sides::pair::no_blocks` meets its contract: nobody calls it. Assumes nothing.
+use Rattle.sides.proofs.pair.no_blocks.Goals as goal
+
+pub loop-init : goal.loop-init
+loop-init c = c.requires
+
+pub loop-smaller : goal.loop-smaller
+loop-smaller c = absurd c.loop.invariant
+
+pub loop-preserved : goal.loop-preserved
+loop-preserved c = absurd c.loop.invariant

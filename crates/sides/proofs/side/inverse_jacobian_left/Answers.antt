@@ -1,0 +1,7 @@
+use borrow.Author.Rules.{rules}
+use Rattle.sides.specs.Side.{inverse_jacobian_left}
+use Rattle.sides.proofs.side.inverse_jacobian_left.Goals as goal
+
+pub returns : goal.returns
+unfolding inverse_jacobian_left
+returns c = simp (c.neg.ensures, c.inverse_adjoint.ensures)

@@ -1,0 +1,7 @@
+use borrow.Author.Rules.{rules}
+use Rattle.sides.specs.Side.{inverse_jacobian_right}
+use Rattle.sides.proofs.side.inverse_jacobian_right.Goals as goal
+
+pub returns : goal.returns
+unfolding inverse_jacobian_right
+returns c = simp (c.neg.ensures, c.adjoint.ensures)

@@ -1,0 +1,7 @@
+use borrow.Author.Rules.{rules}
+use Rattle.sides.specs.Side.{jac_jl_inv}
+use Rattle.sides.proofs.side.jl_inv.Goals as goal
+
+pub returns : goal.returns
+unfolding jac_jl_inv
+returns c = simp c.jl_and_inverse.ensures

@@ -1,0 +1,7 @@
+use borrow.Author.Rules.{rules}
+use Rattle.sides.specs.Side.{jac_jr}
+use Rattle.sides.proofs.side.jr.Goals as goal
+
+pub returns : goal.returns
+unfolding jac_jr
+returns c = simp (c.jl.ensures, c.neg.ensures)

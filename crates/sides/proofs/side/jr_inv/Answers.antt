@@ -1,0 +1,7 @@
+use borrow.Author.Rules.{rules}
+use Rattle.sides.specs.Side.{jac_jr_inv}
+use Rattle.sides.proofs.side.jr_inv.Goals as goal
+
+pub returns : goal.returns
+unfolding jac_jr_inv
+returns c = simp (c.jl_inv.ensures, c.neg.ensures)

@@ -1,0 +1,39 @@
+use borrow.Author.Rules.{rules}
+use Rattle.sides.specs.Blocks.{jl_and_inverse_from}
+use lib.Ieee.{of_bits}
+use Rattle.linalg_f32.proofs.As.{linalg_singles}
+use Rattle.circle_f32.proofs.As.{circle-singles}
+use Rattle.series_f32.proofs.As.{series-singles}
+use Rattle.closed_f32.proofs.As.{closed-singles}
+use Rattle.coeffs_f32.proofs.As.{coeffs_singles}
+use Rattle.so3_f32.proofs.As.{so3_singles}
+use Rattle.sim3_f32.proofs.As.{sim3-singles}
+use Rattle.jacobian_f32.proofs.As.{jacobian_singles}
+use Rattle.sides_f32.proofs.As.{sides_singles}
+use Rattle.sides_f32.proofs.blocks.jl_and_inverse_at.Goals as goal
+
+pub returns : goal.returns
+unfolding jl_and_inverse_from of_bits
+returns c =
+    simp (
+      linalg_singles,
+      circle-singles,
+      series-singles,
+      closed-singles,
+      coeffs_singles,
+      so3_singles,
+      sim3-singles,
+      jacobian_singles,
+      sides_singles,
+      c.neg-f.ensures,
+      c.mul_vec.ensures,
+      c.neg-b.ensures,
+      c.mul-2.ensures,
+      c.mul.ensures,
+      c.scale-ci.ensures,
+      c.poly.ensures,
+      c.inv_coeffs.ensures,
+      c.pick-inv_scale.ensures,
+      c.jl_blocks_with-j.ensures,
+      c.unscale.ensures,
+    )

@@ -1,0 +1,34 @@
+use borrow.Author.Rules.{rules}
+use Rattle.sides.specs.Side.{exp_and_jl}
+use Rattle.sides.specs.Blocks.{jac_jl}
+use Rattle.sim3.specs.Exp.{pose_exp}
+use Rattle.coeffs.specs.Group.{coeffs_v}
+use Rattle.series.specs.Series.{coeffs4}
+use Rattle.linalg_f32.proofs.As.{linalg_singles}
+use Rattle.circle_f32.proofs.As.{circle-singles}
+use Rattle.series_f32.proofs.As.{series-singles}
+use Rattle.closed_f32.proofs.As.{closed-singles}
+use Rattle.coeffs_f32.proofs.As.{coeffs_singles}
+use Rattle.so3_f32.proofs.As.{so3_singles}
+use Rattle.sim3_f32.proofs.As.{sim3-singles}
+use Rattle.jacobian_f32.proofs.As.{jacobian_singles}
+use Rattle.sides_f32.proofs.As.{sides_singles}
+use Rattle.sides_f32.proofs.side.exp_and_jl.Goals as goal
+
+pub returns : goal.returns
+unfolding exp_and_jl jac_jl pose_exp coeffs_v coeffs4
+returns c = simp (
+  linalg_singles,
+  circle-singles,
+  series-singles,
+  closed-singles,
+  coeffs_singles,
+  so3_singles,
+  sim3-singles,
+  jacobian_singles,
+  sides_singles,
+  c.jl_blocks_with-j.ensures,
+  c.v_apply-t.ensures,
+  c.exp-q.ensures,
+  c.sim3_coeffs_of-c.ensures,
+)

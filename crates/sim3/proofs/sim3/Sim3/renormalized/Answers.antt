@@ -1,0 +1,7 @@
+use borrow.Author.Rules.{rules}
+use Rattle.sim3.specs.Pose.{pose_renormalized}
+use Rattle.sim3.proofs.sim3.Sim3.renormalized.Goals as goal
+
+pub returns : goal.returns
+unfolding pose_renormalized
+returns c = simp c.renormalized.ensures

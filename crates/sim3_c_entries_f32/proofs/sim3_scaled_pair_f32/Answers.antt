@@ -1,0 +1,44 @@
+-- `sim3_c_entries_f32::sim3_scaled_pair_f32` meets its contract: the lists are read, the engine is asked, and its answer is written or the refusal handed on. Assumes nothing.
+use borrow.Author.Rules.{rules}
+use mathlib.Core.Path.{refl}
+use Rattle.coeffs_f32.specs.Told.{pair_told}
+use Rattle.from_lists_f32.specs.Told.{values_read_told}
+use Rattle.to_lists.specs.Written.{status, written}
+use Rattle.sim3_c_entries.specs.Calls.{scaled_pair_call}
+use Rattle.sim3_c_entries_f32.proofs.sim3_scaled_pair_f32.Goals as goal
+
+pub returns-in_default : goal.returns-in_default
+unfolding status written scaled_pair_call values_read_told
+returns-in_default c = rw (← c.values_from.ensures, c.in_default.is)
+    (record {
+      value = refl;
+      out_after = refl;
+    })
+
+pub returns-in-Coeffs : goal.returns-in-Coeffs
+unfolding status written scaled_pair_call pair_told values_read_told
+returns-in-Coeffs c =
+    rw (
+      ← c.values_from.ensures,
+      c.in-Got.is,
+      ← c.sim3_coeffs_scaled_pair.ensures,
+      c.in-Coeffs.is,
+    )
+    (record {
+      value = c.put_scaled_pair.ensures.value;
+      out_after = c.put_scaled_pair.ensures.out_after;
+    })
+
+pub returns-in-Refused : goal.returns-in-Refused
+unfolding status written scaled_pair_call pair_told values_read_told
+returns-in-Refused c =
+    rw (
+      ← c.values_from.ensures,
+      c.in-Got.is,
+      ← c.sim3_coeffs_scaled_pair.ensures,
+      c.in-Refused.is,
+    )
+    (record {
+      value = refl;
+      out_after = refl;
+    })

@@ -1,0 +1,9 @@
+-- `sim3_c_f32::pose::sim3_renormalize_f32` meets its contract: it is what the list crate's function ensures. Assumes nothing.
+use borrow.Author.Rules.{rules}
+use Rattle.sim3_c_f32.proofs.pose.sim3_renormalize_f32.Goals as goal
+
+pub returns : goal.returns
+returns c = record {
+  value = c.renormalize_pose.ensures.value;
+  x_after = c.renormalize_pose.ensures.x_after;
+}

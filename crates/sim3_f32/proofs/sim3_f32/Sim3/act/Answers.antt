@@ -1,0 +1,25 @@
+use borrow.Author.Rules.{rules}
+use Rattle.sim3.specs.Pose.{pose_act}
+use Rattle.linalg_f32.proofs.As.{linalg_singles}
+use Rattle.circle_f32.proofs.As.{circle-singles}
+use Rattle.series_f32.proofs.As.{series-singles}
+use Rattle.closed_f32.proofs.As.{closed-singles}
+use Rattle.coeffs_f32.proofs.As.{coeffs_singles}
+use Rattle.so3_f32.proofs.As.{so3_singles}
+use Rattle.sim3_f32.proofs.As.{sim3-singles}
+use Rattle.sim3_f32.proofs.sim3_f32.Sim3.act.Goals as goal
+
+pub returns : goal.returns
+unfolding pose_act
+returns c = simp (
+  linalg_singles,
+  circle-singles,
+  series-singles,
+  closed-singles,
+  coeffs_singles,
+  so3_singles,
+  sim3-singles,
+  c.add.ensures,
+  c.scale.ensures,
+  c.act-rp.ensures,
+)

@@ -1,0 +1,36 @@
+-- `sim3_f32::sim3::Sim3::inverse` meets its contract: by what its calls ensure, the sign taken out of each product. Assumes nothing.
+use borrow.Author.Rules.{rules}
+use mathlib.Core.Path.{◌≡◌}
+use lib.Ieee.{Float, Format, neg}
+use Rattle.ieee.proofs.Sign.{mul-neg_r}
+use Rattle.linalg.specs.Vector.{vec, vec_scale, vec_neg}
+use Rattle.linalg.specs.declared.vector.Vec3.{Vec3}
+use Rattle.sim3.specs.Pose.{pose_inverse}
+use Rattle.linalg_f32.proofs.As.{linalg_singles}
+use Rattle.circle_f32.proofs.As.{circle-singles}
+use Rattle.series_f32.proofs.As.{series-singles}
+use Rattle.closed_f32.proofs.As.{closed-singles}
+use Rattle.coeffs_f32.proofs.As.{coeffs_singles}
+use Rattle.so3_f32.proofs.As.{so3_singles}
+use Rattle.sim3_f32.proofs.As.{sim3-singles}
+use Rattle.sim3_f32.proofs.sim3_f32.Sim3.inverse.Goals as goal
+
+scale-neg : (f : Format) (v : Vec3) (k : Float) → vec_scale f v (neg k) ≡ vec_neg (vec_scale f v k)
+unfolding vec_scale vec_neg
+scale-neg f v k = λ i. vec (mul-neg_r f v.x k i) (mul-neg_r f v.y k i) (mul-neg_r f v.z k i)
+
+pub returns : goal.returns
+unfolding pose_inverse
+returns c = simp (
+  linalg_singles,
+  circle-singles,
+  series-singles,
+  closed-singles,
+  coeffs_singles,
+  so3_singles,
+  sim3-singles,
+  c.scale.ensures,
+  scale-neg,
+  c.act-rt.ensures,
+  c.conjugate-r.ensures,
+)

@@ -1,0 +1,10 @@
+use borrow.Author.Rules.{rules}
+use mathlib.Core.Path.{refl}
+use Rattle.sim3.specs.Tangent.{tangent_from_dense}
+use Rattle.linalg_f32.specs.As.{as_vec3}
+use Rattle.sim3_f32.specs.As.{as_sim3_tangent}
+use Rattle.sim3_f32.proofs.tangent.Sim3Tangent.from_dense.Goals as goal
+
+pub returns : goal.returns
+unfolding tangent_from_dense as_sim3_tangent as_vec3
+returns c = refl

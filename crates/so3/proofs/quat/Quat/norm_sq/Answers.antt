@@ -1,0 +1,7 @@
+use mathlib.Core.Path.{refl}
+use Rattle.so3.specs.Quat.{quat_norm_sq}
+use Rattle.so3.proofs.quat.Quat.norm_sq.Goals as goal
+
+pub returns : goal.returns
+unfolding quat_norm_sq
+returns c = refl

@@ -1,0 +1,12 @@
+-- `so3_f32::quat::Quat::renormalized` meets its contract: by what `norm_sq` ensures, then operation by operation. Assumes nothing.
+use borrow.Author.Rules.{rules}
+use Rattle.so3.specs.Quat.{quat_renormalized}
+use lib.Ieee.{of_bits}
+use Rattle.linalg_f32.proofs.As.{linalg_singles}
+use Rattle.circle_f32.proofs.As.{circle-singles}
+use Rattle.so3_f32.proofs.As.{so3_singles}
+use Rattle.so3_f32.proofs.quat.Quat.renormalized.Goals as goal
+
+pub returns : goal.returns
+unfolding quat_renormalized of_bits
+returns c = simp (linalg_singles, circle-singles, so3_singles, c.norm_sq.ensures)

@@ -1,0 +1,14 @@
+-- `to_lists::set_pose` meets its contract: the quaternion, the translation and the store of the log scale are the run of the numbers. Assumes nothing.
+use borrow.Author.Rules.{rules}
+use native.Mathlib.Omega.{arith}
+use lib.ListN.{length-set}
+use Rattle.to_lists.proofs.Stores.{pose_stored}
+use Rattle.to_lists.proofs.set_pose.Goals as goal
+
+pub returns : goal.returns
+returns c =
+    let a = c.args in
+    rw (c.set_three.ensures, c.set_quat.ensures) (pose_stored a.x a.out.now a.at)
+
+pub shape_of-out : goal.shape_of-out
+shape_of-out c = simp length-set (search rules)

@@ -1,0 +1,17 @@
+-- `to_lists::set_three` meets its contract: three stores are the run of the vector. Assumes nothing.
+use borrow.Author.Rules.{rules}
+use native.Mathlib.Omega.{arith}
+use lib.ListN.{length-set}
+use Rattle.to_lists.proofs.Stores.{three_stored}
+use Rattle.to_lists.proofs.set_three.Goals as goal
+
+pub returns : goal.returns
+returns c =
+    let a = c.args in
+    three_stored a.v a.out.now a.at
+
+pub bounds-out-at-2 : goal.bounds-out-at-2
+bounds-out-at-2 c = simp length-set (omega arith)
+
+pub bounds-out-at-3 : goal.bounds-out-at-3
+bounds-out-at-3 c = simp length-set (omega arith)

@@ -1,0 +1,30 @@
+-- `to_lists_f32::put_act` meets its contract: an `out` of the length that is due has the numbers written, and any other is left as it was. Assumes nothing.
+use borrow.Author.Rules.{rules}
+use mathlib.Core.Path.{◌∙◌}
+use Rattle.layout.specs.Layout.{act_numbers}
+use Rattle.layout.proofs.Numbers.{act_count_lem}
+use Rattle.to_lists.proofs.Fits.{fits, misfits}
+use Rattle.to_lists.proofs.Stores.{act_stored}
+use Rattle.linalg_f32.specs.As.{as_mat3, as_vec3}
+use Rattle.sides_f32.specs.As.{as_act_jacobians}
+use Rattle.to_lists_f32.proofs.put_act.Goals as goal
+
+pub returns-then-out-ne-ACT_JACOBIANS : goal.returns-then-out-ne-ACT_JACOBIANS
+returns-then-out-ne-ACT_JACOBIANS c =
+    let a = c.args in
+    misfits a.out.now (act_numbers (as_act_jacobians a.j)) 30 c.if-out-ne-ACT_JACOBIANS.true (act_count_lem (as_act_jacobians a.j))
+
+pub returns : goal.returns
+unfolding as_act_jacobians as_mat3 as_vec3
+returns c =
+    let a = c.args in
+    let f = fits a.out.now (act_numbers (as_act_jacobians a.j)) 30 c.if-out-ne-ACT_JACOBIANS.false (act_count_lem (as_act_jacobians a.j)) in
+    record {
+      value = f.0;
+      out_after = rw (
+        c.set_mat-3.ensures,
+        c.set_three.ensures,
+        c.set_mat-2.ensures,
+        c.set_mat.ensures,
+      ) (act_stored (as_act_jacobians a.j) a.out.now) ∙ f.1;
+    }

@@ -1,0 +1,15 @@
+-- `to_lists_f32::set_mat` meets its contract: the runs of its columns are its run. Assumes nothing.
+use borrow.Author.Rules.{rules}
+use Rattle.to_lists.proofs.Stores.{mat_stored}
+use Rattle.linalg_f32.specs.As.{as_mat3, as_vec3}
+use Rattle.to_lists_f32.proofs.set_mat.Goals as goal
+
+pub returns : goal.returns
+unfolding as_mat3 as_vec3
+returns c =
+    let a = c.args in
+    rw (
+      c.set_three-3.ensures,
+      c.set_three-2.ensures,
+      c.set_three.ensures,
+    ) (mat_stored (as_mat3 a.m) a.out.now a.at)

@@ -1,0 +1,19 @@
+-- `to_lists_f32::set_three` meets its contract: three stores are the run of the vector. Assumes nothing.
+use borrow.Author.Rules.{rules}
+use native.Mathlib.Omega.{arith}
+use lib.ListN.{length-set}
+use Rattle.to_lists.proofs.Stores.{three_stored}
+use Rattle.linalg_f32.specs.As.{as_vec3}
+use Rattle.to_lists_f32.proofs.set_three.Goals as goal
+
+pub returns : goal.returns
+unfolding as_vec3
+returns c =
+    let a = c.args in
+    three_stored (as_vec3 a.v) a.out.now a.at
+
+pub bounds-out-at-2 : goal.bounds-out-at-2
+bounds-out-at-2 c = simp length-set (omega arith)
+
+pub bounds-out-at-3 : goal.bounds-out-at-3
+bounds-out-at-3 c = simp length-set (omega arith)

@@ -1,0 +1,16 @@
+-- `wire::decode_shorts` meets its contract: i turns have stored the first i numbers. Assumes nothing.
+use borrow.Author.Rules.{rules}
+use native.Mathlib.Omega.{arith}
+use mathlib.Core.Path.{◌≡◌, refl, ap, ◌∙◌}
+use Prim.Native.Nat.{ℕ, ◌+◌, ◌-◌, ◌*◌, ◌/◌, ◌≤◌}
+use lib.ListN.{length, length-set}
+use lib.Seq.{sets}
+use Rattle.wire.specs.Wire.{word_at, fewer, firsts, words_at}
+use Rattle.wire.proofs.Lists.{decoded_more}
+use Rattle.wire.proofs.decode_shorts.Given as goal
+
+abbrev pub invariant-loop-i : goal.invariant-loop-i
+invariant-loop-i l = (l.i ≤ l.n) × (l.out ≡ sets l.initial.out 0 (words_at 2 l.b l.i)) × (length l.out ≡ length l.initial.out)
+
+abbrev pub decreases-loop-i : goal.decreases-loop-i
+decreases-loop-i l = l.n - l.i

@@ -1,0 +1,16 @@
+-- `wire::no_nan` meets its contract: the highest bit of what was put together tells of the numbers looked at so far. Assumes nothing.
+use borrow.Author.Rules.{rules}
+use Prim.Native.Nat.{◌/◌, ◌-◌, ◌≤◌}
+use mathlib.Core.Path.{◌≡◌, refl}
+use native.Mathlib.Omega.{arith}
+use lib.ListN.{length}
+use lib.Ieee.{binary64}
+use Rattle.wire.specs.Wire.{none_nan, no_nan}
+use Rattle.wire.proofs.Nans.{high_bit_zero, one_more}
+use Rattle.wire.proofs.no_nan.Given as goal
+
+abbrev pub invariant-loop-i : goal.invariant-loop-i
+invariant-loop-i l = (l.i ≤ l.n) × (l.n ≡ length l.b / 8) × (high_bit_zero binary64 l.seen ≡ none_nan binary64 l.b l.i)
+
+abbrev pub decreases-loop-i : goal.decreases-loop-i
+decreases-loop-i l = l.n - l.i

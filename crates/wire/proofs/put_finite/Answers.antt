@@ -1,0 +1,39 @@
+-- `wire::put_finite` meets its contract: the eight stores are the run of the bytes of its bits. Assumes nothing.
+use borrow.Author.Rules.{rules}
+use native.Mathlib.Omega.{arith}
+use lib.ListN.{length-set}
+use Rattle.ieee.proofs.Finite.{finite-no_nan}
+use Rattle.wire.specs.Wire.{number_bytes}
+use Rattle.wire.proofs.Places.{double_stored}
+use Rattle.wire.proofs.put_finite.Goals as goal
+
+pub returns : goal.returns
+unfolding number_bytes
+returns c = double_stored c.args.x c.word_to_le_bytes-d.result c.args.out.now _ c.word_to_le_bytes-d.ensures
+
+pub float_to_bits-x : goal.float_to_bits-x
+float_to_bits-x c = finite-no_nan c.args.x c.requires.x_value
+
+pub bounds-out-at-2 : goal.bounds-out-at-2
+bounds-out-at-2 c = simp length-set (omega (arith, c.requires.binary64_in_bounds))
+
+pub bounds-out-at-3 : goal.bounds-out-at-3
+bounds-out-at-3 c = simp length-set (omega (arith, c.requires.binary64_in_bounds))
+
+pub bounds-out-at-4 : goal.bounds-out-at-4
+bounds-out-at-4 c = simp length-set (omega (arith, c.requires.binary64_in_bounds))
+
+pub bounds-out-at-5 : goal.bounds-out-at-5
+bounds-out-at-5 c = simp length-set (omega (arith, c.requires.binary64_in_bounds))
+
+pub bounds-out-at-6 : goal.bounds-out-at-6
+bounds-out-at-6 c = simp length-set (omega (arith, c.requires.binary64_in_bounds))
+
+pub bounds-out-at-7 : goal.bounds-out-at-7
+bounds-out-at-7 c = simp length-set (omega (arith, c.requires.binary64_in_bounds))
+
+pub bounds-out-at-8 : goal.bounds-out-at-8
+bounds-out-at-8 c = simp length-set (omega (arith, c.requires.binary64_in_bounds))
+
+pub shape_of-out : goal.shape_of-out
+shape_of-out c = simp length-set

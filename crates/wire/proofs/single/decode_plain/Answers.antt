@@ -1,0 +1,45 @@
+-- `wire::single::decode_plain` meets its contract: i turns have stored the first i numbers. Assumes nothing.
+use borrow.Author.Rules.{rules}
+use native.Mathlib.Omega.{arith}
+use mathlib.Core.Path.{◌≡◌, refl, ap, ◌∙◌}
+use Prim.Native.Nat.{ℕ, ◌+◌, ◌-◌, ◌≤◌}
+use lib.ListN.{length, length-set}
+use lib.Seq.{sets}
+use lib.Ieee.{binary32, of_bits}
+use Rattle.wire.specs.Wire.{word_at, number_of, number_at}
+use Rattle.wire.specs.Wire.{firsts, numbers_at}
+use Rattle.wire.proofs.Lists.{bits, decoded_more}
+use Rattle.wire.proofs.single.decode_plain.Goals as goal
+
+pub loop-i-init : goal.loop-i-init
+unfolding firsts
+loop-i-init c = (omega arith, refl, refl)
+
+pub word_at-requires : goal.word_at-requires
+word_at-requires c = omega (arith, c.requires.binary32_in_bounds, c.loop-i-test.true)
+
+pub float_from_bits-out : goal.float_from_bits-out
+unfolding number_at number_of word_at
+float_from_bits-out c =
+    bits binary32 c.args.b.now c.loop-i.i _ (ap (of_bits binary32) c.word_at.ensures)
+    (c.requires.plain c.loop-i.i (omega (arith, c.loop-i-test.true)))
+
+pub bounds-out-i : goal.bounds-out-i
+bounds-out-i c =
+    omega (arith, c.requires.n_in_bounds, c.loop-i.invariant.2, c.loop-i-test.true)
+
+pub loop-i-preserved : goal.loop-i-preserved
+unfolding number_at number_of word_at
+loop-i-preserved c =
+    let a = c.args in
+    let l = c.loop-i in (
+      omega (arith, c.loop-i-test.true),
+      rw (l.invariant.1, c.word_at.ensures) (decoded_more (number_at binary32 a.b.now) a.out.now l.i),
+      length-set l.out l.i _ ∙ l.invariant.2,
+    )
+
+pub shape_of-out : goal.shape_of-out
+shape_of-out c = c.loop-i.invariant.2
+
+pub returns : goal.returns
+returns c = let l = c.loop-i in let e : l.i ≡ c.args.n = omega (arith, l.invariant.0, c.loop-i-test.false) in rw e at l.invariant.1

@@ -1,0 +1,17 @@
+-- `wire::single::encode_finite` meets its contract: i turns have stored the first i numbers. Assumes nothing.
+use borrow.Author.Rules.{rules}
+use native.Mathlib.Omega.{arith}
+use mathlib.Core.Path.{◌≡◌, refl, sym, ap, ◌∙◌}
+use Prim.Native.Nat.{ℕ, ◌+◌, ◌-◌, ◌*◌, ◌/◌, ◌≤◌, ◌<◌}
+use lib.ListN.{length, take, length-set}
+use lib.Seq.{sets}
+use lib.Ieee.{binary32}
+use Rattle.wire.specs.Wire.{numbers_bytes}
+use Rattle.wire.proofs.Lists.{encoded_more, one-finite}
+use Rattle.wire.proofs.single.encode_finite.Given as goal
+
+abbrev pub invariant-loop-i : goal.invariant-loop-i
+invariant-loop-i l = (l.i ≤ l.n) × (l.out ≡ sets l.initial.out 0 (numbers_bytes binary32 (take l.i l.x))) × (length l.out ≡ length l.initial.out)
+
+abbrev pub decreases-loop-i : goal.decreases-loop-i
+decreases-loop-i l = l.n - l.i
