@@ -144,7 +144,7 @@ returns-in-Failed c =
     rw c.ended_as-left.ensures record {
       sent_in_bounds = omega (arith, l.invariant.sent_in_bounds, l.invariant.sink_length);
       performed = λ e. tape_failed c.in-Failed.is a.tape.now l.at l.have l.buf _ l.last (c.fill.ensures.from_tape e);
-      input_theorem = input job_limit a.tape.now (λ i. omega (arith, c.shared_slice_known-1.given i));
+      input_theorem = input job_limit a.tape.now (λ i. omega (arith, c.type_inv.tape i));
     }
 
 pub returns-in-Failed-put : goal.returns-in-Failed-put
@@ -173,7 +173,7 @@ returns-in-Failed-put c =
             let s = underway_short job_limit a.tape.now l.sink (standing l.c (state_of l.mem)) (take (l.have + n) buf₁) ended next l.sent r i.sound (length l.out)
             i.sent_in_bounds (omega (arith, w.1, ap length b)) in
             (omega (arith, s.0, i.sink_length), rw w.0 s.1);
-      input_theorem = input job_limit a.tape.now (λ i. omega (arith, c.shared_slice_known-1.given i));
+      input_theorem = input job_limit a.tape.now (λ i. omega (arith, c.type_inv.tape i));
     }
 
 pub returns-then-not-goes_on : goal.returns-then-not-goes_on
@@ -205,5 +205,5 @@ returns-then-not-goes_on c =
             l.sent (p.ensures.to_sink e) ∙ ap (λ (x : List ℕ). take l.sent l.sink ++ x) b in
             underway_done job_limit a.tape.now l.sink (standing l.c (state_of l.mem)) (take (l.have + n) buf₁) ended next l.sent r i.sound
             (length l.out) sink₁ end t.result told off w;
-      input_theorem = input job_limit a.tape.now (λ i. omega (arith, c.shared_slice_known-1.given i));
+      input_theorem = input job_limit a.tape.now (λ i. omega (arith, c.type_inv.tape i));
     }
