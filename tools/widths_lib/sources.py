@@ -1,4 +1,4 @@
-"""What the sources at f64 declare: the twins, their types, and the definitions that tell an answer."""
+"""What the sources at f64 declare: the twins, their types, the definitions that tell an answer, and what definitions give."""
 import re
 
 
@@ -23,23 +23,28 @@ class Type:
         self.cases = dict(re.findall(r"(?m)^\s*(\w+)(?:\((\w+)\))?,", body)) if kind == "enum" else {}
 
 
-class Function:
-    """A function of the code: its name, its parameters as (name, type) and its result's type."""
+# the crates whose functions callers in C have, under the same names
+EXPORTS = ("sim3_c", "sim3_c_entries")
 
-    def __init__(self, crate, owner, name, parameters, result):
-        self.name, self.parameters = name, []
+
+class Function:
+    """A function of the code: its module, the type that it is a method of, its parameters as (name, type), its result's type and its text."""
+
+    def __init__(self, crate, module, owner, name, parameters, result, text):
+        self.module, self.owner, self.name, self.text = module, owner, name, text
+        self.parameters = []
         for part in re.split(r",\s*", parameters.strip().rstrip(",")):
             if part in ("self", "mut self"):
                 self.parameters.append(("self", owner))
-            elif part == "&mut self":
-                self.parameters.append(("self", f"&mut {owner}"))
             elif ":" in part:
                 left, right = part.split(":", 1)
                 self.parameters.append((left.replace("mut ", "").strip(), right.strip()))
         result = (result or "").strip()
         self.result = owner if result == "Self" else result
+        self.place = "/".join(part for part in ("" if module == "lib" else module, owner, name) if part)
         # what callers in C link has another name at the other width
-        self.exported = crate.startswith("sim3_c") and name.startswith("sim3_")
+        self.exported = crate in EXPORTS and name.startswith("sim3_")
+        self.contract = bool(re.search(r"(?m)^ *(?:ensures|requires)\b", text))
 
 
 # a function's head: its indentation, name, parameters and result
@@ -51,7 +56,8 @@ def functions(crate, module, text):
     for head in HEAD.finditer(text):
         impls = re.findall(r"(?m)^(?:impl (\w+) \{|\})", text[: head.start()])
         owner = impls[-1] if head.group(1) and impls else ""
-        yield head.start(), Function(crate, owner, *head.group(2, 3, 4))
+        last = text.index(f"\n{head.group(1)}}}", head.end())
+        yield head.start(), Function(crate, module, owner, *head.group(2, 3, 4), text[head.start() : last])
 
 
 class Sources:
@@ -59,7 +65,7 @@ class Sources:
 
     def __init__(self, top, by_hand):
         self.top, self.by_hand = top, by_hand
-        listed = dict(re.findall(r"(?m)^(\w+)(?: staticlib)?:(.*)$", (top / "crates.txt").read_text(encoding="utf-8")))
+        listed = dict(re.findall(r"(?m)^(\w+):(.*)$", (top / "crates.txt").read_text(encoding="utf-8")))
         self.rests_on = {name: words.split() for name, words in listed.items()}
         self.twins = [name for name in listed if name + "_f32" in listed]
         self.types = {}
@@ -70,7 +76,7 @@ class Sources:
         # (crate, name) of each exported function, whose name differs at the other width; and what `wire` has for both widths
         self.exported = {(crate, f.name) for crate in self.twins for module, text in self.code(crate).items() for _, f in functions(crate, module, text) if f.exported}
         self.singles = sorted(re.findall(r"(?m)^pub (?:fn|const) (\w+)", self.code("wire")["single"]))
-        self.told = {}
+        self.told, self.gives = {}, {}
         for crate in self.twins:
             for path in sorted((top / "crates" / crate / "specs").glob("*.antt")):
                 self.read_specs(crate, path.stem, path.read_text(encoding="utf-8"))
@@ -88,8 +94,9 @@ class Sources:
                 yield Type(crate, "" if module == "lib" else module, *found.groups())
 
     def read_specs(self, crate, module, text):
-        """The definitions that tell what a type of the code says which has no record of its own in the definitions."""
+        """What each definition gives, and those that tell what a type of the code says which has no record of its own in the definitions."""
         for section, keep, name, first, rest in re.findall(r"(?m)^( *)(abbrev|unfoldable) pub (\w+) : (\S+)(.*)$", text):
+            self.gives[name] = f"{first}{rest}".split("→")[-1].strip()
             if section:  # in a `module _ (f : Format)`: its first argument is the format
                 continue
             taken = self.types.get(first.split(".")[-1])
@@ -99,20 +106,46 @@ class Sources:
 
     def asked(self, text):
         """The exported functions of other crates that a source file imports."""
-        found = []
-        for crate, names in re.findall(r"(?m)^use (\w+)::(?:\w+::)*(\w+|\{[^}]*\});", text):
-            found += [name for name in re.findall(r"\w+", names) if (crate, name) in self.exported]
-        return found
-
-    def renamed(self, crate):
-        """The functions of a crate that have another name in its twin."""
-        return sorted(name for of, name in self.exported if of == crate)
+        return [name for crate, name in re.findall(r"(?m)^use (\w+)::(?:\w+::)*(\w+);", text) if (crate, name) in self.exported]
 
     def floating(self, name):
         """Whether a type is a struct of numbers, which the definitions have as a record of their own."""
         t = self.types.get(name)
         return t is not None and t.kind == "struct" and not self.mixed(name)
 
+    def whole(self, name):
+        """Whether a struct of numbers has no float, nor a struct in it."""
+        return not any(held == "f64" or self.floating(held) for _, held in self.types[name].fields)
+
     def mixed(self, name):
         """Whether a struct holds an enum, so that a definition tells what it says."""
         return any(self.types[held].kind == "enum" or self.mixed(held) for _, held in self.types[name].fields if held in self.types)
+
+    def nested(self, names):
+        """These structs of floats, and those inside them."""
+        found = {name for name in names if self.floating(name)}
+        todo = list(found)
+        while todo:
+            inner = {held for _, held in self.types[todo.pop()].fields if self.floating(held)} - found
+            found |= inner
+            todo += inner
+        return found
+
+    def named_in(self, function):
+        """The structs of floats that a function names, in its signature or its body, or reads inside them."""
+        words = set(re.findall(r"\b[A-Z]\w+\b", function.text)) | {held for _, held in function.parameters}
+        words |= {held for word in list(words) if word in self.types for held in self.types[word].cases.values()}
+        return self.nested(words)
+
+    def made_in(self, function):
+        """The structs of numbers that a function makes itself, and those without a float that it names."""
+        made = re.findall(r"\b([A-Z]\w+) \{\n", function.text.partition("\n{\n")[2])
+        return {name for name in self.named_in(function) if name in made or self.whole(name)}
+
+    def given(self, function):
+        """Whether a struct of floats is among a function's parameters."""
+        return any(self.floating(held) for _, held in function.parameters)
+
+    def below(self, crate):
+        """The twins that a crate rests on, and itself, as far as they declare structs of floats."""
+        return [c for c in self.twins if (c == crate or c in self.rests_on[crate]) and any(self.floating(t.name) for t in self.declared(c))]

@@ -1,8 +1,9 @@
-"""What a twin has of definitions: how its structs are the definitions' records, and what its enums say."""
+"""What a twin has of definitions and laws: how its structs are the definitions' records, and what its enums say."""
 import re
 
-from .lines import LONGEST
-from .words import as_lines, imports, place, reading, twin
+from .words import as_lines, home, imports, place, reading, twin
+
+KINDS = {"f64": "Float", "bool": "Bool", **dict.fromkeys(("u8", "u16", "u32", "u64", "usize"), "ℕ")}
 
 
 def module_of(t):
@@ -31,15 +32,12 @@ def as_file(sources, crate):
         return None
     lines = [f"-- The structs of {twin(crate)} as the records that the definitions speak of, number by number: a float of either width is one type of the logic."]
     for t in structs:
-        lines.append(f"use Rattle.{crate}.specs.declared.{t.module + '.' if t.module else ''}{t.name} as Wide{t.name}")
-        lines.append(f"use Rattle.{twin(crate)}.specs.declared.{module_of(t)}{t.name}.{{{t.name}}}")
+        lines.append(f"use {home(crate, 'specs')}.declared.{t.module + '.' if t.module else ''}{t.name} as Wide{t.name}")
+        lines.append(f"use {home(twin(crate), 'specs')}.declared.{module_of(t)}{t.name}.{{{t.name}}}")
     lines += as_lines(sources, crate, {held for t in structs for _, held in t.fields if sources.floating(held) and sources.types[held].crate != crate})
     for t in structs:
-        fields = [f"{n} = {read(sources, n, held, f'a.{n}')}" for n, held in t.fields]
-        line = f"{reading(t.name)} a = record {{ {'; '.join(fields)} }}"
-        if len(line) > LONGEST:
-            line = "\n".join([f"{reading(t.name)} a = record {{", *(f"  {field};" for field in fields), "}"])
-        lines += ["", f"unfoldable pub {reading(t.name)} : {t.name} → Wide{t.name}.{t.name}", line]
+        fields = "; ".join(f"{n} = {read(sources, n, held, f'a.{n}')}" for n, held in t.fields)
+        lines += ["", f"unfoldable pub {reading(t.name)} : {t.name} → Wide{t.name}.{t.name}", f"{reading(t.name)} a = record {{ {fields} }}"]
     return "\n".join(lines) + "\n"
 
 
@@ -56,7 +54,7 @@ def told_line(sources, t, line, used):
         return f"{left} = {right}"
     for name, held in t.fields:
         if sources.floating(held):
-            line, count = re.subn(rf"\w+\.{name}(?!\w)", lambda m: f"{reading(held)} {m.group(0)}", line)
+            line, count = re.subn(rf"(?<![\w.])(= )?(\w+\.{re.escape(name)})(?!\w)", lambda m: f"{m.group(1) or ''}{reading(held)} {m.group(2)}", line)
             used |= {held} if count else set()
     return line
 
@@ -68,9 +66,9 @@ def importable(sources, crate):
         for module, names in re.findall(r"(?m)^use (\S+?)\.\{(.*)\}$", text):
             yield module, [name.strip() for name in names.split(",")]
         for name, body in re.findall(r"(?ms)^pub (?:data|record) (\w+)(.*?)\n\n", text + "\n\n"):
-            yield f"Rattle.{crate}.specs.{module_name}", [name, *re.findall(r"(?m)^  (\w+) :", body)]
+            yield f"{home(crate, 'specs')}.{module_name}", [name, *re.findall(r"(?m)^  (\w+) :", body)]
     for module_name, text in texts.items():
-        yield f"Rattle.{crate}.specs.{module_name}", re.findall(r"(?m)^ *(?:abbrev|unfoldable) pub (\w+) :", text)
+        yield f"{home(crate, 'specs')}.{module_name}", re.findall(r"(?m)^ *(?:abbrev|unfoldable) pub (\w+) :", text)
 
 
 def told_file(sources, crate):
@@ -80,7 +78,7 @@ def told_file(sources, crate):
         return None
     heads, bodies, used, names = [], [], set(), set()
     for name, (_, module, keep, t, result, body) in told.items():
-        declared = f"Rattle.{twin(crate)}.specs.declared.{module_of(t)}{t.name}"
+        declared = f"{home(twin(crate), 'specs')}.declared.{module_of(t)}{t.name}"
         heads += [line for line in (f"use {declared} as Code{t.name}", f"use {declared}.TheVariants as In{t.name}" if t.cases else "") if line and line not in heads]
         lines = [told_line(sources, t, line, used) for line in body.rstrip("\n").split("\n")]
         bodies += ["", f"{keep} pub {name} : Code{t.name}.{t.name} → {result}", *lines]
@@ -88,6 +86,37 @@ def told_file(sources, crate):
     for module, held in importable(sources, crate):
         got = [name for name in held if name in names and name not in told]
         names -= set(got)
-        heads += imports(sources, f"use {module}.{{{', '.join(got)}}}").split("\n") if got else []
+        heads += imports(sources, crate, f"use {module}.{{{', '.join(got)}}}").split("\n") if got else []
     heads += as_lines(sources, crate, used)
     return f"-- What each answer of {twin(crate)} says.\n" + "\n".join(heads + bodies) + "\n"
+
+
+def rules_file(sources, crate):
+    """proofs/As.antt: how the reading of a struct goes through its fields, as rules for `simp`."""
+    structs = own(sources, crate)
+    if not structs:
+        return None
+    heads = [
+        f"-- The structs of {twin(crate)} field by field, as rules for `simp`: a number that the code reads of a struct is the number of the definitions' record. "
+        "Assumes nothing.",
+        "use mathlib.Core.Path.{◌≡◌, refl}",
+    ]
+    kinds = {KINDS[held] for t in structs for _, held in t.fields if held in KINDS}
+    heads += ["use Prim.Native.Nat.{ℕ}"] * ("ℕ" in kinds) + ["use mathlib.Core.Bool.{Bool}"] * ("Bool" in kinds) + ["use lib.Ieee.{Float}"] * ("Float" in kinds)
+    inner = {held for t in structs for _, held in t.fields if sources.floating(held)}
+    for t in structs + sorted((sources.types[n] for n in inner if sources.types[n].crate != crate), key=lambda t: t.name):
+        heads.append(f"use {home(twin(t.crate), 'specs')}.declared.{module_of(t)}{t.name}.{{{t.name}}}")
+    heads += as_lines(sources, crate, {t.name for t in structs} | inner)
+    names, bodies = [], []
+    for t in structs:
+        for n, held in t.fields:
+            names.append(f"{n}_of-{t.name}")
+            said = f"{read(sources, n, held, f'a.{n}')} ≡ ({reading(t.name)} a).{n}"
+            bodies += ["", f"pub {names[-1]} : (a : {t.name}) → {said}", f"unfolding {reading(t.name)}", f"{names[-1]} a = refl"]
+        names.append(f"made-{t.name}")
+        given = " ".join(f"({n} : {KINDS.get(held, held)})" for n, held in t.fields)
+        made = "; ".join(f"{n} = {n}" for n, _ in t.fields)
+        wide = "; ".join(f"{n} = {reading(held) + ' ' if sources.floating(held) else ''}{n}" for n, held in t.fields)
+        bodies += ["", f"pub {names[-1]} : {given} → {reading(t.name)} (record {{ {made} }}) ≡ record {{ {wide} }}", f"unfolding {reading(t.name)}"]
+        bodies.append(f"{names[-1]} {' '.join(n for n, _ in t.fields)} = refl")
+    return "\n".join(heads + bodies) + f"\n\npub ruleset {crate}_singles = ({', '.join(names)})\n"

@@ -9,8 +9,8 @@ def twin(crate):
 
 
 def width(text):
-    """The text with each word of a width replaced, and the format in the name of a clause."""
-    return re.sub(rf"\b(?:({'|'.join(WORDS)})\b|binary64(?=_))", lambda m: WORDS[m.group(1) or m.group(0)], text)
+    """The text with each word of a width replaced."""
+    return re.sub(rf"\b({'|'.join(WORDS)})\b", lambda m: WORDS[m.group(1)], text)
 
 
 def place(crate, path):
@@ -19,14 +19,20 @@ def place(crate, path):
     return (twin(head) if head == crate else head) + dot + rest
 
 
-def reading(name):
-    """The name of the reading of a struct as the definitions' record: of SincABD, as_sinc_abd."""
-    return f"as_{snake(name)}"
+def home(crate, kind):
+    """Where the specs or the proofs of a crate are."""
+    return f"Rattle.{crate}.{kind}"
 
 
 def snake(name):
-    """A type's name in snake case. Capitals at its end stay together."""
-    return re.sub(r"(?<=[a-z0-9])(?=[A-Z])|(?<=[A-Z])(?=[A-Z][a-z])", "_", name).lower()
+    """A type's name in snake case, as the readings of the types have it: `SincABD` is `sinc_abd`."""
+    parts = re.sub(r"([A-Z]+[0-9]*)(?=$|[A-Z][a-z])|([A-Z][a-z0-9]*)", lambda m: "_" + (m.group(1) or m.group(2)), name)
+    return parts.lstrip("_").lower()
+
+
+def reading(name):
+    """The definition that reads a struct of the twin as the record that the definitions speak of."""
+    return f"as_{snake(name)}"
 
 
 def as_lines(sources, crate, names, start="use ", end=""):
@@ -35,28 +41,35 @@ def as_lines(sources, crate, names, start="use ", end=""):
     for c in sources.twins:
         held = sorted(reading(name) for name in names if sources.types[name].crate == c)
         if held:
-            lines.append(f"{start}Rattle.{twin(c)}.specs.As.{{{', '.join(held)}}}{end}")
+            lines.append(f"{start}{home(twin(c), 'specs')}.As.{{{', '.join(held)}}}{end}")
     return lines
 
 
-IMPORT = re.compile(r"^(\s*(?:ghost )?use )Rattle\.(\w+)\.specs\.([\w.]+)\.\{(.*)\}(;?)\s*$")
+IMPORT = re.compile(r"^(\s*(?:ghost )?use )Rattle\.(\w+)\.(specs|proofs)\.([\w.+-]+?)(\.\{(.*)\}| as [^\s;]+)?(;?)\s*$")
 
 
-def imported(sources, line):
-    """An import of the crate at f64 as imports of its twin. Definitions and laws stay those of the f64 crate, and the definitions that tell what its types say
-    are the twin's."""
+def imported(sources, crate, line):
+    """An import of the crate at f64 as imports of its twin. Definitions and laws stay those of the f64 crate; what is about the code is the twin's, and so are
+    the definitions that tell what its types say."""
     found = IMPORT.match(line)
-    if not found or found.group(2) not in sources.twins or found.group(3).startswith("declared."):
+    if not found or found.group(2) not in sources.twins:
         return [line]
-    start, c, path, names, end = found.groups()
+    start, c, kind, path, tail, names, end = found.groups()
+    tail = tail or ""
+    if kind == "proofs" and (sources.top / "crates" / c / "proofs" / f"{path.split('.')[0]}.antt").exists():
+        return [line]
+    if kind == "proofs":
+        return [f"{start}{home(twin(c), 'proofs')}.{place(c, path)}{tail}{end}"]
+    if names is None or path.startswith("declared."):
+        return [line]
     names = [name.strip() for name in names.split(",")]
     kept, told = [n for n in names if n not in sources.told], [n for n in names if n in sources.told]
-    lines = [f"{start}Rattle.{c}.specs.{path}.{{{', '.join(kept)}}}{end}"] if kept else []
-    return lines + ([f"{start}Rattle.{twin(c)}.specs.Told.{{{', '.join(told)}}}{end}"] if told else [])
+    lines = [f"{start}{home(c, 'specs')}.{path}.{{{', '.join(kept)}}}{end}"] if kept else []
+    return lines + ([f"{start}{home(twin(crate), 'specs')}.Told.{{{', '.join(told)}}}{end}"] if told else [])
 
 
-def imports(sources, text):
-    return "\n".join(line for old in text.split("\n") for line in imported(sources, old))
+def imports(sources, crate, text):
+    return "\n".join(line for old in text.split("\n") for line in imported(sources, crate, old))
 
 
 def after_uses(text, lines, start):

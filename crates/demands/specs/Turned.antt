@@ -85,7 +85,7 @@ pub record Turned (r : BothWays) : Type 0 where
   pub left : TurnedBlock r.left r.left_turned
   pub together_exp : TurnedSim3 r.together.x r.together_turned.x
   pub together_left : TurnedBlock r.together.jl r.together_turned.jl
-  pub beside-inverse : TurnedBlock r.inverted.j r.inverted_turned.j
+  pub beside_inverse : TurnedBlock r.inverted.j r.inverted_turned.j
   pub in_pair : TurnedBlock r.pair.left r.pair_turned.left
 
 -- what `turned_theorem` proves, without a premise
