@@ -1,6 +1,6 @@
+-- Written by tools/widths from crates/nearest/proofs/nearest_from/Answers.antt: edit that one. Digest 5f8a1430cffbc6fa.
 -- `nearest_f32::nearest_from` meets its contract: `low` and `high` are the ends of p's arm, and its tests say which of them is nearer. Assumes nothing.
 -- what is known once both ends are found
-use borrow.Author.Rules.{rules}
 use mathlib.Core.Path.{◌≡◌, refl, ap, ◌∙◌}
 use Prim.Native.Nat.{◌+◌, ◌-◌, ◌<◌}
 use native.Mathlib.Omega.{arith}
@@ -57,13 +57,15 @@ pub upward-requires : goal.upward-requires
 upward-requires c = (to_high (ends (goal.at.upward-requires c).After-edge-high), apart (goal.at.upward-requires c).After-edge-high c.if-high-eq-END.false)
 
 pub returns-then-low-eq0 : goal.returns-then-low-eq0
-returns-then-low-eq0 c = c.upward.ensures ∙ up_is (goal.at.returns-then-low-eq0 c).After-edge-high (apart (goal.at.returns-then-low-eq0 c).After-edge-high c.if-high-eq-END.false) (λ l. let z = c.if-low-eq0.true in absurd (omega arith))
+returns-then-low-eq0 c = c.upward.ensures ∙ up_is (goal.at.returns-then-low-eq0 c).After-edge-high
+    (apart (goal.at.returns-then-low-eq0 c).After-edge-high c.if-high-eq-END.false) (λ l. let z = c.if-low-eq0.true in absurd (omega arith))
 
 pub downward-requires : goal.downward-requires
 downward-requires c = let z = c.if-low-eq0.false in (omega arith, from_low (ends (goal.at.downward-requires c).After-edge-high), (ends (goal.at.downward-requires c).After-edge-high).inside)
 
 pub returns-then-high-eq-END-2 : goal.returns-then-high-eq-END-2
-returns-then-high-eq-END-2 c = let z = c.if-low-eq0.false in c.downward.ensures ∙ down_is (goal.at.returns-then-high-eq-END-2 c).After-edge-high (omega arith) (λ h. let e = c.if-high-eq-END-2.true in absurd (omega arith))
+returns-then-high-eq-END-2 c = let z = c.if-low-eq0.false in c.downward.ensures ∙ down_is (goal.at.returns-then-high-eq-END-2 c).After-edge-high
+    (omega arith) (λ h. let e = c.if-high-eq-END-2.true in absurd (omega arith))
 
 pub overflow_sub-high : goal.overflow_sub-high
 overflow_sub-high c = let l = to_high (ends (goal.at.overflow_sub-high c).After-edge-high) in omega arith
@@ -75,10 +77,16 @@ pub upward-requires-then-high-p : goal.upward-requires-then-high-p
 upward-requires-then-high-p c = (to_high (ends (goal.at.upward-requires-then-high-p c).After-edge-high), apart (goal.at.upward-requires-then-high-p c).After-edge-high c.if-high-eq-END-2.false)
 
 pub downward-requires-else-high-p : goal.downward-requires-else-high-p
-downward-requires-else-high-p c = let z = c.if-low-eq0.false in (omega arith, from_low (ends (goal.at.downward-requires-else-high-p c).After-edge-high), (ends (goal.at.downward-requires-else-high-p c).After-edge-high).inside)
+downward-requires-else-high-p c = let z = c.if-low-eq0.false in (
+  omega arith,
+  from_low
+      (ends (goal.at.downward-requires-else-high-p c).After-edge-high),
+  (ends (goal.at.downward-requires-else-high-p c).After-edge-high).inside,
+)
 
 pub returns-then-high-p : goal.returns-then-high-p
-returns-then-high-p c = c.upward-then-high-p.ensures ∙ up_is (goal.at.returns-then-high-p c).After-edge-high (apart (goal.at.returns-then-high-p c).After-edge-high c.if-high-eq-END-2.false) (λ l. c.if-high-p.true)
+returns-then-high-p c = c.upward-then-high-p.ensures ∙ up_is (goal.at.returns-then-high-p c).After-edge-high
+    (apart (goal.at.returns-then-high-p c).After-edge-high c.if-high-eq-END-2.false) (λ l. c.if-high-p.true)
 
 pub returns-else-high-p : goal.returns-else-high-p
 returns-else-high-p c = let z = c.if-low-eq0.false in c.downward-else-high-p.ensures ∙ down_is (goal.at.returns-else-high-p c).After-edge-high (omega arith) (λ h. c.if-high-p.false)
