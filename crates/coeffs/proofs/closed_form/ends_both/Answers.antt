@@ -1,3 +1,4 @@
+use borrow.Author.Rules.{rules}
 use Rattle.coeffs.proofs.closed_form.ends_both.Goals as goal
 
 pub returns : goal.returns

@@ -1,3 +1,4 @@
+use borrow.Author.Rules.{rules}
 use Rattle.coeffs.specs.Private.{pair_ends}
 use Rattle.coeffs.proofs.sim3.pair_ends.Goals as goal
 

@@ -1,4 +1,5 @@
--- Written by tools/widths from crates/coeffs/proofs/closed_form/ends_of/Answers.antt: edit that one. Digest a41f09e06ecb9303.
+-- Written by tools/widths from crates/coeffs/proofs/closed_form/ends_of/Answers.antt: edit that one. Digest ff522510d233c17a.
+use borrow.Author.Rules.{rules}
 use Rattle.coeffs.specs.Private.{closed_ends}
 use Rattle.coeffs.specs.Closed.{closed_v0, closed_w0}
 use Rattle.series.specs.Series.{g_series_pair}

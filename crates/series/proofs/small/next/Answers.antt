@@ -1,3 +1,4 @@
+use borrow.Author.Rules.{rules}
 use Rattle.series.proofs.small.next.Goals as goal
 
 pub returns : goal.returns

@@ -1,7 +1,7 @@
 -- `series::small::passes` meets its contract: each entry carries the partial sums of both signs on. Assumes nothing.
 use mathlib.Core.Path.{◌≡◌, refl, ◌∙◌}
 use native.Mathlib.Omega.{arith}
-use mathlib.Core.List.{◌∷◌}
+use mathlib.Core.List.{[], ◌∷◌}
 use borrow.Author.Rules.{rules}
 use lib.Dec.{T}
 use lib.Ieee.{binary64, of_bits, fits}

@@ -1,4 +1,5 @@
--- Written by tools/widths from crates/series/proofs/reciprocal/recip/Answers.antt: edit that one. Digest e0820bb97a25f9b2.
+-- Written by tools/widths from crates/series/proofs/reciprocal/recip/Answers.antt: edit that one. Digest ea37b9fff59bede5.
+use borrow.Author.Rules.{rules}
 use Rattle.series_f32.proofs.reciprocal.recip.Goals as goal
 use Rattle.linalg_f32.proofs.As.{linalg_singles}
 use Rattle.series_f32.proofs.As.{series_singles}
