@@ -1,5 +1,4 @@
 -- `nearest::nearest_arm` meets its contract: its tests are those of the definition, in their order. Assumes nothing.
-use borrow.Author.Rules.{rules}
 use mathlib.Core.Path.{sym, ◌∙◌}
 use lib.Ieee.{binary64, of_bits}
 use Rattle.ieee.specs.Finite.{is_finite}

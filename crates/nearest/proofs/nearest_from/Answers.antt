@@ -1,6 +1,5 @@
 -- `nearest::nearest_from` meets its contract: `low` and `high` are the ends of p's arm, and its tests say which of them is nearer. Assumes nothing.
 -- what is known once both ends are found
-use borrow.Author.Rules.{rules}
 use mathlib.Core.Path.{◌≡◌, refl, ap, ◌∙◌}
 use Prim.Native.Nat.{◌+◌, ◌-◌, ◌<◌}
 use native.Mathlib.Omega.{arith}

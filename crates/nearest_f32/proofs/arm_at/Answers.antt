@@ -1,6 +1,5 @@
--- Written by tools/widths from crates/nearest/proofs/arm_at/Answers.antt: edit that one. Digest 3c4c21bd2218b042.
+-- Written by tools/widths from crates/nearest/proofs/arm_at/Answers.antt: edit that one. Digest 4a9c00998da7b0ee.
 -- `nearest_f32::arm_at` meets its contract: it is the arm at the sum that the definition names, and the arms start at 1. Assumes nothing.
-use borrow.Author.Rules.{rules}
 use mathlib.Core.Path.{◌≡◌, sym, subst}
 use Prim.Native.Nat.{ℕ, ◌≤◌}
 use lib.Ieee.{binary32}

@@ -1,6 +1,5 @@
--- Written by tools/widths from crates/nearest/proofs/downward/Answers.antt: edit that one. Digest f497aa783b02ed33.
+-- Written by tools/widths from crates/nearest/proofs/downward/Answers.antt: edit that one. Digest 31b89619ff6ae031.
 -- `nearest_f32::downward` meets its contract: the answer's parts are those that it says. Assumes nothing.
-use borrow.Author.Rules.{rules}
 use Rattle.nearest_f32.specs.Told.{way_told, step_told, nearest_told}
 use Rattle.nearest_f32.proofs.downward.Goals as goal
 use Rattle.linalg_f32.proofs.As.{linalg_singles}

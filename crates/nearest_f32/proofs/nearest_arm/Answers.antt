@@ -1,6 +1,5 @@
--- Written by tools/widths from crates/nearest/proofs/nearest_arm/Answers.antt: edit that one. Digest 7381db49b69e5a69.
+-- Written by tools/widths from crates/nearest/proofs/nearest_arm/Answers.antt: edit that one. Digest 43b6c06cb33b839f.
 -- `nearest_f32::nearest_arm` meets its contract: its tests are those of the definition, in their order. Assumes nothing.
-use borrow.Author.Rules.{rules}
 use mathlib.Core.Path.{sym, ◌∙◌}
 use lib.Ieee.{binary32, of_bits}
 use Rattle.ieee.specs.Finite.{is_finite}

@@ -1,7 +1,6 @@
--- Written by tools/widths from crates/nearest/proofs/nearest_from/Answers.antt: edit that one. Digest bf100b6f8608c29c.
+-- Written by tools/widths from crates/nearest/proofs/nearest_from/Answers.antt: edit that one. Digest 5f8a1430cffbc6fa.
 -- `nearest_f32::nearest_from` meets its contract: `low` and `high` are the ends of p's arm, and its tests say which of them is nearer. Assumes nothing.
 -- what is known once both ends are found
-use borrow.Author.Rules.{rules}
 use mathlib.Core.Path.{◌≡◌, refl, ap, ◌∙◌}
 use Prim.Native.Nat.{◌+◌, ◌-◌, ◌<◌}
 use native.Mathlib.Omega.{arith}

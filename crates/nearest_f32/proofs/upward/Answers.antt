@@ -1,6 +1,5 @@
--- Written by tools/widths from crates/nearest/proofs/upward/Answers.antt: edit that one. Digest edd32fa9324331b5.
+-- Written by tools/widths from crates/nearest/proofs/upward/Answers.antt: edit that one. Digest 2459d9a922334d55.
 -- `nearest_f32::upward` meets its contract: the answer's parts are those that it says. Assumes nothing.
-use borrow.Author.Rules.{rules}
 use Rattle.nearest_f32.specs.Told.{way_told, step_told, nearest_told}
 use Rattle.nearest_f32.proofs.upward.Goals as goal
 use Rattle.linalg_f32.proofs.As.{linalg_singles}

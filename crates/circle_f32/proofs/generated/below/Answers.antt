@@ -1,5 +1,4 @@
--- Written by tools/widths from crates/circle/proofs/generated/below/Answers.antt: edit that one. Digest dfa129eac6da900a.
-use borrow.Author.Rules.{rules}
+-- Written by tools/widths from crates/circle/proofs/generated/below/Answers.antt: edit that one. Digest 79fc72731cfea438.
 use Rattle.circle_f32.proofs.generated.below.Goals as goal
 use Rattle.linalg_f32.proofs.As.{linalg_singles}
 use Rattle.circle_f32.proofs.As.{circle_singles}

@@ -1,5 +1,4 @@
--- Written by tools/widths from crates/circle/proofs/generated/terms/Answers.antt: edit that one. Digest 47c92c160e8af05f.
-use borrow.Author.Rules.{rules}
+-- Written by tools/widths from crates/circle/proofs/generated/terms/Answers.antt: edit that one. Digest ac6cc5643c9241d3.
 use Rattle.circle_f32.proofs.generated.terms.Goals as goal
 use Rattle.linalg_f32.proofs.As.{linalg_singles}
 use Rattle.circle_f32.proofs.As.{circle_singles}

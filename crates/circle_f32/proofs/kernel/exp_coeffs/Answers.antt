@@ -1,6 +1,5 @@
--- Written by tools/widths from crates/circle/proofs/kernel/exp_coeffs/Answers.antt: edit that one. Digest 36be4fca2e7fbe4a.
+-- Written by tools/widths from crates/circle/proofs/kernel/exp_coeffs/Answers.antt: edit that one. Digest 22048246eab49765.
 -- `circle_f32::kernel::exp_coeffs` meets its contract: by what its calls ensure and its tests say. Assumes nothing.
-use borrow.Author.Rules.{rules}
 use Rattle.circle.specs.Kernel.{circle_exp_answer}
 use Rattle.circle_f32.specs.Told.{exp_coeffs_told}
 use Rattle.circle_f32.proofs.kernel.exp_coeffs.Goals as goal

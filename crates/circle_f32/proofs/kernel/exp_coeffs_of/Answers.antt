@@ -1,6 +1,5 @@
--- Written by tools/widths from crates/circle/proofs/kernel/exp_coeffs_of/Answers.antt: edit that one. Digest 68238a212ee9d75b.
+-- Written by tools/widths from crates/circle/proofs/kernel/exp_coeffs_of/Answers.antt: edit that one. Digest 7acba87d3edc6d5c.
 -- `circle_f32::kernel::exp_coeffs_of` meets its contract: by what its calls ensure. Assumes nothing.
-use borrow.Author.Rules.{rules}
 use Rattle.circle_f32.proofs.kernel.exp_coeffs_of.Goals as goal
 use Rattle.linalg_f32.proofs.As.{linalg_singles}
 use Rattle.circle_f32.proofs.As.{circle_singles}

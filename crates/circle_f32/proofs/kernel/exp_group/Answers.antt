@@ -1,6 +1,5 @@
--- Written by tools/widths from crates/circle/proofs/kernel/exp_group/Answers.antt: edit that one. Digest 6b7c60c29a597b23.
+-- Written by tools/widths from crates/circle/proofs/kernel/exp_group/Answers.antt: edit that one. Digest 2100bc69ef9e7c60.
 -- `circle_f32::kernel::exp_group` meets its contract: by what its calls ensure and its tests say; below the limit of cos_half both members are on their series. Assumes nothing.
-use borrow.Author.Rules.{rules}
 use lib.Ieee.{binary32}
 use Rattle.tables.specs.Tables.{k_row}
 use Rattle.circle.specs.Kernel.{row_short, row_own, row_member, circle_exp}

@@ -1,6 +1,5 @@
--- Written by tools/widths from crates/circle/proofs/kernel/five_group/Answers.antt: edit that one. Digest 9b54cc2e7e5ac737.
+-- Written by tools/widths from crates/circle/proofs/kernel/five_group/Answers.antt: edit that one. Digest 9271e7cd81735f48.
 -- `circle_f32::kernel::five_group` meets its contract: by what its calls ensure and its tests say; below the limit of cos_half all five members are on their series. Assumes nothing.
-use borrow.Author.Rules.{rules}
 use lib.Ieee.{binary32}
 use Rattle.tables.specs.Tables.{k_row, a_row, b_row, d_row}
 use Rattle.circle.specs.Kernel.{row_short, row_own, row_member, circle_sinc_abd}

@@ -1,6 +1,5 @@
--- Written by tools/widths from crates/circle/proofs/kernel/own_arm/Answers.antt: edit that one. Digest be1bce6599e98a6c.
+-- Written by tools/widths from crates/circle/proofs/kernel/own_arm/Answers.antt: edit that one. Digest 259828a73194da7b.
 -- `circle_f32::kernel::own_arm` meets its contract: by what its calls ensure and its tests say. Assumes nothing.
-use borrow.Author.Rules.{rules}
 use Rattle.circle.specs.Kernel.{row_own}
 use Rattle.circle_f32.proofs.kernel.own_arm.Goals as goal
 use Rattle.linalg_f32.proofs.As.{linalg_singles}

@@ -1,6 +1,5 @@
--- Written by tools/widths from crates/circle/proofs/kernel/series/Answers.antt: edit that one. Digest a553e877e77af080.
+-- Written by tools/widths from crates/circle/proofs/kernel/series/Answers.antt: edit that one. Digest ab86e5a756b30102.
 -- `circle_f32::kernel::series` meets its contract: by what its calls ensure. Assumes nothing.
-use borrow.Author.Rules.{rules}
 use native.Mathlib.Omega.{arith}
 use lib.ListN.{length-take}
 use Rattle.circle.specs.Kernel.{row_series}

@@ -1,6 +1,5 @@
--- Written by tools/widths from crates/circle/proofs/kernel/sinc_a/Answers.antt: edit that one. Digest 18c15e35b27d5620.
+-- Written by tools/widths from crates/circle/proofs/kernel/sinc_a/Answers.antt: edit that one. Digest 42c7a3265c4230f8.
 -- `circle_f32::kernel::sinc_a` meets its contract: by what its calls ensure and its tests say. Assumes nothing.
-use borrow.Author.Rules.{rules}
 use Rattle.circle.specs.Kernel.{circle_sinc_a_answer}
 use Rattle.circle_f32.specs.Told.{sinc_a_told}
 use Rattle.circle_f32.proofs.kernel.sinc_a.Goals as goal

@@ -1,6 +1,5 @@
--- Written by tools/widths from crates/circle/proofs/kernel/sinc_a_b_d/Answers.antt: edit that one. Digest 40a74925cde6f5de.
+-- Written by tools/widths from crates/circle/proofs/kernel/sinc_a_b_d/Answers.antt: edit that one. Digest 33708a0642c527d6.
 -- `circle_f32::kernel::sinc_a_b_d` meets its contract: by what its calls ensure and its tests say. Assumes nothing.
-use borrow.Author.Rules.{rules}
 use Rattle.circle.specs.Kernel.{circle_sinc_abd_answer}
 use Rattle.circle_f32.specs.Told.{sinc_abd_told}
 use Rattle.circle_f32.proofs.kernel.sinc_a_b_d.Goals as goal

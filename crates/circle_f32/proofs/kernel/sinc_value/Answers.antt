@@ -1,6 +1,5 @@
--- Written by tools/widths from crates/circle/proofs/kernel/sinc_value/Answers.antt: edit that one. Digest db2d0d86b931ae9c.
+-- Written by tools/widths from crates/circle/proofs/kernel/sinc_value/Answers.antt: edit that one. Digest 48cc3d086922f101.
 -- `circle_f32::kernel::sinc_value` meets its contract: by what its calls ensure and its tests say. Assumes nothing.
-use borrow.Author.Rules.{rules}
 use Rattle.circle.specs.Kernel.{circle_sinc_answer, circle_sinc}
 use Rattle.circle_f32.specs.Told.{sinc_told}
 use Rattle.circle_f32.proofs.kernel.sinc_value.Goals as goal

@@ -1,6 +1,5 @@
--- Written by tools/widths from crates/circle/proofs/kernel/two_group/Answers.antt: edit that one. Digest f6e27f7125dc1cae.
+-- Written by tools/widths from crates/circle/proofs/kernel/two_group/Answers.antt: edit that one. Digest 9d23bd080fbc7ad4.
 -- `circle_f32::kernel::two_group` meets its contract: by what its calls ensure and its tests say; below the limit of cos_half all members are on their series. Assumes nothing.
-use borrow.Author.Rules.{rules}
 use lib.Ieee.{binary32}
 use Rattle.tables.specs.Tables.{k_row, a_row}
 use Rattle.circle.specs.Kernel.{row_short, row_own, row_member, circle_sinc_abd, circle_sinc_a}

@@ -1,6 +1,5 @@
--- Written by tools/widths from crates/circle/proofs/kernel/whole/Answers.antt: edit that one. Digest a7b321103c975faf.
+-- Written by tools/widths from crates/circle/proofs/kernel/whole/Answers.antt: edit that one. Digest e2459a1d5de4c231.
 -- `circle_f32::kernel::whole` meets its contract: by what its calls ensure; no row's whole series is longer than its table. Assumes nothing.
-use borrow.Author.Rules.{rules}
 use lib.Ieee.{binary32}
 use Rattle.circle.specs.Kernel.{row_whole}
 use Rattle.tables.specs.Rows.{row_named}

@@ -1,6 +1,5 @@
--- Written by tools/widths from crates/coeffs/proofs/closed_form/closed_both/Answers.antt: edit that one. Digest ab77efd2699ceffa.
+-- Written by tools/widths from crates/coeffs/proofs/closed_form/closed_both/Answers.antt: edit that one. Digest 692a05bb24e18ce8.
 -- `coeffs_f32::closed_form::closed_both` meets its contract: by what its calls ensure. Assumes nothing.
-use borrow.Author.Rules.{rules}
 use Rattle.coeffs.specs.Closed.{closed_nine}
 use Rattle.coeffs.specs.Private.{closed_exps, closed_with}
 use Rattle.coeffs_f32.proofs.closed_form.closed_both.Goals as goal

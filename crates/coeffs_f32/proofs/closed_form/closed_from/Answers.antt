@@ -1,5 +1,4 @@
--- Written by tools/widths from crates/coeffs/proofs/closed_form/closed_from/Answers.antt: edit that one. Digest 2e7f4bbc5b5fd40d.
-use borrow.Author.Rules.{rules}
+-- Written by tools/widths from crates/coeffs/proofs/closed_form/closed_from/Answers.antt: edit that one. Digest 3bc14324825dde45.
 use Rattle.coeffs.specs.Closed.{closed_from, closed_v_from, closed_nine}
 use Rattle.coeffs.specs.Private.{closed_exps}
 use Rattle.coeffs_f32.proofs.closed_form.closed_from.Goals as goal

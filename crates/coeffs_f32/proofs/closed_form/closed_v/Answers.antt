@@ -1,6 +1,5 @@
--- Written by tools/widths from crates/coeffs/proofs/closed_form/closed_v/Answers.antt: edit that one. Digest 23cb4cf5a11b8590.
+-- Written by tools/widths from crates/coeffs/proofs/closed_form/closed_v/Answers.antt: edit that one. Digest dc9fbd25ac86fccf.
 -- `coeffs_f32::closed_form::closed_v` meets its contract: by what its calls ensure. Assumes nothing.
-use borrow.Author.Rules.{rules}
 use Rattle.coeffs.specs.Closed.{closed_v_from}
 use Rattle.coeffs.specs.Private.{closed_exps}
 use Rattle.coeffs_f32.proofs.closed_form.closed_v.Goals as goal

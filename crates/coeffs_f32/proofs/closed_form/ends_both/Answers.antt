@@ -1,5 +1,4 @@
--- Written by tools/widths from crates/coeffs/proofs/closed_form/ends_both/Answers.antt: edit that one. Digest d8a2e9343788856c.
-use borrow.Author.Rules.{rules}
+-- Written by tools/widths from crates/coeffs/proofs/closed_form/ends_both/Answers.antt: edit that one. Digest 42c869fc9478c83b.
 use Rattle.coeffs_f32.proofs.closed_form.ends_both.Goals as goal
 use Rattle.linalg_f32.proofs.As.{linalg_singles}
 use Rattle.circle_f32.proofs.As.{circle_singles}

@@ -1,5 +1,4 @@
--- Written by tools/widths from crates/coeffs/proofs/closed_form/ends_of/Answers.antt: edit that one. Digest ff522510d233c17a.
-use borrow.Author.Rules.{rules}
+-- Written by tools/widths from crates/coeffs/proofs/closed_form/ends_of/Answers.antt: edit that one. Digest a41f09e06ecb9303.
 use Rattle.coeffs.specs.Private.{closed_ends}
 use Rattle.coeffs.specs.Closed.{closed_v0, closed_w0}
 use Rattle.series.specs.Series.{g_series_pair}

@@ -1,6 +1,5 @@
--- Written by tools/widths from crates/coeffs/proofs/closed_form/exps_of/Answers.antt: edit that one. Digest 924d7f679f5db428.
+-- Written by tools/widths from crates/coeffs/proofs/closed_form/exps_of/Answers.antt: edit that one. Digest d7d1d7fb3e4dc665.
 -- `coeffs_f32::closed_form::exps_of` meets its contract: by what its calls ensure. Assumes nothing.
-use borrow.Author.Rules.{rules}
 use Rattle.coeffs.specs.Private.{closed_exps}
 use lib.Ieee.{of_bits}
 use Rattle.coeffs_f32.proofs.closed_form.exps_of.Goals as goal

@@ -1,6 +1,5 @@
--- Written by tools/widths from crates/coeffs/proofs/closed_form/v0_of/Answers.antt: edit that one. Digest 051a458360e9c621.
+-- Written by tools/widths from crates/coeffs/proofs/closed_form/v0_of/Answers.antt: edit that one. Digest b27c39bc77067978.
 -- `coeffs_f32::closed_form::v0_of` meets its contract: by what its calls ensure and its tests say. Assumes nothing.
-use borrow.Author.Rules.{rules}
 use Rattle.coeffs.specs.Closed.{closed_v0}
 use lib.Ieee.{of_bits}
 use Rattle.coeffs_f32.proofs.closed_form.v0_of.Goals as goal

@@ -1,6 +1,5 @@
--- Written by tools/widths from crates/coeffs/proofs/closed_form/v_from/Answers.antt: edit that one. Digest 79c979c5d7c4c10d.
+-- Written by tools/widths from crates/coeffs/proofs/closed_form/v_from/Answers.antt: edit that one. Digest 43d9c9f8762d1794.
 -- `coeffs_f32::closed_form::v_from` meets its contract: by what its calls ensure. Assumes nothing.
-use borrow.Author.Rules.{rules}
 use Rattle.coeffs.specs.Closed.{closed_v}
 use Rattle.closed.specs.Limits.{coeffs_delta}
 use lib.Ieee.{of_bits}

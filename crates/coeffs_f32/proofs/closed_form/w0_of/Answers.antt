@@ -1,6 +1,5 @@
--- Written by tools/widths from crates/coeffs/proofs/closed_form/w0_of/Answers.antt: edit that one. Digest 995e124786967602.
+-- Written by tools/widths from crates/coeffs/proofs/closed_form/w0_of/Answers.antt: edit that one. Digest 20637a0ca6dd6784.
 -- `coeffs_f32::closed_form::w0_of` meets its contract: by what its calls ensure and its tests say. Assumes nothing.
-use borrow.Author.Rules.{rules}
 use Rattle.coeffs.specs.Closed.{closed_w0}
 use lib.Ieee.{of_bits}
 use Rattle.coeffs_f32.proofs.closed_form.w0_of.Goals as goal

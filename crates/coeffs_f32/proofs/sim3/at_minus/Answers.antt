@@ -1,5 +1,4 @@
--- Written by tools/widths from crates/coeffs/proofs/sim3/at_minus/Answers.antt: edit that one. Digest c378940a74baf905.
-use borrow.Author.Rules.{rules}
+-- Written by tools/widths from crates/coeffs/proofs/sim3/at_minus/Answers.antt: edit that one. Digest f5c31d6efb4be7fb.
 use Rattle.coeffs.specs.Private.{minus_et_mt}
 use Rattle.coeffs_f32.proofs.sim3.at_minus.Goals as goal
 use Rattle.linalg_f32.proofs.As.{linalg_singles}

@@ -1,6 +1,5 @@
--- Written by tools/widths from crates/coeffs/proofs/sim3/by_series/Answers.antt: edit that one. Digest 372bbc40c24a2b1f.
+-- Written by tools/widths from crates/coeffs/proofs/sim3/by_series/Answers.antt: edit that one. Digest 9bf06fcdd931d58d.
 -- `coeffs_f32::sim3::by_series` meets its contract: what the series answers at the arm's terms is answered, and its refusal is handed upward. Assumes nothing.
-use borrow.Author.Rules.{rules}
 use mathlib.Core.Path.{sym, ap, ◌∙◌}
 use mathlib.Core.Bool.{false}
 use lib.Ieee.{binary32}

@@ -1,5 +1,4 @@
--- Written by tools/widths from crates/coeffs/proofs/sim3/closed_one/Answers.antt: edit that one. Digest 87fc487c62ea2482.
-use borrow.Author.Rules.{rules}
+-- Written by tools/widths from crates/coeffs/proofs/sim3/closed_one/Answers.antt: edit that one. Digest 9f6010e1fdaec3c9.
 use Rattle.coeffs.specs.Private.{closed_one}
 use lib.Ieee.{of_bits}
 use Rattle.coeffs_f32.proofs.sim3.closed_one.Goals as goal

@@ -1,5 +1,4 @@
--- Written by tools/widths from crates/coeffs/proofs/sim3/closed_pair/Answers.antt: edit that one. Digest 00bf46064e3b2c96.
-use borrow.Author.Rules.{rules}
+-- Written by tools/widths from crates/coeffs/proofs/sim3/closed_pair/Answers.antt: edit that one. Digest f03b4c8491cbfc3e.
 use Rattle.coeffs.specs.Private.{closed_pair}
 use lib.Ieee.{of_bits}
 use Rattle.coeffs_f32.proofs.sim3.closed_pair.Goals as goal

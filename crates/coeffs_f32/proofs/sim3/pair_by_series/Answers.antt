@@ -1,6 +1,5 @@
--- Written by tools/widths from crates/coeffs/proofs/sim3/pair_by_series/Answers.antt: edit that one. Digest 21bdd4beda9ce857.
+-- Written by tools/widths from crates/coeffs/proofs/sim3/pair_by_series/Answers.antt: edit that one. Digest 0137542265f9bc4c.
 -- `coeffs_f32::sim3::pair_by_series` meets its contract: what the series at both signs answers at the arm's terms is answered, and its refusal is handed upward. Assumes nothing.
-use borrow.Author.Rules.{rules}
 use mathlib.Core.Path.{sym, ap, ◌∙◌}
 use Prim.Native.Nat.{ℕ}
 use mathlib.Core.Bool.{false}

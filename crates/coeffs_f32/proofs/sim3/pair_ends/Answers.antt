@@ -1,5 +1,4 @@
--- Written by tools/widths from crates/coeffs/proofs/sim3/pair_ends/Answers.antt: edit that one. Digest cfb9b6af6d6c10f2.
-use borrow.Author.Rules.{rules}
+-- Written by tools/widths from crates/coeffs/proofs/sim3/pair_ends/Answers.antt: edit that one. Digest a9873acfbfaa325c.
 use Rattle.coeffs.specs.Private.{pair_ends}
 use Rattle.coeffs_f32.proofs.sim3.pair_ends.Goals as goal
 use Rattle.linalg_f32.proofs.As.{linalg_singles}

@@ -1,6 +1,5 @@
--- Written by tools/widths from crates/coeffs/proofs/sim3/sim3_coeffs/Answers.antt: edit that one. Digest 5fd21d6b5b4aaf45.
+-- Written by tools/widths from crates/coeffs/proofs/sim3/sim3_coeffs/Answers.antt: edit that one. Digest 9ddba976f7fb800a.
 -- `coeffs_f32::sim3::sim3_coeffs` meets its contract: the scaled answer, unscaled, or its refusal. Assumes nothing.
-use borrow.Author.Rules.{rules}
 use mathlib.Core.Path.{sym, ap, ◌∙◌}
 use lib.Ieee.{binary32}
 use Rattle.coeffs.specs.Entries.{scaled_answer, coeffs_answer}

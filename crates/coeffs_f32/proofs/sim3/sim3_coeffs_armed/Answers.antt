@@ -1,7 +1,6 @@
--- Written by tools/widths from crates/coeffs/proofs/sim3/sim3_coeffs_armed/Answers.antt: edit that one. Digest 1abb8e6d6484dc48.
+-- Written by tools/widths from crates/coeffs/proofs/sim3/sim3_coeffs_armed/Answers.antt: edit that one. Digest 8fcf77f0c30f28be.
 -- `coeffs_f32::sim3::sim3_coeffs_armed` meets its contract: the answer is that of the arm at Δ, with that arm told. Assumes nothing.
-use borrow.Author.Rules.{rules}
-use mathlib.Core.Path.{◌≡◌, sym, ap, ◌∙◌}
+use mathlib.Core.Path.{sym, ap, ◌∙◌}
 use borrow.Author.Tests.{lt-ltb, le-ltb}
 use lib.Dec.{ltb}
 use lib.Ieee.{binary32}

@@ -1,7 +1,6 @@
--- Written by tools/widths from crates/coeffs/proofs/sim3/sim3_coeffs_armed_pair/Answers.antt: edit that one. Digest eb36019e6ca50aa8.
+-- Written by tools/widths from crates/coeffs/proofs/sim3/sim3_coeffs_armed_pair/Answers.antt: edit that one. Digest 6a02e9e703e2179e.
 -- `coeffs_f32::sim3::sim3_coeffs_armed_pair` meets its contract: the answer is that of the arm at Δ, with that arm told. Assumes nothing.
-use borrow.Author.Rules.{rules}
-use mathlib.Core.Path.{◌≡◌, sym, ap, ◌∙◌}
+use mathlib.Core.Path.{sym, ap, ◌∙◌}
 use borrow.Author.Tests.{lt-ltb, le-ltb}
 use lib.Dec.{ltb}
 use lib.Ieee.{binary32}

@@ -1,6 +1,5 @@
--- Written by tools/widths from crates/coeffs/proofs/sim3/sim3_coeffs_of/Answers.antt: edit that one. Digest 07b7416f8dadbfc6.
+-- Written by tools/widths from crates/coeffs/proofs/sim3/sim3_coeffs_of/Answers.antt: edit that one. Digest 60c80b5cfb5b7927.
 -- `coeffs_f32::sim3::sim3_coeffs_of` meets its contract: |phi|² is not below zero, so the entry answers. Assumes nothing.
-use borrow.Author.Rules.{rules}
 use mathlib.Core.Path.{sym, ap, ◌∙◌}
 use lib.Ieee.{binary32}
 use Rattle.coeffs.specs.Entries.{coeffs_answer}

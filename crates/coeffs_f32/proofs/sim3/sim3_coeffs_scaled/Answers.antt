@@ -1,6 +1,5 @@
--- Written by tools/widths from crates/coeffs/proofs/sim3/sim3_coeffs_scaled/Answers.antt: edit that one. Digest 58125fee77f13a52.
+-- Written by tools/widths from crates/coeffs/proofs/sim3/sim3_coeffs_scaled/Answers.antt: edit that one. Digest f8eb4c6ef41cf607.
 -- `coeffs_f32::sim3::sim3_coeffs_scaled` meets its contract: the answer is that of the arm at Δ. Assumes nothing.
-use borrow.Author.Rules.{rules}
 use mathlib.Core.Path.{sym, ap, ◌∙◌}
 use borrow.Author.Tests.{lt-ltb, le-ltb}
 use lib.Dec.{ltb}

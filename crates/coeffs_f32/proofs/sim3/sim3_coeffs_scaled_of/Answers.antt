@@ -1,6 +1,5 @@
--- Written by tools/widths from crates/coeffs/proofs/sim3/sim3_coeffs_scaled_of/Answers.antt: edit that one. Digest ba35a2685fef0eb2.
+-- Written by tools/widths from crates/coeffs/proofs/sim3/sim3_coeffs_scaled_of/Answers.antt: edit that one. Digest beff4032338f8569.
 -- `coeffs_f32::sim3::sim3_coeffs_scaled_of` meets its contract: |phi|² is not below zero, so the entry answers. Assumes nothing.
-use borrow.Author.Rules.{rules}
 use mathlib.Core.Path.{sym, ap, ◌∙◌}
 use lib.Ieee.{binary32}
 use Rattle.coeffs.specs.Entries.{scaled_answer}

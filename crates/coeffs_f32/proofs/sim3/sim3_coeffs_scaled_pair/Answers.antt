@@ -1,6 +1,5 @@
--- Written by tools/widths from crates/coeffs/proofs/sim3/sim3_coeffs_scaled_pair/Answers.antt: edit that one. Digest ad83ae624ab8b5a4.
+-- Written by tools/widths from crates/coeffs/proofs/sim3/sim3_coeffs_scaled_pair/Answers.antt: edit that one. Digest 50f798509f02e0eb.
 -- `coeffs_f32::sim3::sim3_coeffs_scaled_pair` meets its contract: what the armed pair answers is the pair's answer with more told. Assumes nothing.
-use borrow.Author.Rules.{rules}
 use mathlib.Core.Path.{sym, ap, ◌∙◌}
 use lib.Ieee.{binary32}
 use Rattle.coeffs_f32.specs.Told.{pair_told, armed_pair_told}

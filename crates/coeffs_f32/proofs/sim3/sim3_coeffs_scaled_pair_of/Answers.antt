@@ -1,6 +1,5 @@
--- Written by tools/widths from crates/coeffs/proofs/sim3/sim3_coeffs_scaled_pair_of/Answers.antt: edit that one. Digest 5e84d940ee6421ac.
+-- Written by tools/widths from crates/coeffs/proofs/sim3/sim3_coeffs_scaled_pair_of/Answers.antt: edit that one. Digest 3df71aecbf1c3c83.
 -- `coeffs_f32::sim3::sim3_coeffs_scaled_pair_of` meets its contract: |phi|² is not below zero, so the entry answers. Assumes nothing.
-use borrow.Author.Rules.{rules}
 use mathlib.Core.Path.{sym, ap, ◌∙◌}
 use lib.Ieee.{binary32}
 use Rattle.coeffs.specs.Entries.{pair_answer}

@@ -1,6 +1,5 @@
--- Written by tools/widths from crates/coeffs/proofs/sim3/sim3_v/Answers.antt: edit that one. Digest add4f9512705ff19.
+-- Written by tools/widths from crates/coeffs/proofs/sim3/sim3_v/Answers.antt: edit that one. Digest 97019a804bd7c18f.
 -- `coeffs_f32::sim3::sim3_v` meets its contract: the scaled answer, unscaled, or its refusal. Assumes nothing.
-use borrow.Author.Rules.{rules}
 use mathlib.Core.Path.{sym, ap, ◌∙◌}
 use lib.Ieee.{binary32}
 use Rattle.coeffs.specs.Entries.{v_scaled_answer, v_answer}

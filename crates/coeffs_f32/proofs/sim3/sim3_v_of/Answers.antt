@@ -1,6 +1,5 @@
--- Written by tools/widths from crates/coeffs/proofs/sim3/sim3_v_of/Answers.antt: edit that one. Digest 45924ba659b27cbf.
+-- Written by tools/widths from crates/coeffs/proofs/sim3/sim3_v_of/Answers.antt: edit that one. Digest d728874512cbbe8a.
 -- `coeffs_f32::sim3::sim3_v_of` meets its contract: |phi|² is not below zero, so the entry answers. Assumes nothing.
-use borrow.Author.Rules.{rules}
 use mathlib.Core.Path.{sym, ap, ◌∙◌}
 use lib.Ieee.{binary32}
 use Rattle.coeffs.specs.Entries.{v_answer}

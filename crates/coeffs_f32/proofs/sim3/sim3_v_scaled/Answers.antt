@@ -1,6 +1,5 @@
--- Written by tools/widths from crates/coeffs/proofs/sim3/sim3_v_scaled/Answers.antt: edit that one. Digest 4b6f0ac76525d785.
+-- Written by tools/widths from crates/coeffs/proofs/sim3/sim3_v_scaled/Answers.antt: edit that one. Digest 5f078b49bd515199.
 -- `coeffs_f32::sim3::sim3_v_scaled` meets its contract: in either arm what the arm answers is answered, and its refusal is handed upward. Assumes nothing.
-use borrow.Author.Rules.{rules}
 use mathlib.Core.Path.{sym, ap, ◌∙◌}
 use borrow.Author.Tests.{lt-ltb, le-ltb}
 use lib.Dec.{ltb}

@@ -1,6 +1,5 @@
--- Written by tools/widths from crates/coeffs/proofs/sim3/tell/Answers.antt: edit that one. Digest fb017c05b908f513.
+-- Written by tools/widths from crates/coeffs/proofs/sim3/tell/Answers.antt: edit that one. Digest f19e3fa08514a8f7.
 -- `coeffs_f32::sim3::tell` meets its contract: by what the arm answered. Assumes nothing.
-use borrow.Author.Rules.{rules}
 use mathlib.Core.Path.{refl}
 use Rattle.coeffs_f32.specs.Told.{scaled_told, armed_told}
 use Rattle.coeffs_f32.proofs.sim3.tell.Goals as goal

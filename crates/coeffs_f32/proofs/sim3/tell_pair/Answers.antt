@@ -1,6 +1,5 @@
--- Written by tools/widths from crates/coeffs/proofs/sim3/tell_pair/Answers.antt: edit that one. Digest 5c8f0b400af32624.
+-- Written by tools/widths from crates/coeffs/proofs/sim3/tell_pair/Answers.antt: edit that one. Digest 5b75be0e0b7ca00d.
 -- `coeffs_f32::sim3::tell_pair` meets its contract: by what the arm answered. Assumes nothing.
-use borrow.Author.Rules.{rules}
 use mathlib.Core.Path.{refl}
 use Rattle.coeffs_f32.specs.Told.{pair_told, armed_pair_told}
 use Rattle.coeffs_f32.proofs.sim3.tell_pair.Goals as goal

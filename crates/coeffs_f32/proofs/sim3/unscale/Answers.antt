@@ -1,6 +1,5 @@
--- Written by tools/widths from crates/coeffs/proofs/sim3/unscale/Answers.antt: edit that one. Digest 5bd5af7670f884d8.
+-- Written by tools/widths from crates/coeffs/proofs/sim3/unscale/Answers.antt: edit that one. Digest 1691303ec762f30a.
 -- `coeffs_f32::sim3::unscale` meets its contract: by what its calls ensure. Assumes nothing.
-use borrow.Author.Rules.{rules}
 use Rattle.coeffs.specs.Group.{coeffs_unscale}
 use lib.Ieee.{of_bits}
 use Rattle.coeffs_f32.proofs.sim3.unscale.Goals as goal

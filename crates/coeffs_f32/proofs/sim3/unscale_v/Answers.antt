@@ -1,6 +1,5 @@
--- Written by tools/widths from crates/coeffs/proofs/sim3/unscale_v/Answers.antt: edit that one. Digest d8bab503338e13ab.
+-- Written by tools/widths from crates/coeffs/proofs/sim3/unscale_v/Answers.antt: edit that one. Digest a69e5e2c4d75179a.
 -- `coeffs_f32::sim3::unscale_v` meets its contract: by what its calls ensure. Assumes nothing.
-use borrow.Author.Rules.{rules}
 use Rattle.coeffs.specs.Group.{coeffs_unscale_v}
 use lib.Ieee.{of_bits}
 use Rattle.coeffs_f32.proofs.sim3.unscale_v.Goals as goal

@@ -1,9 +1,8 @@
--- Written by tools/widths from crates/series/proofs/horner/horner_stopped/Answers.antt: edit that one. Digest 902e74d4d7638bb2.
+-- Written by tools/widths from crates/series/proofs/horner/horner_stopped/Answers.antt: edit that one. Digest 4477c0fddac32f69.
 -- `series_f32::horner::horner_stopped` meets its contract: after i turns each of the four sums is the partial sum that its sign alone has after i entries.
 use mathlib.Core.Path.{◌≡◌, refl}
-use Prim.Native.Nat.{◌+◌, ◌-◌, ◌≤◌}
+use Prim.Native.Nat.{◌+◌, ◌-◌}
 use native.Mathlib.Omega.{arith}
-use borrow.Author.Rules.{rules}
 use lib.Ieee.{binary32, of_bits, neg}
 use Rattle.series.specs.Pass.{g_stopped}
 use Rattle.series.proofs.PartialSums.{stopped_more}

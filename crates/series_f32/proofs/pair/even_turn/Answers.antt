@@ -1,5 +1,4 @@
--- Written by tools/widths from crates/series/proofs/pair/even_turn/Answers.antt: edit that one. Digest 6de0e12cd648b1eb.
-use borrow.Author.Rules.{rules}
+-- Written by tools/widths from crates/series/proofs/pair/even_turn/Answers.antt: edit that one. Digest ad4852772205821e.
 use Rattle.series.specs.Private.{pair_turn}
 use Rattle.series_f32.proofs.pair.even_turn.Goals as goal
 use Rattle.linalg_f32.proofs.As.{linalg_singles}

@@ -1,6 +1,5 @@
--- Written by tools/widths from crates/series/proofs/pair/next_minus/Answers.antt: edit that one. Digest c84d2a743766660e.
+-- Written by tools/widths from crates/series/proofs/pair/next_minus/Answers.antt: edit that one. Digest 10b13c1e62e9390b.
 -- `series_f32::pair::next_minus` meets its contract: subtracting p is adding -p, and the product with -p is that with p turned. Assumes nothing.
-use borrow.Author.Rules.{rules}
 use lib.Ieee.{sub}
 use Rattle.ieee.proofs.Sign.{neg-neg, mul-neg_l}
 use Rattle.series.specs.Series.{series_next}

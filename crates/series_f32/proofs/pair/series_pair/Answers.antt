@@ -1,6 +1,5 @@
--- Written by tools/widths from crates/series/proofs/pair/series_pair/Answers.antt: edit that one. Digest 3eaa530e8d73b119.
+-- Written by tools/widths from crates/series/proofs/pair/series_pair/Answers.antt: edit that one. Digest fbd744484c506dd6.
 -- `series_f32::pair::series_pair` meets its contract: the tests are the definition's, 1 before 4. Assumes nothing.
-use borrow.Author.Rules.{rules}
 use borrow.Author.Tests.{lt-ltb, le-ltb}
 use lib.Ieee.{of_bits}
 use Rattle.series.specs.Series.{series_pair_answer, series_answer}

@@ -1,6 +1,5 @@
--- Written by tools/widths from crates/series/proofs/pair/series_pair_at/Answers.antt: edit that one. Digest 1d4b11ff713c484f.
+-- Written by tools/widths from crates/series/proofs/pair/series_pair_at/Answers.antt: edit that one. Digest 5b6d133c48127fcc.
 -- `series_f32::pair::series_pair_at` meets its contract: what it computes is `pair_full`, and by the pair theorem that is the series at each sign. Assumes nothing.
-use borrow.Author.Rules.{rules}
 use lib.Ieee.{binary32}
 use Rattle.series.specs.Series.{g_series_pair}
 use Rattle.series.specs.Private.{pair_full}

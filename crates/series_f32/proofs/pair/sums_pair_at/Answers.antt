@@ -1,5 +1,4 @@
--- Written by tools/widths from crates/series/proofs/pair/sums_pair_at/Answers.antt: edit that one. Digest 311f1fed1aa64c48.
-use borrow.Author.Rules.{rules}
+-- Written by tools/widths from crates/series/proofs/pair/sums_pair_at/Answers.antt: edit that one. Digest 3ee8b01999f08f9c.
 use Rattle.series.specs.Private.{pair_sums}
 use Rattle.series_f32.proofs.pair.sums_pair_at.Goals as goal
 use Rattle.linalg_f32.proofs.As.{linalg_singles}

@@ -1,7 +1,6 @@
--- Written by tools/widths from crates/series/proofs/pair/turns_at/Answers.antt: edit that one. Digest 606f21b6df2715f2.
+-- Written by tools/widths from crates/series/proofs/pair/turns_at/Answers.antt: edit that one. Digest ec47f38f75bcbf29.
 -- `series_f32::pair::turns_at` meets its contract: the levels below k and one even level more, or, where k is odd, those below k + 1, which is even. Assumes nothing.
 use native.Mathlib.Omega.{arith}
-use borrow.Author.Rules.{rules}
 use lib.Ieee.{binary32}
 use Rattle.series.proofs.Pairs.{even_more}
 use Rattle.series_f32.proofs.pair.turns_at.Goals as goal

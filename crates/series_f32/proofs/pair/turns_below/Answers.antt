@@ -1,9 +1,8 @@
--- Written by tools/widths from crates/series/proofs/pair/turns_below/Answers.antt: edit that one. Digest d47357a2bb27624e.
+-- Written by tools/widths from crates/series/proofs/pair/turns_below/Answers.antt: edit that one. Digest 5376cf7868d8f8c0.
 -- `series_f32::pair::turns_below` meets its contract: the loop holds `pair_turns` at an even j with -p for p, and ends at n, which is even. Assumes nothing.
 use mathlib.Core.Path.{◌≡◌}
-use Prim.Native.Nat.{◌+◌, ◌-◌, ◌%◌, ◌≤◌}
+use Prim.Native.Nat.{◌-◌}
 use native.Mathlib.Omega.{arith}
-use borrow.Author.Rules.{rules}
 use lib.Ieee.{binary32}
 use Rattle.series.specs.Private.{pair_turns, turns_minus}
 use Rattle.series.proofs.Minus.{turns_twice}

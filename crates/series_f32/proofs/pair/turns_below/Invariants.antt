@@ -1,13 +1,9 @@
--- Written by tools/widths from crates/series/proofs/pair/turns_below/Invariants.antt: edit that one. Digest d8b7b60d1f400cae.
+-- Written by tools/widths from crates/series/proofs/pair/turns_below/Invariants.antt: edit that one. Digest ef8fd205e32cbf46.
 -- `series_f32::pair::turns_below` meets its contract: the loop holds `pair_turns` at an even j with -p for p, and ends at n, which is even. Assumes nothing.
 use mathlib.Core.Path.{◌≡◌}
-use Prim.Native.Nat.{◌+◌, ◌-◌, ◌%◌, ◌≤◌}
-use native.Mathlib.Omega.{arith}
-use borrow.Author.Rules.{rules}
+use Prim.Native.Nat.{◌-◌, ◌%◌, ◌≤◌}
 use lib.Ieee.{binary32}
 use Rattle.series.specs.Private.{pair_turns, turns_minus}
-use Rattle.series.proofs.Minus.{turns_twice}
-use Rattle.series.proofs.Pairs.{two_more}
 use Rattle.series_f32.proofs.pair.turns_below.Given as goal
 use Rattle.series_f32.specs.As.{as_turns_pair}
 

@@ -1,5 +1,4 @@
--- Written by tools/widths from crates/series/proofs/reciprocal/recip/Answers.antt: edit that one. Digest ea37b9fff59bede5.
-use borrow.Author.Rules.{rules}
+-- Written by tools/widths from crates/series/proofs/reciprocal/recip/Answers.antt: edit that one. Digest e0820bb97a25f9b2.
 use Rattle.series_f32.proofs.reciprocal.recip.Goals as goal
 use Rattle.linalg_f32.proofs.As.{linalg_singles}
 use Rattle.series_f32.proofs.As.{series_singles}

@@ -1,5 +1,4 @@
--- Written by tools/widths from crates/series/proofs/recurrence/coeffs/Answers.antt: edit that one. Digest 64ca8e9a698af803.
-use borrow.Author.Rules.{rules}
+-- Written by tools/widths from crates/series/proofs/recurrence/coeffs/Answers.antt: edit that one. Digest 0024e4711da51ab3.
 use Rattle.series.specs.Series.{series_coeffs}
 use Rattle.series_f32.proofs.recurrence.coeffs.Goals as goal
 use Rattle.linalg_f32.proofs.As.{linalg_singles}

@@ -1,5 +1,4 @@
--- Written by tools/widths from crates/series/proofs/recurrence/tail_terms/Answers.antt: edit that one. Digest 0c8e7e7506282cff.
-use borrow.Author.Rules.{rules}
+-- Written by tools/widths from crates/series/proofs/recurrence/tail_terms/Answers.antt: edit that one. Digest 5b242bceb288ac65.
 use Rattle.series.specs.Private.{tail_terms}
 use Rattle.series_f32.proofs.recurrence.tail_terms.Goals as goal
 use Rattle.linalg_f32.proofs.As.{linalg_singles}

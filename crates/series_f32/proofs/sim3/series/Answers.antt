@@ -1,6 +1,5 @@
--- Written by tools/widths from crates/series/proofs/sim3/series/Answers.antt: edit that one. Digest 0f29f92a89051823.
+-- Written by tools/widths from crates/series/proofs/sim3/series/Answers.antt: edit that one. Digest ad22c7a04ab76eac.
 -- `series_f32::sim3::series` meets its contract: the tests are the definition's, 1 before 4. Assumes nothing.
-use borrow.Author.Rules.{rules}
 use borrow.Author.Tests.{lt-ltb, le-ltb}
 use lib.Ieee.{of_bits}
 use Rattle.series.specs.Series.{series_answer}

@@ -1,5 +1,4 @@
--- Written by tools/widths from crates/series/proofs/sim3/series_at/Answers.antt: edit that one. Digest f26ac7d295cb8e8e.
-use borrow.Author.Rules.{rules}
+-- Written by tools/widths from crates/series/proofs/sim3/series_at/Answers.antt: edit that one. Digest 918110f812436b7b.
 use Rattle.series.specs.Series.{series_full}
 use Rattle.series_f32.proofs.sim3.series_at.Goals as goal
 use Rattle.linalg_f32.proofs.As.{linalg_singles}

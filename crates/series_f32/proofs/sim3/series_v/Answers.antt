@@ -1,6 +1,5 @@
--- Written by tools/widths from crates/series/proofs/sim3/series_v/Answers.antt: edit that one. Digest 64eede076250f2a4.
+-- Written by tools/widths from crates/series/proofs/sim3/series_v/Answers.antt: edit that one. Digest ebfc0fdf0e674dc6.
 -- `series_f32::sim3::series_v` meets its contract: the tests are the definition's, 1 before 4. Assumes nothing.
-use borrow.Author.Rules.{rules}
 use borrow.Author.Tests.{lt-ltb, le-ltb}
 use lib.Ieee.{of_bits}
 use Rattle.series.specs.Series.{series_v_answer}

@@ -1,6 +1,5 @@
--- Written by tools/widths from crates/series/proofs/sim3/sums_at/Answers.antt: edit that one. Digest 8bc234429fcf27f5.
+-- Written by tools/widths from crates/series/proofs/sim3/sums_at/Answers.antt: edit that one. Digest bbe9b53ffa46deb2.
 -- `series_f32::sim3::sums_at` meets its contract: the loop leaves the sums over the levels to k, and the tail brings each to its own last level. Assumes nothing.
-use borrow.Author.Rules.{rules}
 use Rattle.series.proofs.Solo.{solo_are, last_is}
 use Rattle.series_f32.proofs.sim3.sums_at.Goals as goal
 use Rattle.linalg_f32.proofs.As.{linalg_singles}

@@ -1,5 +1,4 @@
--- Written by tools/widths from crates/series/proofs/sim3/turn/Answers.antt: edit that one. Digest 94c42e7b71a5f70b.
-use borrow.Author.Rules.{rules}
+-- Written by tools/widths from crates/series/proofs/sim3/turn/Answers.antt: edit that one. Digest a2b8c76e817a82ca.
 use Rattle.series.specs.Private.{solo_turn}
 use Rattle.series_f32.proofs.sim3.turn.Goals as goal
 use Rattle.linalg_f32.proofs.As.{linalg_singles}

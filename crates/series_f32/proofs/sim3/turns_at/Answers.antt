@@ -1,9 +1,8 @@
--- Written by tools/widths from crates/series/proofs/sim3/turns_at/Answers.antt: edit that one. Digest 920983084536d95a.
+-- Written by tools/widths from crates/series/proofs/sim3/turns_at/Answers.antt: edit that one. Digest 5dbe4f25daf68b54.
 -- `series_f32::sim3::turns_at` meets its contract: after j turns the loop holds `solo_turns` at j, and it stops at k + 1. Assumes nothing.
 use mathlib.Core.Path.{◌≡◌}
-use Prim.Native.Nat.{◌+◌, ◌-◌, ◌≤◌}
+use Prim.Native.Nat.{◌+◌, ◌-◌}
 use native.Mathlib.Omega.{arith}
-use lib.Ieee.{binary32}
 use Rattle.series.specs.Private.{solo_turns}
 use Rattle.series.proofs.Solo.{solo_more}
 use Rattle.series_f32.proofs.sim3.turns_at.Goals as goal

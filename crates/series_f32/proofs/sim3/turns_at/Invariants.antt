@@ -1,11 +1,9 @@
--- Written by tools/widths from crates/series/proofs/sim3/turns_at/Invariants.antt: edit that one. Digest 2a7d41c63f6d4ab5.
+-- Written by tools/widths from crates/series/proofs/sim3/turns_at/Invariants.antt: edit that one. Digest 24297b0613a0e874.
 -- `series_f32::sim3::turns_at` meets its contract: after j turns the loop holds `solo_turns` at j, and it stops at k + 1. Assumes nothing.
 use mathlib.Core.Path.{◌≡◌}
 use Prim.Native.Nat.{◌+◌, ◌-◌, ◌≤◌}
-use native.Mathlib.Omega.{arith}
 use lib.Ieee.{binary32}
 use Rattle.series.specs.Private.{solo_turns}
-use Rattle.series.proofs.Solo.{solo_more}
 use Rattle.series_f32.proofs.sim3.turns_at.Given as goal
 use Rattle.series_f32.specs.As.{as_turns}
 

@@ -1,9 +1,8 @@
--- Written by tools/widths from crates/series/proofs/sim3/turns_v_at/Answers.antt: edit that one. Digest 71f81592827025d8.
+-- Written by tools/widths from crates/series/proofs/sim3/turns_v_at/Answers.antt: edit that one. Digest f850e80192778860.
 -- `series_f32::sim3::turns_v_at` meets its contract: the shortest arm's turns are written out; after j turns the loop holds `v_turns` at j, and it stops at k + 1. Assumes nothing.
 use mathlib.Core.Path.{◌≡◌}
-use Prim.Native.Nat.{◌+◌, ◌-◌, ◌≤◌}
+use Prim.Native.Nat.{◌+◌, ◌-◌}
 use native.Mathlib.Omega.{arith}
-use lib.Ieee.{binary32}
 use Rattle.series.specs.Private.{v_turns}
 use Rattle.series.proofs.Solo.{v_more}
 use Rattle.series_f32.proofs.sim3.turns_v_at.Goals as goal

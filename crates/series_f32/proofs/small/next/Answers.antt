@@ -1,5 +1,4 @@
--- Written by tools/widths from crates/series/proofs/small/next/Answers.antt: edit that one. Digest 54dc2e7e5b2ae05d.
-use borrow.Author.Rules.{rules}
+-- Written by tools/widths from crates/series/proofs/small/next/Answers.antt: edit that one. Digest 1bf991487f5dd0d3.
 use Rattle.series_f32.proofs.small.next.Goals as goal
 use Rattle.linalg_f32.proofs.As.{linalg_singles}
 use Rattle.series_f32.proofs.As.{series_singles}

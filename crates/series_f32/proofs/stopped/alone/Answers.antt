@@ -1,6 +1,5 @@
--- Written by tools/widths from crates/series/proofs/stopped/alone/Answers.antt: edit that one. Digest 70db3e7820d2adcf.
+-- Written by tools/widths from crates/series/proofs/stopped/alone/Answers.antt: edit that one. Digest 1561276a2059f3f1.
 -- `series_f32::stopped::alone` meets its contract: by what its calls ensure. Assumes nothing.
-use borrow.Author.Rules.{rules}
 use Rattle.series.specs.Pass.{horner_stopped}
 use Rattle.series_f32.proofs.stopped.alone.Goals as goal
 use Rattle.linalg_f32.proofs.As.{linalg_singles}

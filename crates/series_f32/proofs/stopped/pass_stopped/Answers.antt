@@ -1,6 +1,5 @@
--- Written by tools/widths from crates/series/proofs/stopped/pass_stopped/Answers.antt: edit that one. Digest 1b0db6e325a4ae2f.
+-- Written by tools/widths from crates/series/proofs/stopped/pass_stopped/Answers.antt: edit that one. Digest d0cac2b4f4519cad.
 -- `series_f32::stopped::pass_stopped` meets its contract: the test is the definition's, and each part is what its call ensures. Assumes nothing.
-use borrow.Author.Rules.{rules}
 use borrow.Author.Tests.{lt-ltb, le-ltb}
 use Rattle.series.specs.Pass.{pass_stopped}
 use Rattle.series_f32.specs.Told.{stopped_told}

@@ -1,6 +1,5 @@
--- Written by tools/widths from crates/series/proofs/stopped/series_at/Answers.antt: edit that one. Digest b81d3dab8a15b468.
+-- Written by tools/widths from crates/series/proofs/stopped/series_at/Answers.antt: edit that one. Digest cc3f13c5af043865.
 -- `series_f32::stopped::series_at` meets its contract: by what its calls ensure. Assumes nothing.
-use borrow.Author.Rules.{rules}
 use Rattle.series.specs.Pass.{horner_stopped}
 use Rattle.series_f32.proofs.stopped.series_at.Goals as goal
 use Rattle.linalg_f32.proofs.As.{linalg_singles}

@@ -1,6 +1,5 @@
--- Written by tools/widths from crates/closed/proofs/values/Values/mirrored/Answers.antt: edit that one. Digest a25ead4a9133bf98.
+-- Written by tools/widths from crates/closed/proofs/values/Values/mirrored/Answers.antt: edit that one. Digest 0e6d8ec9ffa26e99.
 -- `closed_f32::values::Values::mirrored` meets its contract: by what its calls ensure. Assumes nothing.
-use borrow.Author.Rules.{rules}
 use Rattle.closed.specs.Values.{mirrored}
 use Rattle.closed_f32.proofs.values.Values.mirrored.Goals as goal
 use Rattle.linalg_f32.proofs.As.{linalg_singles}
