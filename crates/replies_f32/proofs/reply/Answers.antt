@@ -219,12 +219,27 @@ returns-then-out-lt-LONGEST c =
 
 pub returns-in-Wrote : goal.returns-in-Wrote
 returns-in-Wrote c =
-    rw c.width-end.ensures (given_wrote (given c) true c.in-Wrote.n c.in-Wrote.is)
+    let p = given_wrote (given c) true c.in-Wrote.n c.in-Wrote.is in
+    rw c.width-end.ensures
+    (record {
+      result_value = p.0;
+      out_after = p.1;
+    })
 
 pub returns-in-Unusable : goal.returns-in-Unusable
 returns-in-Unusable c =
-    rw c.width-end.ensures (given_wrote (given c) false c.in-Unusable.n c.in-Unusable.is)
+    let p = given_wrote (given c) false c.in-Unusable.n c.in-Unusable.is in
+    rw c.width-end.ensures
+    (record {
+      result_value = p.0;
+      out_after = p.1;
+    })
 
 pub returns-in-Refused : goal.returns-in-Refused
 returns-in-Refused c =
-    rw c.width-end.ensures (given_refused (given (c)) c.in-Refused.number c.in-Refused.is)
+    let p = given_refused (given (c)) c.in-Refused.number c.in-Refused.is in
+    rw c.width-end.ensures
+    (record {
+      result_value = p.0;
+      out_after = p.1;
+    })
