@@ -12,11 +12,6 @@ def end_of(text, at):
     raise ValueError("a bracket is not closed")
 
 
-def quoted(name):
-    """A name of the code as the logic writes it."""
-    return f"«{name}»" if "_" in name else name
-
-
 class Type:
     """A struct or an enum of the code."""
 
@@ -28,10 +23,14 @@ class Type:
         self.cases = dict(re.findall(r"(?m)^\s*(\w+)(?:\((\w+)\))?,", body)) if kind == "enum" else {}
 
 
+# the crates whose functions callers in C have, under the same names
+EXPORTS = ("sim3_c", "sim3_c_entries")
+
+
 class Function:
     """A function of the code: its module, the type that it is a method of, its parameters as (name, type), its result's type and its text."""
 
-    def __init__(self, module, owner, name, parameters, result, text):
+    def __init__(self, crate, module, owner, name, parameters, result, text):
         self.module, self.owner, self.name, self.text = module, owner, name, text
         self.parameters = []
         for part in re.split(r",\s*", parameters.strip().rstrip(",")):
@@ -44,7 +43,7 @@ class Function:
         self.result = owner if result == "Self" else result
         self.place = "/".join(part for part in ("" if module == "lib" else module, owner, name) if part)
         # what callers in C link has another name at the other width
-        self.exported = 'extern "C"' in text.partition("fn ")[0]
+        self.exported = crate in EXPORTS and name.startswith("sim3_")
         self.contract = bool(re.search(r"(?m)^ *(?:ensures|requires)\b", text))
 
 
@@ -52,13 +51,13 @@ class Function:
 HEAD = re.compile(r"^( *)(?:pub(?:\(crate\))? )?(?:extern \"C\" )?fn (\w+)\(([^)]*)\)(?: -> ([^\n{]+))?", re.M)
 
 
-def functions(module, text):
+def functions(crate, module, text):
     """The functions of one source file, each with the place where its head begins."""
     for head in HEAD.finditer(text):
         impls = re.findall(r"(?m)^(?:impl (\w+) \{|\})", text[: head.start()])
         owner = impls[-1] if head.group(1) and impls else ""
         last = text.index(f"\n{head.group(1)}}}", head.end())
-        yield head.start(), Function(module, owner, *head.group(2, 3, 4), text[head.start() : last])
+        yield head.start(), Function(crate, module, owner, *head.group(2, 3, 4), text[head.start() : last])
 
 
 class Sources:
@@ -75,7 +74,7 @@ class Sources:
                 raise ValueError(f"{self.types[t.name].crate} and {t.crate} both declare {t.name}: types are known by their names")
             self.types[t.name] = t
         # (crate, name) of each exported function, whose name differs at the other width; and what `wire` has for both widths
-        self.exported = {(crate, f.name) for crate in self.twins for module, text in self.code(crate).items() for _, f in functions(module, text) if f.exported}
+        self.exported = {(crate, f.name) for crate in self.twins for module, text in self.code(crate).items() for _, f in functions(crate, module, text) if f.exported}
         self.singles = sorted(re.findall(r"(?m)^pub (?:fn|const) (\w+)", self.code("wire")["single"]))
         self.told, self.gives = {}, {}
         for crate in self.twins:

@@ -1,8 +1,7 @@
 """What a twin has of definitions and laws: how its structs are the definitions' records, and what its enums say."""
 import re
 
-from .sources import quoted
-from .words import as_lines, home, imports, place, twin
+from .words import as_lines, home, imports, place, reading, twin
 
 KINDS = {"f64": "Float", "bool": "Bool", **dict.fromkeys(("u8", "u16", "u32", "u64", "usize"), "ℕ")}
 
@@ -23,7 +22,7 @@ def own(sources, crate):
 
 def read(sources, name, held, value):
     """A field's value as the definitions have it."""
-    return f"as{held} ({value})" if sources.floating(held) else value
+    return f"{reading(held)} {value}" if sources.floating(held) else value
 
 
 def as_file(sources, crate):
@@ -33,12 +32,12 @@ def as_file(sources, crate):
         return None
     lines = [f"-- The structs of {twin(crate)} as the records that the definitions speak of, number by number: a float of either width is one type of the logic."]
     for t in structs:
-        lines.append(f"use Rattle·{crate}.specs.declared.{t.module + '.' if t.module else ''}{t.name} as wide{t.name}")
-        lines.append(f"use Rattle·{twin(crate)}·specs.specs.declared.{module_of(t)}{t.name}.{{{t.name}}}")
+        lines.append(f"use {home(crate, 'specs')}.declared.{t.module + '.' if t.module else ''}{t.name} as Wide{t.name}")
+        lines.append(f"use {home(twin(crate), 'specs')}.declared.{module_of(t)}{t.name}.{{{t.name}}}")
     lines += as_lines(sources, crate, {held for t in structs for _, held in t.fields if sources.floating(held) and sources.types[held].crate != crate})
     for t in structs:
-        fields = "; ".join(f"{quoted(n)} = {read(sources, n, held, f'a .{quoted(n)}')}" for n, held in t.fields)
-        lines += ["", f"unfoldable pub as{t.name} : {t.name} → wide{t.name}.{t.name}", f"as{t.name} a = record {{ {fields} }}"]
+        fields = "; ".join(f"{n} = {read(sources, n, held, f'a.{n}')}" for n, held in t.fields)
+        lines += ["", f"unfoldable pub {reading(t.name)} : {t.name} → Wide{t.name}.{t.name}", f"{reading(t.name)} a = record {{ {fields} }}"]
     return "\n".join(lines) + "\n"
 
 
@@ -48,14 +47,14 @@ def told_line(sources, t, line, used):
     case = re.match(r"\w+ \(?\w+\.(\w+)(?: (\w+))?\)?$", left)
     if case:
         held = t.cases.get(case.group(1), "")
-        left = re.sub(r"\w+\.(?=[A-Z])", f"in{t.name}.", left)
+        left = re.sub(r"\w+\.(?=[A-Z])", f"In{t.name}.", left)
         if case.group(2) and sources.floating(held):
             used.add(held)
-            right = re.sub(rf"\b{case.group(2)}\b", f"(as{held} {case.group(2)})", right)
+            right = re.sub(rf"\b{case.group(2)}\b", f"({reading(held)} {case.group(2)})", right)
         return f"{left} = {right}"
     for name, held in t.fields:
         if sources.floating(held):
-            line, count = re.subn(rf"(= )?(\w+ \.{re.escape(quoted(name))})(?![\w»])", lambda m: f"{m.group(1) or ''}as{held} ({m.group(2)})", line)
+            line, count = re.subn(rf"(?<![\w.])(= )?(\w+\.{re.escape(name)})(?!\w)", lambda m: f"{m.group(1) or ''}{reading(held)} {m.group(2)}", line)
             used |= {held} if count else set()
     return line
 
@@ -67,9 +66,9 @@ def importable(sources, crate):
         for module, names in re.findall(r"(?m)^use (\S+?)\.\{(.*)\}$", text):
             yield module, [name.strip() for name in names.split(",")]
         for name, body in re.findall(r"(?ms)^pub (?:data|record) (\w+)(.*?)\n\n", text + "\n\n"):
-            yield f"Rattle·{crate}·specs.specs.{module_name}", [name, *re.findall(r"(?m)^  (\w+) :", body)]
+            yield f"{home(crate, 'specs')}.{module_name}", [name, *re.findall(r"(?m)^  (\w+) :", body)]
     for module_name, text in texts.items():
-        yield f"Rattle·{crate}·specs.specs.{module_name}", re.findall(r"(?m)^ *(?:abbrev|unfoldable) pub (\w+) :", text)
+        yield f"{home(crate, 'specs')}.{module_name}", re.findall(r"(?m)^ *(?:abbrev|unfoldable) pub (\w+) :", text)
 
 
 def told_file(sources, crate):
@@ -79,10 +78,10 @@ def told_file(sources, crate):
         return None
     heads, bodies, used, names = [], [], set(), set()
     for name, (_, module, keep, t, result, body) in told.items():
-        declared = f"Rattle·{twin(crate)}·specs.specs.declared.{module_of(t)}{t.name}"
-        heads += [line for line in (f"use {declared} as code{t.name}", f"use {declared}.the-variants as in{t.name}" if t.cases else "") if line and line not in heads]
+        declared = f"{home(twin(crate), 'specs')}.declared.{module_of(t)}{t.name}"
+        heads += [line for line in (f"use {declared} as Code{t.name}", f"use {declared}.TheVariants as In{t.name}" if t.cases else "") if line and line not in heads]
         lines = [told_line(sources, t, line, used) for line in body.rstrip("\n").split("\n")]
-        bodies += ["", f"{keep} pub {name} : code{t.name}.{t.name} → {result}", *lines]
+        bodies += ["", f"{keep} pub {name} : Code{t.name}.{t.name} → {result}", *lines]
         names |= set(re.findall(r"(?<![\w.])\w+", " ".join([result, *lines])))
     for module, held in importable(sources, crate):
         got = [name for name in held if name in names and name not in told]
@@ -100,24 +99,24 @@ def rules_file(sources, crate):
     heads = [
         f"-- The structs of {twin(crate)} field by field, as rules for `simp`: a number that the code reads of a struct is the number of the definitions' record. "
         "Assumes nothing.",
-        "use mathlib.Core.Path.{_≡_, refl}",
+        "use mathlib.Core.Path.{◌≡◌, refl}",
     ]
     kinds = {KINDS[held] for t in structs for _, held in t.fields if held in KINDS}
     heads += ["use Prim.Native.Nat.{ℕ}"] * ("ℕ" in kinds) + ["use mathlib.Core.Bool.{Bool}"] * ("Bool" in kinds) + ["use lib.Ieee.{Float}"] * ("Float" in kinds)
     inner = {held for t in structs for _, held in t.fields if sources.floating(held)}
     for t in structs + sorted((sources.types[n] for n in inner if sources.types[n].crate != crate), key=lambda t: t.name):
-        heads.append(f"use {home(twin(crate), twin(t.crate), 'specs')}.declared.{module_of(t)}{t.name}.{{{t.name}}}")
+        heads.append(f"use {home(twin(t.crate), 'specs')}.declared.{module_of(t)}{t.name}.{{{t.name}}}")
     heads += as_lines(sources, crate, {t.name for t in structs} | inner)
     names, bodies = [], []
     for t in structs:
         for n, held in t.fields:
-            names.append(f"{n.replace('_', '-')}-of-{t.name}")
-            said = f"{read(sources, n, held, f'a .{quoted(n)}')} ≡ as{t.name} a .{quoted(n)}"
-            bodies += ["", f"pub {names[-1]} : (a : {t.name}) → {said}", f"unfolding as{t.name}", f"{names[-1]} a = refl"]
+            names.append(f"{n}_of-{t.name}")
+            said = f"{read(sources, n, held, f'a.{n}')} ≡ ({reading(t.name)} a).{n}"
+            bodies += ["", f"pub {names[-1]} : (a : {t.name}) → {said}", f"unfolding {reading(t.name)}", f"{names[-1]} a = refl"]
         names.append(f"made-{t.name}")
-        given = " ".join(f"({quoted(n)} : {KINDS.get(held, held)})" for n, held in t.fields)
-        made = "; ".join(f"{quoted(n)} = {quoted(n)}" for n, _ in t.fields)
-        wide = "; ".join(f"{quoted(n)} = {'as' + held + ' ' if sources.floating(held) else ''}{quoted(n)}" for n, held in t.fields)
-        bodies += ["", f"pub {names[-1]} : {given} → as{t.name} (record {{ {made} }}) ≡ record {{ {wide} }}", f"unfolding as{t.name}"]
-        bodies.append(f"{names[-1]} {' '.join(quoted(n) for n, _ in t.fields)} = refl")
-    return "\n".join(heads + bodies) + f"\n\npub ruleset {crate.replace('_', '-')}-singles = ({', '.join(names)})\n"
+        given = " ".join(f"({n} : {KINDS.get(held, held)})" for n, held in t.fields)
+        made = "; ".join(f"{n} = {n}" for n, _ in t.fields)
+        wide = "; ".join(f"{n} = {reading(held) + ' ' if sources.floating(held) else ''}{n}" for n, held in t.fields)
+        bodies += ["", f"pub {names[-1]} : {given} → {reading(t.name)} (record {{ {made} }}) ≡ record {{ {wide} }}", f"unfolding {reading(t.name)}"]
+        bodies.append(f"{names[-1]} {' '.join(n for n, _ in t.fields)} = refl")
+    return "\n".join(heads + bodies) + f"\n\npub ruleset {crate}_singles = ({', '.join(names)})\n"

@@ -10,18 +10,18 @@ pub numbers : BoundNumbers
 unfolding bound tree_act tree_quat_mul tree_newton tree_inverse tree_poly
 numbers =
     record {
-      action-doubles = refl;
-      action-singles = refl;
-      unit-action-doubles = refl;
-      unit-action-singles = refl;
-      product-doubles = refl;
-      product-singles = refl;
-      renormalized-doubles = refl;
-      renormalized-singles = refl;
-      inverse-doubles = refl;
-      inverse-singles = refl;
-      exponential-doubles = refl;
-      exponential-singles = refl;
-      unit-exponential-doubles = refl;
-      unit-exponential-singles = refl;
+      action_doubles = refl;
+      action_singles = refl;
+      unit_action_doubles = refl;
+      unit_action_singles = refl;
+      product_doubles = refl;
+      product_singles = refl;
+      renormalized_doubles = refl;
+      renormalized_singles = refl;
+      inverse_doubles = refl;
+      inverse_singles = refl;
+      exponential_doubles = refl;
+      exponential_singles = refl;
+      unit_exponential_doubles = refl;
+      unit_exponential_singles = refl;
     }

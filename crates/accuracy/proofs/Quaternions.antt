@@ -97,10 +97,10 @@ quaternions =
       product = product_accurate;
       renormalized = renormalized_accurate;
       inverse = inverse_accurate;
-      product-doubles = λ p q. product_accurate binary64 p q (2 ^ 100) (2 ^ 100 + 2 ^ 60) (2 ^ 100 + 2 ^ 60) (2 ^ 51) (lit< tt) (unfold no_overflow bound tree_quat_mul in tt);
-      product-singles = λ p q. product_accurate binary32 p q (2 ^ 100) (2 ^ 100 + 2 ^ 84) (2 ^ 100 + 2 ^ 84) (2 ^ 80) (lit< tt) (unfold no_overflow bound tree_quat_mul in tt);
-      renormalized-doubles = λ q. renormalized_accurate binary64 q (2 ^ 100) (2 ^ 100 + 2 ^ 60) (2 ^ 52) (lit< tt) (unfold no_overflow bound tree_newton in tt);
-      renormalized-singles = λ q. renormalized_accurate binary32 q (2 ^ 100) (2 ^ 100 + 2 ^ 84) (2 ^ 81) (lit< tt) (unfold no_overflow bound tree_newton in tt);
-      inverse-doubles = λ x down. inverse_accurate binary64 x down (2 ^ 100) (2 ^ 100 + 2 ^ 60) (2 ^ 120) (2 ^ 104) (2 ^ 78) (lit< tt) (unfold no_overflow bound tree_inverse in tt);
-      inverse-singles = λ x down. inverse_accurate binary32 x down (2 ^ 100) (2 ^ 100 + 2 ^ 84) (2 ^ 120) (2 ^ 104) (2 ^ 107) (lit< tt) (unfold no_overflow bound tree_inverse in tt);
+      product_doubles = λ p q. product_accurate binary64 p q (2 ^ 100) (2 ^ 100 + 2 ^ 60) (2 ^ 100 + 2 ^ 60) (2 ^ 51) (lit< tt) (unfold no_overflow bound tree_quat_mul in tt);
+      product_singles = λ p q. product_accurate binary32 p q (2 ^ 100) (2 ^ 100 + 2 ^ 84) (2 ^ 100 + 2 ^ 84) (2 ^ 80) (lit< tt) (unfold no_overflow bound tree_quat_mul in tt);
+      renormalized_doubles = λ q. renormalized_accurate binary64 q (2 ^ 100) (2 ^ 100 + 2 ^ 60) (2 ^ 52) (lit< tt) (unfold no_overflow bound tree_newton in tt);
+      renormalized_singles = λ q. renormalized_accurate binary32 q (2 ^ 100) (2 ^ 100 + 2 ^ 84) (2 ^ 81) (lit< tt) (unfold no_overflow bound tree_newton in tt);
+      inverse_doubles = λ x down. inverse_accurate binary64 x down (2 ^ 100) (2 ^ 100 + 2 ^ 60) (2 ^ 120) (2 ^ 104) (2 ^ 78) (lit< tt) (unfold no_overflow bound tree_inverse in tt);
+      inverse_singles = λ x down. inverse_accurate binary32 x down (2 ^ 100) (2 ^ 100 + 2 ^ 84) (2 ^ 120) (2 ^ 104) (2 ^ 107) (lit< tt) (unfold no_overflow bound tree_inverse in tt);
     }

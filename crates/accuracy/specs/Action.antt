@@ -88,7 +88,7 @@ pub record ActionTheorem : Type 0 where
   pub singles : (x : Sim3) (up : Float) (p : Vec3) →
       ActionIn (2 ^ 100) (2 ^ 100 + 2 ^ 84) (2 ^ 116) (2 ^ 104) (2 ^ 120) (2 ^ 103) x up p (pose_act binary32 x up p)
   -- the same quaternions, and all else at most 1: within 2^-46 and 2^-17
-  pub unit-doubles : (x : Sim3) (up : Float) (p : Vec3) →
+  pub unit_doubles : (x : Sim3) (up : Float) (p : Vec3) →
       ActionIn (2 ^ 100) (2 ^ 100 + 2 ^ 60) (2 ^ 100) (2 ^ 100) (2 ^ 100) (2 ^ 54) x up p (pose_act binary64 x up p)
-  pub unit-singles : (x : Sim3) (up : Float) (p : Vec3) →
+  pub unit_singles : (x : Sim3) (up : Float) (p : Vec3) →
       ActionIn (2 ^ 100) (2 ^ 100 + 2 ^ 84) (2 ^ 100) (2 ^ 100) (2 ^ 100) (2 ^ 83) x up p (pose_act binary32 x up p)

@@ -127,17 +127,17 @@ pub record QuaternionTheorem : Type 0 where
   pub renormalized : (f : Format) (q : Quat) → RenormalizedAccurate f q (quat_renormalized f q)
   pub inverse : (f : Format) (x : Sim3) (down : Float) → InverseAccurate f x down (pose_inverse f x down).t
   -- numbers up to 1 + 2^-40 at doubles: within 2^-49; up to 1 + 2^-16 at singles: within 2^-20
-  pub product-doubles : (p q : Quat) →
+  pub product_doubles : (p q : Quat) →
       ProductIn (2 ^ 100) (2 ^ 100 + 2 ^ 60) (2 ^ 100 + 2 ^ 60) (2 ^ 51) p q (quat_mul binary64 p q)
-  pub product-singles : (p q : Quat) →
+  pub product_singles : (p q : Quat) →
       ProductIn (2 ^ 100) (2 ^ 100 + 2 ^ 84) (2 ^ 100 + 2 ^ 84) (2 ^ 80) p q (quat_mul binary32 p q)
   -- the same: within 2^-48 and 2^-19
-  pub renormalized-doubles : (q : Quat) →
+  pub renormalized_doubles : (q : Quat) →
       RenormalizedIn (2 ^ 100) (2 ^ 100 + 2 ^ 60) (2 ^ 52) q (quat_renormalized binary64 q)
-  pub renormalized-singles : (q : Quat) →
+  pub renormalized_singles : (q : Quat) →
       RenormalizedIn (2 ^ 100) (2 ^ 100 + 2 ^ 84) (2 ^ 81) q (quat_renormalized binary32 q)
   -- the same, translations up to 2^20, e^-σ up to 16: within 2^-22 and 2^7
-  pub inverse-doubles : (x : Sim3) (down : Float) →
+  pub inverse_doubles : (x : Sim3) (down : Float) →
       InverseIn (2 ^ 100) (2 ^ 100 + 2 ^ 60) (2 ^ 120) (2 ^ 104) (2 ^ 78) x down (pose_inverse binary64 x down).t
-  pub inverse-singles : (x : Sim3) (down : Float) →
+  pub inverse_singles : (x : Sim3) (down : Float) →
       InverseIn (2 ^ 100) (2 ^ 100 + 2 ^ 84) (2 ^ 120) (2 ^ 104) (2 ^ 107) x down (pose_inverse binary32 x down).t

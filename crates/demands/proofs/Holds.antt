@@ -63,14 +63,14 @@ module _ (f : Format) (tau : Sim3Tangent) (z : Float) (v : Values) (jl jlInv : M
       let other = mirrored tau.sigma v in
       record {
         co = pair ∙ sym (λ i. beside (plus i) (minus i));
-        co-answered = λ t.
+        co_answered = λ t.
             (pair ∙ pair-answered f tau.sigma z v t, plus ∙ one-answered f tau.sigma z v t, minus ∙ one-answered f back z other t);
-        co-refused = λ t.
+        co_refused = λ t.
             (pair ∙ pair-refused f tau.sigma z v t, plus ∙ one-refused f tau.sigma z v t, minus ∙ one-refused f back z other t);
         pa = block ∙ sym (λ i. record { left = (left i).j; left_inv = (left i).inv; right = (right i).j; right_inv = (right i).inv });
-        pa-left = left;
-        pa-right = right;
+        pa_left = left;
+        pa_right = right;
         ex = ap (λ (x : Sim3). x.q) exp-neg ∙ exp-neg-is f tau v ∙ ap (λ (x : Sim3). quat_conjugate x.q) (sym exp);
-        ex-plus = exp;
-        ex-minus = exp-neg;
+        ex_plus = exp;
+        ex_minus = exp-neg;
       }

@@ -88,7 +88,7 @@ turned_theorem f tau v jl jlInv from to =
       left = left-turned f tau v jl jlInv;
       together-exp = exp-turned f tau v jl jlInv;
       together-left = left-turned f tau v jl jlInv;
-      beside-inverse = inverted_turned f tau v jl jlInv;
+      beside_inverse = inverted_turned f tau v jl jlInv;
       in_pair = inverted_turned f tau v jl jlInv;
     }
 

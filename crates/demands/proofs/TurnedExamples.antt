@@ -85,28 +85,28 @@ module _ (v : Values) where
       coeffs_delta coeffs_arm coeffs_scaled coeffs_unscale coeffs_plain coeffs_v vec_scale vec_dot vec_norm_sq vec_cross vec_add vec_sub vec_neg
       mat_identity mat_scale mat_add mat_sub mat_mul mat_mul_vec mat_hat mat_mul_hat vec_hat_mul mat_hat_mul
       tangent_zero poly_apply v_apply pose_exp mat_outer jl_q jl_blocks poly_matrix jac_jl turned_round
-  step-turned = record { doubles = refl; doubles-turned = refl; singles = refl; singles-turned = refl }
+  step-turned = record { doubles = refl; doubles_turned = refl; singles = refl; singles_turned = refl }
 
 pub turned_examples : TurnedExamples
 turned_examples =
     record {
-      zeros-doubles = λ v.
+      zeros_doubles = λ v.
           record {
-            t-zeros = doubles-t v;
-            b-zeros = doubles-b v;
-            f-zeros = doubles-f v;
-            t-exact = plus _ _ (doubles-t v);
-            b-exact = plus _ _ (doubles-b v);
-            f-exact = minus _ _ (doubles-f v);
+            t_zeros = doubles-t v;
+            b_zeros = doubles-b v;
+            f_zeros = doubles-f v;
+            t_exact = plus _ _ (doubles-t v);
+            b_exact = plus _ _ (doubles-b v);
+            f_exact = minus _ _ (doubles-f v);
           };
-      zeros-singles = λ v.
+      zeros_singles = λ v.
           record {
-            t-zeros = singles-t v;
-            b-zeros = singles-b v;
-            f-zeros = singles-f v;
-            t-exact = plus _ _ (singles-t v);
-            b-exact = plus _ _ (singles-b v);
-            f-exact = minus _ _ (singles-f v);
+            t_zeros = singles-t v;
+            b_zeros = singles-b v;
+            f_zeros = singles-f v;
+            t_exact = plus _ _ (singles-t v);
+            b_exact = plus _ _ (singles-b v);
+            f_exact = minus _ _ (singles-f v);
           };
       turned = step-turned;
     }

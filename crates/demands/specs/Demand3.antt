@@ -38,18 +38,18 @@ pub record Demand3 (f : Format) (tau : Sim3Tangent) (z : Float) (v : Values) (jl
   -- CO: the pair's answer is the two one-sign answers beside each other, for every z
   pub co : r.pair ≡ beside r.plus r.minus
   -- where z is not below zero, a NaN included, these are the nine coefficients and the flag at σ, and those at −σ on the mirrored values
-  pub co-answered :
+  pub co_answered :
       lt z f0 ≡ false →
       (r.pair ≡ answers (record { pos = coeffs_scaled f tau.sigma z v; neg = coeffs_scaled f (neg tau.sigma) z (mirrored tau.sigma v) }))
       × (r.plus ≡ answers (coeffs_scaled f tau.sigma z v))
       × (r.minus ≡ answers (coeffs_scaled f (neg tau.sigma) z (mirrored tau.sigma v)))
   -- below zero all three refuse by 1
-  pub co-refused : lt z f0 ≡ true → (r.pair ≡ refuses 1) × (r.plus ≡ refuses 1) × (r.minus ≡ refuses 1)
+  pub co_refused : lt z f0 ≡ true → (r.pair ≡ refuses 1) × (r.plus ≡ refuses 1) × (r.minus ≡ refuses 1)
   -- PA: left and its inverse are those of the tangent, right and its inverse those of the negative, on mirrored values and transposed matrices
   pub pa : r.block ≡ record { left = r.left.j; left_inv = r.left.inv; right = r.right.j; right_inv = r.right.inv }
-  pub pa-left : r.left ≡ jl_and_inverse f tau v jl jlInv
-  pub pa-right : r.right ≡ jl_and_inverse f (tangent_neg tau) (mirrored tau.sigma v) (mat_transpose jl) (mat_transpose jlInv)
+  pub pa_left : r.left ≡ jl_and_inverse f tau v jl jlInv
+  pub pa_right : r.right ≡ jl_and_inverse f (tangent_neg tau) (mirrored tau.sigma v) (mat_transpose jl) (mat_transpose jlInv)
   -- EX: the quaternion at the negative is (w, −x, −y, −z) of that at the tangent, and both poses are the one definition's
   pub ex : r.exp_neg.q ≡ quat_conjugate r.exp.q
-  pub ex-plus : r.exp ≡ pose_exp f tau v
-  pub ex-minus : r.exp_neg ≡ pose_exp f (tangent_neg tau) (mirrored tau.sigma v)
+  pub ex_plus : r.exp ≡ pose_exp f tau v
+  pub ex_minus : r.exp_neg ≡ pose_exp f (tangent_neg tau) (mirrored tau.sigma v)

@@ -15,12 +15,12 @@ use Rattle.demands.specs.Turned.{turned_round}
 
 -- at the zero tangent the first number of t and of b is +0 both ways, and that of f is -0 both ways, whatever the values; so y ≡ −x, bit for bit, holds of none
 pub record ZerosStay (f : Format) (v : Values) : Type 0 where
-  pub t-zeros : ((pose_exp f tangent_zero v).t.x ≡ f0) × ((pose_exp f (turned_round tangent_zero) v).t.x ≡ f0)
-  pub b-zeros : ((jac_jl f tangent_zero v mat_identity).b.c0.x ≡ f0) × ((jac_jl f (turned_round tangent_zero) v mat_identity).b.c0.x ≡ f0)
-  pub f-zeros : ((jac_jl f tangent_zero v mat_identity).f.x ≡ neg f0) × ((jac_jl f (turned_round tangent_zero) v mat_identity).f.x ≡ neg f0)
-  pub t-exact : (pose_exp f (turned_round tangent_zero) v).t.x ≡ neg (pose_exp f tangent_zero v).t.x → ⊥
-  pub b-exact : (jac_jl f (turned_round tangent_zero) v mat_identity).b.c0.x ≡ neg (jac_jl f tangent_zero v mat_identity).b.c0.x → ⊥
-  pub f-exact : (jac_jl f (turned_round tangent_zero) v mat_identity).f.x ≡ neg (jac_jl f tangent_zero v mat_identity).f.x → ⊥
+  pub t_zeros : ((pose_exp f tangent_zero v).t.x ≡ f0) × ((pose_exp f (turned_round tangent_zero) v).t.x ≡ f0)
+  pub b_zeros : ((jac_jl f tangent_zero v mat_identity).b.c0.x ≡ f0) × ((jac_jl f (turned_round tangent_zero) v mat_identity).b.c0.x ≡ f0)
+  pub f_zeros : ((jac_jl f tangent_zero v mat_identity).f.x ≡ neg f0) × ((jac_jl f (turned_round tangent_zero) v mat_identity).f.x ≡ neg f0)
+  pub t_exact : (pose_exp f (turned_round tangent_zero) v).t.x ≡ neg (pose_exp f tangent_zero v).t.x → ⊥
+  pub b_exact : (jac_jl f (turned_round tangent_zero) v mat_identity).b.c0.x ≡ neg (jac_jl f tangent_zero v mat_identity).b.c0.x → ⊥
+  pub f_exact : (jac_jl f (turned_round tangent_zero) v mat_identity).f.x ≡ neg (jac_jl f tangent_zero v mat_identity).f.x → ⊥
 
 -- ---- φ = 0, ρ = (1, 2, 3), σ = 0, the rotation Jacobian the identity: t, the columns of b, f
 abbrev three : Format → Vec3 → List ℕ → List ℕ
@@ -42,7 +42,7 @@ pub record StepTurned (v : Values) : Type 0 where
       ∷ 0xbff8000000000000 ∷ 0x0000000000000000 ∷ 0x3fe0000000000000
       ∷ 0x3ff0000000000000 ∷ 0xbfe0000000000000 ∷ 0x0000000000000000
       ∷ 0xbfe0000000000000 ∷ 0xbff0000000000000 ∷ 0xbff8000000000000 ∷ []
-  pub doubles-turned :
+  pub doubles_turned :
       bits_of binary64 (turned_round ahead) v
       ≡ 0xbff0000000000000 ∷ 0xc000000000000000 ∷ 0xc008000000000000
       ∷ 0x0000000000000000 ∷ 0xbff8000000000000 ∷ 0x3ff0000000000000
@@ -56,7 +56,7 @@ pub record StepTurned (v : Values) : Type 0 where
       ∷ 0xbfc00000 ∷ 0x00000000 ∷ 0x3f000000
       ∷ 0x3f800000 ∷ 0xbf000000 ∷ 0x00000000
       ∷ 0xbf000000 ∷ 0xbf800000 ∷ 0xbfc00000 ∷ []
-  pub singles-turned :
+  pub singles_turned :
       bits_of binary32 (turned_round ahead) v
       ≡ 0xbf800000 ∷ 0xc0000000 ∷ 0xc0400000
       ∷ 0x00000000 ∷ 0xbfc00000 ∷ 0x3f800000
@@ -64,8 +64,8 @@ pub record StepTurned (v : Values) : Type 0 where
       ∷ 0xbf800000 ∷ 0x3f000000 ∷ 0x00000000
       ∷ 0x3f000000 ∷ 0x3f800000 ∷ 0x3fc00000 ∷ []
 
--- what `turned-examples` proves
+-- what `turned_examples` proves
 pub record TurnedExamples : Type 0 where
-  pub zeros-doubles : (v : Values) → ZerosStay binary64 v
-  pub zeros-singles : (v : Values) → ZerosStay binary32 v
+  pub zeros_doubles : (v : Values) → ZerosStay binary64 v
+  pub zeros_singles : (v : Values) → ZerosStay binary32 v
   pub turned : (v : Values) → StepTurned v

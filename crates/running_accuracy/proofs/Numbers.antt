@@ -6,10 +6,10 @@ pub numbers : RunningNumbers
 unfolding bound_after
 numbers =
     record {
-      rotation-doubles = refl;
-      translation-doubles = refl;
-      rotation-singles = refl;
-      translation-singles = refl;
-      rotation-page = refl;
-      translation-page = refl;
+      rotation_doubles = refl;
+      translation_doubles = refl;
+      rotation_singles = refl;
+      translation_singles = refl;
+      rotation_page = refl;
+      translation_page = refl;
     }

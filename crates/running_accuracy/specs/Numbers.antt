@@ -15,9 +15,9 @@ abbrev pub after_ten : Format → JoinBox → PoseBound
 after_ten f L = bound_after f L 10 (bound_at L 0 (plain L.translation))
 
 pub record RunningNumbers : Type 0 where
-  pub rotation-doubles : (after_ten binary64 box_doubles).rotation.error ≡ 84442536310933572
-  pub translation-doubles : (after_ten binary64 box_doubles).translation.error ≡ 19173094494218824667475
-  pub rotation-singles : (after_ten binary32 box_singles).rotation.error ≡ 45342592276422067232284961
-  pub translation-singles : (after_ten binary32 box_singles).translation.error ≡ 10295214193394648554990829422321
-  pub rotation-page : (after_ten binary64 page_box).rotation.error ≡ 84442493024527794
-  pub translation-page : (after_ten binary64 page_box).translation.error ≡ 2458858751627475294649282
+  pub rotation_doubles : (after_ten binary64 box_doubles).rotation.error ≡ 84442536310933572
+  pub translation_doubles : (after_ten binary64 box_doubles).translation.error ≡ 19173094494218824667475
+  pub rotation_singles : (after_ten binary32 box_singles).rotation.error ≡ 45342592276422067232284961
+  pub translation_singles : (after_ten binary32 box_singles).translation.error ≡ 10295214193394648554990829422321
+  pub rotation_page : (after_ten binary64 page_box).rotation.error ≡ 84442493024527794
+  pub translation_page : (after_ten binary64 page_box).translation.error ≡ 2458858751627475294649282
