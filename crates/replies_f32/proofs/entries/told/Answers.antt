@@ -1,3 +1,4 @@
+-- Written by tools/widths from crates/replies/proofs/entries/told/Answers.antt: edit that one. Digest 1684f0edbc31db61.
 -- `replies_f32::entries::told` meets its contract: a refusal is handed on, and the numbers are written at the front. Assumes nothing.
 use borrow.Author.Rules.{rules}
 use native.Mathlib.Omega.{arith}
