@@ -1,4 +1,4 @@
--- Written by tools/widths from crates/from_lists: edit that one. Digest 68ec09d0e8894f17.
+-- Written by tools/widths from crates/from_lists: edit that one. Digest 6899c745662446a6.
 -- The structs of from_lists_f32 field by field, as rules for `simp`: a number that the code reads of a struct is the number of the definitions' record. Assumes nothing.
 use mathlib.Core.Path.{◌≡◌, refl}
 use Prim.Native.Nat.{ℕ}

@@ -1,4 +1,4 @@
--- Written by tools/widths from crates/from_lists: edit that one. Digest 05ac6eb1618c5d11.
+-- Written by tools/widths from crates/from_lists: edit that one. Digest 435307bef62ee9cf.
 -- What each answer of from_lists_f32 says.
 use Rattle.from_lists_f32.specs.declared.VecRead as CodeVecRead
 use Rattle.from_lists_f32.specs.declared.VecRead.TheVariants as InVecRead

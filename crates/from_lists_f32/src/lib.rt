@@ -1,4 +1,4 @@
-// Written by tools/widths from crates/from_lists/src/lib.rt: edit that one. Digest a8b2212eb8ae5adb.
+// Written by tools/widths from crates/from_lists/src/lib.rt: edit that one. Digest 1873714709c56164.
 // The things that stand in the numbers of a list that a C function is lent; Wrong where the list has
 // another length. Matrices go column by column.
 #![tactic(auto)]

@@ -1,4 +1,4 @@
-// Written by tools/widths from crates/replies/src/lib.rt: edit that one. Digest fff057d299bfa458.
+// Written by tools/widths from crates/replies/src/lib.rt: edit that one. Digest c45766eede25b338.
 // The entries of the engine behind the marks, on singles: how many bytes a record has behind its mark,
 // and what it is answered.
 #![tactic(auto)]

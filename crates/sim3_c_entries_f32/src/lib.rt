@@ -1,4 +1,4 @@
-// Written by tools/widths from crates/sim3_c_entries/src/lib.rt: edit that one. Digest 0f76b8c58cbd0b2e.
+// Written by tools/widths from crates/sim3_c_entries/src/lib.rt: edit that one. Digest 85234937b6c95715.
 // The C functions that answer records of the job too: each is what a C caller has, and what the entry of a mark asks.
 // And two functions on lists that a mark has and C callers do not. Each returns 0, or the number of a refusal, where
 // the lists that it is lent to write to stay as they were. include/sim3.h has the order of every number.

@@ -1,4 +1,4 @@
-// Written by tools/widths from crates/sim3_c/src/arms.rt: edit that one. Digest effe04f19dce102c.
+// Written by tools/widths from crates/sim3_c/src/arms.rt: edit that one. Digest 38f7ac3b21582929.
 // The coefficients with the arms that formed them: at sigma, and at both signs.
 ghost use Rattle.std.specs.Prelude.{◌≡◌};
 ghost use Rattle.std.specs.Float.{binary32};

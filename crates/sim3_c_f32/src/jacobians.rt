@@ -1,4 +1,4 @@
-// Written by tools/widths from crates/sim3_c/src/jacobians.rt: edit that one. Digest 4060d10643a8d30d.
+// Written by tools/widths from crates/sim3_c/src/jacobians.rt: edit that one. Digest 1c573a2bd93fec61.
 // Jacobian blocks, as a, b, c, f, e: the matrix with the rows (a, 0, 0), (b, c, f), (0, 0, e). Right is
 // X Exp(tau), left Exp(tau) X.
 ghost use Rattle.std.specs.Prelude.{◌≡◌};

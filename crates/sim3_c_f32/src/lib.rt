@@ -1,4 +1,4 @@
-// Written by tools/widths from crates/sim3_c/src/lib.rt: edit that one. Digest 19af9322abe1fcc9.
+// Written by tools/widths from crates/sim3_c/src/lib.rt: edit that one. Digest d75432a298be2714.
 // The engine for callers in C, Rust and Python: exported functions over numbers and lists of numbers,
 // each returning 0, or the number of a refusal, where `out` stays as it was. LIST_LENGTH is the lists'
 // own (crate from_lists), the others are the engine's. Here are those that exist at both widths, but for

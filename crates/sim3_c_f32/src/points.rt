@@ -1,4 +1,4 @@
-// Written by tools/widths from crates/sim3_c/src/points.rt: edit that one. Digest d62d07add5870e11.
+// Written by tools/widths from crates/sim3_c/src/points.rt: edit that one. Digest 259c3f57069a604b.
 // The action of a pose on a list of points, three numbers each: with the bits of the Rust's act_many,
 // and each point by itself, as the job moves one.
 ghost use Rattle.std.specs.Prelude.{◌≡◌};

@@ -1,4 +1,4 @@
-// Written by tools/widths from crates/sim3_c/src/pose.rt: edit that one. Digest 3ba6b0a06e915c34.
+// Written by tools/widths from crates/sim3_c/src/pose.rt: edit that one. Digest 988cb017118ad8be.
 // Poses: quaternion w x y z, t, sigma, and in a list beside these the frames: from, to. A pose that is
 // the result has its numbers and its frames written to two lists; both or none.
 ghost use Rattle.std.specs.Prelude.{◌≡◌};

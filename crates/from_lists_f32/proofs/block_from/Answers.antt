@@ -1,3 +1,4 @@
+-- Written by tools/widths from crates/from_lists/proofs/block_from/Answers.antt: edit that one. Digest e6ac65d72a90198d.
 -- `from_lists_f32::block_from` meets its contract: a list of the length that is due is read, and any other is told. Assumes nothing.
 use borrow.Author.Rules.{rules}
 use mathlib.Core.Path.{sym}
@@ -5,8 +6,8 @@ use Rattle.layout.specs.Layout.{block_in}
 use Rattle.from_lists.specs.Lists.{block_from}
 use Rattle.from_lists_f32.specs.Told.{block_read_told}
 use Rattle.from_lists.proofs.Lists.{sized-right, sized_wrong}
-use Rattle.jacobian_f32.specs.As.{as_sim3_jac}
 use Rattle.from_lists_f32.proofs.block_from.Goals as goal
+use Rattle.jacobian_f32.specs.As.{as_sim3_jac}
 
 pub returns-then-l-ne-BLOCK : goal.returns-then-l-ne-BLOCK
 unfolding block_from block_read_told as_sim3_jac

@@ -1,11 +1,12 @@
+-- Written by tools/widths from crates/from_lists/proofs/framed_from/Answers.antt: edit that one. Digest 30888cbd73b81e3a.
 -- `from_lists_f32::framed_from` meets its contract: the numbers and the frames are read, each from its list, or a wrong length is told. Assumes nothing.
 use borrow.Author.Rules.{rules}
 use mathlib.Core.Path.{refl}
 use Rattle.from_lists.specs.Lists.{framed_from}
 use Rattle.from_lists_f32.specs.Told.{pose_read_told, frames_read_told, framed_read_told}
+use Rattle.from_lists_f32.proofs.framed_from.Goals as goal
 use Rattle.frames_f32.specs.As.{as_pose}
 use Rattle.from_lists_f32.specs.As.{as_frames}
-use Rattle.from_lists_f32.proofs.framed_from.Goals as goal
 
 pub returns-in_default : goal.returns-in_default
 unfolding framed_from framed_read_told pose_read_told as_frames as_pose

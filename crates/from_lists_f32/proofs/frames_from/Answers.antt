@@ -1,11 +1,12 @@
+-- Written by tools/widths from crates/from_lists/proofs/frames_from/Answers.antt: edit that one. Digest 3160f1f856bbd279.
 -- `from_lists_f32::frames_from` meets its contract: a list of the length that is due is read, and any other is told. Assumes nothing.
 use borrow.Author.Rules.{rules}
 use mathlib.Core.Path.{sym}
 use Rattle.from_lists.specs.Lists.{frames_from}
 use Rattle.from_lists_f32.specs.Told.{frames_read_told}
 use Rattle.from_lists.proofs.Lists.{sized-right, sized_wrong}
-use Rattle.from_lists_f32.specs.As.{as_frames}
 use Rattle.from_lists_f32.proofs.frames_from.Goals as goal
+use Rattle.from_lists_f32.specs.As.{as_frames}
 
 pub returns-then-l-ne-FRAMES : goal.returns-then-l-ne-FRAMES
 unfolding frames_from frames_read_told as_frames

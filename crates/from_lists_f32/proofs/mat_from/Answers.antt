@@ -1,3 +1,4 @@
+-- Written by tools/widths from crates/from_lists/proofs/mat_from/Answers.antt: edit that one. Digest a9b7b28cca52e9da.
 -- `from_lists_f32::mat_from` meets its contract: a list of the length that is due is read, and any other is told. Assumes nothing.
 use borrow.Author.Rules.{rules}
 use mathlib.Core.Path.{sym}

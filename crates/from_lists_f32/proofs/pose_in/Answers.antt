@@ -1,16 +1,17 @@
+-- Written by tools/widths from crates/from_lists/proofs/pose_in/Answers.antt: edit that one. Digest 154583254c5cc11e.
 -- `from_lists_f32::pose_in` meets its contract: eight numbers from a place on. Assumes nothing.
 use borrow.Author.Rules.{rules}
 use native.Mathlib.Nat.{add_assoc}
 use Rattle.layout.specs.Layout.{pose_in, quat_in}
-use Rattle.linalg_f32.proofs.As.{linalg_singles}
-use Rattle.closed_f32.proofs.As.{closed-singles}
-use Rattle.so3_f32.proofs.As.{so3_singles}
-use Rattle.sim3_f32.proofs.As.{sim3-singles}
-use Rattle.jacobian_f32.proofs.As.{jacobian_singles}
-use Rattle.frames_f32.proofs.As.{frames-singles}
-use Rattle.from_lists_f32.proofs.As.{from_lists_singles}
 use Rattle.from_lists_f32.proofs.pose_in.Goals as goal
+use Rattle.linalg_f32.proofs.As.{linalg_singles}
+use Rattle.closed_f32.proofs.As.{closed_singles}
+use Rattle.so3_f32.proofs.As.{so3_singles}
+use Rattle.sim3_f32.proofs.As.{sim3_singles}
+use Rattle.jacobian_f32.proofs.As.{jacobian_singles}
+use Rattle.frames_f32.proofs.As.{frames_singles}
+use Rattle.from_lists_f32.proofs.As.{from_lists_singles}
 
 pub returns : goal.returns
 unfolding pose_in quat_in
-returns c = simp (linalg_singles, closed-singles, so3_singles, sim3-singles, jacobian_singles, frames-singles, from_lists_singles, c.vec_in.ensures)
+returns c = simp (linalg_singles, closed_singles, so3_singles, sim3_singles, jacobian_singles, frames_singles, from_lists_singles, c.vec_in.ensures)

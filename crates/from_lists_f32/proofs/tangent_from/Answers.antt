@@ -1,3 +1,4 @@
+-- Written by tools/widths from crates/from_lists/proofs/tangent_from/Answers.antt: edit that one. Digest ed62c09aa95d76c5.
 -- `from_lists_f32::tangent_from` meets its contract: a list of the length that is due is read, and any other is told. Assumes nothing.
 use borrow.Author.Rules.{rules}
 use mathlib.Core.Path.{sym}
@@ -5,8 +6,8 @@ use Rattle.layout.specs.Layout.{tangent_in}
 use Rattle.from_lists.specs.Lists.{tangent_from}
 use Rattle.from_lists_f32.specs.Told.{tangent_read_told}
 use Rattle.from_lists.proofs.Lists.{sized-right, sized_wrong}
-use Rattle.sim3_f32.specs.As.{as_sim3_tangent}
 use Rattle.from_lists_f32.proofs.tangent_from.Goals as goal
+use Rattle.sim3_f32.specs.As.{as_sim3_tangent}
 
 pub returns-then-l-ne-TANGENT : goal.returns-then-l-ne-TANGENT
 unfolding tangent_from tangent_read_told as_sim3_tangent

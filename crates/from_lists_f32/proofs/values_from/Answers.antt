@@ -1,3 +1,4 @@
+-- Written by tools/widths from crates/from_lists/proofs/values_from/Answers.antt: edit that one. Digest 3438e317dabbca84.
 -- `from_lists_f32::values_from` meets its contract: a list of the length that is due is read, and any other is told. Assumes nothing.
 use borrow.Author.Rules.{rules}
 use mathlib.Core.Path.{sym}
@@ -5,8 +6,8 @@ use Rattle.layout.specs.Layout.{values_in}
 use Rattle.from_lists.specs.Lists.{values_from}
 use Rattle.from_lists_f32.specs.Told.{values_read_told}
 use Rattle.from_lists.proofs.Lists.{sized-right, sized_wrong}
-use Rattle.closed_f32.specs.As.{as_values}
 use Rattle.from_lists_f32.proofs.values_from.Goals as goal
+use Rattle.closed_f32.specs.As.{as_values}
 
 pub returns-then-l-ne-VALUES : goal.returns-then-l-ne-VALUES
 unfolding values_from values_read_told as_values

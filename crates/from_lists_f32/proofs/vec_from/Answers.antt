@@ -1,3 +1,4 @@
+-- Written by tools/widths from crates/from_lists/proofs/vec_from/Answers.antt: edit that one. Digest a910fa5aa94fa4b6.
 -- `from_lists_f32::vec_from` meets its contract: a list of the length that is due is read, and any other is told. Assumes nothing.
 use borrow.Author.Rules.{rules}
 use mathlib.Core.Path.{sym}

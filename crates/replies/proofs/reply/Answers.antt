@@ -2,28 +2,33 @@
 -- what is known where the entry has answered
 use borrow.Author.Rules.{rules}
 use native.Mathlib.Omega.{arith}
-use Prim.Native.Nat.{◌+◌, ◌-◌, ◌≤◌, ◌<◌}
+use Prim.Native.Nat.{ℕ, ◌+◌, ◌-◌, ◌≤◌, ◌<◌}
 use mathlib.Core.Path.{◌≡◌, refl, sym, ap, ◌∙◌}
 use mathlib.Core.Bool.{true, false}
 use lib.Ieee.{binary64}
 use lib.ListN.{length, take, drop, length-drop, length-set}
 use lib.Seq.{sets, length-take-le}
 use Rattle.outcome.proofs.Record.{reply-cut, reply-roomless}
-use Rattle.replies.specs.Table.{width_of, entry_reply}
+use mathlib.Core.List.{List}
+use Rattle.outcome.specs.Outcome.{longest, gave_of, gave_bytes}
+use Rattle.outcome.specs.declared.Entry.{Entry}
+use Rattle.outcome.specs.declared.Gave.{Gave}
+use Rattle.replies.specs.Table.{width_of, answer_of, entry_reply}
 use Rattle.replies.proofs.Replies.{width-most, Given, given_length, given_most, given_wrote, given_refused}
 use Rattle.replies.proofs.reply.Goals as goal
 
-given : (c : goal.After-give) → let a =
-    c.args in Given binary64 a.e a.s.now a.out.now c.give.result c.give.new.out
-given c =
-    let a = c.args in
-    let w : c.width-end.result ≡ width_of binary64 a.e = c.width-end.ensures in
-    let n : 2 + c.width-end.result - 2 ≡ width_of binary64 a.e = omega arith in
+given :
+    (e : Entry) (s out R : List ℕ) (w : ℕ) (g : Gave) → w ≡ width_of binary64 e → 2 + w ≤ length s → longest ≤ length out →
+    let p = gave_of binary64 (answer_of binary64 e (take (2 + w - 2) (drop 2 s))) in
+    let q = gave_bytes binary64 (answer_of binary64 e (take (2 + w - 2) (drop 2 s))) in
+    g ≡ p → R ≡ sets (take (length out - 2) (drop 2 out)) 0 q → Given binary64 e s out g R
+given e s out R w g h whole room told stored =
+    let n : 2 + w - 2 ≡ width_of binary64 e = omega arith in
     record {
-      whole = omega (arith, c.if-s-end.false);
-      room = c.if-out-lt-LONGEST.false;
-      told = rw n at c.give.ensures.value;
-      stored = rw n at c.give.ensures.out_after;
+      whole = omega arith;
+      room = room;
+      told = rw n at told;
+      stored = rw n at stored;
     }
 
 pub bounds-s-0 : goal.bounds-s-0
@@ -44,51 +49,51 @@ bounds-s-1-in-Unusable c =
 
 pub bounds-out-0 : goal.bounds-out-0
 bounds-out-0 c =
-    let room = c.if-out-lt-LONGEST.false in (omega (arith, given_length (given c)))
+    let room = c.if-out-lt-LONGEST.false in (omega (arith, given_length (given c.args.e c.args.s.now c.args.out.now _ _ _ c.width-end.ensures c.if-s-end.false c.if-out-lt-LONGEST.false c.give.ensures.value c.give.ensures.out_after)))
 
 pub bounds-out-1 : goal.bounds-out-1
 bounds-out-1 c =
-    let room = c.if-out-lt-LONGEST.false in simp length-set (omega (arith, given_length (given c)))
+    let room = c.if-out-lt-LONGEST.false in simp length-set (omega (arith, given_length (given c.args.e c.args.s.now c.args.out.now _ _ _ c.width-end.ensures c.if-s-end.false c.if-out-lt-LONGEST.false c.give.ensures.value c.give.ensures.out_after)))
 
 pub bounds-out-0-in-Unusable : goal.bounds-out-0-in-Unusable
 bounds-out-0-in-Unusable c =
-    let room = c.if-out-lt-LONGEST.false in (omega (arith, given_length (given c)))
+    let room = c.if-out-lt-LONGEST.false in (omega (arith, given_length (given c.args.e c.args.s.now c.args.out.now _ _ _ c.width-end.ensures c.if-s-end.false c.if-out-lt-LONGEST.false c.give.ensures.value c.give.ensures.out_after)))
 
 pub bounds-out-1-in-Unusable : goal.bounds-out-1-in-Unusable
 bounds-out-1-in-Unusable c =
-    let room = c.if-out-lt-LONGEST.false in simp length-set (omega (arith, given_length (given c)))
+    let room = c.if-out-lt-LONGEST.false in simp length-set (omega (arith, given_length (given c.args.e c.args.s.now c.args.out.now _ _ _ c.width-end.ensures c.if-s-end.false c.if-out-lt-LONGEST.false c.give.ensures.value c.give.ensures.out_after)))
 
 pub bounds-out-0-in-Refused : goal.bounds-out-0-in-Refused
 bounds-out-0-in-Refused c =
-    let room = c.if-out-lt-LONGEST.false in (omega (arith, given_length (given (c))))
+    let room = c.if-out-lt-LONGEST.false in (omega (arith, given_length (given c.args.e c.args.s.now c.args.out.now _ _ _ c.width-end.ensures c.if-s-end.false c.if-out-lt-LONGEST.false c.give.ensures.value c.give.ensures.out_after)))
 
 pub bounds-out-1-in-Refused : goal.bounds-out-1-in-Refused
 bounds-out-1-in-Refused c =
-    let room = c.if-out-lt-LONGEST.false in simp length-set (omega (arith, given_length (given (c))))
+    let room = c.if-out-lt-LONGEST.false in simp length-set (omega (arith, given_length (given c.args.e c.args.s.now c.args.out.now _ _ _ c.width-end.ensures c.if-s-end.false c.if-out-lt-LONGEST.false c.give.ensures.value c.give.ensures.out_after)))
 
 pub bounds-out-2 : goal.bounds-out-2
 bounds-out-2 c =
-    let room = c.if-out-lt-LONGEST.false in simp length-set (omega (arith, given_length (given (c))))
+    let room = c.if-out-lt-LONGEST.false in simp length-set (omega (arith, given_length (given c.args.e c.args.s.now c.args.out.now _ _ _ c.width-end.ensures c.if-s-end.false c.if-out-lt-LONGEST.false c.give.ensures.value c.give.ensures.out_after)))
 
 pub shape_of-out-in-Wrote : goal.shape_of-out-in-Wrote
 shape_of-out-in-Wrote c =
-    simp length-set (given_length (given c))
+    simp length-set (given_length (given c.args.e c.args.s.now c.args.out.now _ _ _ c.width-end.ensures c.if-s-end.false c.if-out-lt-LONGEST.false c.give.ensures.value c.give.ensures.out_after))
 
 pub shape_of-out-in-Unusable : goal.shape_of-out-in-Unusable
 shape_of-out-in-Unusable c =
-    simp length-set (given_length (given c))
+    simp length-set (given_length (given c.args.e c.args.s.now c.args.out.now _ _ _ c.width-end.ensures c.if-s-end.false c.if-out-lt-LONGEST.false c.give.ensures.value c.give.ensures.out_after))
 
 pub shape_of-out-in-Refused : goal.shape_of-out-in-Refused
 shape_of-out-in-Refused c =
-    simp length-set (given_length (given (c)))
+    simp length-set (given_length (given c.args.e c.args.s.now c.args.out.now _ _ _ c.width-end.ensures c.if-s-end.false c.if-out-lt-LONGEST.false c.give.ensures.value c.give.ensures.out_after))
 
 pub overflow_add-result : goal.overflow_add-result
 overflow_add-result c =
-    omega (arith, given_most (given c) true c.in-Wrote.n c.in-Wrote.is)
+    omega (arith, given_most (given c.args.e c.args.s.now c.args.out.now _ _ _ c.width-end.ensures c.if-s-end.false c.if-out-lt-LONGEST.false c.give.ensures.value c.give.ensures.out_after) true c.in-Wrote.n c.in-Wrote.is)
 
 pub overflow_add-result-in-Unusable : goal.overflow_add-result-in-Unusable
 overflow_add-result-in-Unusable c =
-    omega (arith, given_most (given c) false c.in-Unusable.n c.in-Unusable.is)
+    omega (arith, given_most (given c.args.e c.args.s.now c.args.out.now _ _ _ c.width-end.ensures c.if-s-end.false c.if-out-lt-LONGEST.false c.give.ensures.value c.give.ensures.out_after) false c.in-Unusable.n c.in-Unusable.is)
 
 pub overflow_add-end : goal.overflow_add-end
 overflow_add-end c = omega (arith, c.width-end.ensures, width-most binary64 c.args.e)
@@ -115,12 +120,27 @@ returns-then-out-lt-LONGEST c =
 
 pub returns-in-Wrote : goal.returns-in-Wrote
 returns-in-Wrote c =
-    rw c.width-end.ensures (given_wrote (given c) true c.in-Wrote.n c.in-Wrote.is)
+    let p = given_wrote (given c.args.e c.args.s.now c.args.out.now _ _ _ c.width-end.ensures c.if-s-end.false c.if-out-lt-LONGEST.false c.give.ensures.value c.give.ensures.out_after) true c.in-Wrote.n c.in-Wrote.is in
+    rw c.width-end.ensures
+    (record {
+      result_value = p.0;
+      out_after = p.1;
+    })
 
 pub returns-in-Unusable : goal.returns-in-Unusable
 returns-in-Unusable c =
-    rw c.width-end.ensures (given_wrote (given c) false c.in-Unusable.n c.in-Unusable.is)
+    let p = given_wrote (given c.args.e c.args.s.now c.args.out.now _ _ _ c.width-end.ensures c.if-s-end.false c.if-out-lt-LONGEST.false c.give.ensures.value c.give.ensures.out_after) false c.in-Unusable.n c.in-Unusable.is in
+    rw c.width-end.ensures
+    (record {
+      result_value = p.0;
+      out_after = p.1;
+    })
 
 pub returns-in-Refused : goal.returns-in-Refused
 returns-in-Refused c =
-    rw c.width-end.ensures (given_refused (given (c)) c.in-Refused.number c.in-Refused.is)
+    let p = given_refused (given c.args.e c.args.s.now c.args.out.now _ _ _ c.width-end.ensures c.if-s-end.false c.if-out-lt-LONGEST.false c.give.ensures.value c.give.ensures.out_after) c.in-Refused.number c.in-Refused.is in
+    rw c.width-end.ensures
+    (record {
+      result_value = p.0;
+      out_after = p.1;
+    })

@@ -1,3 +1,4 @@
+-- Written by tools/widths from crates/replies/proofs/give/Answers.antt: edit that one. Digest 7ad4ba80db1664b0.
 -- `replies_f32::give` meets its contract: by what each entry's function ensures. Assumes nothing.
 use borrow.Author.Rules.{rules}
 use Rattle.replies.specs.Table.{answer_of}

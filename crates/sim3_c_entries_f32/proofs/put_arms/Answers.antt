@@ -1,3 +1,4 @@
+-- Written by tools/widths from crates/sim3_c_entries/proofs/put_arms/Answers.antt: edit that one. Digest af701862eab5b8da.
 -- `sim3_c_entries_f32::put_arms` meets its contract: an `out` of the length that is due has the arms and the numbers written, and with any other both are left as they were. Assumes nothing.
 use borrow.Author.Rules.{rules}
 use mathlib.Core.Path.{◌≡◌, refl, sym, ap, ◌∙◌}
@@ -12,9 +13,9 @@ use Rattle.to_lists.specs.Written.{status, written}
 use Rattle.to_lists.proofs.Fits.{fitted}
 use Rattle.sim3_c_entries.specs.Calls.{arm_lists, arm_bytes, arms_fitting}
 use Rattle.sim3_c_entries.proofs.Arms.{bytes_stored}
+use Rattle.sim3_c_entries_f32.proofs.put_arms.Goals as goal
 use Rattle.series_f32.specs.As.{as_sim3_coeffs}
 use Rattle.coeffs_f32.specs.As.{as_armed, as_armed_pair, as_scaled, as_scaled_pair}
-use Rattle.sim3_c_entries_f32.proofs.put_arms.Goals as goal
 
 pub returns-then-arms-ne-ARMS : goal.returns-then-arms-ne-ARMS
 unfolding status written arms_fitting as_armed as_armed_pair as_scaled as_scaled_pair as_sim3_coeffs

@@ -1,11 +1,12 @@
+-- Written by tools/widths from crates/sim3_c_entries/proofs/put_point/Answers.antt: edit that one. Digest c011de5a74d39074.
 -- `sim3_c_entries_f32::put_point` meets its contract: an `out` of the length that is due has the numbers written, and any other is left as it was. Assumes nothing.
 use borrow.Author.Rules.{rules}
 use mathlib.Core.Path.{refl, ◌∙◌}
 use Rattle.linalg.specs.Vector.{vec_numbers}
 use Rattle.layout.proofs.Numbers.{vec-count}
 use Rattle.to_lists.proofs.Fits.{fits, misfits}
-use Rattle.linalg_f32.specs.As.{as_vec3}
 use Rattle.sim3_c_entries_f32.proofs.put_point.Goals as goal
+use Rattle.linalg_f32.specs.As.{as_vec3}
 
 pub returns-then-out-ne-VEC : goal.returns-then-out-ne-VEC
 returns-then-out-ne-VEC c =

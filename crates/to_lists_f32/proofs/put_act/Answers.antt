@@ -1,3 +1,4 @@
+-- Written by tools/widths from crates/to_lists/proofs/put_act/Answers.antt: edit that one. Digest 76c303a77e2e5b42.
 -- `to_lists_f32::put_act` meets its contract: an `out` of the length that is due has the numbers written, and any other is left as it was. Assumes nothing.
 use borrow.Author.Rules.{rules}
 use mathlib.Core.Path.{◌∙◌}
@@ -5,9 +6,9 @@ use Rattle.layout.specs.Layout.{act_numbers}
 use Rattle.layout.proofs.Numbers.{act_count_lem}
 use Rattle.to_lists.proofs.Fits.{fits, misfits}
 use Rattle.to_lists.proofs.Stores.{act_stored}
+use Rattle.to_lists_f32.proofs.put_act.Goals as goal
 use Rattle.linalg_f32.specs.As.{as_mat3, as_vec3}
 use Rattle.sides_f32.specs.As.{as_act_jacobians}
-use Rattle.to_lists_f32.proofs.put_act.Goals as goal
 
 pub returns-then-out-ne-ACT_JACOBIANS : goal.returns-then-out-ne-ACT_JACOBIANS
 returns-then-out-ne-ACT_JACOBIANS c =

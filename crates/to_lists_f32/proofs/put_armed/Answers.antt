@@ -1,3 +1,4 @@
+-- Written by tools/widths from crates/to_lists/proofs/put_armed/Answers.antt: edit that one. Digest fe7664068582e6cb.
 -- `to_lists_f32::put_armed` meets its contract: an `out` of the length that is due has the numbers written, and any other is left as it was. Assumes nothing.
 use borrow.Author.Rules.{rules}
 use mathlib.Core.Path.{◌∙◌}
@@ -5,9 +6,9 @@ use lib.Ieee.{binary32}
 use Rattle.to_lists.specs.Written.{armed_numbers}
 use Rattle.to_lists.proofs.Fits.{fits, misfits}
 use Rattle.to_lists.proofs.Stores.{armed-count, armed_stored}
+use Rattle.to_lists_f32.proofs.put_armed.Goals as goal
 use Rattle.series_f32.specs.As.{as_sim3_coeffs}
 use Rattle.coeffs_f32.specs.As.{as_armed, as_scaled}
-use Rattle.to_lists_f32.proofs.put_armed.Goals as goal
 
 pub returns-then-out-ne-ARMED : goal.returns-then-out-ne-ARMED
 returns-then-out-ne-ARMED c =

@@ -1,3 +1,4 @@
+-- Written by tools/widths from crates/to_lists/proofs/put_armed_pair/Answers.antt: edit that one. Digest 85e469b1d04df7ad.
 -- `to_lists_f32::put_armed_pair` meets its contract: an `out` of the length that is due has the numbers written, and any other is left as it was. Assumes nothing.
 use borrow.Author.Rules.{rules}
 use mathlib.Core.Path.{◌∙◌}
@@ -5,9 +6,9 @@ use lib.Ieee.{binary32}
 use Rattle.to_lists.specs.Written.{armed_pair_numbers}
 use Rattle.to_lists.proofs.Fits.{fits, misfits}
 use Rattle.to_lists.proofs.Stores.{armed-pair-count, armed-pair_stored}
+use Rattle.to_lists_f32.proofs.put_armed_pair.Goals as goal
 use Rattle.series_f32.specs.As.{as_sim3_coeffs}
 use Rattle.coeffs_f32.specs.As.{as_armed, as_armed_pair, as_scaled}
-use Rattle.to_lists_f32.proofs.put_armed_pair.Goals as goal
 
 pub returns-then-out-ne-ARMED_PAIR : goal.returns-then-out-ne-ARMED_PAIR
 returns-then-out-ne-ARMED_PAIR c =

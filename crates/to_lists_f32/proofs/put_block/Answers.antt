@@ -1,12 +1,13 @@
+-- Written by tools/widths from crates/to_lists/proofs/put_block/Answers.antt: edit that one. Digest 992e3aedaf5a0234.
 -- `to_lists_f32::put_block` meets its contract: an `out` of the length that is due has the numbers written, and any other is left as it was. Assumes nothing.
 use borrow.Author.Rules.{rules}
 use mathlib.Core.Path.{◌∙◌}
 use Rattle.layout.specs.Layout.{block_numbers}
 use Rattle.layout.proofs.Numbers.{block-count}
 use Rattle.to_lists.proofs.Fits.{fits, misfits}
+use Rattle.to_lists_f32.proofs.put_block.Goals as goal
 use Rattle.linalg_f32.specs.As.{as_mat3, as_vec3}
 use Rattle.jacobian_f32.specs.As.{as_sim3_jac}
-use Rattle.to_lists_f32.proofs.put_block.Goals as goal
 
 pub returns-then-out-ne-BLOCK : goal.returns-then-out-ne-BLOCK
 returns-then-out-ne-BLOCK c =

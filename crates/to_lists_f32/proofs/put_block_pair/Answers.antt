@@ -1,3 +1,4 @@
+-- Written by tools/widths from crates/to_lists/proofs/put_block_pair/Answers.antt: edit that one. Digest 2579489a03dfb305.
 -- `to_lists_f32::put_block_pair` meets its contract: an `out` of the length that is due has the numbers written, and any other is left as it was. Assumes nothing.
 use borrow.Author.Rules.{rules}
 use mathlib.Core.Path.{◌∙◌}
@@ -5,10 +6,10 @@ use Rattle.layout.specs.Layout.{block_pair_numbers}
 use Rattle.layout.proofs.Numbers.{block-pair-count}
 use Rattle.to_lists.proofs.Fits.{fits, misfits}
 use Rattle.to_lists.proofs.Stores.{block-pair_stored}
+use Rattle.to_lists_f32.proofs.put_block_pair.Goals as goal
 use Rattle.linalg_f32.specs.As.{as_mat3, as_vec3}
 use Rattle.jacobian_f32.specs.As.{as_sim3_jac}
 use Rattle.sides_f32.specs.As.{as_block_pair}
-use Rattle.to_lists_f32.proofs.put_block_pair.Goals as goal
 
 pub returns-then-out-ne-BLOCK_PAIR : goal.returns-then-out-ne-BLOCK_PAIR
 returns-then-out-ne-BLOCK_PAIR c =

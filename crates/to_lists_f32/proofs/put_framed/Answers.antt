@@ -1,3 +1,4 @@
+-- Written by tools/widths from crates/to_lists/proofs/put_framed/Answers.antt: edit that one. Digest 9ebea2afedf3e0b0.
 -- `to_lists_f32::put_framed` meets its contract: lists of the lengths that are due have the numbers and the frames written, and any other two are left as they were. Assumes nothing.
 use borrow.Author.Rules.{rules}
 use borrow.Author.Tests.{eq-eqb, ne_eqb}
@@ -9,11 +10,11 @@ use Rattle.layout.proofs.Numbers.{pose-count}
 use Rattle.from_lists.specs.Lists.{pose_lists}
 use Rattle.to_lists.specs.Written.{status, written, framed_fitting}
 use Rattle.to_lists.proofs.Fits.{sets-all}
+use Rattle.to_lists_f32.proofs.put_framed.Goals as goal
 use Rattle.linalg_f32.specs.As.{as_vec3}
 use Rattle.so3_f32.specs.As.{as_quat}
 use Rattle.sim3_f32.specs.As.{as_sim3}
 use Rattle.frames_f32.specs.As.{as_pose}
-use Rattle.to_lists_f32.proofs.put_framed.Goals as goal
 
 pub returns-then-out-ne-POSE : goal.returns-then-out-ne-POSE
 unfolding status written framed_fitting as_pose as_quat as_sim3 as_vec3

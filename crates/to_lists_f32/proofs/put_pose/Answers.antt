@@ -1,13 +1,14 @@
+-- Written by tools/widths from crates/to_lists/proofs/put_pose/Answers.antt: edit that one. Digest 8b98b17d8979b49d.
 -- `to_lists_f32::put_pose` meets its contract: an `out` of the length that is due has the numbers written, and any other is left as it was. Assumes nothing.
 use borrow.Author.Rules.{rules}
 use mathlib.Core.Path.{◌∙◌}
 use Rattle.layout.specs.Layout.{pose_numbers}
 use Rattle.layout.proofs.Numbers.{pose-count}
 use Rattle.to_lists.proofs.Fits.{fits, misfits}
+use Rattle.to_lists_f32.proofs.put_pose.Goals as goal
 use Rattle.linalg_f32.specs.As.{as_vec3}
 use Rattle.so3_f32.specs.As.{as_quat}
 use Rattle.sim3_f32.specs.As.{as_sim3}
-use Rattle.to_lists_f32.proofs.put_pose.Goals as goal
 
 pub returns-then-out-ne-POSE : goal.returns-then-out-ne-POSE
 returns-then-out-ne-POSE c =

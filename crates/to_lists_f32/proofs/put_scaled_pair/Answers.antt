@@ -1,3 +1,4 @@
+-- Written by tools/widths from crates/to_lists/proofs/put_scaled_pair/Answers.antt: edit that one. Digest 62420c5885d13b52.
 -- `to_lists_f32::put_scaled_pair` meets its contract: an `out` of the length that is due has the numbers written, and any other is left as it was. Assumes nothing.
 use borrow.Author.Rules.{rules}
 use mathlib.Core.Path.{◌∙◌}
@@ -5,9 +6,9 @@ use Rattle.layout.specs.Layout.{scaled_pair_numbers}
 use Rattle.layout.proofs.Numbers.{scaled-pair-count}
 use Rattle.to_lists.proofs.Fits.{fits, misfits}
 use Rattle.to_lists.proofs.Stores.{scaled-pair_stored}
+use Rattle.to_lists_f32.proofs.put_scaled_pair.Goals as goal
 use Rattle.series_f32.specs.As.{as_sim3_coeffs}
 use Rattle.coeffs_f32.specs.As.{as_scaled, as_scaled_pair}
-use Rattle.to_lists_f32.proofs.put_scaled_pair.Goals as goal
 
 pub returns-then-out-ne-SCALED_PAIR : goal.returns-then-out-ne-SCALED_PAIR
 returns-then-out-ne-SCALED_PAIR c =

@@ -1,3 +1,4 @@
+-- Written by tools/widths from crates/to_lists/proofs/put_two/Answers.antt: edit that one. Digest 275e64f4919b10ce.
 -- `to_lists_f32::put_two` meets its contract: an `out` of the length that is due has the numbers written, and any other is left as it was. Assumes nothing.
 use borrow.Author.Rules.{rules}
 use mathlib.Core.Path.{◌∙◌}
@@ -5,10 +6,10 @@ use Rattle.layout.specs.Layout.{two_numbers}
 use Rattle.layout.proofs.Numbers.{two_count_lem}
 use Rattle.to_lists.proofs.Fits.{fits, misfits}
 use Rattle.to_lists.proofs.Stores.{two_stored}
+use Rattle.to_lists_f32.proofs.put_two.Goals as goal
 use Rattle.linalg_f32.specs.As.{as_mat3, as_vec3}
 use Rattle.jacobian_f32.specs.As.{as_sim3_jac}
 use Rattle.sides_f32.specs.As.{as_two_jacobians}
-use Rattle.to_lists_f32.proofs.put_two.Goals as goal
 
 pub returns-then-out-ne-TWO_JACOBIANS : goal.returns-then-out-ne-TWO_JACOBIANS
 returns-then-out-ne-TWO_JACOBIANS c =

@@ -1,12 +1,13 @@
+-- Written by tools/widths from crates/to_lists/proofs/set_arm/Answers.antt: edit that one. Digest 98fd1a91004b2a54.
 -- `to_lists_f32::set_arm` meets its contract: two stores are the run of the arm and its ends. Assumes nothing.
 use borrow.Author.Rules.{rules}
 use native.Mathlib.Omega.{arith}
 use lib.ListN.{length-set}
 use lib.Ieee.{of_bits, binary32}
 use Rattle.to_lists.proofs.Stores.{arm_stored}
+use Rattle.to_lists_f32.proofs.set_arm.Goals as goal
 use Rattle.series_f32.specs.As.{as_sim3_coeffs}
 use Rattle.coeffs_f32.specs.As.{as_armed, as_scaled}
-use Rattle.to_lists_f32.proofs.set_arm.Goals as goal
 
 pub returns : goal.returns
 unfolding of_bits as_armed as_scaled as_sim3_coeffs

@@ -1,10 +1,11 @@
+-- Written by tools/widths from crates/to_lists/proofs/set_quat/Answers.antt: edit that one. Digest ba137c46b8cd8fe3.
 -- `to_lists_f32::set_quat` meets its contract: four stores are the run of the quaternion. Assumes nothing.
 use borrow.Author.Rules.{rules}
 use native.Mathlib.Omega.{arith}
 use lib.ListN.{length-set}
 use Rattle.to_lists.proofs.Stores.{quat_stored}
-use Rattle.so3_f32.specs.As.{as_quat}
 use Rattle.to_lists_f32.proofs.set_quat.Goals as goal
+use Rattle.so3_f32.specs.As.{as_quat}
 
 pub returns : goal.returns
 unfolding as_quat

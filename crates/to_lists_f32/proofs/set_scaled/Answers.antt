@@ -1,11 +1,12 @@
+-- Written by tools/widths from crates/to_lists/proofs/set_scaled/Answers.antt: edit that one. Digest 101609bf2d003c5c.
 -- `to_lists_f32::set_scaled` meets its contract: ten stores are the run of the coefficients and the flag. Assumes nothing.
 use borrow.Author.Rules.{rules}
 use native.Mathlib.Omega.{arith}
 use lib.ListN.{length-set}
 use lib.Ieee.{of_bits}
 use Rattle.to_lists.proofs.Stores.{scaled_stored}
-use Rattle.series_f32.specs.As.{as_sim3_coeffs}
 use Rattle.to_lists_f32.proofs.set_scaled.Goals as goal
+use Rattle.series_f32.specs.As.{as_sim3_coeffs}
 
 pub returns : goal.returns
 unfolding of_bits as_sim3_coeffs

@@ -1,10 +1,11 @@
+-- Written by tools/widths from crates/to_lists/proofs/set_three/Answers.antt: edit that one. Digest 359c8349c1adcd0f.
 -- `to_lists_f32::set_three` meets its contract: three stores are the run of the vector. Assumes nothing.
 use borrow.Author.Rules.{rules}
 use native.Mathlib.Omega.{arith}
 use lib.ListN.{length-set}
 use Rattle.to_lists.proofs.Stores.{three_stored}
-use Rattle.linalg_f32.specs.As.{as_vec3}
 use Rattle.to_lists_f32.proofs.set_three.Goals as goal
+use Rattle.linalg_f32.specs.As.{as_vec3}
 
 pub returns : goal.returns
 unfolding as_vec3

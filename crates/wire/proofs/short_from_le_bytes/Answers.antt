@@ -5,4 +5,4 @@ use Rattle.wire.proofs.Bytes.{word_two}
 use Rattle.wire.proofs.short_from_le_bytes.Goals as goal
 
 pub returns : goal.returns
-returns c = c.joined.ensures ∙ sym (word_two c.args.t1 (search rules))
+returns c = c.joined.ensures ∙ sym (word_two c.args.b (search rules))

@@ -14,5 +14,5 @@ returns c =
       c.wide-b2.ensures.0,
       c.wide-b1.ensures.0,
       c.wide-b0.ensures.0,
-      word-eight c.args.t1 (search rules),
+      word-eight c.args.b (search rules),
     )

@@ -18,6 +18,10 @@ returns-then-status-ne0 c = rw (ne_eqb c.args.status 0 c.if-status-ne0.true)
 
 pub returns : goal.returns
 returns c =
+    let p = ending binary64 c.args.out.now _ c.args.y.now _ _ c.requires
+    c.encode-finite.ensures.value c.encode-finite.ensures.out_after c.gave.ensures in
     rw (eq-eqb c.args.status 0 c.if-status-ne0.false)
-    (ending binary64 c.args.out.now _ c.args.y.now _ _ c.requires
-    c.encode-finite.ensures.value c.encode-finite.ensures.out_after c.gave.ensures)
+    (record {
+      value = p.0;
+      out_after = p.1;
+    })

@@ -18,10 +18,14 @@ returns-then-status-ne0 c = rw (ne_eqb c.args.status 0 c.if-status-ne0.true)
 
 pub returns : goal.returns
 returns c =
-    rw (eq-eqb c.args.status 0 c.if-status-ne0.false)
-    (ending_armed binary64 c.args.out.now _ _ c.args.arms.now
+    let p = ending_armed binary64 c.args.out.now _ _ c.args.arms.now
     c.args.y.now _ _ c.requires.arms_len
     c.requires.y_len c.requires.binary64_in_bounds
     (rw (c.put_byte-3.ensures, c.put_byte-2.ensures, c.put_byte.ensures) at
     c.put_byte-4.ensures) c.encode-finite.ensures.value c.encode-finite.ensures.out_after
-    c.gave.ensures)
+    c.gave.ensures in
+    rw (eq-eqb c.args.status 0 c.if-status-ne0.false)
+    (record {
+      value = p.0;
+      out_after = p.1;
+    })

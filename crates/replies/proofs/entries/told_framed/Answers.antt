@@ -18,8 +18,12 @@ returns-then-status-ne0 c = rw (ne_eqb c.args.status 0 c.if-status-ne0.true)
 
 pub returns : goal.returns
 returns c =
-    rw (eq-eqb c.args.status 0 c.if-status-ne0.false)
-    (ending_framed binary64 c.args.out.now _ _ c.args.y.now
+    let p = ending_framed binary64 c.args.out.now _ _ c.args.y.now
     c.args.k.now _ _ c.requires.y_len c.requires.k_len
     c.requires.binary64_in_bounds
-    c.encode-finite.ensures.value c.encode-finite.ensures.out_after c.encode_shorts.ensures c.gave.ensures)
+    c.encode-finite.ensures.value c.encode-finite.ensures.out_after c.encode_shorts.ensures c.gave.ensures in
+    rw (eq-eqb c.args.status 0 c.if-status-ne0.false)
+    (record {
+      value = p.0;
+      out_after = p.1;
+    })

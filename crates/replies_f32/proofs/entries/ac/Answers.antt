@@ -1,3 +1,4 @@
+-- Written by tools/widths from crates/replies/proofs/entries/ac/Answers.antt: edit that one. Digest cc645d2e0aa3f315.
 -- `replies_f32::entries::ac` meets its contract: the call on lists is what the job asks for. Assumes nothing.
 -- a list of n zeros, as it is made
 use borrow.Author.Rules.{rules}

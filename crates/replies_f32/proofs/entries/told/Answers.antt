@@ -1,3 +1,4 @@
+-- Written by tools/widths from crates/replies/proofs/entries/told/Answers.antt: edit that one. Digest 1684f0edbc31db61.
 -- `replies_f32::entries::told` meets its contract: a refusal is handed on, and the numbers are written at the front. Assumes nothing.
 use borrow.Author.Rules.{rules}
 use native.Mathlib.Omega.{arith}
@@ -18,6 +19,10 @@ returns-then-status-ne0 c = rw (ne_eqb c.args.status 0 c.if-status-ne0.true)
 
 pub returns : goal.returns
 returns c =
+    let p = ending binary32 c.args.out.now _ c.args.y.now _ _ c.requires
+    c.encode-finite.ensures.value c.encode-finite.ensures.out_after c.gave.ensures in
     rw (eq-eqb c.args.status 0 c.if-status-ne0.false)
-    (ending binary32 c.args.out.now _ c.args.y.now _ _ c.requires
-    c.encode-finite.ensures.value c.encode-finite.ensures.out_after c.gave.ensures)
+    (record {
+      value = p.0;
+      out_after = p.1;
+    })

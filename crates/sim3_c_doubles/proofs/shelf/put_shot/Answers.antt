@@ -39,7 +39,7 @@ returns c =
     let a = c.args in
     let x = a.s.pose in
     let take = sets-all a.take.now (a.s.take ∷ []) c.if-take-ne-TAKE.false in
-    let put = framed_fitted (pose_lists a.out.now a.out-frames.now) x c.if-out-ne-POSE.false c.if-out_frames-ne-FRAMES.false in
+    let put = framed_fitted (pose_lists a.out.now a.out_frames.now) x c.if-out-ne-POSE.false c.if-out_frames-ne-FRAMES.false in
     let both = c.put_framed.ensures.out_frames_after ∙ put.1 in
     rw (eq-eqb _ _ c.if-take-ne-TAKE.false, eq-eqb _ _ c.if-out-ne-POSE.false, eq-eqb _ _ c.if-out_frames-ne-FRAMES.false)
     (record {

@@ -9,7 +9,12 @@ use Rattle.sim3_c_doubles.proofs.shelf.sim3_sheets_start.Goals as goal
 
 pub returns-then-store-ne-STORE : goal.returns-then-store-ne-STORE
 unfolding status written fresh_call holds
-returns-then-store-ne-STORE c = rw (ne_eqb _ _ c.if-store-ne-STORE.true) (refl, (refl, refl))
+returns-then-store-ne-STORE c = rw (ne_eqb _ _ c.if-store-ne-STORE.true)
+    (record {
+      value = refl;
+      store_after = refl;
+      store_after_2 = refl;
+    })
 
 pub returns : goal.returns
 unfolding status written fresh_call holds

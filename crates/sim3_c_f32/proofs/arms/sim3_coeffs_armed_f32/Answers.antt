@@ -1,8 +1,9 @@
+-- Written by tools/widths from crates/sim3_c/proofs/arms/sim3_coeffs_armed/Answers.antt: edit that one. Digest 0ccad59137acbf46.
 -- `sim3_c_f32::arms::sim3_coeffs_armed_f32` meets its contract: the lists are read, the engine is asked, and its answer is written or the refusal handed on. Assumes nothing.
 use borrow.Author.Rules.{rules}
 use mathlib.Core.Path.{refl}
-use Rattle.coeffs_f32.specs.Told.{armed_told}
-use Rattle.from_lists_f32.specs.Told.{values_read_told}
+use Rattle.sim3_c_f32.specs.Told.{armed_told}
+use Rattle.sim3_c_f32.specs.Told.{values_read_told}
 use Rattle.to_lists.specs.Written.{status, written}
 use Rattle.sim3_c.specs.Calls.{armed_call}
 use Rattle.sim3_c_f32.proofs.arms.sim3_coeffs_armed_f32.Goals as goal
@@ -21,7 +22,7 @@ returns-in-Coeffs c =
     rw (
       ← c.values_from.ensures,
       c.in-Got.is,
-      ← c.sim3_coeffs_armed.ensures,
+      ← c.sim3_coeffs_armed_f32.ensures,
       c.in-Coeffs.is,
     )
     (record {
@@ -35,7 +36,7 @@ returns-in-Refused c =
     rw (
       ← c.values_from.ensures,
       c.in-Got.is,
-      ← c.sim3_coeffs_armed.ensures,
+      ← c.sim3_coeffs_armed_f32.ensures,
       c.in-Refused.is,
     )
     (record {

@@ -1,23 +1,24 @@
+-- Written by tools/widths from crates/sim3_c/proofs/near/sim3_nearest_arm/Answers.antt: edit that one. Digest fc74da07dbbf6bbd.
 -- `sim3_c_f32::near::sim3_nearest_arm_f32` meets its contract: a refusal is handed on; a list of three has the numbers written, and any other is left as it was. Assumes nothing.
 use borrow.Author.Rules.{rules}
 use borrow.Author.Tests.{eq-eqb, ne_eqb}
 use mathlib.Core.Path.{refl}
 use mathlib.Core.List.{[], ◌∷◌}
 use lib.ListN.{length-set}
-use Rattle.nearest_f32.specs.Told.{step_told, nearest_told}
+use Rattle.sim3_c_f32.specs.Told.{step_told, nearest_told}
 use Rattle.to_lists.specs.Written.{status, written}
 use Rattle.sim3_c.specs.Near.{near_numbers, near_call}
 use Rattle.to_lists.proofs.Fits.{sets-all}
+use Rattle.sim3_c_f32.proofs.near.sim3_nearest_arm_f32.Goals as goal
 use Rattle.linalg_f32.proofs.As.{linalg_singles}
-use Rattle.closed_f32.proofs.As.{closed-singles}
+use Rattle.closed_f32.proofs.As.{closed_singles}
 use Rattle.coeffs_f32.proofs.As.{coeffs_singles}
 use Rattle.so3_f32.proofs.As.{so3_singles}
-use Rattle.sim3_f32.proofs.As.{sim3-singles}
+use Rattle.sim3_f32.proofs.As.{sim3_singles}
 use Rattle.jacobian_f32.proofs.As.{jacobian_singles}
 use Rattle.sides_f32.proofs.As.{sides_singles}
-use Rattle.frames_f32.proofs.As.{frames-singles}
+use Rattle.frames_f32.proofs.As.{frames_singles}
 use Rattle.from_lists_f32.proofs.As.{from_lists_singles}
-use Rattle.sim3_c_f32.proofs.near.sim3_nearest_arm_f32.Goals as goal
 
 pub returns-then-out-ne-NUMBERS : goal.returns-then-out-ne-NUMBERS
 unfolding status written near_call nearest_told
@@ -28,10 +29,10 @@ returns-then-out-ne-NUMBERS c = rw (← c.nearest_arm.ensures, c.in-Found.is, ne
     })
 
 pub bounds-out-1 : goal.bounds-out-1
-bounds-out-1 c = simp (linalg_singles, closed-singles, coeffs_singles, so3_singles, sim3-singles, jacobian_singles, sides_singles, frames-singles, from_lists_singles, length-set) (search rules)
+bounds-out-1 c = simp (linalg_singles, closed_singles, coeffs_singles, so3_singles, sim3_singles, jacobian_singles, sides_singles, frames_singles, from_lists_singles, length-set) (search rules)
 
 pub bounds-out-2 : goal.bounds-out-2
-bounds-out-2 c = simp (linalg_singles, closed-singles, coeffs_singles, so3_singles, sim3-singles, jacobian_singles, sides_singles, frames-singles, from_lists_singles, length-set) (search rules)
+bounds-out-2 c = simp (linalg_singles, closed_singles, coeffs_singles, so3_singles, sim3_singles, jacobian_singles, sides_singles, frames_singles, from_lists_singles, length-set) (search rules)
 
 pub returns-then-out-ne-NUMBERS-2 : goal.returns-then-out-ne-NUMBERS-2
 unfolding status written near_call nearest_told
@@ -42,7 +43,18 @@ returns-then-out-ne-NUMBERS-2 c = rw (← c.nearest_arm.ensures, c.in-OneArm.is,
     })
 
 pub bounds-out-2-in-OneArm : goal.bounds-out-2-in-OneArm
-bounds-out-2-in-OneArm c = simp (linalg_singles, closed-singles, coeffs_singles, so3_singles, sim3-singles, jacobian_singles, sides_singles, frames-singles, from_lists_singles, length-set) (search rules)
+bounds-out-2-in-OneArm c = simp (
+  linalg_singles,
+  closed_singles,
+  coeffs_singles,
+  so3_singles,
+  sim3_singles,
+  jacobian_singles,
+  sides_singles,
+  frames_singles,
+  from_lists_singles,
+  length-set,
+) (search rules)
 
 pub returns-else-out-ne-NUMBERS : goal.returns-else-out-ne-NUMBERS
 unfolding status written near_call near_numbers nearest_told step_told

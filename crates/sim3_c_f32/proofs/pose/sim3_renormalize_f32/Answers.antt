@@ -1,3 +1,4 @@
+-- Written by tools/widths from crates/sim3_c/proofs/pose/sim3_renormalize/Answers.antt: edit that one. Digest fcb71a589c520d60.
 -- `sim3_c_f32::pose::sim3_renormalize_f32` meets its contract: it is what the list crate's function ensures. Assumes nothing.
 use borrow.Author.Rules.{rules}
 use Rattle.sim3_c_f32.proofs.pose.sim3_renormalize_f32.Goals as goal

@@ -10,5 +10,5 @@ returns c =
       c.wide-b2.ensures.0,
       c.wide-b1.ensures.0,
       c.wide-b0.ensures.0,
-      word-four c.args.t1 (search rules),
+      word-four c.args.b (search rules),
     )
