@@ -31,14 +31,26 @@ returns-then-mem-ne-MEMORY c =
     let a = c.args in
     let bad = first_false (holds a.mem.now) _ (unheld a.mem.now c.if-mem-ne-MEMORY.true) in
     rw (c.leave.ensures, feed_bad job_limit (holds a.mem.now) (standing a.c (state_of a.mem.now)) a.input.now a.last _ bad)
-    (refl, (refl, (sym (mem_bad a.c a.mem.now a.input.now _ bad), (refl, search rules))))
+    (record {
+      result_value = refl;
+      out_after = refl;
+      mem_after = sym (mem_bad a.c a.mem.now a.input.now _ bad);
+      mem_after_2 = refl;
+      used_in_bounds = search rules;
+    })
 
 pub returns-then-not-sound : goal.returns-then-not-sound
 returns-then-not-sound c =
     let a = c.args in
     let bad = second_false (holds a.mem.now) _ (sym c.sound.ensures ∙ not-true _ c.if-not-sound.true) in
     rw (c.leave-then-not-sound.ensures, feed_bad job_limit (holds a.mem.now) (standing a.c (state_of a.mem.now)) a.input.now a.last _ bad)
-    (refl, (refl, (sym (mem_bad a.c a.mem.now a.input.now _ bad), (refl, search rules))))
+    (record {
+      result_value = refl;
+      out_after = refl;
+      mem_after = sym (mem_bad a.c a.mem.now a.input.now _ bad);
+      mem_after_2 = refl;
+      used_in_bounds = search rules;
+    })
 
 pub records-l-requires : goal.records-l-requires
 records-l-requires c = record {
@@ -53,20 +65,17 @@ close-n-requires c =
 
 pub overflow_add-to : goal.overflow_add-to
 overflow_add-to c =
-    let within = feed_within (looped c) in omega (arith, c.close-n.ensures.value, within, c.well-formed)
+    let within = feed_within (looped c) in omega (arith, c.close-n.ensures.value, within, c.well_formed)
 
 pub returns : goal.returns
 returns c =
     let k = looped (c) in
     let n = c.close-n in
-    rw c.leave-2.ensures (
-      feed_view k n.result n.ensures.value,
-      (
-        feed_wrote k n.result n.new.out n.ensures.value n.ensures.out_after,
-        (
-          c.records-l.ensures.mem_after ∙ sym (mem_good c.args.c
-              c.args.mem.now c.args.input.now _ k.good),
-          (feed_left k, (feed_uses k, rw n.ensures.value (feed_within k))),
-        ),
-      ),
-    )
+    rw c.leave-2.ensures
+    (record {
+      result_value = feed_view k n.result n.ensures.value;
+      out_after = feed_wrote k n.result n.new.out n.ensures.value n.ensures.out_after;
+      mem_after = c.records-l.ensures.mem_after ∙ sym (mem_good c.args.c c.args.mem.now c.args.input.now _ k.good);
+      mem_after_2 = feed_left k;
+      used_in_bounds = (feed_uses k, rw n.ensures.value (feed_within k));
+    })

@@ -127,13 +127,13 @@ pub overflow_add-at : goal.overflow_add-at
 overflow_add-at c =
     let k = c.step-1.given in
     let next = round (turn c) c.in-Took.kind c.in-Took.used c.in-Took.written c.in-Took.is in
-    omega (arith, next.inside, c.well-formed)
+    omega (arith, next.inside, c.well_formed)
 
 pub overflow_add-to : goal.overflow_add-to
 overflow_add-to c =
     let k = c.step-1.given in
     let next = round (turn c) c.in-Took.kind c.in-Took.used c.in-Took.written c.in-Took.is in
-    omega (arith, next.room, next.kept, c.well-formed)
+    omega (arith, next.room, next.kept, c.well_formed)
 
 pub loop-c-smaller : goal.loop-c-smaller
 loop-c-smaller c =
