@@ -103,7 +103,6 @@ overflow_add-at c =
     let e = c.reply-heard.ensures in
     let t = heard c.loop-c.mem c.loop-c.invariant.0 c.loop-c.invariant.1.0 c.if-c-eq-LIMIT.false c.reply-heard.result.step c.reply-heard.result.row
     c.reply-heard.new.out (state_of c.reply-heard.new.mem) e.step_value e.out_after e.row_value e.mem_after_2 in
-    let k = c.step-1.given in
     let next = round t c.in-Took.kind c.in-Took.used c.in-Took.written c.in-Took.is in
     omega (arith, next.inside, c.well_formed)
 
@@ -112,7 +111,6 @@ overflow_add-to c =
     let e = c.reply-heard.ensures in
     let t = heard c.loop-c.mem c.loop-c.invariant.0 c.loop-c.invariant.1.0 c.if-c-eq-LIMIT.false c.reply-heard.result.step c.reply-heard.result.row
     c.reply-heard.new.out (state_of c.reply-heard.new.mem) e.step_value e.out_after e.row_value e.mem_after_2 in
-    let k = c.step-1.given in
     let next = round t c.in-Took.kind c.in-Took.used c.in-Took.written c.in-Took.is in
     omega (arith, next.room, next.kept, c.well_formed)
 
@@ -129,7 +127,6 @@ loop-c-preserved c =
     let t = heard c.loop-c.mem c.loop-c.invariant.0 c.loop-c.invariant.1.0 c.if-c-eq-LIMIT.false c.reply-heard.result.step c.reply-heard.result.row
     c.reply-heard.new.out (state_of c.reply-heard.new.mem) e.step_value e.out_after e.row_value e.mem_after_2 in
     let b = heard_behind c.loop-c.mem c.loop-c.invariant.0 _ _ c.reply-heard.new.mem e.mem_after in
-    let k = c.step-1.given in
     let d = joined_more c.in-Took.kind c.reply-heard.result.row c.loop-c.c c.counted-c.result
     c.loop-c.rows c.counted-c.ensures in (
       c.reply-heard.auto.mem ∙ c.loop-c.invariant.0,
