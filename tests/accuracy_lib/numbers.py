@@ -19,12 +19,12 @@ def module():
 
 
 def checked():
-    """name -> number, of the lines `pub NAME : .. ≡ NUMBER` of the specs."""
+    """name -> number, of the fields `pub NAME : .. ≡ NUMBER` of the specs."""
     found = {}
     for path in SPECS:
         text = path.read_text(encoding="utf-8")
-        for name, number in re.findall(r"pub ([a-z-]+) :[^≡]*≡\s*([0-9]+)$", text, re.M):
-            found[name] = int(number)
+        for name, number in re.findall(r"^ +pub ([a-z_-]+) :[^≡]*≡\s*([0-9]+)$", text, re.M):
+            found[name.replace("_", "-")] = int(number)
     return found
 
 
@@ -40,7 +40,7 @@ def computed(accuracy):
         found[f"exponential-{kind}"] = accuracy.exponential(2 ** 16, width=width) * units
         found[f"unit-exponential-{kind}"] = accuracy.exponential(1, width=width) * units
     one, near, square = 2 ** 100, 2 ** 100 + 2 ** 60, 2 ** 61 + 2 ** 21
-    boxes = {  # boxDoubles, boxSingles and pageBox of crates/running_accuracy/specs/Running.antt
+    boxes = {  # box_doubles, box_singles and page_box of crates/running_accuracy/specs/Running.antt
         "doubles": (64, (near, square, 2 ** 110, 2 ** 101, 2 ** 48, one + 2 ** 77, 2 ** 61 + 2 ** 50, 65535)),
         "singles": (32, (one + 2 ** 80, 2 ** 81 + 2 ** 61, 2 ** 110, 2 ** 101, 2 ** 77, one + 2 ** 85,
                          2 ** 81 + 2 ** 75, 16)),
@@ -69,10 +69,10 @@ def stated():
     """Whether the exponents of the coefficients' rows are those of specs/Series.antt."""
     text = (TOP / "crates/accuracy/specs/Series.antt").read_text(encoding="utf-8")
     for width in (32, 64):
-        chi = re.search(rf"^chiErrors binary{width} arm = (.*)$", text, re.M).group(1)
+        chi = re.search(rf"^chi_errors binary{width} arm = (.*)$", text, re.M).group(1)
         last = [int(x) for x in re.findall(r"\(2 \^ (\d+)\)", chi)]
         for arm, name in enumerate(rows.ARMS):
-            body = re.search(rf"^{name}Errors binary{width} =\n(.*)$", text, re.M).group(1)
+            body = re.search(rf"^{name}_errors binary{width} =\n(.*)$", text, re.M).group(1)
             due = tuple(int(x) - 100 for x in [*re.findall(r"2 \^ (\d+)", body), last[arm]])
             if due != rows.COEFFICIENTS[width][name]:
                 yield f"the {name} arm at {width} bits is {rows.COEFFICIENTS[width][name]}, and the statement has {due}"

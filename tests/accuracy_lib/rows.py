@@ -13,7 +13,7 @@ LIMITS = {64: struct.unpack(">4d", bytes.fromhex("3f0c70e59cfc9f1f3fa59742aa3671
           32: struct.unpack(">4f", bytes.fromhex("3a7ce1583e03ba203f205df34017c496"))}
 ARMS = ("short", "mid", "upper", "series")
 NAMES = ("v0", "v1", "v2", "w0", "w1", "w2", "dv1", "dv2", "chi_delta")
-# The exponents of the bounds, which numbers.stated compares: shortErrors .. seriesErrors and chiErrors of
+# The exponents of the bounds, which numbers.stated compares: short_errors .. series_errors and chi_errors of
 # crates/accuracy/specs/Series.antt.
 COEFFICIENTS = {
     64: {"short": (-51, -50, -51, -52, -52, -54, -53, -55, -63),

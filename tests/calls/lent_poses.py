@@ -3,22 +3,26 @@ numbers, its frames and the poses behind the list are as they were, to the bit.
 
 A program does it, renormalize_all.txt, and not a wrapper: an exported function is lent no struct of the port. It is a
 test driver without a proof of its own, and rt takes no file of Rattle outside the listed crates, so it is kept as text
-and written to target/ as main.rt. The kit's rattle-cases compiles it over the proved crates and runs it four ways. Of
-these the interpreter takes no number from the bits of a NaN, so lists with NaNs among the stored numbers run compiled
-alone. A NaN that is computed is any NaN, as the scope has it, and the program writes the job's; one that is not
-computed keeps its bits.
+and written as main.rt into a repository of its own. `rt try` runs it there over the crates' sources: on an interpreter,
+and compiled with checks. No number of Rattle is taken from a NaN's bits: the program reads any as the NaN, and writes
+the job's. So whether a NaN that is not computed keeps its bits is asked of the C function, on the same lists without
+their frames.
 """
-import os
+import ctypes
 import pathlib
 import random
+import re
 import shutil
 import struct
 import subprocess
+import tempfile
+
+import scratch
 
 NAME = "renormalize_all"
 USES = "ieee linalg so3 sim3 frames running wire".split()
-KIT = "std io libc".split()
-COMPILED = tuple(f"ok: the native program {how} ended and wrote what is expected" for how in ("at -O0", "at -O3", "with LLVM's assumptions checked"))
+STEPS = 200_000_000  # of the interpreter, for one run
+LIBRARY = scratch.TOP / "target/bindings/libsim3.so"
 
 POSE = struct.Struct("<8Q2H")  # quaternion, translation and sigma by their bits; from and to
 MOST = 48                      # poses of the program's array; the list is the first part of it
@@ -66,7 +70,12 @@ def stepped(x):
 
 def written(x):
     """A pose as the program writes it."""
-    return POSE.pack(*(NAN if is_nan(word) else word for word in x[:4]), *x[4:])
+    return POSE.pack(*(NAN if is_nan(word) else word for word in x[:8]), *x[8:])
+
+
+def told(x, computed):
+    """A pose's numbers as the C function leaves them; of a NaN that is computed nothing is said but that."""
+    return (*(NAN if computed and is_nan(word) else word for word in x[:4]), *x[4:8])
 
 
 def arrays(special):
@@ -77,30 +86,51 @@ def arrays(special):
         yield length, [pose(draw, special) for _ in range(MOST)]
 
 
-def said(target, special):
-    """What rattle-cases says of the program on the arrays of some special numbers, and its exit status."""
-    work, home = target / "calls" / NAME, pathlib.Path(os.environ.get("RATTLE_HOME") or pathlib.Path(shutil.which("rt")).resolve().parent.parent)
-    kit = home / "on" / os.uname().machine
-    work.mkdir(parents=True, exist_ok=True)
+def lay_out(room):
+    """The program in a repository of its own, over the sources of the crates that it rests on; gives its folder."""
+    listed, crate = scratch.lines()[0], room / "crates" / NAME
+    scratch.lay_out(room, USES)
+    lines = [*(listed[name] for name in scratch.reached(USES)), f"{NAME}: {' '.join(USES)}"]
+    (room / "crates.txt").write_text("".join(f"{line}\n" for line in lines), encoding="utf-8")
+    (crate / "src").mkdir(parents=True)
+    shutil.copyfile(pathlib.Path(__file__).parent / f"{NAME}.txt", crate / "src/main.rt")
+    return crate
+
+
+def wrong(crate, special):
+    """What is wrong with what the program writes for the arrays of some special numbers, or None."""
     given = list(arrays(special))
-    (work / "stdin").write_bytes(b"".join(bytes([n]) + b"".join(POSE.pack(*x) for x in poses) for n, poses in given))
-    (work / "stdout").write_bytes(b"".join(written(x) for n, poses in given for x in (*map(stepped, poses[:n]), *poses[n:])))
-    shutil.copyfile(pathlib.Path(__file__).parent / f"{NAME}.txt", work / "main.rt")
-    words = [kit / "bin/rattle-cases", "--toolchain", kit / "toolchain", "--stdin", work / "stdin",
-             "--stdout", work / "stdout", work / "main.rt", "--crate-name", NAME]
-    for name, folder in [(crate, target / "rlib") for crate in USES] + [(crate, kit / "rlib") for crate in KIT]:
-        words += ["--extern", f"{name}={folder}/{name}.rlib"]
-    words += ["-L", f"dependency={target}/rlib", "-L", f"dependency={kit}/rlib"]
-    ran = subprocess.run(words, stdout=subprocess.PIPE, stderr=subprocess.STDOUT, text=True, errors="replace")
-    return ran.returncode, ran.stdout
+    stdin = b"".join(bytes([n]) + b"".join(POSE.pack(*x) for x in poses) for n, poses in given)
+    due = b"".join(written(x) for n, poses in given for x in (*map(stepped, poses[:n]), *poses[n:]))
+    ran = subprocess.run(["rt", "try", "--steps", str(STEPS)], cwd=crate, input=stdin, capture_output=True)
+    text = ran.stderr.decode(errors="replace")
+    if ran.returncode or re.search(r"\brunners=1\b", text):
+        return f"rt try ended with status {ran.returncode}: {text[-2000:]}"
+    if ran.stdout != due:
+        at = next((i for i, pair in enumerate(zip(ran.stdout, due)) if pair[0] != pair[1]), min(len(ran.stdout), len(due)))
+        return f"{len(ran.stdout)} bytes, of which byte {at} is the first that is not what is due, of {len(due)}"
+    return None
 
 
-def fails(target):
-    """What is wrong with what the program writes, or None."""
-    status, text = said(target, NUMBERS)
-    if status:
-        return f"rattle-cases, on numbers without a NaN: {text[:2000]}"
-    _, text = said(target, NUMBERS + NANS)
-    if not all(line in text for line in COMPILED):
-        return f"rattle-cases, on NaNs too: {text[:2000]}"
+def wrong_in_c(special):
+    """The same of the C function, which is lent the numbers of the first poses of each array: those behind it keep every bit."""
+    function = ctypes.CDLL(str(LIBRARY)).sim3_renormalize_all
+    for n, poses in arrays(special):
+        words = (ctypes.c_uint64 * (8 * MOST))(*(word for x in poses for word in x[:8]))
+        status = function(words, ctypes.c_size_t(8 * n))
+        found = [tuple(words[8 * i:8 * i + 8]) for i in range(MOST)]
+        due = [told(stepped(x), True) for x in poses[:n]] + [told(x, False) for x in poses[n:]]
+        if status or [told(x, i < n) for i, x in enumerate(found)] != due:
+            return f"sim3_renormalize_all of {n} poses: status {status}, or a number is not what is due"
+    return None
+
+
+def fails():
+    """What is wrong with what the program writes and the C function leaves, or None."""
+    with tempfile.TemporaryDirectory(prefix="sim3-lent-") as folder:
+        crate = lay_out(pathlib.Path(folder).resolve())
+        for what, special in (("numbers without a NaN", NUMBERS), ("NaNs too", NUMBERS + NANS)):
+            found = wrong(crate, special) or wrong_in_c(special)
+            if found:
+                return f"on {what}: {found}"
     return None

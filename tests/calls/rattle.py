@@ -8,8 +8,10 @@ from width import DOUBLE, at_width
 
 HEAD = """\
 // Made by tests/calls/build from tests/calls/functions.py.
-ghost use Prim.Native.Nat.{_+_, _≤_};
-ghost use lib.ListN.{length};
+#![tactic(auto)]
+
+ghost use Rattle.std.specs.Prelude.{◌+◌, ◌≤◌, length};
+
 use closed::values::Values;
 use jacobian::jac::Sim3Jac;
 use linalg::matrix::Mat3;
@@ -80,7 +82,7 @@ def takers():
 
 
 def taker(kind, name, body):
-    return f"\nfn {kind}_at(x: &[f64], at: usize) -> {name}\n    requires {{ ⌜ at + {WIDTHS[kind]} ≤ length (now x) ⌝ }}\n{{ {body} }}\n"
+    return f"\nfn {kind}_at(x: &[f64], at: usize) -> {name}\n    requires {{ at + {WIDTHS[kind]} ≤ length x.now }}\n{{ {body} }}\n"
 
 
 def stored(kind, width, at, value):
@@ -100,7 +102,7 @@ def putter(kind, width):
     else:
         name = f"[f64; {WIDTHS[kind]}]"
         rows = [stored("num", width, plus("at", n), f"v[{n}]") for n in range(WIDTHS[kind])]
-    head = f"\nfn put_{kind}_{width}(out: &mut [f64; {width}], at: usize, v: {name})\n    requires {{ ⌜ at + {WIDTHS[kind]} ≤ {width} ⌝ }}\n"
+    head = f"\nfn put_{kind}_{width}(out: &mut [f64; {width}], at: usize, v: {name})\n    requires {{ at + {WIDTHS[kind]} ≤ {width} }}\n"
     return head + "{\n" + "".join(f"    {row}\n" for row in rows) + "}\n"
 
 
@@ -196,7 +198,7 @@ def body(f):
 
 def wrapper(f):
     lines = "".join(f"    {line}\n" for line in body(f))
-    return f"\n// {f.name}\n#[no_mangle]\n{signature(f)} {{\n{lines}}}\n"
+    return f"\n// {f.name}\n#[unsafe(no_mangle)]\n{signature(f)} {{\n{lines}}}\n"
 
 
 def source(width=DOUBLE):

@@ -1,40 +1,29 @@
-"""The driver: the wrapper's archive from a scratch repository, and drive.c linked with it."""
+"""The driver: the wrapper's archive from a repository of its own, and drive.c linked with it."""
 import os
 import pathlib
 import struct
 import subprocess
+import sys
 
 from .wrapper import SOURCE
 
 HERE = pathlib.Path(__file__).resolve().parent
 TOP = HERE.parent.parent
 OUT = TOP / "target/root"
-DRIVE = OUT / "drive"
-USED = "ieee linalg root"
+DRIVE, ARCHIVE = OUT / "drive", OUT / "libroot_calls.a"
+USED = "ieee linalg root".split()
+sys.path.insert(0, str(HERE.parent / "calls"))
+import scratch  # noqa: E402
 
 
-def link(path, to):
-    """Makes path a link to a folder, said relative to the link's own."""
-    path.parent.mkdir(parents=True, exist_ok=True)
-    words = os.path.relpath(to, path.parent)
-    if not path.is_symlink() or os.readlink(path) != words:
-        path.unlink(missing_ok=True)
-        path.symlink_to(words)
-
-
-def lay_out():
-    """The scratch repository: the wrapper's crate, and links to the crates that it rests on and to what is proved of them."""
-    text = (TOP / "crates.txt").read_text()
-    for name in USED.split():
-        link(OUT / "crates" / name, TOP / "crates" / name)
-    for name in ("rlib", "stamp"):
-        (TOP / "target" / name).mkdir(parents=True, exist_ok=True)
-        link(OUT / "target" / name, TOP / "target" / name)
-    lines = [line for line in text.splitlines() if line.split(":")[0] in USED.split()]
-    (OUT / "crates.txt").write_text("\n".join(lines) + f"\nroot_calls: {USED}\n")
-    source = OUT / "crates/root_calls/src/lib.rt"
-    source.parent.mkdir(parents=True, exist_ok=True)
-    source.write_text(SOURCE)
+def archive():
+    """The wrapper's archive, which is made where it or a crate below has changed."""
+    if scratch.is_made(SOURCE, USED, ARCHIVE):
+        return
+    try:
+        scratch.archive("root_calls", USED, SOURCE, ARCHIVE)
+    except (scratch.NotProved, OSError) as error:
+        raise SystemExit(f"{error}root: proving and building the wrapper failed, as said above") from None
 
 
 def ran(words, what, **options):
@@ -48,10 +37,9 @@ def ran(words, what, **options):
 
 
 def built():
-    lay_out()
-    ran(["rt", "staticlib", "root_calls"], "proving and building the wrapper", cwd=OUT)
+    archive()
     compiler = os.environ.get("CC", "cc")
-    words = [compiler, "-std=gnu11", "-O2", "-Wall", "-Wextra", "-Werror", HERE / "drive.c", OUT / "target/staticlib/libroot_calls.a", "-o", DRIVE, "-lm"]
+    words = [compiler, "-std=gnu11", "-O2", "-Wall", "-Wextra", "-Werror", HERE / "drive.c", ARCHIVE, "-o", DRIVE, "-lm"]
     ran([str(word) for word in words], "compiling tests/root_lib/drive.c")
 
 

@@ -3,9 +3,11 @@
 SOURCE = """\
 // One call of `root` from C: 0, and the whole root, the remainder, the nearest double's pattern and
 // the exponent; or the refusal's number.
+#![tactic(auto)]
+
 fn code(n: u8) -> u32 { n as u32 }
 
-#[no_mangle]
+#[unsafe(no_mangle)]
 pub extern "C" fn root_call(z: f64, out: &mut [u64; 3], power: &mut [i64; 1]) -> u32 {
     match root::root(z) {
         root::RootAnswer::Parts(p) => {

@@ -18,7 +18,7 @@ WRONG = {"`sim3_" + "expp`": "no sim3_",
          "[a part](#no-such-part)": "no part #no-such-part",
          "D999": "no D999",
          "word " * 25: "125 characters"}
-RIGHT = ["`sim3_exp`", "`series::sim3::series_v`", "`crates/*/specs`", "`rt dev CRATE`", "`tools/jobs show --unusable`",
+RIGHT = ["`sim3_exp`", "`series::sim3::series_v`", "`crates/*/specs`", "`rt must-fail CRATE`", "`tools/jobs show --unusable`",
          "`Sim3Jac::inverse`", "```sh\ntools/jobs make examples/jobs.txt | ./sim3-job\n```",
          "# A title of `f64`\n[a part](#a-title-of-f64)", "| " + "word " * 30 + "|"]
 

@@ -1,1 +1,1 @@
-"""The parts of tools/edits, and of tests/edits."""
+"""The parts of tools/edits."""

@@ -3,7 +3,6 @@ import pathlib
 import re
 
 top = pathlib.Path(__file__).resolve().parent.parent.parent
-FOLDERS = ("must-fail", "must-fail/quick")  # what rt ci tries, and what tests/edits tries
 # the paper, or the request, and the words that the edit breaks; or a statement of docs/ACCURACY.md, and what it says
 GUARDS = re.compile(r"(01|02, K\d+|ACCURACY, (?P<statement>\w+)): \S.*\S")
 
@@ -47,10 +46,17 @@ class Edit:
             if count != 1:
                 raise ValueError(f"its old text stands {count} times in {file}: give a text that stands there once")
             texts[file] = text.replace(old, new)
+        if all(text == (top / "crates" / self.crate / file).read_text(encoding="utf-8") for file, text in texts.items()):
+            raise ValueError("it changes nothing")
         return texts
 
 
-def edits(folders=FOLDERS):
+def edits():
     """The edits of every crate."""
-    paths = [path for folder in folders for path in top.glob(f"crates/*/{folder}/*.edit")]
-    return [Edit(path, path.relative_to(top).parts[1]) for path in sorted(paths)]
+    return [Edit(path, path.relative_to(top).parts[1]) for path in sorted(top.glob("crates/*/must-fail/*.edit"))]
+
+
+def others():
+    """The files of crates/NAME/must-fail that rt takes for no edit, and that are not only to be read."""
+    kept = set(top.glob("crates/*/must-fail/*.edit")) | set(top.glob("crates/*/must-fail/*.md"))
+    return sorted(path for path in top.glob("crates/*/must-fail/**/*") if path.is_file() and path not in kept)

@@ -69,7 +69,7 @@ class Bound(NamedTuple):
 
 
 def rotated(two, q, v):
-    """The bound of one number of (v + 2w (u × v)) + 2 u × (u × v), as `treeAct` of the specs forms it."""
+    """The bound of one number of (v + 2w (u × v)) + 2 u × (u × v), as `tree_act` of the specs forms it."""
     uv = q * v - q * v
     uuv = q * uv - q * uv
     return v + uv * (two * q) + uuv * two
@@ -160,7 +160,7 @@ class JoinBox(NamedTuple):
         return self.drift * (self.every + 1)
 
     def holds(self):
-        """`boxHolds` of the specs."""
+        """`box_holds` of the specs."""
         away = self.away()
         return (self.square + 3 * upward(UNIT, self.drift * self.every * self.square) <= self.drift
                 and upward(UNIT, away * away) <= self.drift and self.square <= self.drift
@@ -181,7 +181,7 @@ def join_box(translation, scale, scale_error, length, every):
 
 
 class Joins:
-    """The bounds after each join of a running join: `stepBound` of crates/running_accuracy/specs/Running.antt."""
+    """The bounds after each join of a running join: `step_bound` of crates/running_accuracy/specs/Running.antt."""
 
     def __init__(self, width, box):
         self.width, self.box = known(width), box

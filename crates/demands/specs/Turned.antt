@@ -88,6 +88,6 @@ pub record Turned (r : BothWays) : Type 0 where
   pub beside_inverse : TurnedBlock r.inverted.j r.inverted_turned.j
   pub in_pair : TurnedBlock r.pair.left r.pair_turned.left
 
--- what `turned-theorem` proves, without a premise
+-- what `turned_theorem` proves, without a premise
 abbrev pub TurnedTheorem : Type 0
 TurnedTheorem = (f : Format) (tau : Sim3Tangent) (v : Values) (jl jlInv : Mat3) (from to : ℕ) → Turned (ways_of f tau v jl jlInv from to)

@@ -64,7 +64,7 @@ pub record StepTurned (v : Values) : Type 0 where
       ∷ 0xbf800000 ∷ 0x3f000000 ∷ 0x00000000
       ∷ 0x3f000000 ∷ 0x3f800000 ∷ 0x3fc00000 ∷ []
 
--- what `turned-examples` proves
+-- what `turned_examples` proves
 pub record TurnedExamples : Type 0 where
   pub zeros_doubles : (v : Values) → ZerosStay binary64 v
   pub zeros_singles : (v : Values) → ZerosStay binary32 v

@@ -5,7 +5,7 @@ use lib.IntN.{pos, negsuc}
 use lib.Ieee.{nan, inf, fin, binary64, neg, add, div, eq}
 use Rattle.ieee.specs.Signs.{plain}
 
--- `add-clear` wants values that fit: +0 and a number far below the format's smallest one round to -0
+-- `add_clear` wants values that fit: +0 and a number far below the format's smallest one round to -0
 unfit : add binary64 (fin false 0 (pos 0)) (fin true 1 (negsuc 5000)) ≡ fin true 0 (pos 0)
 unfolding add
 unfit = refl

@@ -66,7 +66,7 @@ lent_bytes reply (lent a) = (reply a).bytes
 lent_bytes reply storeless = []
 
 -- ---- SH with the bytes b behind its mark, where it is kept, and then SQ for its sheet: take and pose come back as they were sent, but every NaN as the one NaN. Proved as
--- `asked-back` in proofs/Back.antt.
+-- `asked_back` in proofs/Back.antt.
 abbrev pub AskedBackTheorem : Type 0
 AskedBackTheorem =
     (s : Sheets) (b : List ℕ) → Bytes b → length b ≡ slot_width → keeps (sh_of s b).answer ≡ true →

@@ -1,7 +1,7 @@
 -- What is asked for, over values and not over their patterns: neighbouring values by the order of IEEE 754, moves from each
 -- to the next, and the least number of moves to another arm. `NeighboursTheorem` says that the next pattern is that of the
--- next value, and `NearestArmTheorem` what is answered at the entry; proved as `neighbours-theorem` and
--- `nearest-arm-theorem` in proofs/Neighbours.antt.
+-- next value, and `NearestArmTheorem` what is answered at the entry; proved as `neighbours_theorem` and
+-- `nearest-arm_theorem` in proofs/Neighbours.antt.
 use Rattle.std.specs.Prelude.{◌≡◌, true, false, ℕ, ◌+◌, ◌≤◌, ◌<◌, T, Float}
 use Rattle.std.specs.Float.{Format}
 use Rattle.std.specs.Float.Ieee.{of_bits, to_bits, fits, lt}

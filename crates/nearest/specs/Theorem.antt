@@ -1,4 +1,4 @@
--- What is asked for, in the request's words and without an order of trying: `NearestTheorem` below, proved as `nearest-theorem` in
+-- What is asked for, in the request's words and without an order of trying: `NearestTheorem` below, proved as `nearest_theorem` in
 -- proofs/Theorem.antt; and how the two rules for a tie differ, `UpwardFirst`, proved as `upward-first` in proofs/Ties.antt.
 use Rattle.std.specs.Prelude.{◌≡◌, true, false, cond, ℕ, ◌+◌, ◌≤◌, ◌<◌, T, Float}
 use Rattle.std.specs.Float.{Format}

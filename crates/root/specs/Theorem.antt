@@ -1,4 +1,4 @@
--- What the root's numbers are, in the request's words and without the way they are computed: `RootTheorem` below, proved as `root-theorem` in proofs/Theorem.antt.
+-- What the root's numbers are, in the request's words and without the way they are computed: `RootTheorem` below, proved as `root_theorem` in proofs/Theorem.antt.
 use Rattle.std.specs.Prelude.{◌≡◌, ◌⊎◌, Bool, true, false, ℕ, ◌+◌, ◌-◌, ◌*◌, ◌^◌, ◌≤◌, ◌<◌, ℤ, pos, T, Float}
 use Rattle.std.proofs.Math.IntN.{sub_ℕ}
 use Rattle.std.specs.Float.{nan, inf, fin, binary64}

@@ -1,4 +1,4 @@
--- What is sent is asked back: a shot that is kept, and of its pose the same bytes, but that every NaN comes back as the one NaN. Proved as `asked` and `IsSent-back` in proofs/Back.antt.
+-- What is sent is asked back: a shot that is kept, and of its pose the same bytes, but that every NaN comes back as the one NaN. Proved as `asked` and `sent_back` in proofs/Back.antt.
 use Rattle.std.specs.Prelude.{ℕ, zero, suc, ◌<◌, ◌≡◌, Bool, true, false, cond, List, [], ◌∷◌, ◌++◌, length, take, drop, ltb}
 use Rattle.std.specs.Float.{nan, binary64}
 use Rattle.std.specs.Float.Ieee.{is_nan}

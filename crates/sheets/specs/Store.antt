@@ -81,7 +81,7 @@ unfoldable pub own_below : List ℕ → ℕ → ℕ
 own_below m zero = 0
 own_below m (suc i) = own_below m i + cond (own_at m i) 1 0
 
--- in any bytes as many sheets are kept as slots are a sheet's own, so never more than 512. Proved as `own-count` in
+-- in any bytes as many sheets are kept as slots are a sheet's own, so never more than 512. Proved as `own_count` in
 -- proofs/Own.antt.
 abbrev pub OwnTheorem : Type 0
 OwnTheorem = (m : List ℕ) → ((sheets_of m).count ≡ own_below m most) × ((sheets_of m).count ≤ most)

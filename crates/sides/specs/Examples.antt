@@ -140,6 +140,6 @@ singles v z =
 abbrev pub ExamplesHold : Type 0
 ExamplesHold = (v : Values) (z : Float) → all_same (table v z) ≡ true
 
--- and `single-examples`
+-- and `single_examples`
 abbrev pub SinglesHold : Type 0
 SinglesHold = (v : Values) (z : Float) → all_same (singles v z) ≡ true

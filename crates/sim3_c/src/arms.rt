@@ -9,8 +9,7 @@ use from_lists::{LIST_LENGTH, ValuesRead, values_from};
 use to_lists::{put_armed, put_armed_pair};
 
 // At sigma; z is the squared angle.
-#[unsafe(no_mangle)]
-pub extern "C" fn sim3_coeffs_armed(sigma: f64, z: f64, values: &[f64], out: &mut [f64]) -> u32
+pub fn sim3_coeffs_armed(sigma: f64, z: f64, values: &[f64], out: &mut [f64]) -> u32
     ensures value { result ≡ status (armed_call binary64 sigma z values.now out.old) }
     ensures out_after { out.new ≡ written (armed_call binary64 sigma z values.now out.old) out.old }
 {
@@ -24,8 +23,7 @@ pub extern "C" fn sim3_coeffs_armed(sigma: f64, z: f64, values: &[f64], out: &mu
 }
 
 // At sigma and at -sigma.
-#[unsafe(no_mangle)]
-pub extern "C" fn sim3_armed_pair(sigma: f64, z: f64, values: &[f64], out: &mut [f64]) -> u32
+pub fn sim3_armed_pair(sigma: f64, z: f64, values: &[f64], out: &mut [f64]) -> u32
     ensures value { result ≡ status (armed_pair_call binary64 sigma z values.now out.old) }
     ensures out_after { out.new ≡ written (armed_pair_call binary64 sigma z values.now out.old) out.old }
 {

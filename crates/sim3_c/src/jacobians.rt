@@ -14,8 +14,7 @@ use sides::side::{
 use to_lists::{put_act, put_block, put_two};
 
 // Ad_X; up is e^sigma of X.
-#[unsafe(no_mangle)]
-pub extern "C" fn sim3_adjoint(x: &[f64], up: f64, out: &mut [f64]) -> u32
+pub fn sim3_adjoint(x: &[f64], up: f64, out: &mut [f64]) -> u32
     ensures value { result ≡ status (adjoint_call binary64 x.now up out.old) }
     ensures out_after { out.new ≡ written (adjoint_call binary64 x.now up out.old) out.old }
 {
@@ -26,8 +25,7 @@ pub extern "C" fn sim3_adjoint(x: &[f64], up: f64, out: &mut [f64]) -> u32
 }
 
 // Of X p, right: by phi, rho, sigma and by p; up is e^sigma of X.
-#[unsafe(no_mangle)]
-pub extern "C" fn sim3_act_jacobians_right(x: &[f64], up: f64, p: &[f64], out: &mut [f64]) -> u32
+pub fn sim3_act_jacobians_right(x: &[f64], up: f64, p: &[f64], out: &mut [f64]) -> u32
     ensures value { result ≡ status (act_jacobians_right_call binary64 x.now up p.now out.old) }
     ensures out_after { out.new ≡ written (act_jacobians_right_call binary64 x.now up p.now out.old) out.old }
 {
@@ -41,8 +39,7 @@ pub extern "C" fn sim3_act_jacobians_right(x: &[f64], up: f64, p: &[f64], out: &
 }
 
 // Of X p, left: by phi, rho, sigma and by p; up is e^sigma of X.
-#[unsafe(no_mangle)]
-pub extern "C" fn sim3_act_jacobians_left(x: &[f64], up: f64, p: &[f64], out: &mut [f64]) -> u32
+pub fn sim3_act_jacobians_left(x: &[f64], up: f64, p: &[f64], out: &mut [f64]) -> u32
     ensures value { result ≡ status (act_jacobians_left_call binary64 x.now up p.now out.old) }
     ensures out_after { out.new ≡ written (act_jacobians_left_call binary64 x.now up p.now out.old) out.old }
 {
@@ -56,8 +53,7 @@ pub extern "C" fn sim3_act_jacobians_left(x: &[f64], up: f64, p: &[f64], out: &m
 }
 
 // Of X Y, right: by X and by Y, which read Y alone; down is e^-sigma of Y.
-#[unsafe(no_mangle)]
-pub extern "C" fn sim3_compose_jacobians_right(y: &[f64], down: f64, out: &mut [f64]) -> u32
+pub fn sim3_compose_jacobians_right(y: &[f64], down: f64, out: &mut [f64]) -> u32
     ensures value { result ≡ status (compose_jacobians_right_call binary64 y.now down out.old) }
     ensures out_after { out.new ≡ written (compose_jacobians_right_call binary64 y.now down out.old) out.old }
 {
@@ -68,8 +64,7 @@ pub extern "C" fn sim3_compose_jacobians_right(y: &[f64], down: f64, out: &mut [
 }
 
 // Of X Y, left: by X and by Y, which read X alone; up is e^sigma of X.
-#[unsafe(no_mangle)]
-pub extern "C" fn sim3_compose_jacobians_left(x: &[f64], up: f64, out: &mut [f64]) -> u32
+pub fn sim3_compose_jacobians_left(x: &[f64], up: f64, out: &mut [f64]) -> u32
     ensures value { result ≡ status (compose_jacobians_left_call binary64 x.now up out.old) }
     ensures out_after { out.new ≡ written (compose_jacobians_left_call binary64 x.now up out.old) out.old }
 {
@@ -80,8 +75,7 @@ pub extern "C" fn sim3_compose_jacobians_left(x: &[f64], up: f64, out: &mut [f64
 }
 
 // Of X^-1, right; up is e^sigma of X.
-#[unsafe(no_mangle)]
-pub extern "C" fn sim3_inverse_jacobian_right(x: &[f64], up: f64, out: &mut [f64]) -> u32
+pub fn sim3_inverse_jacobian_right(x: &[f64], up: f64, out: &mut [f64]) -> u32
     ensures value { result ≡ status (inverse_jacobian_right_call binary64 x.now up out.old) }
     ensures out_after { out.new ≡ written (inverse_jacobian_right_call binary64 x.now up out.old) out.old }
 {
@@ -92,8 +86,7 @@ pub extern "C" fn sim3_inverse_jacobian_right(x: &[f64], up: f64, out: &mut [f64
 }
 
 // Of X^-1, left; down is e^-sigma of X.
-#[unsafe(no_mangle)]
-pub extern "C" fn sim3_inverse_jacobian_left(x: &[f64], down: f64, out: &mut [f64]) -> u32
+pub fn sim3_inverse_jacobian_left(x: &[f64], down: f64, out: &mut [f64]) -> u32
     ensures value { result ≡ status (inverse_jacobian_left_call binary64 x.now down out.old) }
     ensures out_after { out.new ≡ written (inverse_jacobian_left_call binary64 x.now down out.old) out.old }
 {

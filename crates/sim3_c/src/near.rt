@@ -23,8 +23,7 @@ fn way_number(direction: Direction) -> u64
 
 // The least number of neighbouring doubles that z must move for the arm at (sigma, z) to change, the
 // direction, and the arm there; three zeros where every permitted z has the same arm.
-#[unsafe(no_mangle)]
-pub extern "C" fn sim3_nearest_arm(sigma: f64, z: f64, out: &mut [u64]) -> u32
+pub fn sim3_nearest_arm(sigma: f64, z: f64, out: &mut [u64]) -> u32
     ensures value { result ≡ status (near_call binary64 sigma z out.old) }
     ensures out_after { out.new ≡ written (near_call binary64 sigma z out.old) out.old }
 {

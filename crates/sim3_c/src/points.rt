@@ -9,8 +9,7 @@ use from_lists::{LIST_LENGTH, PoseRead, pose_from};
 use point_lists::{Listed, act_each, act_many};
 
 // Every point by the matrix s R; up is e^sigma of X.
-#[unsafe(no_mangle)]
-pub extern "C" fn sim3_act_many(x: &[f64], up: f64, pts: &[f64], out: &mut [f64]) -> u32
+pub fn sim3_act_many(x: &[f64], up: f64, pts: &[f64], out: &mut [f64]) -> u32
     ensures value { result ≡ status (act_many_call binary64 x.now up pts.now out.old) }
     ensures out_after { out.new ≡ written (act_many_call binary64 x.now up pts.now out.old) out.old }
 {
@@ -24,8 +23,7 @@ pub extern "C" fn sim3_act_many(x: &[f64], up: f64, pts: &[f64], out: &mut [f64]
 }
 
 // Every point by itself; up is e^sigma of X.
-#[unsafe(no_mangle)]
-pub extern "C" fn sim3_act_each(x: &[f64], up: f64, pts: &[f64], out: &mut [f64]) -> u32
+pub fn sim3_act_each(x: &[f64], up: f64, pts: &[f64], out: &mut [f64]) -> u32
     ensures value { result ≡ status (act_each_call binary64 x.now up pts.now out.old) }
     ensures out_after { out.new ≡ written (act_each_call binary64 x.now up pts.now out.old) out.old }
 {

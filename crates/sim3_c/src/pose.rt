@@ -10,8 +10,7 @@ use from_lists::{FramedRead, LIST_LENGTH, framed_from};
 use to_lists::{put_joined, renormalize_pose};
 
 // X Y^-1, where both start from one frame; ds is e^(sigma of X - sigma of Y).
-#[unsafe(no_mangle)]
-pub extern "C" fn sim3_mul_inv(
+pub fn sim3_mul_inv(
     x: &[f64],
     x_frames: &[u16],
     y: &[f64],
@@ -36,8 +35,7 @@ pub extern "C" fn sim3_mul_inv(
 }
 
 // Y^-1 X, where both go to one frame; down is e^-sigma of Y.
-#[unsafe(no_mangle)]
-pub extern "C" fn sim3_inv_mul(
+pub fn sim3_inv_mul(
     x: &[f64],
     x_frames: &[u16],
     y: &[f64],
@@ -62,8 +60,7 @@ pub extern "C" fn sim3_inv_mul(
 }
 
 // A Newton step towards a unit quaternion, in place. It reads no frame: X keeps those that it has.
-#[unsafe(no_mangle)]
-pub extern "C" fn sim3_renormalize(x: &mut [f64]) -> u32
+pub fn sim3_renormalize(x: &mut [f64]) -> u32
     ensures value { result ≡ status (renormalize_call binary64 x.old) }
     ensures x_after { x.new ≡ written (renormalize_call binary64 x.old) x.old }
 {

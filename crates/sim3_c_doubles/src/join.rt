@@ -115,8 +115,7 @@ fn zero_pose() -> Pose
 }
 
 // No pose yet, and none will be renormalised: all numbers 0.
-#[unsafe(no_mangle)]
-pub extern "C" fn sim3_running_start(pose: &mut [f64], state: &mut [u16]) -> u32
+pub fn sim3_running_start(pose: &mut [f64], state: &mut [u16]) -> u32
     ensures value { result ≡ status (start_call (run_lists pose.old state.old)) }
     ensures state_after { run_lists pose.new state.new ≡ run_written start_call (run_lists pose.old state.old) }
 {
@@ -125,8 +124,7 @@ pub extern "C" fn sim3_running_start(pose: &mut [f64], state: &mut [u16]) -> u32
 
 // The first pose is the running pose, its up unused; a further one is multiplied by it from the left, up
 // being e^sigma of the running pose. Where the frames do not meet (9) nothing changes.
-#[unsafe(no_mangle)]
-pub extern "C" fn sim3_running_push(
+pub fn sim3_running_push(
     pose: &mut [f64],
     state: &mut [u16],
     x: &[f64],
@@ -147,8 +145,7 @@ pub extern "C" fn sim3_running_push(
 }
 
 // From here on the running quaternion is renormalised after every nth product, 0 for never.
-#[unsafe(no_mangle)]
-pub extern "C" fn sim3_running_every(state: &mut [u16], n: u16) -> u32
+pub fn sim3_running_every(state: &mut [u16], n: u16) -> u32
     ensures value { result ≡ status (every_call state.old n) }
     ensures state_after { state.new ≡ written (every_call state.old n) state.old }
 {
@@ -172,8 +169,7 @@ fn renormalize_each(poses: &mut [f64], n: usize)
 }
 
 // A Newton step towards a unit quaternion, in place, for every pose of the list, eight numbers each.
-#[unsafe(no_mangle)]
-pub extern "C" fn sim3_renormalize_all(poses: &mut [f64]) -> u32
+pub fn sim3_renormalize_all(poses: &mut [f64]) -> u32
     ensures value { result ≡ status (renormalize_all_call binary64 poses.old) }
     ensures poses_after { poses.new ≡ written (renormalize_all_call binary64 poses.old) poses.old }
 {

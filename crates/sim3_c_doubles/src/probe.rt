@@ -9,8 +9,7 @@ const NUMBERS: usize = 3;
 
 // 1 where the three numbers have the product that is due (`environment::product_is_due`), else 0. For 4.75,
 // 0x1p-1074 and 0x1.0000000000001p+1023 it is 1 (proofs/Documented.antt).
-#[unsafe(no_mangle)]
-pub extern "C" fn sim3_environment(probe: &[f64]) -> u32
+pub fn sim3_environment(probe: &[f64]) -> u32
     ensures { result ≡ probe_call probe.now }
 {
     if probe.len() != NUMBERS {

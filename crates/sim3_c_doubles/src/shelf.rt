@@ -18,8 +18,7 @@ const SHELVED: usize = 2;
 const TAKE: usize = 1;
 
 // Nothing is kept yet.
-#[unsafe(no_mangle)]
-pub extern "C" fn sim3_sheets_start(store: &mut [u8]) -> u32
+pub fn sim3_sheets_start(store: &mut [u8]) -> u32
     ensures value { result ≡ status (fresh_call store.old) }
     ensures store_after { store.new ≡ written (fresh_call store.old) store.old }
     ensures store_after_2 { sheets_of store.new ≡ cond (holds store.old) no_sheets (sheets_of store.old) }
@@ -57,8 +56,7 @@ fn put_shelved(out: &mut [u16], a: PutAnswer) -> u32
 }
 
 // A shot of a sheet: it is kept if none of that sheet is, or one of a lower take.
-#[unsafe(no_mangle)]
-pub extern "C" fn sim3_sheets_put(
+pub fn sim3_sheets_put(
     store: &mut [u8],
     sheet: u16,
     take: u16,
@@ -101,8 +99,7 @@ fn put_shot(take: &mut [u16], out: &mut [f64], out_frames: &mut [u16], s: Shot) 
 }
 
 // The take and the pose that are kept of a sheet.
-#[unsafe(no_mangle)]
-pub extern "C" fn sim3_sheets_get(
+pub fn sim3_sheets_get(
     store: &[u8],
     sheet: u16,
     take: &mut [u16],

@@ -15,13 +15,7 @@ const NEAREST: usize = 1;
 
 // For a finite z > 0, z = m * 4^s with m whole, 2^104 <= m < 2^106: r, the largest whole number whose
 // square is at most m, and m - r*r; s; r * 2^s or (r + 1) * 2^s, whichever is nearer to the root.
-#[unsafe(no_mangle)]
-pub extern "C" fn sim3_root(
-    z: f64,
-    whole: &mut [u64],
-    exponent: &mut [i64],
-    nearest: &mut [f64],
-) -> u32
+pub fn sim3_root(z: f64, whole: &mut [u64], exponent: &mut [i64], nearest: &mut [f64]) -> u32
     ensures value { result ≡ status (root_call z (root_lists whole.old exponent.old nearest.old)) }
     ensures nearest_after { root_lists whole.new exponent.new nearest.new ≡ root_written z (root_lists whole.old exponent.old nearest.old) }
 {

@@ -31,8 +31,7 @@ fn order_number(o: Order) -> i64
 
 // The tangent a against the tangent b: -1 where it stands before, 0 where the bits are the same, 1
 // where it stands after.
-#[unsafe(no_mangle)]
-pub extern "C" fn sim3_compare_tangents(a: &[u64], b: &[u64], out: &mut [i64]) -> u32
+pub fn sim3_compare_tangents(a: &[u64], b: &[u64], out: &mut [i64]) -> u32
     ensures value { result ≡ status (compare_call a.now b.now out.old) }
     ensures out_after { out.new ≡ written (compare_call a.now b.now out.old) out.old }
 {
@@ -53,8 +52,7 @@ pub extern "C" fn sim3_compare_tangents(a: &[u64], b: &[u64], out: &mut [i64]) -
 
 // The tangents of the list, seven numbers each, in order, smallest first. Refusal 5 for a list longer
 // than 7,168 numbers or not a multiple of seven.
-#[unsafe(no_mangle)]
-pub extern "C" fn sim3_sort_tangents(list: &mut [u64]) -> u32
+pub fn sim3_sort_tangents(list: &mut [u64]) -> u32
     ensures value { result ≡ status (sort_call list.old) }
     ensures list_after { list.new ≡ written (sort_call list.old) list.old }
 {

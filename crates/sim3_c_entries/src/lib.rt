@@ -30,8 +30,7 @@ use to_lists::{put_block, put_block_pair, put_framed, put_joined, put_scaled_pai
 pub const ARMS: usize = 4;
 
 // Exp of the tangent, with its ten function values and the frames that it is given.
-#[unsafe(no_mangle)]
-pub extern "C" fn sim3_exp(
+pub fn sim3_exp(
     tau: &[f64],
     values: &[f64],
     frames: &[u16],
@@ -57,8 +56,7 @@ pub extern "C" fn sim3_exp(
 }
 
 // X Y, where X starts from the frame to which Y goes; up is e^sigma of X.
-#[unsafe(no_mangle)]
-pub extern "C" fn sim3_mul(
+pub fn sim3_mul(
     x: &[f64],
     x_frames: &[u16],
     y: &[f64],
@@ -83,8 +81,7 @@ pub extern "C" fn sim3_mul(
 }
 
 // X^-1, with the frames exchanged; down is e^-sigma of X.
-#[unsafe(no_mangle)]
-pub extern "C" fn sim3_inverse(
+pub fn sim3_inverse(
     x: &[f64],
     x_frames: &[u16],
     down: f64,
@@ -104,8 +101,7 @@ pub extern "C" fn sim3_inverse(
 }
 
 // The scaled-form coefficients at sigma and at -sigma; z is the squared angle.
-#[unsafe(no_mangle)]
-pub extern "C" fn sim3_scaled_pair(sigma: f64, z: f64, values: &[f64], out: &mut [f64]) -> u32
+pub fn sim3_scaled_pair(sigma: f64, z: f64, values: &[f64], out: &mut [f64]) -> u32
     ensures value { result ≡ status (scaled_pair_call binary64 sigma z values.now out.old) }
     ensures out_after { out.new ≡ written (scaled_pair_call binary64 sigma z values.now out.old) out.old }
 {
@@ -119,8 +115,7 @@ pub extern "C" fn sim3_scaled_pair(sigma: f64, z: f64, values: &[f64], out: &mut
 }
 
 // J_l, its inverse, J_r and its inverse, with the values of the tangent, J_l(phi) and its inverse.
-#[unsafe(no_mangle)]
-pub extern "C" fn sim3_block_pair(
+pub fn sim3_block_pair(
     tau: &[f64],
     values: &[f64],
     jl: &[f64],
@@ -147,8 +142,7 @@ pub extern "C" fn sim3_block_pair(
 }
 
 // The inverse of a block; refusal 2 where e is a zero.
-#[unsafe(no_mangle)]
-pub extern "C" fn sim3_block_inverse(j: &[f64], out: &mut [f64]) -> u32
+pub fn sim3_block_inverse(j: &[f64], out: &mut [f64]) -> u32
     ensures value { result ≡ status (block_inverse_call binary64 j.now out.old) }
     ensures out_after { out.new ≡ written (block_inverse_call binary64 j.now out.old) out.old }
 {

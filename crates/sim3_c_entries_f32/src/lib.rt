@@ -33,8 +33,7 @@ use to_lists_f32::{put_block, put_block_pair, put_framed, put_joined, put_scaled
 pub const ARMS: usize = 4;
 
 // Exp of the tangent, with its ten function values and the frames that it is given.
-#[unsafe(no_mangle)]
-pub extern "C" fn sim3_exp_f32(
+pub fn sim3_exp_f32(
     tau: &[f32],
     values: &[f32],
     frames: &[u16],
@@ -60,8 +59,7 @@ pub extern "C" fn sim3_exp_f32(
 }
 
 // X Y, where X starts from the frame to which Y goes; up is e^sigma of X.
-#[unsafe(no_mangle)]
-pub extern "C" fn sim3_mul_f32(
+pub fn sim3_mul_f32(
     x: &[f32],
     x_frames: &[u16],
     y: &[f32],
@@ -86,8 +84,7 @@ pub extern "C" fn sim3_mul_f32(
 }
 
 // X^-1, with the frames exchanged; down is e^-sigma of X.
-#[unsafe(no_mangle)]
-pub extern "C" fn sim3_inverse_f32(
+pub fn sim3_inverse_f32(
     x: &[f32],
     x_frames: &[u16],
     down: f32,
@@ -107,8 +104,7 @@ pub extern "C" fn sim3_inverse_f32(
 }
 
 // The scaled-form coefficients at sigma and at -sigma; z is the squared angle.
-#[unsafe(no_mangle)]
-pub extern "C" fn sim3_scaled_pair_f32(sigma: f32, z: f32, values: &[f32], out: &mut [f32]) -> u32
+pub fn sim3_scaled_pair_f32(sigma: f32, z: f32, values: &[f32], out: &mut [f32]) -> u32
     ensures value { result ≡ status (scaled_pair_call binary32 sigma z values.now out.old) }
     ensures out_after { out.new ≡ written (scaled_pair_call binary32 sigma z values.now out.old) out.old }
 {
@@ -122,8 +118,7 @@ pub extern "C" fn sim3_scaled_pair_f32(sigma: f32, z: f32, values: &[f32], out: 
 }
 
 // J_l, its inverse, J_r and its inverse, with the values of the tangent, J_l(phi) and its inverse.
-#[unsafe(no_mangle)]
-pub extern "C" fn sim3_block_pair_f32(
+pub fn sim3_block_pair_f32(
     tau: &[f32],
     values: &[f32],
     jl: &[f32],
@@ -150,8 +145,7 @@ pub extern "C" fn sim3_block_pair_f32(
 }
 
 // The inverse of a block; refusal 2 where e is a zero.
-#[unsafe(no_mangle)]
-pub extern "C" fn sim3_block_inverse_f32(j: &[f32], out: &mut [f32]) -> u32
+pub fn sim3_block_inverse_f32(j: &[f32], out: &mut [f32]) -> u32
     ensures value { result ≡ status (block_inverse_call binary32 j.now out.old) }
     ensures out_after { out.new ≡ written (block_inverse_call binary32 j.now out.old) out.old }
 {

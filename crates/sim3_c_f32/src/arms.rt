@@ -10,8 +10,7 @@ use from_lists_f32::{LIST_LENGTH, ValuesRead, values_from};
 use to_lists_f32::{put_armed, put_armed_pair};
 
 // At sigma; z is the squared angle.
-#[unsafe(no_mangle)]
-pub extern "C" fn sim3_coeffs_armed_f32(sigma: f32, z: f32, values: &[f32], out: &mut [f32]) -> u32
+pub fn sim3_coeffs_armed_f32(sigma: f32, z: f32, values: &[f32], out: &mut [f32]) -> u32
     ensures value { result ≡ status (armed_call binary32 sigma z values.now out.old) }
     ensures out_after { out.new ≡ written (armed_call binary32 sigma z values.now out.old) out.old }
 {
@@ -25,8 +24,7 @@ pub extern "C" fn sim3_coeffs_armed_f32(sigma: f32, z: f32, values: &[f32], out:
 }
 
 // At sigma and at -sigma.
-#[unsafe(no_mangle)]
-pub extern "C" fn sim3_armed_pair_f32(sigma: f32, z: f32, values: &[f32], out: &mut [f32]) -> u32
+pub fn sim3_armed_pair_f32(sigma: f32, z: f32, values: &[f32], out: &mut [f32]) -> u32
     ensures value { result ≡ status (armed_pair_call binary32 sigma z values.now out.old) }
     ensures out_after { out.new ≡ written (armed_pair_call binary32 sigma z values.now out.old) out.old }
 {

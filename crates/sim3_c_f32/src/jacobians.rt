@@ -15,8 +15,7 @@ use sides_f32::side::{
 use to_lists_f32::{put_act, put_block, put_two};
 
 // Ad_X; up is e^sigma of X.
-#[unsafe(no_mangle)]
-pub extern "C" fn sim3_adjoint_f32(x: &[f32], up: f32, out: &mut [f32]) -> u32
+pub fn sim3_adjoint_f32(x: &[f32], up: f32, out: &mut [f32]) -> u32
     ensures value { result ≡ status (adjoint_call binary32 x.now up out.old) }
     ensures out_after { out.new ≡ written (adjoint_call binary32 x.now up out.old) out.old }
 {
@@ -27,13 +26,7 @@ pub extern "C" fn sim3_adjoint_f32(x: &[f32], up: f32, out: &mut [f32]) -> u32
 }
 
 // Of X p, right: by phi, rho, sigma and by p; up is e^sigma of X.
-#[unsafe(no_mangle)]
-pub extern "C" fn sim3_act_jacobians_right_f32(
-    x: &[f32],
-    up: f32,
-    p: &[f32],
-    out: &mut [f32],
-) -> u32
+pub fn sim3_act_jacobians_right_f32(x: &[f32], up: f32, p: &[f32], out: &mut [f32]) -> u32
     ensures value { result ≡ status (act_jacobians_right_call binary32 x.now up p.now out.old) }
     ensures out_after { out.new ≡ written (act_jacobians_right_call binary32 x.now up p.now out.old) out.old }
 {
@@ -47,8 +40,7 @@ pub extern "C" fn sim3_act_jacobians_right_f32(
 }
 
 // Of X p, left: by phi, rho, sigma and by p; up is e^sigma of X.
-#[unsafe(no_mangle)]
-pub extern "C" fn sim3_act_jacobians_left_f32(x: &[f32], up: f32, p: &[f32], out: &mut [f32]) -> u32
+pub fn sim3_act_jacobians_left_f32(x: &[f32], up: f32, p: &[f32], out: &mut [f32]) -> u32
     ensures value { result ≡ status (act_jacobians_left_call binary32 x.now up p.now out.old) }
     ensures out_after { out.new ≡ written (act_jacobians_left_call binary32 x.now up p.now out.old) out.old }
 {
@@ -62,8 +54,7 @@ pub extern "C" fn sim3_act_jacobians_left_f32(x: &[f32], up: f32, p: &[f32], out
 }
 
 // Of X Y, right: by X and by Y, which read Y alone; down is e^-sigma of Y.
-#[unsafe(no_mangle)]
-pub extern "C" fn sim3_compose_jacobians_right_f32(y: &[f32], down: f32, out: &mut [f32]) -> u32
+pub fn sim3_compose_jacobians_right_f32(y: &[f32], down: f32, out: &mut [f32]) -> u32
     ensures value { result ≡ status (compose_jacobians_right_call binary32 y.now down out.old) }
     ensures out_after { out.new ≡ written (compose_jacobians_right_call binary32 y.now down out.old) out.old }
 {
@@ -74,8 +65,7 @@ pub extern "C" fn sim3_compose_jacobians_right_f32(y: &[f32], down: f32, out: &m
 }
 
 // Of X Y, left: by X and by Y, which read X alone; up is e^sigma of X.
-#[unsafe(no_mangle)]
-pub extern "C" fn sim3_compose_jacobians_left_f32(x: &[f32], up: f32, out: &mut [f32]) -> u32
+pub fn sim3_compose_jacobians_left_f32(x: &[f32], up: f32, out: &mut [f32]) -> u32
     ensures value { result ≡ status (compose_jacobians_left_call binary32 x.now up out.old) }
     ensures out_after { out.new ≡ written (compose_jacobians_left_call binary32 x.now up out.old) out.old }
 {
@@ -86,8 +76,7 @@ pub extern "C" fn sim3_compose_jacobians_left_f32(x: &[f32], up: f32, out: &mut 
 }
 
 // Of X^-1, right; up is e^sigma of X.
-#[unsafe(no_mangle)]
-pub extern "C" fn sim3_inverse_jacobian_right_f32(x: &[f32], up: f32, out: &mut [f32]) -> u32
+pub fn sim3_inverse_jacobian_right_f32(x: &[f32], up: f32, out: &mut [f32]) -> u32
     ensures value { result ≡ status (inverse_jacobian_right_call binary32 x.now up out.old) }
     ensures out_after { out.new ≡ written (inverse_jacobian_right_call binary32 x.now up out.old) out.old }
 {
@@ -98,8 +87,7 @@ pub extern "C" fn sim3_inverse_jacobian_right_f32(x: &[f32], up: f32, out: &mut 
 }
 
 // Of X^-1, left; down is e^-sigma of X.
-#[unsafe(no_mangle)]
-pub extern "C" fn sim3_inverse_jacobian_left_f32(x: &[f32], down: f32, out: &mut [f32]) -> u32
+pub fn sim3_inverse_jacobian_left_f32(x: &[f32], down: f32, out: &mut [f32]) -> u32
     ensures value { result ≡ status (inverse_jacobian_left_call binary32 x.now down out.old) }
     ensures out_after { out.new ≡ written (inverse_jacobian_left_call binary32 x.now down out.old) out.old }
 {

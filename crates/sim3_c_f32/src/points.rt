@@ -10,8 +10,7 @@ use from_lists_f32::{LIST_LENGTH, PoseRead, pose_from};
 use point_lists_f32::{Listed, act_each, act_many};
 
 // Every point by the matrix s R; up is e^sigma of X.
-#[unsafe(no_mangle)]
-pub extern "C" fn sim3_act_many_f32(x: &[f32], up: f32, pts: &[f32], out: &mut [f32]) -> u32
+pub fn sim3_act_many_f32(x: &[f32], up: f32, pts: &[f32], out: &mut [f32]) -> u32
     ensures value { result ≡ status (act_many_call binary32 x.now up pts.now out.old) }
     ensures out_after { out.new ≡ written (act_many_call binary32 x.now up pts.now out.old) out.old }
 {
@@ -25,8 +24,7 @@ pub extern "C" fn sim3_act_many_f32(x: &[f32], up: f32, pts: &[f32], out: &mut [
 }
 
 // Every point by itself; up is e^sigma of X.
-#[unsafe(no_mangle)]
-pub extern "C" fn sim3_act_each_f32(x: &[f32], up: f32, pts: &[f32], out: &mut [f32]) -> u32
+pub fn sim3_act_each_f32(x: &[f32], up: f32, pts: &[f32], out: &mut [f32]) -> u32
     ensures value { result ≡ status (act_each_call binary32 x.now up pts.now out.old) }
     ensures out_after { out.new ≡ written (act_each_call binary32 x.now up pts.now out.old) out.old }
 {

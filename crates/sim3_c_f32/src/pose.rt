@@ -11,8 +11,7 @@ use from_lists_f32::{FramedRead, LIST_LENGTH, framed_from};
 use to_lists_f32::{put_joined, renormalize_pose};
 
 // X Y^-1, where both start from one frame; ds is e^(sigma of X - sigma of Y).
-#[unsafe(no_mangle)]
-pub extern "C" fn sim3_mul_inv_f32(
+pub fn sim3_mul_inv_f32(
     x: &[f32],
     x_frames: &[u16],
     y: &[f32],
@@ -37,8 +36,7 @@ pub extern "C" fn sim3_mul_inv_f32(
 }
 
 // Y^-1 X, where both go to one frame; down is e^-sigma of Y.
-#[unsafe(no_mangle)]
-pub extern "C" fn sim3_inv_mul_f32(
+pub fn sim3_inv_mul_f32(
     x: &[f32],
     x_frames: &[u16],
     y: &[f32],
@@ -63,8 +61,7 @@ pub extern "C" fn sim3_inv_mul_f32(
 }
 
 // A Newton step towards a unit quaternion, in place. It reads no frame: X keeps those that it has.
-#[unsafe(no_mangle)]
-pub extern "C" fn sim3_renormalize_f32(x: &mut [f32]) -> u32
+pub fn sim3_renormalize_f32(x: &mut [f32]) -> u32
     ensures value { result ≡ status (renormalize_call binary32 x.old) }
     ensures x_after { x.new ≡ written (renormalize_call binary32 x.old) x.old }
 {

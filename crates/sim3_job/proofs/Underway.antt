@@ -7,7 +7,7 @@ use mathlib.Core.List.{List, [], ◌++◌, append-nil, append_assoc}
 use native.Mathlib.Nat.{sub-zero}
 use native.Mathlib.Omega.{arith}
 use lib.Dec.{eqb}
-use lib.IntN.{ℤ, pos, negsuc}
+use Rattle.std.specs.Prelude.{Result, Ok, Err}
 use lib.ListN.{length, take, drop, length-append, take-append-drop}
 use lib.Seq.{length-take-le, take-append_seam, take-take, take_at, drop-drop, drop-length}
 use Rattle.job.specs.declared.Fed.{Fed}
@@ -133,15 +133,16 @@ sink_short e bytes sink sink₁ sent t = rw e at t
 pub handed : (b o o₁ : List ℕ) (w : ℕ) → w ≡ length b → o₁ ≡ b ++ drop w o → take w o₁ ≡ b
 handed b o o₁ w e q = rw (q, e) (take-append_seam b (drop (length b) o))
 
--- ---- what C answered
-filled_in : (z : ℤ) (have room most at end : ℕ) → have + room ≤ most → at ≤ end → Within (filled_of z room at) have most true end
+-- ---- what std answered
+filled_in :
+    {E : Type 0} (z : Result ℕ E) (have room most at end : ℕ) → have + room ≤ most → at ≤ end → Within (filled_of z room at) have most true end
 unfolding filled_of
-filled_in (pos k) have room most at end h i = (omega arith, i, λ u. refl)
-filled_in (negsuc k) have room most at end h i = tt
+filled_in (Ok k) have room most at end h i = (omega arith, i, λ u. refl)
+filled_in (Err e) have room most at end h i = tt
 
 pub filled_within :
-    (r : Filled) (z : ℤ) (room at : ℕ) → r ≡ filled_of z room at → (have most end : ℕ) → have + room ≤ most → at ≤ end → Within r have most true end
-filled_within r z room at e have most end h i = subst (λ (x : Filled). Within x have most true end) (sym e) (filled_in z have room most at end h i)
+    {E : Type 0} (r : Filled) (z : Result ℕ E) (room at : ℕ) → r ≡ filled_of z room at → (have most end : ℕ) → have + room ≤ most → at ≤ end → Within r have most true end
+filled_within {E} r z room at e have most end h i = subst (λ (x : Filled). Within x have most true end) (sym e) (filled_in z have room most at end h i)
 
 sent_in : (ok : Bool) (sent most : ℕ) → sent ≤ most → WithinSink (sent_of ok sent) most
 unfolding sent_of

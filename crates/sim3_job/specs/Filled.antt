@@ -1,5 +1,5 @@
 -- What a read gives, from any place, and from the tape.
-use Rattle.std.specs.Prelude.{ℕ, ◌+◌, ◌≤◌, min, ◌≡◌, Bool, true, List, ◌++◌, eqb, ℤ, pos, negsuc, length, take, drop}
+use Rattle.std.specs.Prelude.{ℕ, ◌+◌, ◌≤◌, min, ◌≡◌, Bool, true, List, ◌++◌, eqb, Result, Ok, Err, length, take, drop}
 use Rattle.sim3_job.specs.declared.Filled.{Filled}
 use Rattle.sim3_job.specs.declared.Filled.TheVariants.{Bytes, Failed}
 
@@ -14,7 +14,7 @@ FromTape (Bytes n ended next) tape at have buf buf₁ last =
     (next ≡ at + n) × (take (have + n) buf₁ ≡ take have buf ++ take n (drop at tape)) × (ended ≡ true → (last ≡ true → at ≡ length tape) → next ≡ length tape)
 FromTape Failed tape at have buf buf₁ last = ⊥
 
--- what C's read answered, where there was room for `most` bytes: a negative number is an error, 0 the end
-unfoldable pub filled_of : ℤ → ℕ → ℕ → Filled
-filled_of (pos k) most at = Bytes (min k most) (eqb (min k most) 0) at
-filled_of (negsuc k) most at = Failed
+-- what std's read answered, where there was room for `most` bytes: an error, or how many were read, 0 at the end
+unfoldable pub filled_of : {E : Type 0} → Result ℕ E → ℕ → ℕ → Filled
+filled_of (Ok k) most at = Bytes (min k most) (eqb (min k most) 0) at
+filled_of (Err e) most at = Failed

@@ -13,6 +13,6 @@ abbrev pub ToSink : Sent → List ℕ → List ℕ → List ℕ → ℕ → Type
 ToSink (All next) bytes sink sink₁ sent = take next sink₁ ≡ take sent sink ++ bytes
 ToSink Failed bytes sink sink₁ sent = (sink₁ ≡ sink) × (length sink < sent + length bytes)
 
--- what `io::write_all` answered
+-- what became of the write of all the bytes: whether std's `write_all` answered `Ok`
 unfoldable pub sent_of : Bool → ℕ → Sent
 sent_of ok sent = cond ok (All sent) Failed

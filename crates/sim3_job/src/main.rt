@@ -1,11 +1,11 @@
 // Answers a job: records from standard input, answers to standard output. All that is written comes
 // from `job::feed`; this program reads into one buffer, feeds it, and writes the other.
 //
-// No contract can say what C reads and writes. So `run` takes a place to read from and one to write
-// to: either standard input and output (`live`), or a tape, which is cut in pieces in any way, and a
-// sink. It is proved that the sink then holds what the job writes for the tape. `live` goes to `fill`
-// and `put` alone: there one call of C reads where `read_tape` copies from the tape, and one writes
-// where `put` copies to the sink.
+// No contract can say what the system reads and writes. So `run` takes a place to read from and one
+// to write to: either standard input and output (`live`), or a tape, which is cut in pieces in any
+// way, and a sink. It is proved that the sink then holds what the job writes for the tape. `live` goes
+// to `fill` and `put` alone: there one call of std reads where `read_tape` copies from the tape, and
+// one writes where `put` copies to the sink.
 #![tactic(auto)]
 
 ghost use Rattle.std.specs.Prelude.{◌≡◌, true, false, ◌++◌, ◌+◌, ◌-◌, ◌≤◌, ◌<◌, min, length, take, drop, get_or};
@@ -22,6 +22,8 @@ ghost use Rattle.sim3_job.specs.Sent.{WithinSink, ToSink, sent_of};
 ghost use Rattle.sim3_job.specs.Ran.{asks_for, Performed};
 
 use job::{Counts, Fed, Reason};
+use std::io;
+use std::io::Read;
 
 mod probe; // whether the process computes as the proofs say
 
@@ -167,31 +169,33 @@ fn read_tape(tape: &[u8], cuts: &[usize], at: usize, buf: &mut [u8], have: usize
     Filled::Bytes(n, n == 0, at + n)
 }
 
-// What C's read answered: a negative number is an error; 0 is the end of the input, since there was
+// What std's read answered: an error, or how many bytes; 0 is the end of the input, since there was
 // room for a byte.
-fn from_read(got: isize, room: &[u8], at: usize) -> Filled
+fn from_read(got: io::Result<usize>, room: &[u8], at: usize) -> Filled
     ensures { result ≡ filled_of got (length room.now) at }
 {
-    if got < 0 {
+    let Ok(count) = got else {
         return Filled::Failed;
-    }
-    let n = io::count(got, room);
+    };
+    let n = least(count, room.len());
     Filled::Bytes(n, n == 0, at)
 }
 
 // A read from standard input, behind the bytes at hand.
-fn read_input(tape: &[u8], at: usize, buf: &mut [u8], have: usize) -> Filled
+fn read_input(rt: &HostRuntime, tape: &[u8], at: usize, buf: &mut [u8], have: usize) -> Filled
     requires at_in_bounds { at ≤ length tape.now }
     requires have_in_bounds { have < length buf.old }
     ensures within { Within result have (length buf.old) true (length tape.now) }
     ensures buf_unchanged { take have buf.new ≡ take have buf.old }
 {
-    let got = libc::read(0, &mut buf[have..]);
+    let mut input = rt.stdin();
+    let got = input.read(&mut buf[have..]);
     from_read(got, &buf[have..], at)
 }
 
 // Reads once behind the bytes at hand, where more are asked for.
 fn fill(
+    rt: &HostRuntime,
     live: bool,
     tape: &[u8],
     cuts: &[usize],
@@ -210,14 +214,14 @@ fn fill(
 {
     if asked {
         if live {
-            return read_input(tape, at, buf, have);
+            return read_input(rt, tape, at, buf, have);
         }
         return read_tape(tape, cuts, at, buf, have);
     }
     Filled::Bytes(0, last, at)
 }
 
-// What `io::write_all` answered.
+// What became of the write of all the bytes.
 fn from_write(ok: bool, sent: usize) -> Sent
     ensures { result ≡ sent_of ok sent }
 {
@@ -228,14 +232,14 @@ fn from_write(ok: bool, sent: usize) -> Sent
 }
 
 // Writes all the bytes, to standard output or behind those in the sink.
-fn put(live: bool, bytes: &[u8], sink: &mut [u8], sent: usize) -> Sent
+fn put(rt: &HostRuntime, live: bool, bytes: &[u8], sink: &mut [u8], sent: usize) -> Sent
     requires { sent ≤ length sink.old }
     ensures within_sink { WithinSink result (length sink.old) }
     ensures to_sink { live ≡ false → ToSink result bytes.now sink.old sink.new sent }
 {
     if live {
-        let ok = io::write_all(1, bytes);
-        return from_write(ok, sent);
+        let written = rt.stdout().write_all(bytes);
+        return from_write(written.is_ok(), sent);
     }
     if sink.len() - sent < bytes.len() {
         return Sent::Failed;
@@ -250,17 +254,25 @@ fn ended_as(outcome: Outcome, sent: usize) -> Ran
     Ran { outcome, sent }
 }
 
+// 65,536 zeros, for a loop that moves much data. The `ensures` gives only the length, which lending
+// the array as a slice needs.
+fn large_buffer() -> [u8; 65536]
+    ensures { 65536 ≡ length result }
+{
+    [0; 65536]
+}
+
 // Reads, feeds and writes until the job ends or a read or write fails. From a tape, however it is
 // cut, no read fails; where the sink has room for what the job writes, that is what it then holds: the
 // replies to the records of the tape, each by what is kept after those before it (`InputTheorem`).
-fn run(live: bool, tape: &[u8], cuts: &[usize], sink: &mut [u8]) -> Ran
+fn run(rt: &HostRuntime, live: bool, tape: &[u8], cuts: &[usize], sink: &mut [u8]) -> Ran
     ensures sent_in_bounds { result.sent ≤ length sink.old }
     ensures performed { live ≡ false → Performed result.outcome (take result.sent sink.new) (length sink.old) (job_of job_limit tape.now) }
     ensures input_theorem { InputTheorem job_limit tape.now }
 {
-    let mut space = io::large_buffer();
+    let mut space = large_buffer();
     let buf: &mut [u8] = &mut space;
-    let mut room = io::large_buffer();
+    let mut room = large_buffer();
     let out: &mut [u8] = &mut room;
     let mut place: [u8; kept::MEMORY] = [0; kept::MEMORY];
     let mem: &mut [u8] = &mut place;
@@ -272,7 +284,7 @@ fn run(live: bool, tape: &[u8], cuts: &[usize], sink: &mut [u8]) -> Ran
     let mut at = 0;
     let mut sent = 0;
     let left = loop {
-        match fill(live, tape, cuts, at, buf, have, asked, last) {
+        match fill(rt, live, tape, cuts, at, buf, have, asked, last) {
             Filled::Failed => break ended_as(Outcome::Unread, sent),
             Filled::Bytes(n, ended, next) => {
                 have += n;
@@ -280,7 +292,7 @@ fn run(live: bool, tape: &[u8], cuts: &[usize], sink: &mut [u8]) -> Ran
                 at = next;
                 let f = turn(buf, have, c, mem, last, out);
                 let written = f.written;
-                match put(live, &out[..written], sink, sent) {
+                match put(rt, live, &out[..written], sink, sent) {
                     Sent::Failed => break ended_as(Outcome::Unwritten, sent),
                     Sent::All(end) => {
                         sent = end;
@@ -299,29 +311,26 @@ fn run(live: bool, tape: &[u8], cuts: &[usize], sink: &mut [u8]) -> Ran
     left
 }
 
-fn main() {
-    if !probe::computes_as_proved() {
-        io::write_all(
-            2,
+fn main(rt: HostRuntime) {
+    if !probe::computes_as_proved(&rt) {
+        let _ = rt.stderr().write_all(
             b"sim3_job: the floating-point environment is not the proved one, so nothing was read; look at LD_PRELOAD\n",
         );
         return;
     }
     let cuts: [usize; 1] = [0];
     let mut sink: [u8; 1] = [0];
-    let ran = run(true, b"", &cuts, &mut sink);
+    let ran = run(&rt, true, b"", &cuts, &mut sink);
     let outcome = ran.outcome;
     match outcome {
         Outcome::Done => {}
         Outcome::Unread => {
-            io::write_all(
-                2,
+            let _ = rt.stderr().write_all(
                 b"sim3_job: standard input could not be read: the output ends without ZZ and is not whole\n",
             );
         }
         Outcome::Unwritten => {
-            io::write_all(
-                2,
+            let _ = rt.stderr().write_all(
                 b"sim3_job: standard output could not be written: what was written is not whole\n",
             );
         }

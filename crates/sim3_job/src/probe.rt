@@ -2,21 +2,25 @@
 // into it (LD_PRELOAD) can set another rounding or flushing.
 ghost use Rattle.std.specs.Prelude.{◌≡◌, true};
 
-// Zero, which no compiler can know: C is lent the list that it stands in, of which it may write none.
-fn zero() -> u64
+use std::io::Read;
+
+// Zero, which no compiler can know: a read from standard input is lent the list that it stands in, of
+// which it may write none. It is asked for no byte, so it takes none, and what it answers is no matter.
+fn zero(rt: &HostRuntime) -> u64
     ensures { result ≡ 0 }
 {
     let mut byte: [u8; 1] = [0];
-    libc::read(-1, &mut byte[1..]);
+    let mut input = rt.stdin();
+    let _ = input.read(&mut byte[1..]);
     byte[0] as u64
 }
 
 // Whether the documented numbers have the product that is due. On the machine of the proofs they have, so
 // there the program reads and answers.
-pub fn computes_as_proved() -> bool
+pub fn computes_as_proved(rt: &HostRuntime) -> bool
     ensures { result ≡ true }
 {
-    let hidden = zero();
+    let hidden = zero(rt);
     let first = ieee::from_bits(0x4013_0000_0000_0000 + hidden);
     let second = ieee::from_bits(1 + hidden);
     let third = ieee::from_bits(0x7fe0_0000_0000_0001 + hidden);

@@ -4,7 +4,7 @@ use lib.Ieee.{Float, Format, neg, mul}
 use Rattle.ieee.proofs.Sign.{mul-neg_r}
 use Rattle.linalg.specs.Vector.{vec_norm_sq, vec_neg}
 use Rattle.linalg.specs.declared.vector.Vec3.{Vec3}
-pub use Rattle.linalg.proofs.Even.{norm-sq-even}
+pub use Rattle.linalg.proofs.Even.{norm_sq_even}
 use Rattle.circle.specs.Kernel.{circle_exp}
 use Rattle.so3.specs.Quat.{quat, quat_conjugate}
 use Rattle.so3.specs.So3.{so3_exp}
@@ -15,6 +15,6 @@ unfolding so3_exp quat_conjugate vec_neg
 exp_conjugate f φ root sh ch =
     let c = circle_exp f (vec_norm_sq f φ) root sh ch in
     (λ i.
-    let d = circle_exp f (norm-sq-even f φ i) root sh ch in
+    let d = circle_exp f (norm_sq_even f φ i) root sh ch in
     quat d.cos_half (mul f d.k (neg φ.x)) (mul f d.k (neg φ.y)) (mul f d.k (neg φ.z)))
     ∙ (λ i. quat c.cos_half (mul-neg_r f c.k φ.x i) (mul-neg_r f c.k φ.y i) (mul-neg_r f c.k φ.z i))

@@ -3,7 +3,7 @@ use borrow.Author.Rules.{rules}
 use mathlib.Core.Path.{sym, ◌∙◌, subst}
 use Prim.Native.Nat.{ℕ, ◌<◌, ◌≤◌}
 use lib.Dec.{T}
-use lib.Ieee.{binary64, of_bits, fits, toBits}
+use lib.Ieee.{binary64, of_bits, fits, to_bits}
 use Rattle.ieee.specs.Patterns.{patterns}
 use Rattle.root.specs.Root.{root_told}
 use Rattle.root.proofs.Cases.{below, from, zeros, other, good}
@@ -22,7 +22,7 @@ unfolding root_told of_bits
 returns-then-b-ge-INFINITY c =
     let z = c.args.z in
     let t : T (fits binary64 z) = search rules in
-    let b : patterns binary64 ≤ toBits binary64 z = subst (λ (x : ℕ). patterns binary64 ≤ x) c.to_bits-b.ensures c.if-b-ge-INFINITY.true in
+    let b : patterns binary64 ≤ to_bits binary64 z = subst (λ (x : ℕ). patterns binary64 ≤ x) c.to_bits-b.ensures c.if-b-ge-INFINITY.true in
     other z t c.if-z.false c.if-z-2.false b ∙ from z c.if-z.false
 
 pub positive-requires : goal.positive-requires
@@ -30,7 +30,7 @@ unfolding of_bits
 positive-requires c =
     let z = c.args.z in
     let t : T (fits binary64 z) = search rules in
-    let b : toBits binary64 z < patterns binary64 = subst (λ (x : ℕ). x < patterns binary64) c.to_bits-b.ensures c.if-b-ge-INFINITY.false in
+    let b : to_bits binary64 z < patterns binary64 = subst (λ (x : ℕ). x < patterns binary64) c.to_bits-b.ensures c.if-b-ge-INFINITY.false in
     (subst (λ (x : ℕ). 0 < x) (sym c.to_bits-b.ensures) (good z t c.if-z.false c.if-z-2.false b).0, c.if-b-ge-INFINITY.false)
 
 pub returns : goal.returns
@@ -38,6 +38,6 @@ unfolding root_told of_bits
 returns c =
     let z = c.args.z in
     let t : T (fits binary64 z) = search rules in
-    let b : toBits binary64 z < patterns binary64 = subst (λ (x : ℕ). x < patterns binary64) c.to_bits-b.ensures c.if-b-ge-INFINITY.false in
+    let b : to_bits binary64 z < patterns binary64 = subst (λ (x : ℕ). x < patterns binary64) c.to_bits-b.ensures c.if-b-ge-INFINITY.false in
     let g = (good z t c.if-z.false c.if-z-2.false b).1 in
     cc (c.positive.ensures, c.to_bits-b.ensures, g, from z c.if-z.false)

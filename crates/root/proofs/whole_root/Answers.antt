@@ -23,7 +23,7 @@ two :
     let p = c.widen-q.result in
     (p.root * p.root + p.remainder ≡ c.args.c) × (p.remainder ≤ 2 * p.root) × (2 ^ 26 ≤ p.root) × (p.root < 2 ^ 27)
 two c =
-    let o = one (c) in
+    let o = one c.before in
     let p = c.widen-q.result in
     let a = c.args.c in
     let e = c.widen-q.ensures.0 ∙ ap (λ (x : ℕ). x * (0x2000 * 0x2000) + a / 0x2000 % 0x2000 * 0x2000 + a % 0x2000) o.0 ∙ next_two a in
@@ -45,5 +45,5 @@ widen-requires c = let o = two c in omega arith
 
 pub returns : goal.returns
 returns c =
-    let o = two (c) in
+    let o = two c.before in
     (c.widen.ensures.0 ∙ ap (λ (x : ℕ). x * (0x400_0000 * 0x400_0000) + 0 * 0x400_0000 + 0) o.0 ∙ omega arith, c.widen.ensures.1)

@@ -35,22 +35,22 @@ pub overflow_add-root : goal.overflow_add-root
 overflow_add-root c = omega (arith, (facts c).root)
 
 pub overflow_sub-result-else-w-t : goal.overflow_sub-result-else-w-t
-overflow_sub-result-else-w-t c = omega (arith, (facts (c)).some c.if-w-t.false)
+overflow_sub-result-else-w-t c = omega (arith, (facts c.before).some c.if-w-t.false)
 
 pub overflow_mul-result : goal.overflow_mul-result
-overflow_mul-result c = omega (arith, (facts (c)).root)
+overflow_mul-result c = omega (arith, (facts c.before).root)
 
 pub overflow_add-result : goal.overflow_add-result
-overflow_add-result c = omega (arith, (facts (c)).root, (facts (c)).left)
+overflow_add-result c = omega (arith, (facts c.before).root, (facts c.before).left)
 
 pub overflow_sub-result-else-w-t-2 : goal.overflow_sub-result-else-w-t-2
-overflow_sub-result-else-w-t-2 c = omega (arith, (facts (c)).some c.if-w-t.false)
+overflow_sub-result-else-w-t-2 c = omega (arith, (facts c.before).some c.if-w-t.false)
 
 pub overflow_sub-result-else-w-t-3 : goal.overflow_sub-result-else-w-t-3
-overflow_sub-result-else-w-t-3 c = (facts (c)).short c.if-w-t.false
+overflow_sub-result-else-w-t-3 c = (facts c.before).short c.if-w-t.false
 
 pub returns-then-w-t : goal.returns-then-w-t
-returns-then-w-t c = (facts (c)).enough c.if-w-t.true
+returns-then-w-t c = (facts c.before).enough c.if-w-t.true
 
 pub returns-else-w-t : goal.returns-else-w-t
-returns-else-w-t c = (facts (c)).too_large c.if-w-t.false
+returns-else-w-t c = (facts c.before).too_large c.if-w-t.false

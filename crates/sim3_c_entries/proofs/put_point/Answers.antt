@@ -9,7 +9,11 @@ use Rattle.sim3_c_entries.proofs.put_point.Goals as goal
 pub returns-then-out-ne-VEC : goal.returns-then-out-ne-VEC
 returns-then-out-ne-VEC c =
     let a = c.args in
-    misfits a.out.now (vec_numbers a.p) 3 c.if-out-ne-VEC.true (vec-count a.p)
+    let m = misfits a.out.now (vec_numbers a.p) 3 c.if-out-ne-VEC.true (vec-count a.p) in
+    record {
+      value = m.0;
+      out_after = m.1;
+    }
 
 pub returns : goal.returns
 unfolding vec_numbers

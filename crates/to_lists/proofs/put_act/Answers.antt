@@ -10,7 +10,11 @@ use Rattle.to_lists.proofs.put_act.Goals as goal
 pub returns-then-out-ne-ACT_JACOBIANS : goal.returns-then-out-ne-ACT_JACOBIANS
 returns-then-out-ne-ACT_JACOBIANS c =
     let a = c.args in
-    misfits a.out.now (act_numbers a.j) 30 c.if-out-ne-ACT_JACOBIANS.true (act_count_lem a.j)
+    let m = misfits a.out.now (act_numbers a.j) 30 c.if-out-ne-ACT_JACOBIANS.true (act_count_lem a.j) in
+    record {
+      value = m.0;
+      out_after = m.1;
+    }
 
 pub returns : goal.returns
 returns c =

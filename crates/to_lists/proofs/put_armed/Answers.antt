@@ -10,7 +10,11 @@ use Rattle.to_lists.proofs.put_armed.Goals as goal
 pub returns-then-out-ne-ARMED : goal.returns-then-out-ne-ARMED
 returns-then-out-ne-ARMED c =
     let a = c.args in
-    misfits a.out.now (armed_numbers binary64 a.a) 12 c.if-out-ne-ARMED.true (armed-count binary64 a.a)
+    let m = misfits a.out.now (armed_numbers binary64 a.a) 12 c.if-out-ne-ARMED.true (armed-count binary64 a.a) in
+    record {
+      value = m.0;
+      out_after = m.1;
+    }
 
 pub returns : goal.returns
 returns c =

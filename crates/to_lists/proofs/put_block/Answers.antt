@@ -9,7 +9,11 @@ use Rattle.to_lists.proofs.put_block.Goals as goal
 pub returns-then-out-ne-BLOCK : goal.returns-then-out-ne-BLOCK
 returns-then-out-ne-BLOCK c =
     let a = c.args in
-    misfits a.out.now (block_numbers a.j) 31 c.if-out-ne-BLOCK.true (block-count a.j)
+    let m = misfits a.out.now (block_numbers a.j) 31 c.if-out-ne-BLOCK.true (block-count a.j) in
+    record {
+      value = m.0;
+      out_after = m.1;
+    }
 
 pub returns : goal.returns
 returns c =

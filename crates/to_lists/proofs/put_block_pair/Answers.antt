@@ -10,7 +10,11 @@ use Rattle.to_lists.proofs.put_block_pair.Goals as goal
 pub returns-then-out-ne-BLOCK_PAIR : goal.returns-then-out-ne-BLOCK_PAIR
 returns-then-out-ne-BLOCK_PAIR c =
     let a = c.args in
-    misfits a.out.now (block_pair_numbers a.p) 124 c.if-out-ne-BLOCK_PAIR.true (block-pair-count a.p)
+    let m = misfits a.out.now (block_pair_numbers a.p) 124 c.if-out-ne-BLOCK_PAIR.true (block-pair-count a.p) in
+    record {
+      value = m.0;
+      out_after = m.1;
+    }
 
 pub returns : goal.returns
 returns c =

@@ -9,7 +9,11 @@ use Rattle.to_lists.proofs.put_pose.Goals as goal
 pub returns-then-out-ne-POSE : goal.returns-then-out-ne-POSE
 returns-then-out-ne-POSE c =
     let a = c.args in
-    misfits a.out.now (pose_numbers a.x) 8 c.if-out-ne-POSE.true (pose-count a.x)
+    let m = misfits a.out.now (pose_numbers a.x) 8 c.if-out-ne-POSE.true (pose-count a.x) in
+    record {
+      value = m.0;
+      out_after = m.1;
+    }
 
 pub returns : goal.returns
 returns c =

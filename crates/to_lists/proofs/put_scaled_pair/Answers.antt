@@ -10,7 +10,11 @@ use Rattle.to_lists.proofs.put_scaled_pair.Goals as goal
 pub returns-then-out-ne-SCALED_PAIR : goal.returns-then-out-ne-SCALED_PAIR
 returns-then-out-ne-SCALED_PAIR c =
     let a = c.args in
-    misfits a.out.now (scaled_pair_numbers a.p) 20 c.if-out-ne-SCALED_PAIR.true (scaled-pair-count a.p)
+    let m = misfits a.out.now (scaled_pair_numbers a.p) 20 c.if-out-ne-SCALED_PAIR.true (scaled-pair-count a.p) in
+    record {
+      value = m.0;
+      out_after = m.1;
+    }
 
 pub returns : goal.returns
 returns c =

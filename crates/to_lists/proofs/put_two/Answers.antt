@@ -10,7 +10,11 @@ use Rattle.to_lists.proofs.put_two.Goals as goal
 pub returns-then-out-ne-TWO_JACOBIANS : goal.returns-then-out-ne-TWO_JACOBIANS
 returns-then-out-ne-TWO_JACOBIANS c =
     let a = c.args in
-    misfits a.out.now (two_numbers a.t) 62 c.if-out-ne-TWO_JACOBIANS.true (two_count_lem a.t)
+    let m = misfits a.out.now (two_numbers a.t) 62 c.if-out-ne-TWO_JACOBIANS.true (two_count_lem a.t) in
+    record {
+      value = m.0;
+      out_after = m.1;
+    }
 
 pub returns : goal.returns
 returns c =

@@ -12,7 +12,11 @@ use Rattle.to_lists_f32.proofs.put_act.Goals as goal
 pub returns-then-out-ne-ACT_JACOBIANS : goal.returns-then-out-ne-ACT_JACOBIANS
 returns-then-out-ne-ACT_JACOBIANS c =
     let a = c.args in
-    misfits a.out.now (act_numbers (as_act_jacobians a.j)) 30 c.if-out-ne-ACT_JACOBIANS.true (act_count_lem (as_act_jacobians a.j))
+    let m = misfits a.out.now (act_numbers (as_act_jacobians a.j)) 30 c.if-out-ne-ACT_JACOBIANS.true (act_count_lem (as_act_jacobians a.j)) in
+    record {
+      value = m.0;
+      out_after = m.1;
+    }
 
 pub returns : goal.returns
 unfolding as_act_jacobians as_mat3 as_vec3

@@ -12,7 +12,11 @@ use Rattle.to_lists_f32.proofs.put_armed.Goals as goal
 pub returns-then-out-ne-ARMED : goal.returns-then-out-ne-ARMED
 returns-then-out-ne-ARMED c =
     let a = c.args in
-    misfits a.out.now (armed_numbers binary32 (as_armed a.a)) 12 c.if-out-ne-ARMED.true (armed-count binary32 (as_armed a.a))
+    let m = misfits a.out.now (armed_numbers binary32 (as_armed a.a)) 12 c.if-out-ne-ARMED.true (armed-count binary32 (as_armed a.a)) in
+    record {
+      value = m.0;
+      out_after = m.1;
+    }
 
 pub returns : goal.returns
 unfolding as_armed as_scaled as_sim3_coeffs

@@ -12,7 +12,11 @@ use Rattle.to_lists_f32.proofs.put_armed_pair.Goals as goal
 pub returns-then-out-ne-ARMED_PAIR : goal.returns-then-out-ne-ARMED_PAIR
 returns-then-out-ne-ARMED_PAIR c =
     let a = c.args in
-    misfits a.out.now (armed_pair_numbers binary32 (as_armed_pair a.p)) 24 c.if-out-ne-ARMED_PAIR.true (armed-pair-count binary32 (as_armed_pair a.p))
+    let m = misfits a.out.now (armed_pair_numbers binary32 (as_armed_pair a.p)) 24 c.if-out-ne-ARMED_PAIR.true (armed-pair-count binary32 (as_armed_pair a.p)) in
+    record {
+      value = m.0;
+      out_after = m.1;
+    }
 
 pub returns : goal.returns
 unfolding as_armed as_armed_pair as_scaled as_sim3_coeffs

@@ -11,7 +11,11 @@ use Rattle.to_lists_f32.proofs.put_block.Goals as goal
 pub returns-then-out-ne-BLOCK : goal.returns-then-out-ne-BLOCK
 returns-then-out-ne-BLOCK c =
     let a = c.args in
-    misfits a.out.now (block_numbers (as_sim3_jac a.j)) 31 c.if-out-ne-BLOCK.true (block-count (as_sim3_jac a.j))
+    let m = misfits a.out.now (block_numbers (as_sim3_jac a.j)) 31 c.if-out-ne-BLOCK.true (block-count (as_sim3_jac a.j)) in
+    record {
+      value = m.0;
+      out_after = m.1;
+    }
 
 pub returns : goal.returns
 unfolding as_mat3 as_sim3_jac as_vec3

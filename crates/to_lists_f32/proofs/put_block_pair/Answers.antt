@@ -13,7 +13,11 @@ use Rattle.to_lists_f32.proofs.put_block_pair.Goals as goal
 pub returns-then-out-ne-BLOCK_PAIR : goal.returns-then-out-ne-BLOCK_PAIR
 returns-then-out-ne-BLOCK_PAIR c =
     let a = c.args in
-    misfits a.out.now (block_pair_numbers (as_block_pair a.p)) 124 c.if-out-ne-BLOCK_PAIR.true (block-pair-count (as_block_pair a.p))
+    let m = misfits a.out.now (block_pair_numbers (as_block_pair a.p)) 124 c.if-out-ne-BLOCK_PAIR.true (block-pair-count (as_block_pair a.p)) in
+    record {
+      value = m.0;
+      out_after = m.1;
+    }
 
 pub returns : goal.returns
 unfolding as_block_pair as_mat3 as_sim3_jac as_vec3

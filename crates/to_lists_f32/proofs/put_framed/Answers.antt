@@ -37,7 +37,7 @@ returns c =
     let a = c.args in
     let x = (as_pose a.x) in
     let numbers = c.set_pose.ensures ∙ sets-all a.out.now (pose_numbers x.sim3) (c.if-out-ne-POSE.false ∙ sym (pose-count x.sim3)) in
-    let frames = sets-all a.out-frames.now (x.from ∷ x.to ∷ []) c.if-out_frames-ne-FRAMES.false in
+    let frames = sets-all a.out_frames.now (x.from ∷ x.to ∷ []) c.if-out_frames-ne-FRAMES.false in
     rw (eq-eqb _ _ c.if-out-ne-POSE.false, eq-eqb _ _ c.if-out_frames-ne-FRAMES.false)
     (record {
       value = refl;

@@ -12,7 +12,11 @@ use Rattle.to_lists_f32.proofs.put_pose.Goals as goal
 pub returns-then-out-ne-POSE : goal.returns-then-out-ne-POSE
 returns-then-out-ne-POSE c =
     let a = c.args in
-    misfits a.out.now (pose_numbers (as_sim3 a.x)) 8 c.if-out-ne-POSE.true (pose-count (as_sim3 a.x))
+    let m = misfits a.out.now (pose_numbers (as_sim3 a.x)) 8 c.if-out-ne-POSE.true (pose-count (as_sim3 a.x)) in
+    record {
+      value = m.0;
+      out_after = m.1;
+    }
 
 pub returns : goal.returns
 unfolding as_quat as_sim3 as_vec3

@@ -12,7 +12,11 @@ use Rattle.to_lists_f32.proofs.put_scaled_pair.Goals as goal
 pub returns-then-out-ne-SCALED_PAIR : goal.returns-then-out-ne-SCALED_PAIR
 returns-then-out-ne-SCALED_PAIR c =
     let a = c.args in
-    misfits a.out.now (scaled_pair_numbers (as_scaled_pair a.p)) 20 c.if-out-ne-SCALED_PAIR.true (scaled-pair-count (as_scaled_pair a.p))
+    let m = misfits a.out.now (scaled_pair_numbers (as_scaled_pair a.p)) 20 c.if-out-ne-SCALED_PAIR.true (scaled-pair-count (as_scaled_pair a.p)) in
+    record {
+      value = m.0;
+      out_after = m.1;
+    }
 
 pub returns : goal.returns
 unfolding as_scaled as_scaled_pair as_sim3_coeffs

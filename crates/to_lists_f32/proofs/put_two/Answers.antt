@@ -13,7 +13,11 @@ use Rattle.to_lists_f32.proofs.put_two.Goals as goal
 pub returns-then-out-ne-TWO_JACOBIANS : goal.returns-then-out-ne-TWO_JACOBIANS
 returns-then-out-ne-TWO_JACOBIANS c =
     let a = c.args in
-    misfits a.out.now (two_numbers (as_two_jacobians a.t)) 62 c.if-out-ne-TWO_JACOBIANS.true (two_count_lem (as_two_jacobians a.t))
+    let m = misfits a.out.now (two_numbers (as_two_jacobians a.t)) 62 c.if-out-ne-TWO_JACOBIANS.true (two_count_lem (as_two_jacobians a.t)) in
+    record {
+      value = m.0;
+      out_after = m.1;
+    }
 
 pub returns : goal.returns
 unfolding as_mat3 as_sim3_jac as_two_jacobians as_vec3

@@ -1,0 +1,15 @@
+-- `sim3_job::probe::computes_as_proved` meets its contract: zero changes none of the three bit patterns, which are the
+-- documented numbers'. Assumes nothing.
+use borrow.Author.Rules.{rules}
+use Rattle.environment.proofs.Documented.{documented_is-due}
+use Rattle.sim3_job.proofs.probe.computes_as_proved.Goals as goal
+
+pub returns : goal.returns
+returns c =
+    simp (
+      c.product_is_due.ensures,
+      c.from_bits-third.ensures,
+      c.from_bits-second.ensures,
+      c.from_bits-first.ensures,
+      c.zero-hidden.ensures,
+    ) documented_is-due

@@ -1,0 +1,30 @@
+-- `sim3_job::run`: from a tape, what the sink holds and what the job still writes are together what it writes for the whole tape; and each turn brings the
+-- end nearer, wherever it reads from.
+use Prim.Native.Nat.{◌≤◌, ◌<◌}
+use mathlib.Core.Bool.{true, false}
+use mathlib.Core.Path.{◌≡◌}
+use lib.ListN.{length, take}
+use Rattle.kept.specs.State.{state_of, memory}
+use Rattle.job.specs.Counts.{counts_sound}
+use Rattle.job.specs.Job.{standing, job_limit}
+use Rattle.job.specs.Feed.{record_room}
+use Rattle.sim3_job.proofs.Underway.{Underway}
+use Rattle.sim3_job.proofs.Nearer.{to_go}
+use Rattle.sim3_job.proofs.run.Given as goal
+
+abbrev pub invariant-loop-n : goal.invariant-loop-n
+invariant-loop-n l = record {
+  have_in_bounds : l.have ≤ 65536;
+  buf_length : length l.buf ≡ 65536;
+  out_length : length l.out ≡ 65536;
+  room_to_read : l.asked ≡ true → l.have < record_room;
+  sound : counts_sound job_limit l.c ≡ true;
+  at_in_bounds : l.at ≤ length l.tape;
+  sent_in_bounds : l.sent ≤ length l.sink;
+  sink_length : length l.sink ≡ length l.initial.sink;
+  underway : l.live ≡ false → Underway job_limit l.tape l.sink (standing l.c (state_of l.mem)) (take l.have l.buf) l.last l.at l.sent;
+  mem_length : length l.mem ≡ memory;
+}
+
+abbrev pub decreases-loop-n : goal.decreases-loop-n
+decreases-loop-n l = to_go l.c l.have l.asked
