@@ -145,9 +145,9 @@ lose-left-requires c =
     let t = heard c.loop-c.mem c.loop-c.invariant.0 c.loop-c.invariant.1.0 c.if-c-eq-LIMIT.false c.reply-heard.result.step c.reply-heard.result.row
     c.reply-heard.new.out (state_of c.reply-heard.new.mem) e.step_value e.out_after e.row_value e.mem_after_2 in
     record {
-  sound = c.loop-c.invariant.1.0.sound;
-  row_lt_row_count = omega (arith, place-few t);
-}
+      sound = c.loop-c.invariant.1.0.sound;
+      row_lt_row_count = omega (arith, place-few t);
+    }
 
 pub lose-left-requires-then-last-2 : goal.lose-left-requires-then-last-2
 lose-left-requires-then-last-2 c =
@@ -155,9 +155,9 @@ lose-left-requires-then-last-2 c =
     let t = heard c.loop-c.mem c.loop-c.invariant.0 c.loop-c.invariant.1.0 c.if-c-eq-LIMIT.false c.reply-heard.result.step c.reply-heard.result.row
     c.reply-heard.new.out (state_of c.reply-heard.new.mem) e.step_value e.out_after e.row_value e.mem_after_2 in
     record {
-  sound = c.loop-c.invariant.1.0.sound;
-  row_lt_row_count = omega (arith, place-few t);
-}
+      sound = c.loop-c.invariant.1.0.sound;
+      row_lt_row_count = omega (arith, place-few t);
+    }
 
 pub overflow_sub-out : goal.overflow_sub-out
 overflow_sub-out c = c.loop-c.invariant.1.0.room
