@@ -1,7 +1,6 @@
 -- `sim3_job::run` meets its contract. From a tape, what the sink holds and what the job still writes are together what it writes for the whole tape; and each
 -- turn brings the end nearer, wherever it reads from.
 use borrow.Author.Rules.{rules}
-use borrow.Author.Tests.{not-true, not-false}
 use native.Mathlib.Omega.{arith}
 use Prim.Native.Nat.{ℕ, ◌+◌, ◌-◌, ◌≤◌, ◌<◌}
 use mathlib.Core.Bool.{Bool, true, false}
@@ -89,7 +88,7 @@ loop-n-smaller c =
     let room : answer_room ≤ length l.out = omega (arith, l.invariant.out_length) in
     let fits : l.have + n ≤ 65536 = omega (arith, h.0, l.invariant.buf_length) in
     let told = rw (held l.mem l.invariant.mem_length) at t.ensures.value in
-    let on : goes_on t.result.reason ≡ true = sym c.goes_on.ensures ∙ not-false _ c.if-not-goes_on.false in
+    let on : goes_on t.result.reason ≡ true = sym c.goes_on.ensures ∙ c.if-not-goes_on.false in
     subst (λ (b : Bool). to_go t.result.counts (l.have + n - t.result.used) b < to_go l.c l.have l.asked) (sym c.asks_for-asked.ensures)
     (nearer (standing l.c (state_of l.mem)) (take (l.have + n) c.fill.new.buf) l.asked _ l.have n (length l.out) t.result
     l.invariant.sound room told on (λ u z. h.2 u ∙ rw z refl) fits)
@@ -113,7 +112,7 @@ loop-n-preserved c =
     let held₁ = held l.mem i.mem_length in
     let told = rw held₁ at t.ensures.value in
     let wrote = rw held₁ at t.ensures.out_after in
-    let on : goes_on t.result.reason ≡ true = sym c.goes_on.ensures ∙ not-false _ c.if-not-goes_on.false in
+    let on : goes_on t.result.reason ≡ true = sym c.goes_on.ensures ∙ c.if-not-goes_on.false in
     record {
       have_in_bounds = omega (arith, h.0, i.buf_length);
       buf_length = t.auto.buf ∙ f.auto.buf ∙ i.buf_length;
@@ -194,7 +193,7 @@ returns-then-not-goes_on c =
     let held₁ = held l.mem i.mem_length in
     let told = rw held₁ at t.ensures.value in
     let wrote = rw held₁ at t.ensures.out_after in
-    let off : goes_on t.result.reason ≡ false = sym c.goes_on.ensures ∙ not-true _ c.if-not-goes_on.true in
+    let off : goes_on t.result.reason ≡ false = sym c.goes_on.ensures ∙ c.if-not-goes_on.true in
     rw c.ended_as-left-then-not-goes_on.ensures record {
       sent_in_bounds = omega (arith, sink_within c.in-All.is (length l.sink) p.ensures.within_sink, i.sink_length);
       performed = λ e.
