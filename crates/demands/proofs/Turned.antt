@@ -86,8 +86,8 @@ turned_theorem f tau v jl jlInv from to =
     record {
       exp = record { sim3 = exp-turned f tau v jl jlInv; from = refl; to = refl };
       left = left-turned f tau v jl jlInv;
-      together-exp = exp-turned f tau v jl jlInv;
-      together-left = left-turned f tau v jl jlInv;
+      together_exp = exp-turned f tau v jl jlInv;
+      together_left = left-turned f tau v jl jlInv;
       beside_inverse = inverted_turned f tau v jl jlInv;
       in_pair = inverted_turned f tau v jl jlInv;
     }

@@ -19,14 +19,6 @@ pub struct BlockPair {
     pub right_inv: Sim3Jac,
 }
 
-// Stands in an arm that is never taken: whoever calls it has proved that nothing comes there.
-fn no_blocks() -> BlockPair
-    requires { ⊥ }
-    ensures { ⊥ }
-{
-    loop {}
-}
-
 // The left block and inverse of tau, and those of -tau on the mirrored values and the transposed
 // matrices, which are the right ones: as the end of the Rust's log_inverses assembles them, with
 // J_l(phi) and its inverse given. |phi|^2 is the same at -phi, and never below zero: nothing is
@@ -39,7 +31,7 @@ pub fn block_pair(tau: Sim3Tangent, v: Values, jl_phi: Mat3, jl_inv: Mat3) -> Bl
     let rho = tau.rho;
     let z = phi.norm_sq();
     let ArmedPairAnswer::Coeffs(p) = sim3_coeffs_armed_pair(tau.sigma, z, v) else {
-        return no_blocks();
+        return unreachable!();
     };
     let pos = p.pos.s;
     let neg = p.neg.s;

@@ -17,8 +17,8 @@ returns c =
     let back : c.neg-back.result ≡ tangent_neg a.tau = c.neg-back.ensures in
     let m : c.mirrored-m.result ≡ mirrored a.tau.sigma a.v = c.mirrored-m.ensures in
     let jt : c.transpose-jt.result ≡ mat_transpose a.jl = c.transpose-jt.ensures in
-    let it : c.transpose-it.result ≡ mat_transpose a.jl-inv = c.transpose-it.ensures in
-    demand_3 binary64 a.tau a.z a.v a.jl a.jl-inv _
+    let it : c.transpose-it.result ≡ mat_transpose a.jl_inv = c.transpose-it.ensures in
+    demand_3 binary64 a.tau a.z a.v a.jl a.jl_inv _
     c.sim3_coeffs_scaled_pair-pair.ensures
     c.sim3_coeffs_scaled-plus.ensures
     (c.sim3_coeffs_scaled-minus.ensures ∙ ap (scaled_answer binary64 (neg a.tau.sigma) a.z) m)

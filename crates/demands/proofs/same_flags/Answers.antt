@@ -10,4 +10,4 @@ pub returns : goal.returns
 returns c =
     let a = c.args in
     let t = c.sim3_coeffs_armed_pair-armed.ensures ∙ ap (λ z. armed_pair_answer binary64 a.tau.sigma z a.v) c.norm_sq.ensures in
-    flags_scale binary64 a.tau a.v a.w a.jl a.jl-inv _ _ t c.block_pair-block.ensures
+    flags_scale binary64 a.tau a.v a.w a.jl a.jl_inv _ _ t c.block_pair-block.ensures

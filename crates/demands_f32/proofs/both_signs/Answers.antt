@@ -22,8 +22,8 @@ returns c =
     let back : as_sim3_tangent c.neg-back.result ≡ tangent_neg (as_sim3_tangent a.tau) = c.neg-back.ensures in
     let m : as_values c.mirrored-m.result ≡ mirrored (as_sim3_tangent a.tau).sigma (as_values a.v) = c.mirrored-m.ensures in
     let jt : as_mat3 c.transpose-jt.result ≡ mat_transpose (as_mat3 a.jl) = c.transpose-jt.ensures in
-    let it : as_mat3 c.transpose-it.result ≡ mat_transpose (as_mat3 a.jl-inv) = c.transpose-it.ensures in
-    demand_3 binary32 (as_sim3_tangent a.tau) a.z (as_values a.v) (as_mat3 a.jl) (as_mat3 a.jl-inv) _
+    let it : as_mat3 c.transpose-it.result ≡ mat_transpose (as_mat3 a.jl_inv) = c.transpose-it.ensures in
+    demand_3 binary32 (as_sim3_tangent a.tau) a.z (as_values a.v) (as_mat3 a.jl) (as_mat3 a.jl_inv) _
     c.sim3_coeffs_scaled_pair-pair.ensures
     c.sim3_coeffs_scaled-plus.ensures
     (c.sim3_coeffs_scaled-minus.ensures ∙ ap (scaled_answer binary32 (neg (as_sim3_tangent a.tau).sigma) a.z) m)

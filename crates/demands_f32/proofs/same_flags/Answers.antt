@@ -14,4 +14,4 @@ unfolding as_mat3 as_sim3_tangent as_values as_vec3
 returns c =
     let a = c.args in
     let t = c.sim3_coeffs_armed_pair-armed.ensures ∙ ap (λ z. armed_pair_answer binary32 (as_sim3_tangent a.tau).sigma z (as_values a.v)) c.norm_sq.ensures in
-    flags_scale binary32 (as_sim3_tangent a.tau) (as_values a.v) (as_values a.w) (as_mat3 a.jl) (as_mat3 a.jl-inv) _ _ t c.block_pair-block.ensures
+    flags_scale binary32 (as_sim3_tangent a.tau) (as_values a.v) (as_values a.w) (as_mat3 a.jl) (as_mat3 a.jl_inv) _ _ t c.block_pair-block.ensures

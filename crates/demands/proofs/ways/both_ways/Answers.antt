@@ -14,7 +14,7 @@ pub returns : goal.returns
 returns c =
     let a = c.args in
     let back : c.turned_round-back.result ≡ turned_round a.tau = c.turned_round-back.ensures in
-    ways_turned binary64 a.tau a.v a.jl a.jl-inv a.from a.to _
+    ways_turned binary64 a.tau a.v a.jl a.jl_inv a.from a.to _
     c.exp-exp.ensures
     (c.exp-exp_turned.ensures ∙ (λ i. framed_exp binary64 (back i) a.v a.from a.to))
     c.jl-left.ensures
@@ -22,6 +22,6 @@ returns c =
     c.exp_and_jl-together.ensures
     (c.exp_and_jl-together_turned.ensures ∙ (λ i. exp_and_jl binary64 (back i) a.v a.jl))
     c.jl_and_inverse-inverted.ensures
-    (c.jl_and_inverse-inverted_turned.ensures ∙ (λ i. jl_and_inverse binary64 (back i) a.v a.jl a.jl-inv))
+    (c.jl_and_inverse-inverted_turned.ensures ∙ (λ i. jl_and_inverse binary64 (back i) a.v a.jl a.jl_inv))
     c.block_pair-pair.ensures
-    (c.block_pair-pair_turned.ensures ∙ (λ i. block_pair binary64 (back i) a.v a.jl a.jl-inv))
+    (c.block_pair-pair_turned.ensures ∙ (λ i. block_pair binary64 (back i) a.v a.jl a.jl_inv))

@@ -23,7 +23,7 @@ unfolding as_block_pair as_both_ways as_exp_and_jl as_jac_and_inverse as_mat3 as
 returns c =
     let a = c.args in
     let back : as_sim3_tangent c.turned_round-back.result ≡ turned_round (as_sim3_tangent a.tau) = c.turned_round-back.ensures in
-    ways_turned binary32 (as_sim3_tangent a.tau) (as_values a.v) (as_mat3 a.jl) (as_mat3 a.jl-inv) a.from a.to _
+    ways_turned binary32 (as_sim3_tangent a.tau) (as_values a.v) (as_mat3 a.jl) (as_mat3 a.jl_inv) a.from a.to _
     c.exp-exp.ensures
     (c.exp-exp_turned.ensures ∙ (λ i. framed_exp binary32 (back i) (as_values a.v) a.from a.to))
     c.jl-left.ensures
@@ -31,6 +31,6 @@ returns c =
     c.exp_and_jl-together.ensures
     (c.exp_and_jl-together_turned.ensures ∙ (λ i. exp_and_jl binary32 (back i) (as_values a.v) (as_mat3 a.jl)))
     c.jl_and_inverse-inverted.ensures
-    (c.jl_and_inverse-inverted_turned.ensures ∙ (λ i. jl_and_inverse binary32 (back i) (as_values a.v) (as_mat3 a.jl) (as_mat3 a.jl-inv)))
+    (c.jl_and_inverse-inverted_turned.ensures ∙ (λ i. jl_and_inverse binary32 (back i) (as_values a.v) (as_mat3 a.jl) (as_mat3 a.jl_inv)))
     c.block_pair-pair.ensures
-    (c.block_pair-pair_turned.ensures ∙ (λ i. block_pair binary32 (back i) (as_values a.v) (as_mat3 a.jl) (as_mat3 a.jl-inv)))
+    (c.block_pair-pair_turned.ensures ∙ (λ i. block_pair binary32 (back i) (as_values a.v) (as_mat3 a.jl) (as_mat3 a.jl_inv)))

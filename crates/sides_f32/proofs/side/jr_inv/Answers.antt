@@ -1,12 +1,12 @@
 use borrow.Author.Rules.{rules}
 use Rattle.sides.specs.Side.{jac_jr_inv}
 use Rattle.linalg_f32.proofs.As.{linalg_singles}
-use Rattle.circle_f32.proofs.As.{circle-singles}
-use Rattle.series_f32.proofs.As.{series-singles}
-use Rattle.closed_f32.proofs.As.{closed-singles}
+use Rattle.circle_f32.proofs.As.{circle_singles}
+use Rattle.series_f32.proofs.As.{series_singles}
+use Rattle.closed_f32.proofs.As.{closed_singles}
 use Rattle.coeffs_f32.proofs.As.{coeffs_singles}
 use Rattle.so3_f32.proofs.As.{so3_singles}
-use Rattle.sim3_f32.proofs.As.{sim3-singles}
+use Rattle.sim3_f32.proofs.As.{sim3_singles}
 use Rattle.jacobian_f32.proofs.As.{jacobian_singles}
 use Rattle.sides_f32.proofs.As.{sides_singles}
 use Rattle.sides_f32.proofs.side.jr_inv.Goals as goal
@@ -15,12 +15,12 @@ pub returns : goal.returns
 unfolding jac_jr_inv
 returns c = simp (
   linalg_singles,
-  circle-singles,
-  series-singles,
-  closed-singles,
+  circle_singles,
+  series_singles,
+  closed_singles,
   coeffs_singles,
   so3_singles,
-  sim3-singles,
+  sim3_singles,
   jacobian_singles,
   sides_singles,
   c.jl_inv.ensures,
