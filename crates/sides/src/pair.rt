@@ -31,7 +31,7 @@ pub fn block_pair(tau: Sim3Tangent, v: Values, jl_phi: Mat3, jl_inv: Mat3) -> Bl
     let rho = tau.rho;
     let z = phi.norm_sq();
     let ArmedPairAnswer::Coeffs(p) = sim3_coeffs_armed_pair(tau.sigma, z, v) else {
-        return unreachable!();
+        unreachable!();
     };
     let pos = p.pos.s;
     let neg = p.neg.s;

@@ -1,5 +1,4 @@
 -- `demands::both_signs` meets its contract, demand 3: by what the eight calls ensure, and what negation, mirroring and transposing ensure of their arguments.
-use borrow.Author.Rules.{rules}
 use mathlib.Core.Path.{◌≡◌, ap, ◌∙◌}
 use lib.Ieee.{binary64, neg}
 use Rattle.linalg.specs.Matrix.{mat_transpose}

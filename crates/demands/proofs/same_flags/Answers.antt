@@ -1,5 +1,4 @@
 -- `demands::same_flags` meets its contract: by what its two calls ensure, and the square of phi. Assumes nothing.
-use borrow.Author.Rules.{rules}
 use mathlib.Core.Path.{ap, ◌∙◌}
 use lib.Ieee.{binary64}
 use Rattle.coeffs.specs.Entries.{armed_pair_answer}

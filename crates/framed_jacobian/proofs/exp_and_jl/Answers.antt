@@ -1,4 +1,3 @@
-use borrow.Author.Rules.{rules}
 use Rattle.framed_jacobian.specs.ExpAndJl.{framed_exp_and_jl}
 use Rattle.frames.specs.Pose.{framed_exp}
 use Rattle.sides.specs.Side.{exp_and_jl}

@@ -1,6 +1,5 @@
 -- `point_lists::accepted` meets its contract: each test says its part of the condition. Assumes nothing.
 use borrow.Author.Tests.{eq-eqb, ne_eqb, le-leb, lt-leb}
-use Rattle.point_lists.specs.Points.{points_accepted}
 use Rattle.point_lists.proofs.accepted.Goals as goal
 
 pub returns-then-n-ne0 : goal.returns-then-n-ne0

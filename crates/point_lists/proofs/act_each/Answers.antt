@@ -1,5 +1,4 @@
 -- `point_lists::act_each` meets its contract: lists that are accepted have every triple moved, and others are left as they were. Assumes nothing.
-use borrow.Author.Rules.{rules}
 use mathlib.Core.Path.{◌≡◌, sym, ◌∙◌}
 use mathlib.Core.Bool.{true, false}
 use lib.ListN.{length}

@@ -1,14 +1,11 @@
 -- `point_lists::each` meets its contract: after i turns the first i triples are moved and the rest is as it was, and what is left to read begins at triple i. Assumes nothing.
-use borrow.Author.Rules.{rules}
 use Prim.Native.Nat.{◌+◌, ◌*◌, ◌-◌, ◌≤◌}
-use mathlib.Core.Path.{◌≡◌, refl, ◌∙◌}
+use mathlib.Core.Path.{◌≡◌}
 use mathlib.Core.List.{◌++◌}
-use native.Mathlib.Omega.{arith}
 use lib.ListN.{length, drop}
 use lib.Ieee.{binary64}
 use Rattle.point_lists.specs.Points.{points_moved}
 use Rattle.sim3.specs.Pose.{pose_act}
-use Rattle.point_lists.proofs.Lists.{moved_more, moved_all, left-first, left-next, left-length}
 use Rattle.point_lists.proofs.each.Given as goal
 
 abbrev pub invariant-loop-i : goal.invariant-loop-i

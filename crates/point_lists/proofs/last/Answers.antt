@@ -1,5 +1,4 @@
 -- `point_lists::last` meets its contract: where e is n nothing is left, and else the one triple that is left is put in its place. Assumes nothing.
-use borrow.Author.Rules.{rules}
 use Prim.Native.Nat.{◌+◌}
 use mathlib.Core.Path.{◌≡◌, ap, ◌∙◌}
 use native.Mathlib.Omega.{arith}

@@ -1,4 +1,3 @@
-use borrow.Author.Rules.{rules}
 use Rattle.point_lists.specs.Points.{mat_act}
 use Rattle.point_lists.proofs.mat_act.Goals as goal
 

@@ -1,4 +1,3 @@
-use borrow.Author.Rules.{rules}
 use mathlib.Core.Path.{refl}
 use Rattle.point_lists.specs.Points.{point_at}
 use Rattle.point_lists.proofs.point_at.Goals as goal

@@ -1,5 +1,4 @@
 -- `point_lists::put_point` meets its contract: three stores, one after another. Assumes nothing.
-use borrow.Author.Rules.{rules}
 use mathlib.Core.Path.{refl}
 use native.Mathlib.Omega.{arith}
 use lib.ListN.{length-set}

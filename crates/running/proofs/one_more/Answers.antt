@@ -1,5 +1,4 @@
 -- `running::one_more` meets its contract: by its test. Assumes nothing.
-use borrow.Author.Rules.{rules}
 use borrow.Author.Tests.{lt-ltb, le-ltb}
 use Rattle.running.specs.Running.{one_more}
 use Rattle.running.proofs.one_more.Goals as goal

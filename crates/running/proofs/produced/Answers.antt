@@ -1,5 +1,4 @@
 -- `running::produced` meets its contract: by whether the product is renormalised. Assumes nothing.
-use borrow.Author.Rules.{rules}
 use mathlib.Core.Path.{sym, ◌∙◌}
 use Rattle.running.specs.Running.{produced_of}
 use Rattle.running.proofs.produced.Goals as goal

@@ -1,5 +1,4 @@
 -- `running::product` meets its contract: by its test of the two frames, and by its parts. Assumes nothing.
-use borrow.Author.Rules.{rules}
 use borrow.Author.Tests.{eq-eqb, ne_eqb}
 use Rattle.sim3.specs.Pose.{pose_mul}
 use Rattle.frames.specs.Joins.{pose_told, framed_mul}

@@ -1,4 +1,3 @@
-use borrow.Author.Rules.{rules}
 use Rattle.demands.specs.Turned.{turned_round}
 use Rattle.demands.proofs.ways.turned_round.Goals as goal
 

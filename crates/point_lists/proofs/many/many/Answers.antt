@@ -1,5 +1,4 @@
 -- `point_lists::many::many` meets its contract: the last triple of an odd count is in its place before the others are moved. Assumes nothing.
-use borrow.Author.Rules.{rules}
 use mathlib.Core.Path.{◌∙◌}
 use native.Mathlib.Omega.{arith}
 use Rattle.point_lists.proofs.many.many.Goals as goal

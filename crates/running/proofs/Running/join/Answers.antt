@@ -1,5 +1,4 @@
 -- `running::Running::join` meets its contract: by whether there is a pose, and by whether the product is accepted. Assumes nothing.
-use borrow.Author.Rules.{rules}
 use mathlib.Core.Path.{refl, sym, ap, ◌∙◌}
 use Rattle.frames.specs.Joins.{pose_told}
 use Rattle.running.specs.Running.{product_on, join_on}

@@ -1,4 +1,3 @@
-use borrow.Author.Rules.{rules}
 use Rattle.sides.proofs.blocks.combine.Goals as goal
 
 pub returns : goal.returns

@@ -1,4 +1,3 @@
-use borrow.Author.Rules.{rules}
 use Rattle.sides.specs.Blocks.{jl_and_inverse_from}
 use lib.Ieee.{of_bits}
 use Rattle.sides.proofs.blocks.jl_and_inverse_at.Goals as goal

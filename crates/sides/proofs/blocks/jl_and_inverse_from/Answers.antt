@@ -1,5 +1,4 @@
 -- `sides::blocks::jl_and_inverse_from` meets its contract: by what its calls ensure. Assumes nothing.
-use borrow.Author.Rules.{rules}
 use Rattle.sides.proofs.blocks.jl_and_inverse_from.Goals as goal
 
 pub returns : goal.returns

@@ -1,4 +1,3 @@
-use borrow.Author.Rules.{rules}
 use Rattle.sides.specs.Blocks.{jl_blocks}
 use lib.Ieee.{of_bits}
 use Rattle.sides.proofs.blocks.jl_blocks_with.Goals as goal

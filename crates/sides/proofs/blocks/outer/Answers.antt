@@ -1,4 +1,3 @@
-use borrow.Author.Rules.{rules}
 use Rattle.sides.specs.Blocks.{mat_outer}
 use Rattle.sides.proofs.blocks.outer.Goals as goal
 

@@ -1,4 +1,3 @@
-use borrow.Author.Rules.{rules}
 use Rattle.sides.specs.Blocks.{poly_matrix}
 use Rattle.sides.proofs.blocks.poly.Goals as goal
 

@@ -1,4 +1,3 @@
-use borrow.Author.Rules.{rules}
 use Rattle.sides.specs.Blocks.{jl_q}
 use lib.Ieee.{of_bits}
 use Rattle.sides.proofs.blocks.q_block.Goals as goal

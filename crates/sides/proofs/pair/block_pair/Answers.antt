@@ -1,5 +1,4 @@
 -- `sides::pair::block_pair` meets its contract: |phi|² is not below zero, so the entry answers, and the sides are what their calls ensure. Assumes nothing.
-use borrow.Author.Rules.{rules}
 use mathlib.Core.Path.{sym, ap, ◌∙◌}
 use lib.Ieee.{binary64}
 use Rattle.so3.proofs.Even.{norm_sq_even}
@@ -12,16 +11,13 @@ use Rattle.sides.specs.Pair.{block_pair}
 use Rattle.sides.specs.Blocks.{jl_and_inverse}
 use Rattle.sides.proofs.pair.block_pair.Goals as goal
 
-pub no_blocks-requires : goal.no_blocks-requires
+pub unreachable-requires : goal.unreachable-requires
 unfolding armed_pair_told
-no_blocks-requires c =
+unreachable-requires c =
     let a = c.args in
     let entry = c.sim3_coeffs_armed_pair.ensures in
     let at = ap (λ x. armed_pair_answer binary64 a.tau.sigma x a.v) c.norm_sq-z.ensures in
     angle_armed-refuses binary64 a.tau.phi a.tau.sigma a.v _ (sym (entry ∙ at) ∙ ap armed_pair_told c.in_default.is)
-
-pub returns-in_default : goal.returns-in_default
-returns-in_default c = absurd c.no_blocks.ensures
 
 pub returns : goal.returns
 unfolding block_pair jl_and_inverse tangent_neg coeffs_armed_pair coeffs_armed mirrored armed_pair_told

@@ -1,4 +1,3 @@
-use borrow.Author.Rules.{rules}
 use Rattle.sides.specs.Side.{act_jacobians_right}
 use Rattle.sides.proofs.side.act_jacobians_right.Goals as goal
 

@@ -1,4 +1,3 @@
-use borrow.Author.Rules.{rules}
 use Rattle.sides.specs.Side.{tangent_ad}
 use lib.Ieee.{of_bits}
 use Rattle.sides.proofs.side.ad.Goals as goal

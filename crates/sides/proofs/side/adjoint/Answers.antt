@@ -1,4 +1,3 @@
-use borrow.Author.Rules.{rules}
 use Rattle.sides.specs.Side.{pose_adjoint}
 use lib.Ieee.{of_bits}
 use Rattle.sides.proofs.side.adjoint.Goals as goal

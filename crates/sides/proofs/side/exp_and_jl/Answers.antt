@@ -1,4 +1,3 @@
-use borrow.Author.Rules.{rules}
 use Rattle.sides.specs.Side.{exp_and_jl}
 use Rattle.sides.specs.Blocks.{jac_jl}
 use Rattle.sim3.specs.Exp.{pose_exp}

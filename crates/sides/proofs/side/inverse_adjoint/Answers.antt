@@ -1,4 +1,3 @@
-use borrow.Author.Rules.{rules}
 use Rattle.sides.specs.Side.{pose_inverse_adjoint}
 use Rattle.sides.proofs.side.inverse_adjoint.Goals as goal
 

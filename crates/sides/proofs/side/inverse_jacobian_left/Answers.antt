@@ -1,4 +1,3 @@
-use borrow.Author.Rules.{rules}
 use Rattle.sides.specs.Side.{inverse_jacobian_left}
 use Rattle.sides.proofs.side.inverse_jacobian_left.Goals as goal
 

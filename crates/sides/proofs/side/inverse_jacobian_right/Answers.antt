@@ -1,4 +1,3 @@
-use borrow.Author.Rules.{rules}
 use Rattle.sides.specs.Side.{inverse_jacobian_right}
 use Rattle.sides.proofs.side.inverse_jacobian_right.Goals as goal
 

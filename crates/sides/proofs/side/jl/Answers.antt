@@ -1,4 +1,3 @@
-use borrow.Author.Rules.{rules}
 use Rattle.sides.specs.Blocks.{jac_jl}
 use Rattle.sides.proofs.side.jl.Goals as goal
 

@@ -1,4 +1,3 @@
-use borrow.Author.Rules.{rules}
 use Rattle.sides.specs.Blocks.{jl_and_inverse}
 use Rattle.sides.proofs.side.jl_and_inverse.Goals as goal
 

@@ -1,4 +1,3 @@
-use borrow.Author.Rules.{rules}
 use Rattle.sides.specs.Side.{jac_jl_inv}
 use Rattle.sides.proofs.side.jl_inv.Goals as goal
 

@@ -1,4 +1,3 @@
-use borrow.Author.Rules.{rules}
 use Rattle.sides.specs.Side.{jac_jr}
 use Rattle.sides.proofs.side.jr.Goals as goal
 

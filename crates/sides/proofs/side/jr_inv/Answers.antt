@@ -1,4 +1,3 @@
-use borrow.Author.Rules.{rules}
 use Rattle.sides.specs.Side.{jac_jr_inv}
 use Rattle.sides.proofs.side.jr_inv.Goals as goal
 

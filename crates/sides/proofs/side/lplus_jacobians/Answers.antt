@@ -1,4 +1,3 @@
-use borrow.Author.Rules.{rules}
 use Rattle.sides.specs.Side.{lplus_jacobians, exp_and_jl}
 use Rattle.sides.proofs.side.lplus_jacobians.Goals as goal
 

@@ -1,4 +1,3 @@
-use borrow.Author.Rules.{rules}
 use Rattle.sides.specs.Side.{rplus_jacobians}
 use Rattle.sides.proofs.side.rplus_jacobians.Goals as goal
 
