@@ -1,4 +1,4 @@
--- Written by tools/widths from crates/circle: edit that one. Digest 2a63b506deb9844f.
+-- Written by tools/widths from crates/circle: edit that one. Digest cc57b50e7c1931c3.
 -- The structs of circle_f32 field by field, as rules for `simp`: a number that the code reads of a struct is the number of the definitions' record. Assumes nothing.
 use mathlib.Core.Path.{◌≡◌, refl}
 use lib.Ieee.{Float}
@@ -51,4 +51,4 @@ pub made-SincA : (sinc : Float) (a : Float) → as_sinc_a (record { sinc = sinc;
 unfolding as_sinc_a
 made-SincA sinc a = refl
 
-pub ruleset circle-singles = (k_of-ExpCoeffs, cos_half_of-ExpCoeffs, made-ExpCoeffs, a_of-SincABD, b_of-SincABD, sinc_of-SincABD, d_of-SincABD, made-SincABD, sinc_of-SincA, a_of-SincA, made-SincA)
+pub ruleset circle_singles = (k_of-ExpCoeffs, cos_half_of-ExpCoeffs, made-ExpCoeffs, a_of-SincABD, b_of-SincABD, sinc_of-SincABD, d_of-SincABD, made-SincABD, sinc_of-SincA, a_of-SincA, made-SincA)

@@ -1,4 +1,4 @@
--- Written by tools/widths from crates/circle: edit that one. Digest 5c08b39073a1348c.
+-- Written by tools/widths from crates/circle: edit that one. Digest 36f540b1e3ad69fb.
 -- The structs of circle_f32 as the records that the definitions speak of, number by number: a float of either width is one type of the logic.
 use Rattle.circle.specs.declared.kernel.ExpCoeffs as WideExpCoeffs
 use Rattle.circle_f32.specs.declared.kernel.ExpCoeffs.{ExpCoeffs}

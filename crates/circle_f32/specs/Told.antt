@@ -1,4 +1,4 @@
--- Written by tools/widths from crates/circle: edit that one. Digest 04b07249026ea022.
+-- Written by tools/widths from crates/circle: edit that one. Digest 2a8b800928fbd419.
 -- What each answer of circle_f32 says.
 use Rattle.circle_f32.specs.declared.kernel.ExpCoeffsAnswer as CodeExpCoeffsAnswer
 use Rattle.circle_f32.specs.declared.kernel.ExpCoeffsAnswer.TheVariants as InExpCoeffsAnswer

@@ -1,4 +1,4 @@
-// Written by tools/widths from crates/circle/src/kernel.rt: edit that one. Digest 5683afc6c6ff1d8e.
+// Written by tools/widths from crates/circle/src/kernel.rt: edit that one. Digest 29a4f77c68dd7717.
 // The exact arms, the series arms and the two groups, at a squared angle z = x^2. Its root x, the sine
 // and cosine of x/2 and the sine of x are handed in. A NaN is below no limit, so it takes the exact
 // arms.

@@ -1,4 +1,4 @@
-// Written by tools/widths from crates/circle/src/lib.rt: edit that one. Digest 0433ed6a1407e00d.
+// Written by tools/widths from crates/circle/src/lib.rt: edit that one. Digest 71a13c837ef49d12.
 // The circle functions at a squared angle z: the coefficients of the exponential and of the closed
 // forms above it, each by a series below its limit and by its exact form elsewhere.
 #![tactic(auto)]

@@ -1,4 +1,4 @@
--- Written by tools/widths from crates/closed: edit that one. Digest 78a7e2f62f9f83ab.
+-- Written by tools/widths from crates/closed: edit that one. Digest aedaa725a1ca3a6d.
 -- The structs of closed_f32 as the records that the definitions speak of, number by number: a float of either width is one type of the logic.
 use Rattle.closed.specs.declared.values.Values as WideValues
 use Rattle.closed_f32.specs.declared.values.Values.{Values}

@@ -1,4 +1,4 @@
-// Written by tools/widths from crates/closed/src/lib.rt: edit that one. Digest 673b399e767e3f6c.
+// Written by tools/widths from crates/closed/src/lib.rt: edit that one. Digest 15db914c901aee55.
 // What decides the arm of the coefficients and what the arms are handed: the arm at delta with its
 // limits, and the ten function values with the mirrored ones.
 #![tactic(auto)]

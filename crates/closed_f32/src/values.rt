@@ -1,4 +1,4 @@
-// Written by tools/widths from crates/closed/src/values.rt: edit that one. Digest 9317a16578be4052.
+// Written by tools/widths from crates/closed/src/values.rt: edit that one. Digest 167b0e65c82bd06b.
 // The function values that are handed in, and those of the negative.
 ghost use Rattle.std.specs.Prelude.{◌≡◌};
 ghost use Rattle.closed.specs.Values.{at_zero, mirrored};

@@ -1,4 +1,4 @@
--- Written by tools/widths from crates/coeffs: edit that one. Digest d8d96213865b4886.
+-- Written by tools/widths from crates/coeffs: edit that one. Digest 5c223aa3b7509352.
 -- The structs of coeffs_f32 field by field, as rules for `simp`: a number that the code reads of a struct is the number of the definitions' record. Assumes nothing.
 use mathlib.Core.Path.{◌≡◌, refl}
 use Prim.Native.Nat.{ℕ}
@@ -79,16 +79,16 @@ pub w0_of-Ends : (a : Ends) → a.w0 ≡ (as_ends a).w0
 unfolding as_ends
 w0_of-Ends a = refl
 
-pub v0-neg_of-Ends : (a : Ends) → a.v0_neg ≡ (as_ends a).v0_neg
+pub v0_neg_of-Ends : (a : Ends) → a.v0_neg ≡ (as_ends a).v0_neg
 unfolding as_ends
-v0-neg_of-Ends a = refl
+v0_neg_of-Ends a = refl
 
-pub w0-neg_of-Ends : (a : Ends) → a.w0_neg ≡ (as_ends a).w0_neg
+pub w0_neg_of-Ends : (a : Ends) → a.w0_neg ≡ (as_ends a).w0_neg
 unfolding as_ends
-w0-neg_of-Ends a = refl
+w0_neg_of-Ends a = refl
 
-pub made-Ends : (v0 : Float) (w0 : Float) (v0_neg : Float) (w0_neg : Float) → as_ends
-    (record { v0 = v0; w0 = w0; v0_neg = v0_neg; w0_neg = w0_neg }) ≡ record { v0 = v0; w0 = w0; v0_neg = v0_neg; w0_neg = w0_neg }
+pub made-Ends : (v0 : Float) (w0 : Float) (v0_neg : Float) (w0_neg : Float) → as_ends (record { v0 = v0; w0 = w0; v0_neg = v0_neg; w0_neg = w0_neg })
+    ≡ record { v0 = v0; w0 = w0; v0_neg = v0_neg; w0_neg = w0_neg }
 unfolding as_ends
 made-Ends v0 w0 v0_neg w0_neg = refl
 
@@ -172,8 +172,8 @@ pub ruleset coeffs_singles = (
   made-Exps,
   v0_of-Ends,
   w0_of-Ends,
-  v0-neg_of-Ends,
-  w0-neg_of-Ends,
+  v0_neg_of-Ends,
+  w0_neg_of-Ends,
   made-Ends,
   c_of-Scaled,
   scaled_of-Scaled,

@@ -1,4 +1,4 @@
--- Written by tools/widths from crates/coeffs: edit that one. Digest d75a92af0af3ecde.
+-- Written by tools/widths from crates/coeffs: edit that one. Digest e033346fbf778f94.
 -- The structs of coeffs_f32 as the records that the definitions speak of, number by number: a float of either width is one type of the logic.
 use Rattle.coeffs.specs.declared.closed_form.Ws as WideWs
 use Rattle.coeffs_f32.specs.declared.closed_form.Ws.{Ws}

@@ -1,4 +1,4 @@
--- Written by tools/widths from crates/coeffs: edit that one. Digest 52623b2f42a47fc2.
+-- Written by tools/widths from crates/coeffs: edit that one. Digest 43c7f424a877b945.
 -- What each answer of coeffs_f32 says.
 use Rattle.coeffs_f32.specs.declared.sim3.ScaledAnswer as CodeScaledAnswer
 use Rattle.coeffs_f32.specs.declared.sim3.ScaledAnswer.TheVariants as InScaledAnswer

@@ -1,4 +1,4 @@
-// Written by tools/widths from crates/coeffs/src/closed_form.rt: edit that one. Digest e4ec414c9c7a8e2c.
+// Written by tools/widths from crates/coeffs/src/closed_form.rt: edit that one. Digest 7018ed3ab39e3243.
 // The closed arm: the coefficients from the circle functions and the exponential, scaled by e^-sigma where
 // 0 < sigma, so that nothing overflows before the answer does.
 ghost use Rattle.std.specs.Prelude.{◌≡◌};

@@ -1,4 +1,4 @@
-// Written by tools/widths from crates/coeffs/src/sim3.rt: edit that one. Digest 17e887e511afde90.
+// Written by tools/widths from crates/coeffs/src/sim3.rt: edit that one. Digest 4a642f67792e1210.
 // The entries of the coefficient group: scaled, with the arm told, unscaled, v alone, and the pair for
 // both signs. Each finds the arm once.
 ghost use Rattle.std.specs.Prelude.{◌≡◌};

@@ -2,7 +2,7 @@
 -- rounding. No format is an argument: one register of the processor holds the setting for all.
 use Rattle.std.specs.Prelude.{◌≡◌, Bool, true, Float}
 use Rattle.std.specs.Float.{binary64}
-use Rattle.std.specs.Float.Ieee.{mul, eq, of_bits}
+use Rattle.std.specs.Float.Ieee.{eq, of_bits}
 use Rattle.ieee.specs.Infix.{operations}
 
 infixl 70 ◌⊗◌

@@ -1,4 +1,4 @@
--- Written by tools/widths from crates/linalg: edit that one. Digest a28259f51d2fe057.
+-- Written by tools/widths from crates/linalg: edit that one. Digest 5c60dd9e44849f66.
 -- The structs of linalg_f32 field by field, as rules for `simp`: a number that the code reads of a struct is the number of the definitions' record. Assumes nothing.
 use mathlib.Core.Path.{◌≡◌, refl}
 use lib.Ieee.{Float}

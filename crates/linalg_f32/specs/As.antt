@@ -1,4 +1,4 @@
--- Written by tools/widths from crates/linalg: edit that one. Digest 0c74ae1a98f4a0e0.
+-- Written by tools/widths from crates/linalg: edit that one. Digest 83bb50909baf21c1.
 -- The structs of linalg_f32 as the records that the definitions speak of, number by number: a float of either width is one type of the logic.
 use Rattle.linalg.specs.declared.vector.Vec3 as WideVec3
 use Rattle.linalg_f32.specs.declared.vector.Vec3.{Vec3}

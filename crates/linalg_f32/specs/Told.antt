@@ -1,4 +1,4 @@
--- Written by tools/widths from crates/linalg: edit that one. Digest 87cc441bbd86ce73.
+-- Written by tools/widths from crates/linalg: edit that one. Digest cc252b8a2f8d9acf.
 -- What each answer of linalg_f32 says.
 use Rattle.linalg_f32.specs.declared.matrix.Entry as CodeEntry
 use Rattle.linalg_f32.specs.declared.matrix.Entry.TheVariants as InEntry

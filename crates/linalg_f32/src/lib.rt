@@ -1,4 +1,4 @@
-// Written by tools/widths from crates/linalg/src/lib.rt: edit that one. Digest 7955baf96a4ec392.
+// Written by tools/widths from crates/linalg/src/lib.rt: edit that one. Digest 848439530aac3e4c.
 // Vectors of three singles and 3x3 matrices of three columns, by value.
 #![tactic(auto)]
 

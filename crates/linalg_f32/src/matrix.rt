@@ -1,4 +1,4 @@
-// Written by tools/widths from crates/linalg/src/matrix.rt: edit that one. Digest d4fb678f22f16590.
+// Written by tools/widths from crates/linalg/src/matrix.rt: edit that one. Digest d0285651c93e3599.
 // A 3x3 matrix of three columns. Every entry of a product is a sum in index order from its first
 // term.
 ghost use Rattle.std.specs.Prelude.{◌≡◌};

@@ -1,4 +1,4 @@
-// Written by tools/widths from crates/linalg/src/vector.rt: edit that one. Digest c768258f76b6844f.
+// Written by tools/widths from crates/linalg/src/vector.rt: edit that one. Digest 0ba22a368b999ebc.
 // A vector of three singles. Every sum runs left to right from its first term.
 ghost use Rattle.std.specs.Prelude.{◌≡◌};
 ghost use Rattle.std.specs.Float.{binary32};

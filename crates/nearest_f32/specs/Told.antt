@@ -1,4 +1,4 @@
--- Written by tools/widths from crates/nearest: edit that one. Digest 3243e432840bd36d.
+-- Written by tools/widths from crates/nearest: edit that one. Digest 05da3d86b9f96a59.
 -- What each answer of nearest_f32 says.
 use Rattle.nearest_f32.specs.declared.Direction as CodeDirection
 use Rattle.nearest_f32.specs.declared.Direction.TheVariants as InDirection

@@ -1,4 +1,4 @@
-// Written by tools/widths from crates/nearest/src/lib.rt: edit that one. Digest 8a05799e00a24821.
+// Written by tools/widths from crates/nearest/src/lib.rt: edit that one. Digest cd77b0dafdb076f6.
 // How near another arm of the coefficients is: the fewest neighbouring values that z must move, down
 // or up, for the arm at (sigma, z) to change. Neighbouring values have neighbouring bit patterns, and
 // the arm does not fall as z grows; so the two ends of z's arm are found by halving the patterns.

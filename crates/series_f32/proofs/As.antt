@@ -1,4 +1,4 @@
--- Written by tools/widths from crates/series: edit that one. Digest dac89968444c4557.
+-- Written by tools/widths from crates/series: edit that one. Digest 248fd35d34ea8afc.
 -- The structs of series_f32 field by field, as rules for `simp`: a number that the code reads of a struct is the number of the definitions' record. Assumes nothing.
 use mathlib.Core.Path.{◌≡◌, refl}
 use lib.Ieee.{Float}
@@ -83,17 +83,17 @@ pub dv1_of-Tail : (a : Tail) → a.dv1 ≡ (as_tail a).dv1
 unfolding as_tail
 dv1_of-Tail a = refl
 
-pub dv1-next_of-Tail : (a : Tail) → a.dv1_next ≡ (as_tail a).dv1_next
+pub dv1_next_of-Tail : (a : Tail) → a.dv1_next ≡ (as_tail a).dv1_next
 unfolding as_tail
-dv1-next_of-Tail a = refl
+dv1_next_of-Tail a = refl
 
 pub dv2_of-Tail : (a : Tail) → a.dv2 ≡ (as_tail a).dv2
 unfolding as_tail
 dv2_of-Tail a = refl
 
-pub dv2-next_of-Tail : (a : Tail) → a.dv2_next ≡ (as_tail a).dv2_next
+pub dv2_next_of-Tail : (a : Tail) → a.dv2_next ≡ (as_tail a).dv2_next
 unfolding as_tail
-dv2-next_of-Tail a = refl
+dv2_next_of-Tail a = refl
 
 pub dv2_last_of-Tail : (a : Tail) → a.dv2_last ≡ (as_tail a).dv2_last
 unfolding as_tail
@@ -154,7 +154,8 @@ pub neg_of-TurnsPair : (a : TurnsPair) → as_sums a.neg ≡ (as_turns_pair a).n
 unfolding as_turns_pair
 neg_of-TurnsPair a = refl
 
-pub made-TurnsPair : (level : Level) (pos : Sums) (neg : Sums) → as_turns_pair (record { level = level; pos = pos; neg = neg }) ≡ record { level = as_level level; pos = as_sums pos; neg = as_sums neg }
+pub made-TurnsPair : (level : Level) (pos : Sums) (neg : Sums) → as_turns_pair (record { level = level; pos = pos; neg = neg })
+    ≡ record { level = as_level level; pos = as_sums pos; neg = as_sums neg }
 unfolding as_turns_pair
 made-TurnsPair level pos neg = refl
 
@@ -202,9 +203,9 @@ pub dv2_of-Sim3Coeffs : (a : Sim3Coeffs) → a.dv2 ≡ (as_sim3_coeffs a).dv2
 unfolding as_sim3_coeffs
 dv2_of-Sim3Coeffs a = refl
 
-pub chi-delta_of-Sim3Coeffs : (a : Sim3Coeffs) → a.chi_delta ≡ (as_sim3_coeffs a).chi_delta
+pub chi_delta_of-Sim3Coeffs : (a : Sim3Coeffs) → a.chi_delta ≡ (as_sim3_coeffs a).chi_delta
 unfolding as_sim3_coeffs
-chi-delta_of-Sim3Coeffs a = refl
+chi_delta_of-Sim3Coeffs a = refl
 
 pub made-Sim3Coeffs : (v0 : Float) (v1 : Float) (v2 : Float) (w0 : Float) (w1 : Float) (w2 : Float) (dv1 : Float) (dv2 : Float) (chi_delta : Float)
     → as_sim3_coeffs (record { v0 = v0; v1 = v1; v2 = v2; w0 = w0; w1 = w1; w2 = w2; dv1 = dv1; dv2 = dv2; chi_delta = chi_delta })
@@ -224,9 +225,9 @@ pub v2_of-Coeffs4 : (a : Coeffs4) → a.v2 ≡ (as_coeffs4 a).v2
 unfolding as_coeffs4
 v2_of-Coeffs4 a = refl
 
-pub chi-delta_of-Coeffs4 : (a : Coeffs4) → a.chi_delta ≡ (as_coeffs4 a).chi_delta
+pub chi_delta_of-Coeffs4 : (a : Coeffs4) → a.chi_delta ≡ (as_coeffs4 a).chi_delta
 unfolding as_coeffs4
-chi-delta_of-Coeffs4 a = refl
+chi_delta_of-Coeffs4 a = refl
 
 pub made-Coeffs4 : (v0 : Float) (v1 : Float) (v2 : Float) (chi_delta : Float) → as_coeffs4
     (record { v0 = v0; v1 = v1; v2 = v2; chi_delta = chi_delta }) ≡ record { v0 = v0; v1 = v1; v2 = v2; chi_delta = chi_delta }
@@ -273,31 +274,25 @@ pub series_of-Stopped : (a : Stopped) → as_horner a.series ≡ (as_stopped a).
 unfolding as_stopped
 series_of-Stopped a = refl
 
-pub series-alone_of-Stopped : (a : Stopped) → as_horner a.series_alone ≡ (as_stopped a).series_alone
+pub series_alone_of-Stopped : (a : Stopped) → as_horner a.series_alone ≡ (as_stopped a).series_alone
 unfolding as_stopped
-series-alone_of-Stopped a = refl
+series_alone_of-Stopped a = refl
 
 pub closed_of-Stopped : (a : Stopped) → as_horner a.closed ≡ (as_stopped a).closed
 unfolding as_stopped
 closed_of-Stopped a = refl
 
-pub closed-alone_of-Stopped : (a : Stopped) → as_horner a.closed_alone ≡ (as_stopped a).closed_alone
+pub closed_alone_of-Stopped : (a : Stopped) → as_horner a.closed_alone ≡ (as_stopped a).closed_alone
 unfolding as_stopped
-closed-alone_of-Stopped a = refl
+closed_alone_of-Stopped a = refl
 
 pub made-Stopped : (series : Horner) (series_alone : Horner) (closed : Horner) (closed_alone : Horner) → as_stopped
     (record { series = series; series_alone = series_alone; closed = closed; closed_alone = closed_alone })
-    ≡ record {
-      series = as_horner series;
-      series_alone = as_horner series_alone;
-      closed = as_horner closed;
-      closed_alone = as_horner
-          closed_alone;
-    }
+    ≡ record { series = as_horner series; series_alone = as_horner series_alone; closed = as_horner closed; closed_alone = as_horner closed_alone }
 unfolding as_stopped
 made-Stopped series series_alone closed closed_alone = refl
 
-pub ruleset series-singles = (
+pub ruleset series_singles = (
   xi_of-Level,
   dxi_of-Level,
   zeta_of-Level,
@@ -314,9 +309,9 @@ pub ruleset series-singles = (
   v2_of-Tail,
   w2_of-Tail,
   dv1_of-Tail,
-  dv1-next_of-Tail,
+  dv1_next_of-Tail,
   dv2_of-Tail,
-  dv2-next_of-Tail,
+  dv2_next_of-Tail,
   dv2_last_of-Tail,
   made-Tail,
   level_of-Turns,
@@ -343,12 +338,12 @@ pub ruleset series-singles = (
   w2_of-Sim3Coeffs,
   dv1_of-Sim3Coeffs,
   dv2_of-Sim3Coeffs,
-  chi-delta_of-Sim3Coeffs,
+  chi_delta_of-Sim3Coeffs,
   made-Sim3Coeffs,
   v0_of-Coeffs4,
   v1_of-Coeffs4,
   v2_of-Coeffs4,
-  chi-delta_of-Coeffs4,
+  chi_delta_of-Coeffs4,
   made-Coeffs4,
   pos_of-CoeffsPair,
   neg_of-CoeffsPair,
@@ -360,8 +355,8 @@ pub ruleset series-singles = (
   w0_of-Horner,
   made-Horner,
   series_of-Stopped,
-  series-alone_of-Stopped,
+  series_alone_of-Stopped,
   closed_of-Stopped,
-  closed-alone_of-Stopped,
+  closed_alone_of-Stopped,
   made-Stopped,
 )

@@ -1,4 +1,4 @@
--- Written by tools/widths from crates/series: edit that one. Digest 4a1f326f5cc693e4.
+-- Written by tools/widths from crates/series: edit that one. Digest 522592e5576a5e11.
 -- The structs of series_f32 as the records that the definitions speak of, number by number: a float of either width is one type of the logic.
 use Rattle.series.specs.declared.recurrence.Level as WideLevel
 use Rattle.series_f32.specs.declared.recurrence.Level.{Level}

@@ -1,4 +1,4 @@
--- Written by tools/widths from crates/series: edit that one. Digest 3292d3ab46611a4c.
+-- Written by tools/widths from crates/series: edit that one. Digest aa54d2f874c0e0ec.
 -- What each answer of series_f32 says.
 use Rattle.series_f32.specs.declared.stopped.StoppedAnswer as CodeStoppedAnswer
 use Rattle.series_f32.specs.declared.stopped.StoppedAnswer.TheVariants as InStoppedAnswer

@@ -1,4 +1,4 @@
-// Written by tools/widths from crates/series/src/horner.rt: edit that one. Digest 6133701e878e0bc4.
+// Written by tools/widths from crates/series/src/horner.rt: edit that one. Digest 58cc667614c5ba81.
 // Horner's sums of the series, at one sign and at both, and stopped after some entries of the table.
 ghost use Rattle.std.specs.Prelude.{◌≡◌, ◌≤◌};
 ghost use Rattle.std.specs.Float.{binary32};

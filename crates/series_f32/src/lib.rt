@@ -1,4 +1,4 @@
-// Written by tools/widths from crates/series/src/lib.rt: edit that one. Digest 62c2e0e068926df2.
+// Written by tools/widths from crates/series/src/lib.rt: edit that one. Digest bbbafe735e32b8e4.
 // The Sim(3) coefficients by their total-degree series, at up to 28 terms, and 30 for v alone: at one
 // sign of sigma, and at both from one recurrence.
 #![tactic(auto)]

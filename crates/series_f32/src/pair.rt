@@ -1,4 +1,4 @@
-// Written by tools/widths from crates/series/src/pair.rt: edit that one. Digest 959096febb99e5a2.
+// Written by tools/widths from crates/series/src/pair.rt: edit that one. Digest 2bca378e79420ab9.
 // The series at sigma and at -sigma, each to the bit, from one recurrence. The levels at -sigma are
 // those at sigma with the sign of their parity, up to the sign of a zero, which no sum keeps: so
 // where a sum at sigma adds a term, the one at -sigma adds or subtracts it.

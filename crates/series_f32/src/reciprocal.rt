@@ -1,4 +1,4 @@
-// Written by tools/widths from crates/series/src/reciprocal.rt: edit that one. Digest 1e78ca8a3d0a9c19.
+// Written by tools/widths from crates/series/src/reciprocal.rt: edit that one. Digest 7b9fd9ad447e9bc0.
 // The reciprocals that the series read: none of them is past the end of the table.
 ghost use Rattle.std.specs.Prelude.{◌≡◌, ◌≤◌};
 ghost use Rattle.std.specs.Float.{binary32};

@@ -1,4 +1,4 @@
-// Written by tools/widths from crates/series/src/recurrence.rt: edit that one. Digest 3e80569dbded90d3.
+// Written by tools/widths from crates/series/src/recurrence.rt: edit that one. Digest fc0e3246a847dc46.
 // The recurrence of the total-degree series: its levels, the terms that a level gives, and the six
 // sums of them, for one sign.
 ghost use Rattle.std.specs.Prelude.{◌≡◌};

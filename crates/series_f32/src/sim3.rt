@@ -1,4 +1,4 @@
-// Written by tools/widths from crates/series/src/sim3.rt: edit that one. Digest f84e90d6c03242ba.
+// Written by tools/widths from crates/series/src/sim3.rt: edit that one. Digest 6035c706dd46c2f0.
 // The Sim(3) coefficients, and their total-degree series at one sign of sigma: the full one, and
 // the one for v alone, which has the full one's bits. k is the number of terms of v0 and w0; the
 // other sums run to the level that gives every coefficient the same total degree.

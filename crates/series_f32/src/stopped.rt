@@ -1,4 +1,4 @@
-// Written by tools/widths from crates/series/src/stopped.rt: edit that one. Digest c86cf2901b186aff.
+// Written by tools/widths from crates/series/src/stopped.rt: edit that one. Digest 0058b38fe479553f.
 // One pass over the reciprocals, stopped: what it holds after any number of entries, beside what the sums
 // of each sign alone hold then. No other function calls this: its contract says that they are the same.
 ghost use Rattle.std.specs.Prelude.{◌≡◌, ◌≤◌};

@@ -1,3 +1,4 @@
+-- Written by tools/widths from crates/ieee/proofs/to_bits/Answers.antt: edit that one. Digest bd36a58d8202d336.
 -- `ieee_f32::to_bits` meets its contract: what does not equal itself is the NaN, and any other single has its own pattern. Assumes nothing.
 use mathlib.Core.Path.{refl, sym, subst}
 use lib.Dec.{T}

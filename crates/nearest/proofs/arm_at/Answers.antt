@@ -1,5 +1,4 @@
 -- `nearest::arm_at` meets its contract: it is the arm at the sum that the definition names, and the arms start at 1. Assumes nothing.
-use borrow.Author.Rules.{rules}
 use mathlib.Core.Path.{◌≡◌, sym, subst}
 use Prim.Native.Nat.{ℕ, ◌≤◌}
 use lib.Ieee.{binary64}

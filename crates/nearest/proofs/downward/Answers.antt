@@ -1,5 +1,4 @@
 -- `nearest::downward` meets its contract: the answer's parts are those that it says. Assumes nothing.
-use borrow.Author.Rules.{rules}
 use Rattle.nearest.specs.Nearest.{way_told, step_told, nearest_told}
 use Rattle.nearest.proofs.downward.Goals as goal
 

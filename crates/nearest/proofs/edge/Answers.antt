@@ -1,5 +1,4 @@
 -- `nearest::edge` meets its contract: the invariant is what is known when the patterns from `from` to `to` are left, and the measure is how many there are. Assumes nothing.
-use borrow.Author.Rules.{rules}
 use mathlib.Core.Path.{subst}
 use Prim.Native.Nat.{ℕ, ◌-◌, ◌≤◌, ◌<◌}
 use native.Mathlib.Omega.{arith}
@@ -7,7 +6,7 @@ use lib.Ieee.{binary64}
 use Rattle.ieee.specs.Patterns.{patterns}
 use Rattle.nearest.specs.Nearest.{arm_at}
 use Rattle.nearest.proofs.Rising.{arm_rising}
-use Rattle.nearest.proofs.Halving.{Left, all_left, none_left, go_up, go_down}
+use Rattle.nearest.proofs.Halving.{all_left, none_left, go_up, go_down}
 use Rattle.nearest.proofs.edge.Goals as goal
 
 pub loop-from-init : goal.loop-from-init

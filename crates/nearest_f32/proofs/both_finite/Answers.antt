@@ -1,3 +1,4 @@
+-- Written by tools/widths from crates/nearest/proofs/both_finite/Answers.antt: edit that one. Digest 6bd0c4b641e998e5.
 -- `nearest_f32::both_finite` meets its contract: a product that begins with 0 is a zero where all its factors are finite, and a NaN elsewhere. Assumes nothing.
 use mathlib.Core.Bool.{true, ◌&&◌}
 use lib.Ieee.{binary32, of_bits, mul}

@@ -1,13 +1,10 @@
+-- Written by tools/widths from crates/nearest/proofs/edge/Invariants.antt: edit that one. Digest c1b934ebea1f99ad.
 -- `nearest_f32::edge` meets its contract: the invariant is what is known when the patterns from `from` to `to` are left, and the measure is how many there are. Assumes nothing.
-use borrow.Author.Rules.{rules}
-use mathlib.Core.Path.{subst}
-use Prim.Native.Nat.{ℕ, ◌-◌, ◌≤◌, ◌<◌}
-use native.Mathlib.Omega.{arith}
+use Prim.Native.Nat.{◌-◌}
 use lib.Ieee.{binary32}
 use Rattle.ieee.specs.Patterns.{patterns}
 use Rattle.nearest.specs.Nearest.{arm_at}
-use Rattle.nearest.proofs.Rising.{arm_rising}
-use Rattle.nearest.proofs.Halving.{Left, all_left, none_left, go_up, go_down}
+use Rattle.nearest.proofs.Halving.{Left}
 use Rattle.nearest_f32.proofs.edge.Given as goal
 
 abbrev pub invariant-loop-from : goal.invariant-loop-from

@@ -1,6 +1,5 @@
+-- Written by tools/widths from crates/nearest/proofs/nearest_arm/Answers.antt: edit that one. Digest 43b6c06cb33b839f.
 -- `nearest_f32::nearest_arm` meets its contract: its tests are those of the definition, in their order. Assumes nothing.
-use borrow.Author.Rules.{rules}
-use borrow.Author.Tests.{not-true, not-false}
 use mathlib.Core.Path.{sym, ◌∙◌}
 use lib.Ieee.{binary32, of_bits}
 use Rattle.ieee.specs.Finite.{is_finite}
@@ -16,14 +15,14 @@ returns-then-z c = below-zero binary32 first_told c.args.sigma c.args.z c.if-z.t
 pub returns-then-not-both_finite : goal.returns-then-not-both_finite
 unfolding nearest_told of_bits
 returns-then-not-both_finite c = not_finite binary32 first_told c.args.sigma c.args.z
-    c.if-z.false (sym c.both_finite.ensures ∙ not-true _ c.if-not-both_finite.true)
+    c.if-z.false (sym c.both_finite.ensures ∙ c.if-not-both_finite.true)
 
 pub pattern-requires : goal.pattern-requires
 unfolding of_bits
 pattern-requires c = (
   c.if-z.false,
   right (is_finite c.args.sigma)
-      (is_finite c.args.z) (sym c.both_finite.ensures ∙ not-false _ c.if-not-both_finite.false),
+      (is_finite c.args.z) (sym c.both_finite.ensures ∙ c.if-not-both_finite.false),
 )
 
 pub returns : goal.returns
@@ -31,4 +30,4 @@ unfolding of_bits
 returns c =
     c.nearest_from.ensures
     ∙ accepted binary32 first_told c.args.sigma c.args.z c.pattern.result c.if-z.false
-    (sym c.both_finite.ensures ∙ not-false _ c.if-not-both_finite.false) c.pattern.ensures.0
+    (sym c.both_finite.ensures ∙ c.if-not-both_finite.false) c.pattern.ensures.0

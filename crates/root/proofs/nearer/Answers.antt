@@ -1,5 +1,4 @@
 -- `root::nearer` meets its contract: the test is the definition's. Assumes nothing.
-use borrow.Author.Rules.{rules}
 use borrow.Author.Tests.{le-leb, lt-leb}
 use Rattle.root.proofs.nearer.Goals as goal
 

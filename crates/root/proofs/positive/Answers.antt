@@ -1,5 +1,4 @@
 -- `root::positive` meets its contract: the digits' range lets every step stay in 64 bits, and `parts_are` puts the answer together. Assumes nothing.
-use borrow.Author.Rules.{rules}
 use mathlib.Core.Path.{refl}
 use Prim.Native.Nat.{◌/◌}
 use native.Mathlib.Omega.{arith}

@@ -1,5 +1,4 @@
 -- `root::refine` meets its contract: the square stays below 2 ^ 32, and the test says which of the two is the root. Assumes nothing.
-use borrow.Author.Rules.{rules}
 use Prim.Native.Nat.{◌+◌, ◌^◌}
 use native.Mathlib.Omega.{arith}
 use Rattle.root.proofs.Squares.{square_le}

@@ -1,14 +1,14 @@
 -- `root::whole_root` meets its contract: after the seed, each `widen` has the root of a longer beginning of the digits. Assumes nothing.
-use borrow.Author.Rules.{rules}
 use mathlib.Core.Path.{◌≡◌, ap, ◌∙◌}
 use Prim.Native.Nat.{ℕ, ◌+◌, ◌-◌, ◌*◌, ◌/◌, ◌%◌, ◌^◌, ◌≤◌, ◌<◌}
 use native.Mathlib.Omega.{arith}
 use Rattle.root.proofs.Squares.{bracket, first_two, next_two}
 use Rattle.root.proofs.whole_root.Goals as goal
+use Rattle.root.proofs.whole_root.Goals.{After-widen-p, After-widen-q}
 
 -- after the first step: the root of the upper 28 digits
 one :
-    (c : goal.After-widen-p) →
+    (c : After-widen-p) →
     let p = c.widen-p.result in
     (p.root * p.root + p.remainder ≡ c.args.c / 0x400_0000) × (p.remainder ≤ 2 * p.root) × (2 ^ 13 ≤ p.root) × (p.root < 2 ^ 14)
 one c =
@@ -19,7 +19,7 @@ one c =
 
 -- after the second: the root of c
 two :
-    (c : goal.After-widen-q) →
+    (c : After-widen-q) →
     let p = c.widen-q.result in
     (p.root * p.root + p.remainder ≡ c.args.c) × (p.remainder ≤ 2 * p.root) × (2 ^ 26 ≤ p.root) × (p.root < 2 ^ 27)
 two c =
@@ -45,5 +45,5 @@ widen-requires c = let o = two c in omega arith
 
 pub returns : goal.returns
 returns c =
-    let o = two c.before in
+    let o = two (goal.at.returns c).After-widen-q in
     (c.widen.ensures.0 ∙ ap (λ (x : ℕ). x * (0x400_0000 * 0x400_0000) + 0 * 0x400_0000 + 0) o.0 ∙ omega arith, c.widen.ensures.1)

@@ -4,9 +4,10 @@ use Prim.Native.Nat.{◌+◌, ◌*◌, ◌/◌, ◌%◌}
 use native.Mathlib.Omega.{arith}
 use Rattle.root.proofs.Squares.{Stepped, stepped}
 use Rattle.root.proofs.widen.Goals as goal
+use Rattle.root.proofs.widen.Goals.{Start}
 
 facts :
-    (c : goal.Start) →
+    (c : Start) →
     let a = c.args in
     Stepped a.s a.r a.b a.a a.l ((a.r * a.b + a.a) / (2 * a.s)) ((a.r * a.b + a.a) % (2 * a.s))
 facts c =
@@ -35,22 +36,22 @@ pub overflow_add-root : goal.overflow_add-root
 overflow_add-root c = omega (arith, (facts c).root)
 
 pub overflow_sub-result-else-w-t : goal.overflow_sub-result-else-w-t
-overflow_sub-result-else-w-t c = omega (arith, (facts c.before).some c.if-w-t.false)
+overflow_sub-result-else-w-t c = omega (arith, (facts (goal.at.overflow_sub-result-else-w-t c).Start).some c.if-w-t.false)
 
 pub overflow_mul-result : goal.overflow_mul-result
-overflow_mul-result c = omega (arith, (facts c.before).root)
+overflow_mul-result c = omega (arith, (facts (goal.at.overflow_mul-result c).Start).root)
 
 pub overflow_add-result : goal.overflow_add-result
-overflow_add-result c = omega (arith, (facts c.before).root, (facts c.before).left)
+overflow_add-result c = omega (arith, (facts (goal.at.overflow_add-result c).Start).root, (facts (goal.at.overflow_add-result c).Start).left)
 
 pub overflow_sub-result-else-w-t-2 : goal.overflow_sub-result-else-w-t-2
-overflow_sub-result-else-w-t-2 c = omega (arith, (facts c.before).some c.if-w-t.false)
+overflow_sub-result-else-w-t-2 c = omega (arith, (facts (goal.at.overflow_sub-result-else-w-t-2 c).Start).some c.if-w-t.false)
 
 pub overflow_sub-result-else-w-t-3 : goal.overflow_sub-result-else-w-t-3
-overflow_sub-result-else-w-t-3 c = (facts c.before).short c.if-w-t.false
+overflow_sub-result-else-w-t-3 c = (facts (goal.at.overflow_sub-result-else-w-t-3 c).Start).short c.if-w-t.false
 
 pub returns-then-w-t : goal.returns-then-w-t
-returns-then-w-t c = (facts c.before).enough c.if-w-t.true
+returns-then-w-t c = (facts (goal.at.returns-then-w-t c).Start).enough c.if-w-t.true
 
 pub returns-else-w-t : goal.returns-else-w-t
-returns-else-w-t c = (facts c.before).too_large c.if-w-t.false
+returns-else-w-t c = (facts (goal.at.returns-else-w-t c).Start).too_large c.if-w-t.false

@@ -1,4 +1,3 @@
-use borrow.Author.Rules.{rules}
 use Rattle.circle.proofs.generated.terms.Goals as goal
 
 pub returns-in-K : goal.returns-in-K

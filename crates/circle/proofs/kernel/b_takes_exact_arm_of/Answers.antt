@@ -1,5 +1,4 @@
 -- `circle::kernel::b_takes_exact_arm_of` meets its contract: by what its calls ensure. Assumes nothing.
-use borrow.Author.Rules.{rules}
 use Rattle.circle.proofs.kernel.b_takes_exact_arm_of.Goals as goal
 
 pub returns : goal.returns

@@ -1,5 +1,4 @@
 -- `circle::kernel::exp_coeffs` meets its contract: by what its calls ensure and its tests say. Assumes nothing.
-use borrow.Author.Rules.{rules}
 use Rattle.circle.specs.Kernel.{exp_coeffs_told, circle_exp_answer}
 use Rattle.circle.proofs.kernel.exp_coeffs.Goals as goal
 

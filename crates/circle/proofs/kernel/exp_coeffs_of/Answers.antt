@@ -1,5 +1,4 @@
 -- `circle::kernel::exp_coeffs_of` meets its contract: by what its calls ensure. Assumes nothing.
-use borrow.Author.Rules.{rules}
 use Rattle.circle.proofs.kernel.exp_coeffs_of.Goals as goal
 
 pub returns : goal.returns

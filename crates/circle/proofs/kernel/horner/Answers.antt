@@ -1,10 +1,7 @@
 -- `circle::kernel::horner` meets its contract: with i terms left to take, p is the sum of the terms from i on. Assumes nothing.
-use Prim.Native.Nat.{◌<◌}
 use mathlib.Core.Path.{◌≡◌, sym, ◌∙◌}
 use native.Mathlib.Omega.{arith}
-use lib.ListN.{length, drop}
 use lib.Ieee.{binary64, of_bits}
-use Rattle.circle.specs.Kernel.{horner_sum}
 use Rattle.circle.proofs.Horner.{horner_none, horner_last, horner_more}
 use Rattle.circle.proofs.kernel.horner.Goals as goal
 

@@ -1,11 +1,9 @@
 -- `circle::kernel::horner` meets its contract: with i terms left to take, p is the sum of the terms from i on. Assumes nothing.
 use Prim.Native.Nat.{◌<◌}
-use mathlib.Core.Path.{◌≡◌, sym, ◌∙◌}
-use native.Mathlib.Omega.{arith}
+use mathlib.Core.Path.{◌≡◌}
 use lib.ListN.{length, drop}
-use lib.Ieee.{binary64, of_bits}
+use lib.Ieee.{binary64}
 use Rattle.circle.specs.Kernel.{horner_sum}
-use Rattle.circle.proofs.Horner.{horner_none, horner_last, horner_more}
 use Rattle.circle.proofs.kernel.horner.Given as goal
 
 abbrev pub invariant-loop-i : goal.invariant-loop-i

@@ -1,5 +1,4 @@
 -- `circle::kernel::own_arm` meets its contract: by what its calls ensure and its tests say. Assumes nothing.
-use borrow.Author.Rules.{rules}
 use Rattle.circle.specs.Kernel.{row_own}
 use Rattle.circle.proofs.kernel.own_arm.Goals as goal
 

@@ -1,5 +1,4 @@
 -- `circle::kernel::series` meets its contract: by what its calls ensure. Assumes nothing.
-use borrow.Author.Rules.{rules}
 use native.Mathlib.Omega.{arith}
 use lib.ListN.{length-take}
 use Rattle.circle.specs.Kernel.{row_series}

@@ -1,5 +1,4 @@
 -- `circle::kernel::sinc_a` meets its contract: by what its calls ensure and its tests say. Assumes nothing.
-use borrow.Author.Rules.{rules}
 use Rattle.circle.specs.Kernel.{sinc_a_told, circle_sinc_a_answer}
 use Rattle.circle.proofs.kernel.sinc_a.Goals as goal
 

@@ -1,5 +1,4 @@
 -- `circle::kernel::sinc_a_b_d` meets its contract: by what its calls ensure and its tests say. Assumes nothing.
-use borrow.Author.Rules.{rules}
 use Rattle.circle.specs.Kernel.{sinc_abd_told, circle_sinc_abd_answer}
 use Rattle.circle.proofs.kernel.sinc_a_b_d.Goals as goal
 

@@ -1,5 +1,4 @@
 -- `circle::kernel::sinc_value` meets its contract: by what its calls ensure and its tests say. Assumes nothing.
-use borrow.Author.Rules.{rules}
 use Rattle.circle.specs.Kernel.{sinc_told, circle_sinc_answer, circle_sinc}
 use Rattle.circle.proofs.kernel.sinc_value.Goals as goal
 

@@ -1,5 +1,4 @@
 -- `circle::kernel::two_group` meets its contract: by what its calls ensure and its tests say; below the limit of cos_half all members are on their series. Assumes nothing.
-use borrow.Author.Rules.{rules}
 use lib.Ieee.{binary64}
 use Rattle.tables.specs.Tables.{k_row, a_row}
 use Rattle.circle.specs.Kernel.{row_short, row_own, row_member, circle_sinc_abd, circle_sinc_a}

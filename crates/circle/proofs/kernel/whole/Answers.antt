@@ -1,5 +1,4 @@
 -- `circle::kernel::whole` meets its contract: by what its calls ensure; no row's whole series is longer than its table. Assumes nothing.
-use borrow.Author.Rules.{rules}
 use lib.Ieee.{binary64}
 use Rattle.circle.specs.Kernel.{row_whole}
 use Rattle.tables.specs.Rows.{row_named}

@@ -1,3 +1,4 @@
+-- Written by tools/widths from crates/circle/proofs/kernel/b_from/Answers.antt: edit that one. Digest 8aca266073a8988c.
 use mathlib.Core.Path.{refl}
 use Rattle.circle.specs.Kernel.{exact_b}
 use lib.Ieee.{of_bits}

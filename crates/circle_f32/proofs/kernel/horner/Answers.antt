@@ -1,10 +1,8 @@
+-- Written by tools/widths from crates/circle/proofs/kernel/horner/Answers.antt: edit that one. Digest b0e7f78d9d94df8c.
 -- `circle_f32::kernel::horner` meets its contract: with i terms left to take, p is the sum of the terms from i on. Assumes nothing.
-use Prim.Native.Nat.{◌<◌}
 use mathlib.Core.Path.{◌≡◌, sym, ◌∙◌}
 use native.Mathlib.Omega.{arith}
-use lib.ListN.{length, drop}
 use lib.Ieee.{binary32, of_bits}
-use Rattle.circle.specs.Kernel.{horner_sum}
 use Rattle.circle.proofs.Horner.{horner_none, horner_last, horner_more}
 use Rattle.circle_f32.proofs.kernel.horner.Goals as goal
 

@@ -1,3 +1,4 @@
+-- Written by tools/widths from crates/circle/proofs/kernel/sinc_from/Answers.antt: edit that one. Digest 87cea3cf6583bfc3.
 use mathlib.Core.Path.{refl}
 use Rattle.circle.specs.Kernel.{sinc_from}
 use lib.Ieee.{of_bits}

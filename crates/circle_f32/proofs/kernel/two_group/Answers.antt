@@ -1,24 +1,16 @@
+-- Written by tools/widths from crates/circle/proofs/kernel/two_group/Answers.antt: edit that one. Digest 9d23bd080fbc7ad4.
 -- `circle_f32::kernel::two_group` meets its contract: by what its calls ensure and its tests say; below the limit of cos_half all members are on their series. Assumes nothing.
-use borrow.Author.Rules.{rules}
 use lib.Ieee.{binary32}
 use Rattle.tables.specs.Tables.{k_row, a_row}
 use Rattle.circle.specs.Kernel.{row_short, row_own, row_member, circle_sinc_abd, circle_sinc_a}
 use Rattle.circle.proofs.Rows.{below_all}
-use Rattle.linalg_f32.proofs.As.{linalg_singles}
-use Rattle.circle_f32.proofs.As.{circle-singles}
 use Rattle.circle_f32.proofs.kernel.two_group.Goals as goal
+use Rattle.linalg_f32.proofs.As.{linalg_singles}
+use Rattle.circle_f32.proofs.As.{circle_singles}
 
 pub returns-then-z : goal.returns-then-z
 unfolding circle_sinc_a circle_sinc_abd row_member row_short
-returns-then-z c = simp (
-  linalg_singles,
-  circle-singles,
-  c.series-a.ensures,
-  c.sinc_from-sinc.ensures,
-  c.series-then-z.ensures,
-  c.series.ensures,
-  c.if-z.true,
-)
+returns-then-z c = simp (linalg_singles, circle_singles, c.series-a.ensures, c.sinc_from-sinc.ensures, c.series-then-z.ensures, c.series.ensures, c.if-z.true)
 
 pub returns-then-z-2 : goal.returns-then-z-2
 unfolding circle_sinc_a circle_sinc_abd row_member row_own
@@ -26,7 +18,7 @@ returns-then-z-2 c =
     let t = c.if-z-2.true in
     simp (
       linalg_singles,
-      circle-singles,
+      circle_singles,
       c.whole-a.ensures,
       c.sinc_from-sinc-then-z-2.ensures,
       c.whole-then-z-2.ensures,
@@ -41,7 +33,7 @@ pub returns : goal.returns
 unfolding circle_sinc_a circle_sinc_abd row_member row_own
 returns c = simp (
   linalg_singles,
-  circle-singles,
+  circle_singles,
   c.own_arm-a.ensures,
   c.a_from.ensures,
   c.sinc_from-sinc-2.ensures,

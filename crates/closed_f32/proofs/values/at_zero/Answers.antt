@@ -1,3 +1,4 @@
+-- Written by tools/widths from crates/closed/proofs/values/at_zero/Answers.antt: edit that one. Digest 9d5b15a525d23856.
 -- `closed_f32::values::at_zero` meets its contract: operation by operation, as the definition has it. Assumes nothing.
 use mathlib.Core.Path.{refl}
 use Rattle.closed.specs.Values.{at_zero}

@@ -1,5 +1,4 @@
 -- `coeffs::closed_form::closed_both` meets its contract: by what its calls ensure. Assumes nothing.
-use borrow.Author.Rules.{rules}
 use Rattle.coeffs.specs.Closed.{closed_nine}
 use Rattle.coeffs.specs.Private.{closed_exps, closed_with}
 use Rattle.coeffs.proofs.closed_form.closed_both.Goals as goal

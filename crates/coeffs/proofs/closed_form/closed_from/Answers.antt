@@ -1,4 +1,3 @@
-use borrow.Author.Rules.{rules}
 use Rattle.coeffs.specs.Closed.{closed_from, closed_v_from, closed_nine}
 use Rattle.coeffs.specs.Private.{closed_exps}
 use Rattle.coeffs.proofs.closed_form.closed_from.Goals as goal

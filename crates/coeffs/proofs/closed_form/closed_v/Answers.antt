@@ -1,5 +1,4 @@
 -- `coeffs::closed_form::closed_v` meets its contract: by what its calls ensure. Assumes nothing.
-use borrow.Author.Rules.{rules}
 use Rattle.coeffs.specs.Closed.{closed_v_from}
 use Rattle.coeffs.specs.Private.{closed_exps}
 use Rattle.coeffs.proofs.closed_form.closed_v.Goals as goal

@@ -1,4 +1,3 @@
-use borrow.Author.Rules.{rules}
 use Rattle.coeffs.proofs.closed_form.ends_both.Goals as goal
 
 pub returns : goal.returns

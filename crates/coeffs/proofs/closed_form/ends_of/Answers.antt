@@ -1,4 +1,3 @@
-use borrow.Author.Rules.{rules}
 use Rattle.coeffs.specs.Private.{closed_ends}
 use Rattle.coeffs.specs.Closed.{closed_v0, closed_w0}
 use Rattle.series.specs.Series.{g_series_pair}

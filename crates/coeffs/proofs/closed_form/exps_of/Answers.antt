@@ -1,5 +1,4 @@
 -- `coeffs::closed_form::exps_of` meets its contract: by what its calls ensure. Assumes nothing.
-use borrow.Author.Rules.{rules}
 use Rattle.coeffs.specs.Private.{closed_exps}
 use lib.Ieee.{of_bits}
 use Rattle.coeffs.proofs.closed_form.exps_of.Goals as goal

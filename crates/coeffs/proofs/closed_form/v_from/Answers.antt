@@ -1,5 +1,4 @@
 -- `coeffs::closed_form::v_from` meets its contract: by what its calls ensure. Assumes nothing.
-use borrow.Author.Rules.{rules}
 use Rattle.coeffs.specs.Closed.{closed_v}
 use Rattle.closed.specs.Limits.{coeffs_delta}
 use lib.Ieee.{of_bits}

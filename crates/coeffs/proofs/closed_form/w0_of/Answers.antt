@@ -1,5 +1,4 @@
 -- `coeffs::closed_form::w0_of` meets its contract: by what its calls ensure and its tests say. Assumes nothing.
-use borrow.Author.Rules.{rules}
 use Rattle.coeffs.specs.Closed.{closed_w0}
 use lib.Ieee.{of_bits}
 use Rattle.coeffs.proofs.closed_form.w0_of.Goals as goal

@@ -1,4 +1,3 @@
-use borrow.Author.Rules.{rules}
 use Rattle.coeffs.specs.Private.{minus_et_mt}
 use Rattle.coeffs.proofs.sim3.at_minus.Goals as goal
 

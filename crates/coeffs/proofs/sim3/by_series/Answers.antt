@@ -1,5 +1,4 @@
 -- `coeffs::sim3::by_series` meets its contract: what the series answers at the arm's terms is answered, and its refusal is handed upward. Assumes nothing.
-use borrow.Author.Rules.{rules}
 use mathlib.Core.Path.{sym, ap, ◌∙◌}
 use mathlib.Core.Bool.{false}
 use lib.Ieee.{binary64}

@@ -1,4 +1,3 @@
-use borrow.Author.Rules.{rules}
 use Rattle.coeffs.specs.Private.{closed_pair}
 use lib.Ieee.{of_bits}
 use Rattle.coeffs.proofs.sim3.closed_pair.Goals as goal

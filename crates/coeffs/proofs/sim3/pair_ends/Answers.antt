@@ -1,4 +1,3 @@
-use borrow.Author.Rules.{rules}
 use Rattle.coeffs.specs.Private.{pair_ends}
 use Rattle.coeffs.proofs.sim3.pair_ends.Goals as goal
 

@@ -1,5 +1,4 @@
 -- `coeffs::sim3::sim3_coeffs` meets its contract: the scaled answer, unscaled, or its refusal. Assumes nothing.
-use borrow.Author.Rules.{rules}
 use mathlib.Core.Path.{sym, ap, ◌∙◌}
 use lib.Ieee.{binary64}
 use Rattle.coeffs.specs.Entries.{scaled_told, coeffs_told, scaled_answer, coeffs_answer}

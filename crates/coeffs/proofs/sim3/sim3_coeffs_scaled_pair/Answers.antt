@@ -1,5 +1,4 @@
 -- `coeffs::sim3::sim3_coeffs_scaled_pair` meets its contract: what the armed pair answers is the pair's answer with more told. Assumes nothing.
-use borrow.Author.Rules.{rules}
 use mathlib.Core.Path.{sym, ap, ◌∙◌}
 use lib.Ieee.{binary64}
 use Rattle.coeffs.specs.Entries.{pair_told, armed_pair_told}

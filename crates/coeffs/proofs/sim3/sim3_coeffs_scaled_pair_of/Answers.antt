@@ -1,5 +1,4 @@
 -- `coeffs::sim3::sim3_coeffs_scaled_pair_of` meets its contract: |phi|² is not below zero, so the entry answers. Assumes nothing.
-use borrow.Author.Rules.{rules}
 use mathlib.Core.Path.{sym, ap, ◌∙◌}
 use lib.Ieee.{binary64}
 use Rattle.coeffs.specs.Entries.{pair_told, pair_answer}

@@ -1,5 +1,4 @@
 -- `coeffs::sim3::sim3_v` meets its contract: the scaled answer, unscaled, or its refusal. Assumes nothing.
-use borrow.Author.Rules.{rules}
 use mathlib.Core.Path.{sym, ap, ◌∙◌}
 use lib.Ieee.{binary64}
 use Rattle.coeffs.specs.Entries.{v_scaled_told, v_told, v_scaled_answer, v_answer}

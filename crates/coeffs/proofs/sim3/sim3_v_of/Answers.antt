@@ -1,5 +1,4 @@
 -- `coeffs::sim3::sim3_v_of` meets its contract: |phi|² is not below zero, so the entry answers. Assumes nothing.
-use borrow.Author.Rules.{rules}
 use mathlib.Core.Path.{sym, ap, ◌∙◌}
 use lib.Ieee.{binary64}
 use Rattle.coeffs.specs.Entries.{v_told, v_answer}

@@ -1,5 +1,4 @@
 -- `coeffs::sim3::sim3_v_scaled` meets its contract: in either arm what the arm answers is answered, and its refusal is handed upward. Assumes nothing.
-use borrow.Author.Rules.{rules}
 use mathlib.Core.Path.{sym, ap, ◌∙◌}
 use borrow.Author.Tests.{lt-ltb, le-ltb}
 use lib.Dec.{ltb}

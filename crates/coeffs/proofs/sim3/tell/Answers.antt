@@ -1,5 +1,4 @@
 -- `coeffs::sim3::tell` meets its contract: by what the arm answered. Assumes nothing.
-use borrow.Author.Rules.{rules}
 use mathlib.Core.Path.{refl}
 use Rattle.coeffs.specs.Entries.{scaled_told, armed_told}
 use Rattle.coeffs.proofs.sim3.tell.Goals as goal

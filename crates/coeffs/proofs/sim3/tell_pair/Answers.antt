@@ -1,5 +1,4 @@
 -- `coeffs::sim3::tell_pair` meets its contract: by what the arm answered. Assumes nothing.
-use borrow.Author.Rules.{rules}
 use mathlib.Core.Path.{refl}
 use Rattle.coeffs.specs.Entries.{pair_told, armed_pair_told}
 use Rattle.coeffs.proofs.sim3.tell_pair.Goals as goal

@@ -1,5 +1,4 @@
 -- `coeffs::sim3::unscale` meets its contract: by what its calls ensure. Assumes nothing.
-use borrow.Author.Rules.{rules}
 use Rattle.coeffs.specs.Group.{coeffs_unscale}
 use lib.Ieee.{of_bits}
 use Rattle.coeffs.proofs.sim3.unscale.Goals as goal

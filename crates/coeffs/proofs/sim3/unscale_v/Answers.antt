@@ -1,5 +1,4 @@
 -- `coeffs::sim3::unscale_v` meets its contract: by what its calls ensure. Assumes nothing.
-use borrow.Author.Rules.{rules}
 use Rattle.coeffs.specs.Group.{coeffs_unscale_v}
 use lib.Ieee.{of_bits}
 use Rattle.coeffs.proofs.sim3.unscale_v.Goals as goal

@@ -1,16 +1,16 @@
+-- Written by tools/widths from crates/coeffs/proofs/sim3/by_series/Answers.antt: edit that one. Digest 9bf06fcdd931d58d.
 -- `coeffs_f32::sim3::by_series` meets its contract: what the series answers at the arm's terms is answered, and its refusal is handed upward. Assumes nothing.
-use borrow.Author.Rules.{rules}
 use mathlib.Core.Path.{sym, ap, ◌∙◌}
 use mathlib.Core.Bool.{false}
 use lib.Ieee.{binary32}
 use Rattle.series.specs.Series.{series_answer, series_full}
-use Rattle.series_f32.specs.Told.{series_told}
+use Rattle.coeffs_f32.specs.Told.{series_told}
 use Rattle.coeffs.specs.Private.{series_arm}
 use Rattle.coeffs_f32.specs.Told.{scaled_told}
 use Rattle.coeffs.proofs.Arms.{series-answers, series-refuses}
+use Rattle.coeffs_f32.proofs.sim3.by_series.Goals as goal
 use Rattle.series_f32.specs.As.{as_sim3_coeffs}
 use Rattle.coeffs_f32.specs.As.{as_scaled}
-use Rattle.coeffs_f32.proofs.sim3.by_series.Goals as goal
 
 pub returns-in-Coeffs : goal.returns-in-Coeffs
 unfolding scaled_told series_arm series_told series_answer as_scaled as_sim3_coeffs

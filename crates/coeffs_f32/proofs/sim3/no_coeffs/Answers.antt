@@ -1,3 +1,4 @@
+-- Written by tools/widths from crates/coeffs/proofs/sim3/no_coeffs/Answers.antt: edit that one. Digest 6f9fd9fd85cbd8df.
 -- `coeffs_f32::sim3::no_coeffs` meets its contract: nobody calls it. Assumes nothing.
 use Rattle.coeffs_f32.proofs.sim3.no_coeffs.Goals as goal
 

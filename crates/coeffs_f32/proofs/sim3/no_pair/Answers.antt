@@ -1,3 +1,4 @@
+-- Written by tools/widths from crates/coeffs/proofs/sim3/no_pair/Answers.antt: edit that one. Digest c666cabe7339d625.
 -- `coeffs_f32::sim3::no_pair` meets its contract: nobody calls it. Assumes nothing.
 use Rattle.coeffs_f32.proofs.sim3.no_pair.Goals as goal
 

@@ -1,3 +1,4 @@
+-- Written by tools/widths from crates/coeffs/proofs/sim3/no_scaled/Answers.antt: edit that one. Digest 9cae010013cde78d.
 -- `coeffs_f32::sim3::no_scaled` meets its contract: nobody calls it. Assumes nothing.
 use Rattle.coeffs_f32.proofs.sim3.no_scaled.Goals as goal
 

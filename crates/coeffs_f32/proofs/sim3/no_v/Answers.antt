@@ -1,3 +1,4 @@
+-- Written by tools/widths from crates/coeffs/proofs/sim3/no_v/Answers.antt: edit that one. Digest 2eac007582532883.
 -- `coeffs_f32::sim3::no_v` meets its contract: nobody calls it. Assumes nothing.
 use Rattle.coeffs_f32.proofs.sim3.no_v.Goals as goal
 

@@ -1,19 +1,19 @@
+-- Written by tools/widths from crates/coeffs/proofs/sim3/pair_by_series/Answers.antt: edit that one. Digest 0137542265f9bc4c.
 -- `coeffs_f32::sim3::pair_by_series` meets its contract: what the series at both signs answers at the arm's terms is answered, and its refusal is handed upward. Assumes nothing.
-use borrow.Author.Rules.{rules}
 use mathlib.Core.Path.{sym, ap, ◌∙◌}
 use Prim.Native.Nat.{ℕ}
 use mathlib.Core.Bool.{false}
 use lib.Ieee.{binary32, neg}
 use Rattle.series.specs.Series.{series_full}
-use Rattle.series_f32.specs.Told.{series_pair_told}
+use Rattle.coeffs_f32.specs.Told.{series_pair_told}
 use Rattle.series.specs.declared.sim3.CoeffsPair.{CoeffsPair}
 use Rattle.coeffs.specs.declared.sim3.ScaledPair.{ScaledPair}
 use Rattle.coeffs.specs.Private.{series_arms}
 use Rattle.coeffs_f32.specs.Told.{pair_told}
 use Rattle.coeffs.proofs.Arms.{series-answers, series-refuses, series-pair-is}
+use Rattle.coeffs_f32.proofs.sim3.pair_by_series.Goals as goal
 use Rattle.series_f32.specs.As.{as_coeffs_pair, as_sim3_coeffs}
 use Rattle.coeffs_f32.specs.As.{as_scaled, as_scaled_pair}
-use Rattle.coeffs_f32.proofs.sim3.pair_by_series.Goals as goal
 
 pub returns-in-Coeffs : goal.returns-in-Coeffs
 unfolding pair_told series_arms series_pair_told as_coeffs_pair as_scaled as_scaled_pair as_sim3_coeffs

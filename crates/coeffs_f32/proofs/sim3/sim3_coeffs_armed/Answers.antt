@@ -1,23 +1,23 @@
+-- Written by tools/widths from crates/coeffs/proofs/sim3/sim3_coeffs_armed/Answers.antt: edit that one. Digest 8fcf77f0c30f28be.
 -- `coeffs_f32::sim3::sim3_coeffs_armed` meets its contract: the answer is that of the arm at Δ, with that arm told. Assumes nothing.
-use borrow.Author.Rules.{rules}
-use mathlib.Core.Path.{◌≡◌, sym, ap, ◌∙◌}
+use mathlib.Core.Path.{sym, ap, ◌∙◌}
 use borrow.Author.Tests.{lt-ltb, le-ltb}
 use lib.Dec.{ltb}
 use lib.Ieee.{binary32}
 use Rattle.linalg.specs.Answer.{answers, and_then}
 use Rattle.circle.specs.Kernel.{circle_sinc_abd_answer}
-use Rattle.circle_f32.specs.Told.{sinc_abd_told}
+use Rattle.coeffs_f32.specs.Told.{sinc_abd_told}
 use Rattle.closed.specs.Limits.{coeffs_delta}
 use Rattle.closed.specs.Arm.{coeffs_arm}
 use Rattle.coeffs.specs.Private.{series_arm}
 use Rattle.coeffs_f32.specs.Told.{scaled_told, armed_told}
 use Rattle.closed.proofs.Arm.{ends-series, ends-closed}
 use Rattle.coeffs.proofs.Arms.{by_series, by_closed, closed-refuses, armed-told, armed-refuses, told_at}
+use Rattle.coeffs_f32.proofs.sim3.sim3_coeffs_armed.Goals as goal
 use Rattle.circle_f32.specs.As.{as_sinc_abd}
 use Rattle.series_f32.specs.As.{as_sim3_coeffs}
 use Rattle.closed_f32.specs.As.{as_values}
 use Rattle.coeffs_f32.specs.As.{as_armed, as_scaled}
-use Rattle.coeffs_f32.proofs.sim3.sim3_coeffs_armed.Goals as goal
 
 pub returns-then-at-lt-CLOSED : goal.returns-then-at-lt-CLOSED
 unfolding coeffs_delta as_armed as_scaled as_sim3_coeffs as_sinc_abd as_values

@@ -1,23 +1,23 @@
+-- Written by tools/widths from crates/coeffs/proofs/sim3/sim3_coeffs_armed_pair/Answers.antt: edit that one. Digest 6a02e9e703e2179e.
 -- `coeffs_f32::sim3::sim3_coeffs_armed_pair` meets its contract: the answer is that of the arm at Δ, with that arm told. Assumes nothing.
-use borrow.Author.Rules.{rules}
-use mathlib.Core.Path.{◌≡◌, sym, ap, ◌∙◌}
+use mathlib.Core.Path.{sym, ap, ◌∙◌}
 use borrow.Author.Tests.{lt-ltb, le-ltb}
 use lib.Dec.{ltb}
 use lib.Ieee.{binary32}
 use Rattle.linalg.specs.Answer.{answers, and_then}
 use Rattle.circle.specs.Kernel.{circle_sinc_abd_answer}
-use Rattle.circle_f32.specs.Told.{sinc_abd_told}
+use Rattle.coeffs_f32.specs.Told.{sinc_abd_told}
 use Rattle.closed.specs.Limits.{coeffs_delta}
 use Rattle.closed.specs.Arm.{coeffs_arm}
 use Rattle.coeffs.specs.Private.{series_arms}
 use Rattle.coeffs_f32.specs.Told.{pair_told, armed_pair_told}
 use Rattle.closed.proofs.Arm.{ends-series, ends-closed}
 use Rattle.coeffs.proofs.Even.{pair_by_series, pair_by_closed, pair-closed-refuses, armed-pair-told, armed-pair-refuses, told_both}
+use Rattle.coeffs_f32.proofs.sim3.sim3_coeffs_armed_pair.Goals as goal
 use Rattle.circle_f32.specs.As.{as_sinc_abd}
 use Rattle.series_f32.specs.As.{as_sim3_coeffs}
 use Rattle.closed_f32.specs.As.{as_values}
 use Rattle.coeffs_f32.specs.As.{as_armed, as_armed_pair, as_scaled, as_scaled_pair}
-use Rattle.coeffs_f32.proofs.sim3.sim3_coeffs_armed_pair.Goals as goal
 
 pub returns-then-at-lt-CLOSED : goal.returns-then-at-lt-CLOSED
 unfolding coeffs_delta as_armed as_armed_pair as_scaled as_scaled_pair as_sim3_coeffs as_sinc_abd as_values

@@ -1,14 +1,14 @@
+-- Written by tools/widths from crates/coeffs/proofs/sim3/sim3_coeffs_of/Answers.antt: edit that one. Digest 60c80b5cfb5b7927.
 -- `coeffs_f32::sim3::sim3_coeffs_of` meets its contract: |phi|² is not below zero, so the entry answers. Assumes nothing.
-use borrow.Author.Rules.{rules}
 use mathlib.Core.Path.{sym, ap, ◌∙◌}
 use lib.Ieee.{binary32}
 use Rattle.coeffs.specs.Entries.{coeffs_answer}
 use Rattle.coeffs_f32.specs.Told.{coeffs_told}
 use Rattle.coeffs.proofs.Arms.{angle_answers, angle_refuses}
+use Rattle.coeffs_f32.proofs.sim3.sim3_coeffs_of.Goals as goal
 use Rattle.linalg_f32.specs.As.{as_vec3}
 use Rattle.series_f32.specs.As.{as_sim3_coeffs}
 use Rattle.closed_f32.specs.As.{as_values}
-use Rattle.coeffs_f32.proofs.sim3.sim3_coeffs_of.Goals as goal
 
 pub no_coeffs-requires : goal.no_coeffs-requires
 unfolding coeffs_told coeffs_answer as_sim3_coeffs as_values as_vec3

@@ -1,15 +1,15 @@
+-- Written by tools/widths from crates/coeffs/proofs/sim3/sim3_coeffs_scaled_of/Answers.antt: edit that one. Digest beff4032338f8569.
 -- `coeffs_f32::sim3::sim3_coeffs_scaled_of` meets its contract: |phi|² is not below zero, so the entry answers. Assumes nothing.
-use borrow.Author.Rules.{rules}
 use mathlib.Core.Path.{sym, ap, ◌∙◌}
 use lib.Ieee.{binary32}
 use Rattle.coeffs.specs.Entries.{scaled_answer}
 use Rattle.coeffs_f32.specs.Told.{scaled_told}
 use Rattle.coeffs.proofs.Arms.{angle_answers, angle_refuses}
+use Rattle.coeffs_f32.proofs.sim3.sim3_coeffs_scaled_of.Goals as goal
 use Rattle.linalg_f32.specs.As.{as_vec3}
 use Rattle.series_f32.specs.As.{as_sim3_coeffs}
 use Rattle.closed_f32.specs.As.{as_values}
 use Rattle.coeffs_f32.specs.As.{as_scaled}
-use Rattle.coeffs_f32.proofs.sim3.sim3_coeffs_scaled_of.Goals as goal
 
 pub no_scaled-requires : goal.no_scaled-requires
 unfolding scaled_told scaled_answer as_scaled as_sim3_coeffs as_values as_vec3

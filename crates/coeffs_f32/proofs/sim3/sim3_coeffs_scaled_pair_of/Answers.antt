@@ -1,15 +1,15 @@
+-- Written by tools/widths from crates/coeffs/proofs/sim3/sim3_coeffs_scaled_pair_of/Answers.antt: edit that one. Digest 3df71aecbf1c3c83.
 -- `coeffs_f32::sim3::sim3_coeffs_scaled_pair_of` meets its contract: |phi|² is not below zero, so the entry answers. Assumes nothing.
-use borrow.Author.Rules.{rules}
 use mathlib.Core.Path.{sym, ap, ◌∙◌}
 use lib.Ieee.{binary32}
 use Rattle.coeffs.specs.Entries.{pair_answer}
 use Rattle.coeffs_f32.specs.Told.{pair_told}
 use Rattle.coeffs.proofs.Even.{angle_pair-answers, angle_pair-refuses}
+use Rattle.coeffs_f32.proofs.sim3.sim3_coeffs_scaled_pair_of.Goals as goal
 use Rattle.linalg_f32.specs.As.{as_vec3}
 use Rattle.series_f32.specs.As.{as_sim3_coeffs}
 use Rattle.closed_f32.specs.As.{as_values}
 use Rattle.coeffs_f32.specs.As.{as_scaled, as_scaled_pair}
-use Rattle.coeffs_f32.proofs.sim3.sim3_coeffs_scaled_pair_of.Goals as goal
 
 pub no_pair-requires : goal.no_pair-requires
 unfolding pair_told as_scaled as_scaled_pair as_sim3_coeffs as_values as_vec3

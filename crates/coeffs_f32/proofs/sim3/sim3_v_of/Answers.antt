@@ -1,14 +1,14 @@
+-- Written by tools/widths from crates/coeffs/proofs/sim3/sim3_v_of/Answers.antt: edit that one. Digest d728874512cbbe8a.
 -- `coeffs_f32::sim3::sim3_v_of` meets its contract: |phi|² is not below zero, so the entry answers. Assumes nothing.
-use borrow.Author.Rules.{rules}
 use mathlib.Core.Path.{sym, ap, ◌∙◌}
 use lib.Ieee.{binary32}
 use Rattle.coeffs.specs.Entries.{v_answer}
 use Rattle.coeffs_f32.specs.Told.{v_told}
 use Rattle.coeffs.proofs.Arms.{angle_answers, angle_refuses}
+use Rattle.coeffs_f32.proofs.sim3.sim3_v_of.Goals as goal
 use Rattle.linalg_f32.specs.As.{as_vec3}
 use Rattle.series_f32.specs.As.{as_coeffs4}
 use Rattle.closed_f32.specs.As.{as_values}
-use Rattle.coeffs_f32.proofs.sim3.sim3_v_of.Goals as goal
 
 pub no_v-requires : goal.no_v-requires
 unfolding v_told v_answer as_coeffs4 as_values as_vec3

@@ -25,5 +25,5 @@ returns c =
       jacobian_singles,
       c.seven_numbers-c6.ensures,
       c.rows_of-q.ensures,
-      c.rows_of_lem.ensures,
+      c.rows_of-p.ensures,
     )

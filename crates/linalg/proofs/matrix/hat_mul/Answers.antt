@@ -1,4 +1,3 @@
-use borrow.Author.Rules.{rules}
 use Rattle.linalg.specs.Matrix.{mat_hat_mul}
 use Rattle.linalg.proofs.matrix.hat_mul.Goals as goal
 

@@ -1,4 +1,3 @@
-use borrow.Author.Rules.{rules}
 use Rattle.linalg.specs.Matrix.{mat_mul_hat}
 use Rattle.linalg.proofs.matrix.mul_hat.Goals as goal
 

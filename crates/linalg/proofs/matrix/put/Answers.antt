@@ -1,4 +1,3 @@
-use borrow.Author.Rules.{rules}
 use Rattle.linalg.specs.Matrix.{vec_put}
 use Rattle.linalg.proofs.matrix.put.Goals as goal
 

@@ -1,9 +1,10 @@
+-- Written by tools/widths from crates/linalg/proofs/matrix/component/Answers.antt: edit that one. Digest cf7ddeeb8f9fb6eb.
 -- `linalg_f32::matrix::component` meets its contract: by what its tests say. Assumes nothing.
 use borrow.Author.Tests.{ne_eqb}
 use Rattle.linalg.specs.Matrix.{vec_component}
 use Rattle.linalg_f32.specs.Told.{entry_told}
-use Rattle.linalg_f32.proofs.As.{linalg_singles}
 use Rattle.linalg_f32.proofs.matrix.component.Goals as goal
+use Rattle.linalg_f32.proofs.As.{linalg_singles}
 
 pub returns-in-0 : goal.returns-in-0
 unfolding entry_told vec_component

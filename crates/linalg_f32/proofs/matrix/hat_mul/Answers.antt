@@ -1,7 +1,7 @@
-use borrow.Author.Rules.{rules}
+-- Written by tools/widths from crates/linalg/proofs/matrix/hat_mul/Answers.antt: edit that one. Digest 277594d536418cd3.
 use Rattle.linalg.specs.Matrix.{mat_hat_mul}
-use Rattle.linalg_f32.proofs.As.{linalg_singles}
 use Rattle.linalg_f32.proofs.matrix.hat_mul.Goals as goal
+use Rattle.linalg_f32.proofs.As.{linalg_singles}
 
 pub returns : goal.returns
 unfolding mat_hat_mul

@@ -1,7 +1,7 @@
-use borrow.Author.Rules.{rules}
+-- Written by tools/widths from crates/linalg/proofs/matrix/mul_hat/Answers.antt: edit that one. Digest e0d288224d5bfe84.
 use Rattle.linalg.specs.Matrix.{mat_mul_hat}
-use Rattle.linalg_f32.proofs.As.{linalg_singles}
 use Rattle.linalg_f32.proofs.matrix.mul_hat.Goals as goal
+use Rattle.linalg_f32.proofs.As.{linalg_singles}
 
 pub returns : goal.returns
 unfolding mat_mul_hat

@@ -3,7 +3,7 @@ use borrow.Author.Rules.{rules}
 use mathlib.Core.Path.{◌≡◌, sym, subst, ◌∙◌}
 use Prim.Native.Nat.{ℕ, ◌<◌}
 use lib.Dec.{T}
-use lib.Ieee.{binary32, toBits, fits, of_bits}
+use lib.Ieee.{binary32, to_bits, fits, of_bits}
 use Rattle.ieee.specs.Patterns.{patterns}
 use Rattle.ieee.specs.Signs.{plain}
 use Rattle.nearest.proofs.Starts.{start_is, start_below}
@@ -14,5 +14,5 @@ unfolding of_bits
 returns c =
     let z = c.args.z in
     let fit : T (fits binary32 z) = search rules in
-    let e : c.to_bits.result ≡ toBits binary32 (plain z) = c.to_bits.ensures ∙ start_is binary32 z fit in
+    let e : c.to_bits.result ≡ to_bits binary32 (plain z) = c.to_bits.ensures ∙ start_is binary32 z fit in
     (e, subst (λ (n : ℕ). n < patterns binary32) (sym e) (start_below binary32 z fit c.requires.0 c.requires.1))

@@ -1,5 +1,4 @@
 -- `series::horner::g_series` meets its contract: after all entries the partial sum is Horner's sum. Assumes nothing.
-use borrow.Author.Rules.{rules}
 use mathlib.Core.Path.{◌∙◌}
 use lib.Ieee.{binary64}
 use Rattle.series.proofs.PartialSums.{stopped_last}

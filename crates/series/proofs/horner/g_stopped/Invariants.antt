@@ -1,11 +1,8 @@
 -- `series::horner::g_stopped` meets its contract: after i turns the loop holds the partial sum after i entries. Assumes nothing.
-use mathlib.Core.Path.{◌≡◌, refl}
-use Prim.Native.Nat.{◌+◌, ◌-◌, ◌≤◌}
-use native.Mathlib.Omega.{arith}
-use borrow.Author.Rules.{rules}
-use lib.Ieee.{binary64, of_bits}
+use mathlib.Core.Path.{◌≡◌}
+use Prim.Native.Nat.{◌-◌, ◌≤◌}
+use lib.Ieee.{binary64}
 use Rattle.series.specs.Pass.{g_stopped}
-use Rattle.series.proofs.PartialSums.{stopped_more}
 use Rattle.series.proofs.horner.g_stopped.Given as goal
 
 abbrev pub invariant-loop-i : goal.invariant-loop-i

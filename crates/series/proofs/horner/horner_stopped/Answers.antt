@@ -1,8 +1,7 @@
 -- `series::horner::horner_stopped` meets its contract: after i turns each of the four sums is the partial sum that its sign alone has after i entries.
 use mathlib.Core.Path.{◌≡◌, refl}
-use Prim.Native.Nat.{◌+◌, ◌-◌, ◌≤◌}
+use Prim.Native.Nat.{◌+◌, ◌-◌}
 use native.Mathlib.Omega.{arith}
-use borrow.Author.Rules.{rules}
 use lib.Ieee.{binary64, of_bits, neg}
 use Rattle.series.specs.Pass.{g_stopped}
 use Rattle.series.proofs.PartialSums.{stopped_more}

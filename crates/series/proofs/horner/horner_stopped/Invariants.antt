@@ -1,11 +1,8 @@
 -- `series::horner::horner_stopped` meets its contract: after i turns each of the four sums is the partial sum that its sign alone has after i entries.
-use mathlib.Core.Path.{◌≡◌, refl}
-use Prim.Native.Nat.{◌+◌, ◌-◌, ◌≤◌}
-use native.Mathlib.Omega.{arith}
-use borrow.Author.Rules.{rules}
-use lib.Ieee.{binary64, of_bits, neg}
+use mathlib.Core.Path.{◌≡◌}
+use Prim.Native.Nat.{◌-◌, ◌≤◌}
+use lib.Ieee.{binary64, neg}
 use Rattle.series.specs.Pass.{g_stopped}
-use Rattle.series.proofs.PartialSums.{stopped_more}
 use Rattle.series.proofs.horner.horner_stopped.Given as goal
 
 abbrev pub invariant-loop-i : goal.invariant-loop-i

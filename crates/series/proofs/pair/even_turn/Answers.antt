@@ -1,4 +1,3 @@
-use borrow.Author.Rules.{rules}
 use Rattle.series.specs.Private.{pair_turn}
 use Rattle.series.proofs.pair.even_turn.Goals as goal
 

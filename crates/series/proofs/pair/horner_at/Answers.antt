@@ -1,5 +1,4 @@
 -- `series::pair::horner_at` meets its contract: after all entries the partial sums are Horner's sums.
-use borrow.Author.Rules.{rules}
 use mathlib.Core.Path.{◌∙◌}
 use lib.Ieee.{binary64}
 use Rattle.series.proofs.PartialSums.{both_last}

@@ -1,5 +1,4 @@
 -- `series::pair::next_minus` meets its contract: subtracting p is adding -p, and the product with -p is that with p turned. Assumes nothing.
-use borrow.Author.Rules.{rules}
 use lib.Ieee.{sub}
 use Rattle.ieee.proofs.Sign.{neg-neg, mul-neg_l}
 use Rattle.series.specs.Series.{series_next}

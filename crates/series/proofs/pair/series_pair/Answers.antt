@@ -1,5 +1,4 @@
 -- `series::pair::series_pair` meets its contract: the tests are the definition's, 1 before 4. Assumes nothing.
-use borrow.Author.Rules.{rules}
 use borrow.Author.Tests.{lt-ltb, le-ltb}
 use lib.Ieee.{of_bits}
 use Rattle.series.specs.Series.{series_pair_told, series_pair_answer, series_answer}

@@ -1,5 +1,4 @@
 -- `series::pair::series_pair_at` meets its contract: what it computes is `pair_full`, and by the pair theorem that is the series at each sign. Assumes nothing.
-use borrow.Author.Rules.{rules}
 use lib.Ieee.{binary64}
 use Rattle.series.specs.Series.{g_series_pair}
 use Rattle.series.specs.Private.{pair_full}

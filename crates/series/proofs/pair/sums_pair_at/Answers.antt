@@ -1,4 +1,3 @@
-use borrow.Author.Rules.{rules}
 use Rattle.series.specs.Private.{pair_sums}
 use Rattle.series.proofs.pair.sums_pair_at.Goals as goal
 

@@ -1,6 +1,5 @@
 -- `series::pair::turns_at` meets its contract: the levels below k and one even level more, or, where k is odd, those below k + 1, which is even. Assumes nothing.
 use native.Mathlib.Omega.{arith}
-use borrow.Author.Rules.{rules}
 use lib.Ieee.{binary64}
 use Rattle.series.proofs.Pairs.{even_more}
 use Rattle.series.proofs.pair.turns_at.Goals as goal

@@ -1,8 +1,7 @@
 -- `series::pair::turns_below` meets its contract: the loop holds `pair_turns` at an even j with -p for p, and ends at n, which is even. Assumes nothing.
 use mathlib.Core.Path.{◌≡◌}
-use Prim.Native.Nat.{◌+◌, ◌-◌, ◌%◌, ◌≤◌}
+use Prim.Native.Nat.{◌-◌}
 use native.Mathlib.Omega.{arith}
-use borrow.Author.Rules.{rules}
 use lib.Ieee.{binary64}
 use Rattle.series.specs.Private.{pair_turns, turns_minus}
 use Rattle.series.proofs.Minus.{turns_twice}

@@ -1,12 +1,8 @@
 -- `series::pair::turns_below` meets its contract: the loop holds `pair_turns` at an even j with -p for p, and ends at n, which is even. Assumes nothing.
 use mathlib.Core.Path.{◌≡◌}
-use Prim.Native.Nat.{◌+◌, ◌-◌, ◌%◌, ◌≤◌}
-use native.Mathlib.Omega.{arith}
-use borrow.Author.Rules.{rules}
+use Prim.Native.Nat.{◌-◌, ◌%◌, ◌≤◌}
 use lib.Ieee.{binary64}
 use Rattle.series.specs.Private.{pair_turns, turns_minus}
-use Rattle.series.proofs.Minus.{turns_twice}
-use Rattle.series.proofs.Pairs.{two_more}
 use Rattle.series.proofs.pair.turns_below.Given as goal
 
 abbrev pub invariant-loop-j : goal.invariant-loop-j

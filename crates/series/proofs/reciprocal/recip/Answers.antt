@@ -1,4 +1,3 @@
-use borrow.Author.Rules.{rules}
 use Rattle.series.proofs.reciprocal.recip.Goals as goal
 
 pub returns : goal.returns

@@ -1,6 +1,5 @@
 -- `series::reciprocal::table_entry` meets its contract: the table has the index, so it gives the number. Assumes nothing.
 use mathlib.Core.Path.{sym, ap, ◌∙◌}
-use borrow.Author.Rules.{rules}
 use lib.Ieee.{binary64}
 use Rattle.tables.specs.Found.{recip_told}
 use Rattle.tables.proofs.Every.{recip_number, recip_not_none}

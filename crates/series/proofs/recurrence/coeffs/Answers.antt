@@ -1,4 +1,3 @@
-use borrow.Author.Rules.{rules}
 use Rattle.series.specs.Series.{series_coeffs}
 use Rattle.series.proofs.recurrence.coeffs.Goals as goal
 

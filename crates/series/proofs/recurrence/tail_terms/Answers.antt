@@ -1,4 +1,3 @@
-use borrow.Author.Rules.{rules}
 use Rattle.series.specs.Private.{tail_terms}
 use Rattle.series.proofs.recurrence.tail_terms.Goals as goal
 

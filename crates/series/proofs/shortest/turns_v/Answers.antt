@@ -1,5 +1,4 @@
 -- `series::shortest::turns_v` meets its contract: turn by turn, as the definition has it. Assumes nothing.
-use borrow.Author.Rules.{rules}
 use Rattle.series.specs.Private.{v_turns}
 use Rattle.series.proofs.shortest.turns_v.Goals as goal
 

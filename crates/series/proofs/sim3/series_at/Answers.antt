@@ -1,4 +1,3 @@
-use borrow.Author.Rules.{rules}
 use Rattle.series.specs.Series.{series_full}
 use Rattle.series.proofs.sim3.series_at.Goals as goal
 

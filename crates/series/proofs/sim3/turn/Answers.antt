@@ -1,4 +1,3 @@
-use borrow.Author.Rules.{rules}
 use Rattle.series.specs.Private.{solo_turn}
 use Rattle.series.proofs.sim3.turn.Goals as goal
 

@@ -1,8 +1,7 @@
 -- `series::sim3::turns_at` meets its contract: after j turns the loop holds `solo_turns` at j, and it stops at k + 1. Assumes nothing.
 use mathlib.Core.Path.{◌≡◌}
-use Prim.Native.Nat.{◌+◌, ◌-◌, ◌≤◌}
+use Prim.Native.Nat.{◌+◌, ◌-◌}
 use native.Mathlib.Omega.{arith}
-use lib.Ieee.{binary64}
 use Rattle.series.specs.Private.{solo_turns}
 use Rattle.series.proofs.Solo.{solo_more}
 use Rattle.series.proofs.sim3.turns_at.Goals as goal

@@ -1,10 +1,8 @@
 -- `series::sim3::turns_v_at` meets its contract: the shortest arm's turns are written out; after j turns the loop holds `v_turns` at j, and it stops at k + 1. Assumes nothing.
 use mathlib.Core.Path.{◌≡◌}
 use Prim.Native.Nat.{◌+◌, ◌-◌, ◌≤◌}
-use native.Mathlib.Omega.{arith}
 use lib.Ieee.{binary64}
 use Rattle.series.specs.Private.{v_turns}
-use Rattle.series.proofs.Solo.{v_more}
 use Rattle.series.proofs.sim3.turns_v_at.Given as goal
 
 abbrev pub invariant-loop-j : goal.invariant-loop-j

@@ -1,7 +1,6 @@
 -- `series::small::after` meets its contract: at each index its entry. Assumes nothing.
 use mathlib.Core.Path.{◌≡◌, refl}
 use native.Mathlib.Omega.{arith}
-use borrow.Author.Rules.{rules}
 use lib.Ieee.{of_bits}
 use Rattle.tables.proofs.Every.{none_below}
 use Rattle.series.proofs.small.after.Goals as goal

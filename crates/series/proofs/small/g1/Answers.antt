@@ -1,5 +1,4 @@
 -- `series::small::g1` meets its contract: Horner's sum is its first term and sigma times the rest. Assumes nothing.
-use borrow.Author.Rules.{rules}
 use Rattle.series.specs.Series.{g_series}
 use Rattle.series.proofs.small.g1.Goals as goal
 

@@ -1,5 +1,4 @@
 -- `series::small::g2` meets its contract: by what `g_series` ensures at its number of terms. Assumes nothing.
-use borrow.Author.Rules.{rules}
 use Rattle.series.proofs.small.g2.Goals as goal
 
 pub returns : goal.returns

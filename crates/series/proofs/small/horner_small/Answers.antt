@@ -1,9 +1,8 @@
 -- `series::small::horner_small` meets its contract: after 15 entries the pass holds all of w0, and after 16 all of v0. Assumes nothing.
-use mathlib.Core.Path.{◌≡◌, ap, ◌∙◌}
+use mathlib.Core.Path.{ap, ◌∙◌}
 use native.Mathlib.Omega.{arith}
 use mathlib.Core.List.{List}
 use lib.ListN.{get_or}
-use borrow.Author.Rules.{rules}
 use lib.Ieee.{binary64}
 use Rattle.series.specs.Pass.{both_stopped}
 use Rattle.series.specs.Private.{passed_from}

@@ -1,8 +1,7 @@
 -- `series::small::horner_small_stopped` meets its contract: v0's partial sums are the pass's, and so are w0's, which reads all of v0's entries but the last.
 -- Assumes nothing.
-use mathlib.Core.Path.{◌≡◌, ap, ◌∙◌}
+use mathlib.Core.Path.{ap, ◌∙◌}
 use native.Mathlib.Omega.{arith}
-use borrow.Author.Rules.{rules}
 use lib.Ieee.{binary64}
 use Rattle.series.specs.Pass.{both_stopped, horner_stopped, g_stopped}
 use Rattle.series.proofs.PartialSums.{both_shared, pass_at}

@@ -1,4 +1,3 @@
-use borrow.Author.Rules.{rules}
 use Rattle.series.proofs.small.next.Goals as goal
 
 pub returns : goal.returns

@@ -1,5 +1,4 @@
 -- `series::stopped::alone` meets its contract: by what its calls ensure. Assumes nothing.
-use borrow.Author.Rules.{rules}
 use Rattle.series.specs.Pass.{horner_stopped}
 use Rattle.series.proofs.stopped.alone.Goals as goal
 

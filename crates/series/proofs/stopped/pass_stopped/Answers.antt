@@ -1,5 +1,4 @@
 -- `series::stopped::pass_stopped` meets its contract: the test is the definition's, and each part is what its call ensures. Assumes nothing.
-use borrow.Author.Rules.{rules}
 use borrow.Author.Tests.{lt-ltb, le-ltb}
 use Rattle.series.specs.Pass.{pass_stopped, stopped_told}
 use Rattle.series.proofs.stopped.pass_stopped.Goals as goal

@@ -1,5 +1,4 @@
 -- `series::stopped::series_at` meets its contract: by what its calls ensure. Assumes nothing.
-use borrow.Author.Rules.{rules}
 use Rattle.series.specs.Pass.{horner_stopped}
 use Rattle.series.proofs.stopped.series_at.Goals as goal
 

@@ -1,5 +1,5 @@
+-- Written by tools/widths from crates/series/proofs/horner/entries_read/Answers.antt: edit that one. Digest 0ec95ec5b70b8c73.
 -- `series_f32::horner::entries_read` meets its contract: by its test. Assumes nothing.
-use borrow.Author.Rules.{rules}
 use mathlib.Core.Path.{refl}
 use native.Mathlib.Omega.{arith}
 use borrow.Author.Tests.{lt-ltb, le-ltb}

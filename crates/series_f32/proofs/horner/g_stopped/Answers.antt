@@ -1,8 +1,8 @@
+-- Written by tools/widths from crates/series/proofs/horner/g_stopped/Answers.antt: edit that one. Digest 8d16a6d0a69fd019.
 -- `series_f32::horner::g_stopped` meets its contract: after i turns the loop holds the partial sum after i entries. Assumes nothing.
 use mathlib.Core.Path.{◌≡◌, refl}
-use Prim.Native.Nat.{◌+◌, ◌-◌, ◌≤◌}
+use Prim.Native.Nat.{◌+◌, ◌-◌}
 use native.Mathlib.Omega.{arith}
-use borrow.Author.Rules.{rules}
 use lib.Ieee.{binary32, of_bits}
 use Rattle.series.specs.Pass.{g_stopped}
 use Rattle.series.proofs.PartialSums.{stopped_more}

@@ -1,11 +1,9 @@
+-- Written by tools/widths from crates/series/proofs/horner/g_stopped/Invariants.antt: edit that one. Digest fce937721920ffa3.
 -- `series_f32::horner::g_stopped` meets its contract: after i turns the loop holds the partial sum after i entries. Assumes nothing.
-use mathlib.Core.Path.{◌≡◌, refl}
-use Prim.Native.Nat.{◌+◌, ◌-◌, ◌≤◌}
-use native.Mathlib.Omega.{arith}
-use borrow.Author.Rules.{rules}
-use lib.Ieee.{binary32, of_bits}
+use mathlib.Core.Path.{◌≡◌}
+use Prim.Native.Nat.{◌-◌, ◌≤◌}
+use lib.Ieee.{binary32}
 use Rattle.series.specs.Pass.{g_stopped}
-use Rattle.series.proofs.PartialSums.{stopped_more}
 use Rattle.series_f32.proofs.horner.g_stopped.Given as goal
 
 abbrev pub invariant-loop-i : goal.invariant-loop-i

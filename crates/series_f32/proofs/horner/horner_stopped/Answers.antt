@@ -1,13 +1,13 @@
+-- Written by tools/widths from crates/series/proofs/horner/horner_stopped/Answers.antt: edit that one. Digest 4477c0fddac32f69.
 -- `series_f32::horner::horner_stopped` meets its contract: after i turns each of the four sums is the partial sum that its sign alone has after i entries.
 use mathlib.Core.Path.{◌≡◌, refl}
-use Prim.Native.Nat.{◌+◌, ◌-◌, ◌≤◌}
+use Prim.Native.Nat.{◌+◌, ◌-◌}
 use native.Mathlib.Omega.{arith}
-use borrow.Author.Rules.{rules}
 use lib.Ieee.{binary32, of_bits, neg}
 use Rattle.series.specs.Pass.{g_stopped}
 use Rattle.series.proofs.PartialSums.{stopped_more}
-use Rattle.series_f32.specs.As.{as_g_pair, as_horner}
 use Rattle.series_f32.proofs.horner.horner_stopped.Goals as goal
+use Rattle.series_f32.specs.As.{as_g_pair, as_horner}
 
 pub loop-i-init : goal.loop-i-init
 unfolding g_stopped of_bits as_g_pair as_horner

@@ -1,12 +1,9 @@
+-- Written by tools/widths from crates/series/proofs/horner/horner_stopped/Invariants.antt: edit that one. Digest b238de73c1f0d32e.
 -- `series_f32::horner::horner_stopped` meets its contract: after i turns each of the four sums is the partial sum that its sign alone has after i entries.
-use mathlib.Core.Path.{◌≡◌, refl}
-use Prim.Native.Nat.{◌+◌, ◌-◌, ◌≤◌}
-use native.Mathlib.Omega.{arith}
-use borrow.Author.Rules.{rules}
-use lib.Ieee.{binary32, of_bits, neg}
+use mathlib.Core.Path.{◌≡◌}
+use Prim.Native.Nat.{◌-◌, ◌≤◌}
+use lib.Ieee.{binary32, neg}
 use Rattle.series.specs.Pass.{g_stopped}
-use Rattle.series.proofs.PartialSums.{stopped_more}
-use Rattle.series_f32.specs.As.{as_g_pair, as_horner}
 use Rattle.series_f32.proofs.horner.horner_stopped.Given as goal
 
 abbrev pub invariant-loop-i : goal.invariant-loop-i

@@ -1,10 +1,10 @@
+-- Written by tools/widths from crates/series/proofs/pair/horner_at/Answers.antt: edit that one. Digest 7ad1306683d1d850.
 -- `series_f32::pair::horner_at` meets its contract: after all entries the partial sums are Horner's sums.
-use borrow.Author.Rules.{rules}
 use mathlib.Core.Path.{◌∙◌}
 use lib.Ieee.{binary32}
 use Rattle.series.proofs.PartialSums.{both_last}
-use Rattle.series_f32.specs.As.{as_g_pair, as_horner}
 use Rattle.series_f32.proofs.pair.horner_at.Goals as goal
+use Rattle.series_f32.specs.As.{as_g_pair, as_horner}
 
 pub returns : goal.returns
 unfolding as_g_pair as_horner

@@ -1,21 +1,21 @@
+-- Written by tools/widths from crates/series/proofs/pair/series_pair/Answers.antt: edit that one. Digest fbd744484c506dd6.
 -- `series_f32::pair::series_pair` meets its contract: the tests are the definition's, 1 before 4. Assumes nothing.
-use borrow.Author.Rules.{rules}
 use borrow.Author.Tests.{lt-ltb, le-ltb}
 use lib.Ieee.{of_bits}
 use Rattle.series.specs.Series.{series_pair_answer, series_answer}
 use Rattle.series_f32.specs.Told.{series_pair_told}
-use Rattle.linalg_f32.proofs.As.{linalg_singles}
-use Rattle.series_f32.proofs.As.{series-singles}
 use Rattle.series_f32.proofs.pair.series_pair.Goals as goal
+use Rattle.linalg_f32.proofs.As.{linalg_singles}
+use Rattle.series_f32.proofs.As.{series_singles}
 
 pub returns-then-z : goal.returns-then-z
 unfolding series_pair_told series_pair_answer series_answer of_bits
-returns-then-z c = simp (linalg_singles, series-singles, c.if-z.true)
+returns-then-z c = simp (linalg_singles, series_singles, c.if-z.true)
 
 pub returns-then-k-gt28 : goal.returns-then-k-gt28
 unfolding series_pair_told series_pair_answer series_answer of_bits
-returns-then-k-gt28 c = simp (linalg_singles, series-singles, lt-ltb _ _ c.if-k-gt28.true, c.if-z.false)
+returns-then-k-gt28 c = simp (linalg_singles, series_singles, lt-ltb _ _ c.if-k-gt28.true, c.if-z.false)
 
 pub returns : goal.returns
 unfolding series_pair_told series_pair_answer series_answer of_bits
-returns c = simp (linalg_singles, series-singles, c.series_pair_at.ensures, le-ltb _ _ c.if-k-gt28.false, c.if-z.false)
+returns c = simp (linalg_singles, series_singles, c.series_pair_at.ensures, le-ltb _ _ c.if-k-gt28.false, c.if-z.false)

@@ -1,15 +1,15 @@
-use borrow.Author.Rules.{rules}
+-- Written by tools/widths from crates/series/proofs/pair/sums_pair_at/Answers.antt: edit that one. Digest 3ee8b01999f08f9c.
 use Rattle.series.specs.Private.{pair_sums}
-use Rattle.linalg_f32.proofs.As.{linalg_singles}
-use Rattle.series_f32.proofs.As.{series-singles}
 use Rattle.series_f32.proofs.pair.sums_pair_at.Goals as goal
+use Rattle.linalg_f32.proofs.As.{linalg_singles}
+use Rattle.series_f32.proofs.As.{series_singles}
 
 pub returns : goal.returns
 unfolding pair_sums
 returns c =
     simp (
       linalg_singles,
-      series-singles,
+      series_singles,
       c.last_mirrored.ensures,
       c.last.ensures,
       c.tail_terms-t.ensures,

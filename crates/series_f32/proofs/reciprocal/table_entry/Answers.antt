@@ -1,6 +1,6 @@
+-- Written by tools/widths from crates/series/proofs/reciprocal/table_entry/Answers.antt: edit that one. Digest f015b1c514012f5b.
 -- `series_f32::reciprocal::table_entry` meets its contract: the table has the index, so it gives the number. Assumes nothing.
 use mathlib.Core.Path.{sym, ap, ◌∙◌}
-use borrow.Author.Rules.{rules}
 use lib.Ieee.{binary32}
 use Rattle.tables.specs.Found.{recip_single_told}
 use Rattle.tables.proofs.Every.{recip_number, recip_not_none}

@@ -1,15 +1,15 @@
+-- Written by tools/widths from crates/series/proofs/sim3/sums_at/Answers.antt: edit that one. Digest bbe9b53ffa46deb2.
 -- `series_f32::sim3::sums_at` meets its contract: the loop leaves the sums over the levels to k, and the tail brings each to its own last level. Assumes nothing.
-use borrow.Author.Rules.{rules}
 use Rattle.series.proofs.Solo.{solo_are, last_is}
-use Rattle.linalg_f32.proofs.As.{linalg_singles}
-use Rattle.series_f32.proofs.As.{series-singles}
 use Rattle.series_f32.proofs.sim3.sums_at.Goals as goal
+use Rattle.linalg_f32.proofs.As.{linalg_singles}
+use Rattle.series_f32.proofs.As.{series_singles}
 
 pub returns : goal.returns
 returns c =
     simp (
       linalg_singles,
-      series-singles,
+      series_singles,
       solo_are,
       last_is,
       c.last.ensures,

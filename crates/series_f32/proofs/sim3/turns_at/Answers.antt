@@ -1,37 +1,25 @@
+-- Written by tools/widths from crates/series/proofs/sim3/turns_at/Answers.antt: edit that one. Digest 5dbe4f25daf68b54.
 -- `series_f32::sim3::turns_at` meets its contract: after j turns the loop holds `solo_turns` at j, and it stops at k + 1. Assumes nothing.
 use mathlib.Core.Path.{◌≡◌}
-use Prim.Native.Nat.{◌+◌, ◌-◌, ◌≤◌}
+use Prim.Native.Nat.{◌+◌, ◌-◌}
 use native.Mathlib.Omega.{arith}
-use lib.Ieee.{binary32}
 use Rattle.series.specs.Private.{solo_turns}
 use Rattle.series.proofs.Solo.{solo_more}
-use Rattle.series_f32.specs.As.{as_turns}
-use Rattle.linalg_f32.proofs.As.{linalg_singles}
-use Rattle.series_f32.proofs.As.{series-singles}
 use Rattle.series_f32.proofs.sim3.turns_at.Goals as goal
+use Rattle.linalg_f32.proofs.As.{linalg_singles}
+use Rattle.series_f32.proofs.As.{series_singles}
 
 pub loop-j-init : goal.loop-j-init
 unfolding solo_turns
-loop-j-init c = (omega arith, simp (linalg_singles, series-singles, c.none.ensures, c.first.ensures))
+loop-j-init c = (omega arith, simp (linalg_singles, series_singles, c.none.ensures, c.first.ensures))
 
 pub loop-j-preserved : goal.loop-j-preserved
-loop-j-preserved c = (
-  omega arith,
-  simp (
-    linalg_singles,
-    series-singles,
-    c.turn-s.ensures,
-    c.recip-in-loop-j.ensures,
-    c.recip.ensures,
-    c.loop-j.invariant.1,
-    solo_more,
-  ),
-)
+loop-j-preserved c = (omega arith, simp (linalg_singles, series_singles, c.turn-s.ensures, c.recip-in-loop-j.ensures, c.recip.ensures, c.loop-j.invariant.1, solo_more))
 
 pub returns : goal.returns
 returns c =
     let last : c.loop-j.j ≡ c.args.k + 1 = omega arith in
-    simp (linalg_singles, series-singles, c.loop-j.invariant.1, last)
+    simp (linalg_singles, series_singles, c.loop-j.invariant.1, last)
 
 pub first-requires : goal.first-requires
 first-requires c = tt

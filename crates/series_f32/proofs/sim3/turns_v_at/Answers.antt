@@ -1,21 +1,21 @@
+-- Written by tools/widths from crates/series/proofs/sim3/turns_v_at/Answers.antt: edit that one. Digest f850e80192778860.
 -- `series_f32::sim3::turns_v_at` meets its contract: the shortest arm's turns are written out; after j turns the loop holds `v_turns` at j, and it stops at k + 1. Assumes nothing.
 use mathlib.Core.Path.{◌≡◌}
-use Prim.Native.Nat.{◌+◌, ◌-◌, ◌≤◌}
+use Prim.Native.Nat.{◌+◌, ◌-◌}
 use native.Mathlib.Omega.{arith}
-use lib.Ieee.{binary32}
 use Rattle.series.specs.Private.{v_turns}
 use Rattle.series.proofs.Solo.{v_more}
+use Rattle.series_f32.proofs.sim3.turns_v_at.Goals as goal
 use Rattle.series_f32.specs.As.{as_turns_v}
 use Rattle.linalg_f32.proofs.As.{linalg_singles}
-use Rattle.series_f32.proofs.As.{series-singles}
-use Rattle.series_f32.proofs.sim3.turns_v_at.Goals as goal
+use Rattle.series_f32.proofs.As.{series_singles}
 
 pub loop-j-init : goal.loop-j-init
 unfolding v_turns
 loop-j-init c = (omega arith, c.none_v-s.ensures)
 
 pub loop-j-preserved : goal.loop-j-preserved
-loop-j-preserved c = (omega arith, simp (linalg_singles, series-singles, c.turn_v-s.ensures, c.recip.ensures, c.loop-j.invariant.1, v_more))
+loop-j-preserved c = (omega arith, simp (linalg_singles, series_singles, c.turn_v-s.ensures, c.recip.ensures, c.loop-j.invariant.1, v_more))
 
 pub returns-then-k-eq-TERMS : goal.returns-then-k-eq-TERMS
 unfolding as_turns_v
@@ -24,7 +24,7 @@ returns-then-k-eq-TERMS c = rw c.if-k-eq-TERMS.true c.turns_v.ensures
 pub returns : goal.returns
 returns c =
     let last : c.loop-j.j ≡ c.args.k + 1 = omega arith in
-    simp (linalg_singles, series-singles, c.loop-j.invariant.1, last)
+    simp (linalg_singles, series_singles, c.loop-j.invariant.1, last)
 
 pub turns_v-requires : goal.turns_v-requires
 turns_v-requires c = tt

@@ -1,14 +1,11 @@
+-- Written by tools/widths from crates/series/proofs/sim3/turns_v_at/Invariants.antt: edit that one. Digest 3a046fa4c2af6897.
 -- `series_f32::sim3::turns_v_at` meets its contract: the shortest arm's turns are written out; after j turns the loop holds `v_turns` at j, and it stops at k + 1. Assumes nothing.
 use mathlib.Core.Path.{◌≡◌}
 use Prim.Native.Nat.{◌+◌, ◌-◌, ◌≤◌}
-use native.Mathlib.Omega.{arith}
 use lib.Ieee.{binary32}
 use Rattle.series.specs.Private.{v_turns}
-use Rattle.series.proofs.Solo.{v_more}
-use Rattle.series_f32.specs.As.{as_turns_v}
-use Rattle.linalg_f32.proofs.As.{linalg_singles}
-use Rattle.series_f32.proofs.As.{series-singles}
 use Rattle.series_f32.proofs.sim3.turns_v_at.Given as goal
+use Rattle.series_f32.specs.As.{as_turns_v}
 
 abbrev pub invariant-loop-j : goal.invariant-loop-j
 invariant-loop-j l = (l.j ≤ l.k + 1) × (as_turns_v l.s ≡ v_turns binary32 l.sigma l.z l.j)

@@ -1,21 +1,21 @@
+-- Written by tools/widths from crates/series/proofs/stopped/pass_stopped/Answers.antt: edit that one. Digest d0cac2b4f4519cad.
 -- `series_f32::stopped::pass_stopped` meets its contract: the test is the definition's, and each part is what its call ensures. Assumes nothing.
-use borrow.Author.Rules.{rules}
 use borrow.Author.Tests.{lt-ltb, le-ltb}
 use Rattle.series.specs.Pass.{pass_stopped}
 use Rattle.series_f32.specs.Told.{stopped_told}
-use Rattle.linalg_f32.proofs.As.{linalg_singles}
-use Rattle.series_f32.proofs.As.{series-singles}
 use Rattle.series_f32.proofs.stopped.pass_stopped.Goals as goal
+use Rattle.linalg_f32.proofs.As.{linalg_singles}
+use Rattle.series_f32.proofs.As.{series_singles}
 
 pub returns-then-k-gt28 : goal.returns-then-k-gt28
 unfolding stopped_told pass_stopped
-returns-then-k-gt28 c = simp (linalg_singles, series-singles, lt-ltb _ _ c.if-k-gt28.true)
+returns-then-k-gt28 c = simp (linalg_singles, series_singles, lt-ltb _ _ c.if-k-gt28.true)
 
 pub returns : goal.returns
 unfolding stopped_told pass_stopped
 returns c = simp (
   linalg_singles,
-  series-singles,
+  series_singles,
   c.series_at-series.ensures,
   c.alone-series_alone.ensures,
   c.horner_small_stopped-closed.ensures,

@@ -1,5 +1,4 @@
 -- `tables::single::table` meets its contract: each row has the patterns that pass the test. Assumes nothing.
-use borrow.Author.Rules.{rules}
 use lib.Ieee.{binary32, of_bits, neg}
 use Rattle.tables.specs.Tables.{cos_half_row, k_row, a_row, b_row, d_row}
 use Rattle.tables.specs.Patterns.{patterns}

@@ -1,5 +1,4 @@
 -- `closed::values::Values::mirrored` meets its contract: by what its calls ensure. Assumes nothing.
-use borrow.Author.Rules.{rules}
 use Rattle.closed.specs.Values.{mirrored}
 use Rattle.closed.proofs.values.Values.mirrored.Goals as goal
 

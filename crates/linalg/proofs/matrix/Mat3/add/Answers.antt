@@ -1,4 +1,3 @@
-use borrow.Author.Rules.{rules}
 use Rattle.linalg.specs.Matrix.{mat_add}
 use Rattle.linalg.proofs.matrix.Mat3.add.Goals as goal
 

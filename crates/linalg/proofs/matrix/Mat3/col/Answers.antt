@@ -1,6 +1,5 @@
 -- `linalg::matrix::Mat3::col` meets its contract: its three entries are the column, and where one is refused so is the column. Assumes nothing.
 use mathlib.Core.Path.{refl, sym, ap, ◌∙◌}
-use borrow.Author.Rules.{rules}
 use Rattle.linalg.specs.Matrix.{entry_told, vec_told, vec_component}
 use Rattle.linalg.proofs.Thirds.{col_refused, col_answers}
 use Rattle.linalg.proofs.matrix.Mat3.col.Goals as goal

@@ -1,5 +1,4 @@
 -- `linalg::matrix::Mat3::get` meets its contract: by what its calls ensure and its tests say. Assumes nothing.
-use borrow.Author.Rules.{rules}
 use borrow.Author.Tests.{ne_eqb}
 use Rattle.linalg.specs.Matrix.{entry_told, mat_get, mat_col}
 use Rattle.linalg.proofs.matrix.Mat3.get.Goals as goal

@@ -1,4 +1,3 @@
-use borrow.Author.Rules.{rules}
 use Rattle.linalg.specs.Matrix.{mat_inverse_adj}
 use Rattle.linalg.proofs.matrix.Mat3.inverse_adj.Goals as goal
 

@@ -1,4 +1,3 @@
-use borrow.Author.Rules.{rules}
 use Rattle.linalg.specs.Matrix.{mat_mul}
 use Rattle.linalg.proofs.matrix.Mat3.mul.Goals as goal
 

@@ -1,4 +1,3 @@
-use borrow.Author.Rules.{rules}
 use Rattle.linalg.specs.Matrix.{mat_neg}
 use Rattle.linalg.proofs.matrix.Mat3.neg.Goals as goal
 

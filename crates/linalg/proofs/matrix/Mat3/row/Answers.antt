@@ -1,6 +1,5 @@
 -- `linalg::matrix::Mat3::row` meets its contract: its three entries are the row, and where one is refused so is the row. Assumes nothing.
 use mathlib.Core.Path.{sym, ap, ◌∙◌}
-use borrow.Author.Rules.{rules}
 use Rattle.linalg.specs.Matrix.{entry_told, vec_told, vec_component, mat_get, mat_col}
 use Rattle.linalg.proofs.Thirds.{row-refused, row-answers}
 use Rattle.linalg.proofs.matrix.Mat3.row.Goals as goal

@@ -1,6 +1,5 @@
 -- `linalg::matrix::Mat3::set` meets its contract: by what its calls ensure and its tests say. Assumes nothing.
 use mathlib.Core.Path.{◌≡◌, sym, ap, ◌∙◌}
-use borrow.Author.Rules.{rules}
 use Rattle.linalg.specs.Answer.{refuses}
 use Rattle.linalg.specs.Matrix.{mat_told, mat_set, mat_get, entry_told}
 use Rattle.linalg.proofs.Thirds.{get_refused}

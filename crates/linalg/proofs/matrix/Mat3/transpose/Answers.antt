@@ -1,4 +1,3 @@
-use borrow.Author.Rules.{rules}
 use Rattle.linalg.specs.Matrix.{mat_transpose}
 use Rattle.linalg.proofs.matrix.Mat3.transpose.Goals as goal
 

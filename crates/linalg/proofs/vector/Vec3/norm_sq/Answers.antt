@@ -1,4 +1,3 @@
-use borrow.Author.Rules.{rules}
 use Rattle.linalg.specs.Vector.{vec_norm_sq}
 use Rattle.linalg.proofs.vector.Vec3.norm_sq.Goals as goal
 

@@ -1,7 +1,7 @@
-use borrow.Author.Rules.{rules}
+-- Written by tools/widths from crates/linalg/proofs/matrix/Mat3/add/Answers.antt: edit that one. Digest 0fb6e1f7c8a906c3.
 use Rattle.linalg.specs.Matrix.{mat_add}
-use Rattle.linalg_f32.proofs.As.{linalg_singles}
 use Rattle.linalg_f32.proofs.matrix.Mat3.add.Goals as goal
+use Rattle.linalg_f32.proofs.As.{linalg_singles}
 
 pub returns : goal.returns
 unfolding mat_add

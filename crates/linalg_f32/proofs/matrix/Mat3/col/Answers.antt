@@ -1,11 +1,11 @@
+-- Written by tools/widths from crates/linalg/proofs/matrix/Mat3/col/Answers.antt: edit that one. Digest d6b59bf850cd0baa.
 -- `linalg_f32::matrix::Mat3::col` meets its contract: its three entries are the column, and where one is refused so is the column. Assumes nothing.
 use mathlib.Core.Path.{refl, sym, ap, ◌∙◌}
-use borrow.Author.Rules.{rules}
 use Rattle.linalg.specs.Matrix.{vec_component}
 use Rattle.linalg_f32.specs.Told.{entry_told, vec_told}
 use Rattle.linalg.proofs.Thirds.{col_refused, col_answers}
-use Rattle.linalg_f32.specs.As.{as_mat3, as_vec3}
 use Rattle.linalg_f32.proofs.matrix.Mat3.col.Goals as goal
+use Rattle.linalg_f32.specs.As.{as_mat3, as_vec3}
 
 pub returns-in_default : goal.returns-in_default
 unfolding entry_told vec_told vec_component as_mat3 as_vec3

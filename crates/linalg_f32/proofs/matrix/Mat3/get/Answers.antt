@@ -1,10 +1,10 @@
+-- Written by tools/widths from crates/linalg/proofs/matrix/Mat3/get/Answers.antt: edit that one. Digest 1033ee0fa227d962.
 -- `linalg_f32::matrix::Mat3::get` meets its contract: by what its calls ensure and its tests say. Assumes nothing.
-use borrow.Author.Rules.{rules}
 use borrow.Author.Tests.{ne_eqb}
 use Rattle.linalg.specs.Matrix.{mat_get, mat_col}
 use Rattle.linalg_f32.specs.Told.{entry_told}
-use Rattle.linalg_f32.proofs.As.{linalg_singles}
 use Rattle.linalg_f32.proofs.matrix.Mat3.get.Goals as goal
+use Rattle.linalg_f32.proofs.As.{linalg_singles}
 
 pub returns-in-0 : goal.returns-in-0
 unfolding entry_told mat_get mat_col

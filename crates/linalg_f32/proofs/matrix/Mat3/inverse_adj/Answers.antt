@@ -1,7 +1,7 @@
-use borrow.Author.Rules.{rules}
+-- Written by tools/widths from crates/linalg/proofs/matrix/Mat3/inverse_adj/Answers.antt: edit that one. Digest f96708b6535b2aaa.
 use Rattle.linalg.specs.Matrix.{mat_inverse_adj}
-use Rattle.linalg_f32.proofs.As.{linalg_singles}
 use Rattle.linalg_f32.proofs.matrix.Mat3.inverse_adj.Goals as goal
+use Rattle.linalg_f32.proofs.As.{linalg_singles}
 
 pub returns : goal.returns
 unfolding mat_inverse_adj

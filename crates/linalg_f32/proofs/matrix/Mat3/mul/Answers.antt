@@ -1,7 +1,7 @@
-use borrow.Author.Rules.{rules}
+-- Written by tools/widths from crates/linalg/proofs/matrix/Mat3/mul/Answers.antt: edit that one. Digest 97941245cf359b82.
 use Rattle.linalg.specs.Matrix.{mat_mul}
-use Rattle.linalg_f32.proofs.As.{linalg_singles}
 use Rattle.linalg_f32.proofs.matrix.Mat3.mul.Goals as goal
+use Rattle.linalg_f32.proofs.As.{linalg_singles}
 
 pub returns : goal.returns
 unfolding mat_mul

@@ -1,11 +1,11 @@
+-- Written by tools/widths from crates/linalg/proofs/matrix/Mat3/row/Answers.antt: edit that one. Digest b9da33a69adc6b78.
 -- `linalg_f32::matrix::Mat3::row` meets its contract: its three entries are the row, and where one is refused so is the row. Assumes nothing.
 use mathlib.Core.Path.{sym, ap, ◌∙◌}
-use borrow.Author.Rules.{rules}
 use Rattle.linalg.specs.Matrix.{vec_component, mat_get, mat_col}
 use Rattle.linalg_f32.specs.Told.{entry_told, vec_told}
 use Rattle.linalg.proofs.Thirds.{row-refused, row-answers}
-use Rattle.linalg_f32.specs.As.{as_mat3, as_vec3}
 use Rattle.linalg_f32.proofs.matrix.Mat3.row.Goals as goal
+use Rattle.linalg_f32.specs.As.{as_mat3, as_vec3}
 
 pub returns-in_default : goal.returns-in_default
 unfolding entry_told vec_told vec_component mat_get mat_col as_mat3 as_vec3

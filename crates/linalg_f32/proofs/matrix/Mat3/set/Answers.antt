@@ -1,13 +1,13 @@
+-- Written by tools/widths from crates/linalg/proofs/matrix/Mat3/set/Answers.antt: edit that one. Digest c7156e68d5a84a23.
 -- `linalg_f32::matrix::Mat3::set` meets its contract: by what its calls ensure and its tests say. Assumes nothing.
 use mathlib.Core.Path.{◌≡◌, sym, ap, ◌∙◌}
-use borrow.Author.Rules.{rules}
 use Rattle.linalg.specs.Answer.{refuses}
 use Rattle.linalg.specs.Matrix.{mat_set, mat_get}
 use Rattle.linalg_f32.specs.Told.{mat_told, entry_told}
 use Rattle.linalg.proofs.Thirds.{get_refused}
+use Rattle.linalg_f32.proofs.matrix.Mat3.set.Goals as goal
 use Rattle.linalg_f32.specs.As.{as_mat3}
 use Rattle.linalg_f32.proofs.As.{linalg_singles}
-use Rattle.linalg_f32.proofs.matrix.Mat3.set.Goals as goal
 
 pub returns-in_default : goal.returns-in_default
 unfolding mat_told mat_set entry_told

@@ -1,7 +1,7 @@
-use borrow.Author.Rules.{rules}
+-- Written by tools/widths from crates/linalg/proofs/matrix/Mat3/sub/Answers.antt: edit that one. Digest 4e199634f51a40a3.
 use Rattle.linalg.specs.Matrix.{mat_sub}
-use Rattle.linalg_f32.proofs.As.{linalg_singles}
 use Rattle.linalg_f32.proofs.matrix.Mat3.sub.Goals as goal
+use Rattle.linalg_f32.proofs.As.{linalg_singles}
 
 pub returns : goal.returns
 unfolding mat_sub
