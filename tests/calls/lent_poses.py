@@ -107,13 +107,13 @@ def wrong(crate, special):
     if ran.returncode or re.search(r"\brunners=1\b", text):
         return f"rt try ended with status {ran.returncode}: {text[-2000:]}"
     if ran.stdout != due:
-        at = next((i for i, pair in enumerate(zip(ran.stdout, due)) if pair[0] != pair[1]), min(len(ran.stdout), len(due)))
+        at = next((i for i, (a, b) in enumerate(zip(ran.stdout, due)) if a != b), min(len(ran.stdout), len(due)))
         return f"{len(ran.stdout)} bytes, of which byte {at} is the first that is not what is due, of {len(due)}"
     return None
 
 
 def wrong_in_c(special):
-    """The same of the C function, which is lent the numbers of the first poses of each array: those behind it keep every bit."""
+    """The same of the C function, which is lent the numbers of the first poses of each array."""
     function = ctypes.CDLL(str(LIBRARY)).sim3_renormalize_all
     for n, poses in arrays(special):
         words = (ctypes.c_uint64 * (8 * MOST))(*(word for x in poses for word in x[:8]))

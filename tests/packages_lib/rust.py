@@ -1,7 +1,7 @@
 """Rust: the installed crate's own tests, documentation and example, and a crate that depends on it."""
 import functools
 
-from .common import DUE, folder, prefix, ran, same, tool
+from .common import DUE, ROOT, folder, prefix, ran, same, tool
 
 MAIN = """\
 use sim3::{host, Tangent};
@@ -34,6 +34,12 @@ def own_example():
     assert DUE in cargo("run", "--example", "join", cwd=prefix() / "share/sim3/rust")
 
 
+def example_is_the_same():
+    """cargo wants it in the crate, and rt takes no tree with a link in it."""
+    files = [ROOT / place / "join.rs" for place in ("bindings/rust/examples", "examples/rust")]
+    same(*(file.read_text(encoding="utf-8") for file in files), "the crate's example and that of examples/rust")
+
+
 def documentation():
     cargo("doc", "--no-deps", cwd=prefix() / "share/sim3/rust", RUSTDOCFLAGS="-D warnings")
 
@@ -48,4 +54,4 @@ def dependent():
     same(cargo("run", cwd=work), f"{version} [1.0, 2.0, 3.0] 3 7\n", "what a crate that depends on sim3 says")
 
 
-TESTS = [own_tests, own_example, documentation, dependent]
+TESTS = [own_tests, own_example, example_is_the_same, documentation, dependent]

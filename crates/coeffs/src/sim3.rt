@@ -382,42 +382,13 @@ pub fn sim3_coeffs_scaled_pair(sigma: f64, z: f64, v: Values) -> PairAnswer
 // ---- the same at z = |phi|^2, which is never below zero: nothing is refused, and the refusing arm
 // of each match is never taken.
 
-// What stands in an arm that is never taken: whoever calls it has proved that nothing comes there.
-fn no_scaled() -> Scaled
-    requires { ⊥ }
-    ensures { ⊥ }
-{
-    loop {}
-}
-
-fn no_coeffs() -> Sim3Coeffs
-    requires { ⊥ }
-    ensures { ⊥ }
-{
-    loop {}
-}
-
-fn no_v() -> Coeffs4
-    requires { ⊥ }
-    ensures { ⊥ }
-{
-    loop {}
-}
-
-fn no_pair() -> ScaledPair
-    requires { ⊥ }
-    ensures { ⊥ }
-{
-    loop {}
-}
-
 // sim3_coeffs_scaled at |phi|^2.
 pub fn sim3_coeffs_scaled_of(phi: Vec3, sigma: f64, v: Values) -> Scaled
     ensures { result ≡ coeffs_scaled binary64 sigma (vec_norm_sq binary64 phi) v }
 {
     match sim3_coeffs_scaled(sigma, phi.norm_sq(), v) {
         ScaledAnswer::Coeffs(s) => s,
-        ScaledAnswer::Refused(_) => no_scaled(),
+        ScaledAnswer::Refused(_) => unreachable!(),
     }
 }
 
@@ -427,7 +398,7 @@ pub fn sim3_coeffs_of(phi: Vec3, sigma: f64, v: Values) -> Sim3Coeffs
 {
     match sim3_coeffs(sigma, phi.norm_sq(), v) {
         CoeffsAnswer::Coeffs(c) => c,
-        CoeffsAnswer::Refused(_) => no_coeffs(),
+        CoeffsAnswer::Refused(_) => unreachable!(),
     }
 }
 
@@ -437,7 +408,7 @@ pub fn sim3_v_of(phi: Vec3, sigma: f64, v: Values) -> Coeffs4
 {
     match sim3_v(sigma, phi.norm_sq(), v) {
         VAnswer::Coeffs(c) => c,
-        VAnswer::Refused(_) => no_v(),
+        VAnswer::Refused(_) => unreachable!(),
     }
 }
 
@@ -447,6 +418,6 @@ pub fn sim3_coeffs_scaled_pair_of(phi: Vec3, sigma: f64, v: Values) -> ScaledPai
 {
     match sim3_coeffs_scaled_pair(sigma, phi.norm_sq(), v) {
         PairAnswer::Coeffs(p) => p,
-        PairAnswer::Refused(_) => no_pair(),
+        PairAnswer::Refused(_) => unreachable!(),
     }
 }

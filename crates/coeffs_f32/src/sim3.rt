@@ -1,4 +1,4 @@
-// Written by tools/widths from crates/coeffs/src/sim3.rt: edit that one. Digest 4a642f67792e1210.
+// Written by tools/widths from crates/coeffs/src/sim3.rt: edit that one. Digest b60577117fe4e7d0.
 // The entries of the coefficient group: scaled, with the arm told, unscaled, v alone, and the pair for
 // both signs. Each finds the arm once.
 ghost use Rattle.std.specs.Prelude.{◌≡◌};
@@ -390,42 +390,13 @@ pub fn sim3_coeffs_scaled_pair(sigma: f32, z: f32, v: Values) -> PairAnswer
 // ---- the same at z = |phi|^2, which is never below zero: nothing is refused, and the refusing arm
 // of each match is never taken.
 
-// What stands in an arm that is never taken: whoever calls it has proved that nothing comes there.
-fn no_scaled() -> Scaled
-    requires { ⊥ }
-    ensures { ⊥ }
-{
-    loop {}
-}
-
-fn no_coeffs() -> Sim3Coeffs
-    requires { ⊥ }
-    ensures { ⊥ }
-{
-    loop {}
-}
-
-fn no_v() -> Coeffs4
-    requires { ⊥ }
-    ensures { ⊥ }
-{
-    loop {}
-}
-
-fn no_pair() -> ScaledPair
-    requires { ⊥ }
-    ensures { ⊥ }
-{
-    loop {}
-}
-
 // sim3_coeffs_scaled at |phi|^2.
 pub fn sim3_coeffs_scaled_of(phi: Vec3, sigma: f32, v: Values) -> Scaled
     ensures { as_scaled result ≡ coeffs_scaled binary32 sigma (vec_norm_sq binary32 (as_vec3 phi)) (as_values v) }
 {
     match sim3_coeffs_scaled(sigma, phi.norm_sq(), v) {
         ScaledAnswer::Coeffs(s) => s,
-        ScaledAnswer::Refused(_) => no_scaled(),
+        ScaledAnswer::Refused(_) => unreachable!(),
     }
 }
 
@@ -435,7 +406,7 @@ pub fn sim3_coeffs_of(phi: Vec3, sigma: f32, v: Values) -> Sim3Coeffs
 {
     match sim3_coeffs(sigma, phi.norm_sq(), v) {
         CoeffsAnswer::Coeffs(c) => c,
-        CoeffsAnswer::Refused(_) => no_coeffs(),
+        CoeffsAnswer::Refused(_) => unreachable!(),
     }
 }
 
@@ -445,7 +416,7 @@ pub fn sim3_v_of(phi: Vec3, sigma: f32, v: Values) -> Coeffs4
 {
     match sim3_v(sigma, phi.norm_sq(), v) {
         VAnswer::Coeffs(c) => c,
-        VAnswer::Refused(_) => no_v(),
+        VAnswer::Refused(_) => unreachable!(),
     }
 }
 
@@ -455,6 +426,6 @@ pub fn sim3_coeffs_scaled_pair_of(phi: Vec3, sigma: f32, v: Values) -> ScaledPai
 {
     match sim3_coeffs_scaled_pair(sigma, phi.norm_sq(), v) {
         PairAnswer::Coeffs(p) => p,
-        PairAnswer::Refused(_) => no_pair(),
+        PairAnswer::Refused(_) => unreachable!(),
     }
 }

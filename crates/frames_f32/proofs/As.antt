@@ -1,4 +1,4 @@
--- Written by tools/widths from crates/frames: edit that one. Digest 523196dc64fef396.
+-- Written by tools/widths from crates/frames: edit that one. Digest 8aef929ba9e26992.
 -- The structs of frames_f32 field by field, as rules for `simp`: a number that the code reads of a struct is the number of the definitions' record. Assumes nothing.
 use mathlib.Core.Path.{◌≡◌, refl}
 use Prim.Native.Nat.{ℕ}
@@ -23,4 +23,4 @@ pub made-Pose : (sim3 : Sim3) (from : ℕ) (to : ℕ) → as_pose (record { sim3
 unfolding as_pose
 made-Pose sim3 from to = refl
 
-pub ruleset frames-singles = (sim3_of-Pose, from_of-Pose, to_of-Pose, made-Pose)
+pub ruleset frames_singles = (sim3_of-Pose, from_of-Pose, to_of-Pose, made-Pose)

@@ -1,4 +1,4 @@
--- Written by tools/widths from crates/frames: edit that one. Digest 96502c5fd2f658ec.
+-- Written by tools/widths from crates/frames: edit that one. Digest 667c304f58d245aa.
 -- The structs of frames_f32 as the records that the definitions speak of, number by number: a float of either width is one type of the logic.
 use Rattle.frames.specs.declared.Pose as WidePose
 use Rattle.frames_f32.specs.declared.Pose.{Pose}

@@ -1,4 +1,4 @@
--- Written by tools/widths from crates/frames: edit that one. Digest 39e3d8259fe30ca8.
+-- Written by tools/widths from crates/frames: edit that one. Digest ade88086c327c858.
 -- What each answer of frames_f32 says.
 use Rattle.frames_f32.specs.declared.PoseAnswer as CodePoseAnswer
 use Rattle.frames_f32.specs.declared.PoseAnswer.TheVariants as InPoseAnswer

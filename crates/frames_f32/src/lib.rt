@@ -1,4 +1,4 @@
-// Written by tools/widths from crates/frames/src/lib.rt: edit that one. Digest 6a427c0995c498c6.
+// Written by tools/widths from crates/frames/src/lib.rt: edit that one. Digest 28b15bc007edba45.
 // Poses with their frames: a pose maps points of the frame `from` to points of the frame `to`. Poses
 // are joined only where the frames meet. The numbers are those of crate sim3, whose functions these
 // call and whose argument orders they keep; the action and the Jacobians read no frame, and take

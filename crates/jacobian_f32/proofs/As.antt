@@ -1,4 +1,4 @@
--- Written by tools/widths from crates/jacobian: edit that one. Digest 047f765f8a5ba9ac.
+-- Written by tools/widths from crates/jacobian: edit that one. Digest cd3d9637407ebf71.
 -- The structs of jacobian_f32 field by field, as rules for `simp`: a number that the code reads of a struct is the number of the definitions' record. Assumes nothing.
 use mathlib.Core.Path.{◌≡◌, refl}
 use lib.Ieee.{Float}
@@ -48,8 +48,8 @@ pub made-Seven : (c0 : Sim3Tangent) (c1 : Sim3Tangent) (c2 : Sim3Tangent) (c3 : 
       c2 = as_sim3_tangent c2;
       c3 = as_sim3_tangent c3;
       c4 = as_sim3_tangent c4;
-      c5 = as_sim3_tangent
-          c5;
+      c5 =
+          as_sim3_tangent c5;
       c6 = as_sim3_tangent c6;
     }
 unfolding as_seven

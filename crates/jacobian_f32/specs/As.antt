@@ -1,4 +1,4 @@
--- Written by tools/widths from crates/jacobian: edit that one. Digest 2d20ee3387af2811.
+-- Written by tools/widths from crates/jacobian: edit that one. Digest 7de9f132f4fc7137.
 -- The structs of jacobian_f32 as the records that the definitions speak of, number by number: a float of either width is one type of the logic.
 use Rattle.jacobian.specs.declared.dense.Seven as WideSeven
 use Rattle.jacobian_f32.specs.declared.dense.Seven.{Seven}
@@ -14,9 +14,9 @@ as_seven a = record {
   c0 = as_sim3_tangent a.c0;
   c1 = as_sim3_tangent a.c1;
   c2 = as_sim3_tangent a.c2;
-  c3 = as_sim3_tangent
-      a.c3;
-  c4 = as_sim3_tangent a.c4;
+  c3 = as_sim3_tangent a.c3;
+  c4 = as_sim3_tangent
+      a.c4;
   c5 = as_sim3_tangent a.c5;
   c6 = as_sim3_tangent a.c6;
 }

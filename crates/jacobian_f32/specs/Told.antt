@@ -1,4 +1,4 @@
--- Written by tools/widths from crates/jacobian: edit that one. Digest b5d0eb9c9f8ab6c0.
+-- Written by tools/widths from crates/jacobian: edit that one. Digest 1a1beb527d6ec456.
 -- What each answer of jacobian_f32 says.
 use Rattle.jacobian_f32.specs.declared.jac.JacAnswer as CodeJacAnswer
 use Rattle.jacobian_f32.specs.declared.jac.JacAnswer.TheVariants as InJacAnswer

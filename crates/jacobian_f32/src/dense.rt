@@ -1,4 +1,4 @@
-// Written by tools/widths from crates/jacobian/src/dense.rt: edit that one. Digest 14db9a90df2fdafa.
+// Written by tools/widths from crates/jacobian/src/dense.rt: edit that one. Digest 64469d2069bbee76.
 // 7x7 matrices as 49 numbers, column by column.
 ghost use Rattle.std.specs.Prelude.{◌≡◌, ◌+◌, ◌≤◌, length};
 ghost use Rattle.std.specs.Float.{binary32};

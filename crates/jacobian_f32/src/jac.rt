@@ -1,4 +1,4 @@
-// Written by tools/widths from crates/jacobian/src/jac.rt: edit that one. Digest 632d43055d17fd17.
+// Written by tools/widths from crates/jacobian/src/jac.rt: edit that one. Digest f52997cea0cc42d2.
 // A Sim(3) Jacobian: the matrix with the rows (a, 0, 0), (b, c, f), (0, 0, e).
 ghost use Rattle.std.specs.Prelude.{◌≡◌};
 ghost use Rattle.std.specs.Float.{binary32};

@@ -1,4 +1,4 @@
-// Written by tools/widths from crates/jacobian/src/lib.rt: edit that one. Digest a278dd327053a3e5.
+// Written by tools/widths from crates/jacobian/src/lib.rt: edit that one. Digest f8de1ca9fc72f93a.
 // Block Jacobians of Sim(3): their structure and algebra.
 #![tactic(auto)]
 

@@ -142,9 +142,12 @@ module _
 abbrev pub Leaves : ℕ → List ℕ → Bool → Counts → List ℕ → List ℕ → Fed → List ℕ → List ℕ → Type 0
 Leaves limit input last c m₀ out₀ f out m =
     let P = records_of (limit - c.begun) (standing c (state_of m₀)) input last (length out₀) in
-    (f ≡ part_fed P)
-    × ((out ≡ sets out₀ 0 P.bytes)
-    × ((m ≡ mem_records (limit - c.begun) m₀ input (length out₀)) × (state_of m ≡ P.standing.state)))
+    record {
+      value : f ≡ part_fed P;
+      out_after : out ≡ sets out₀ 0 P.bytes;
+      mem_after : m ≡ mem_records (limit - c.begun) m₀ input (length out₀);
+      mem_after_2 : state_of m ≡ P.standing.state;
+    }
 
 -- by the counts that it began with, put together again
 pub left-from :
@@ -154,4 +157,5 @@ pub left-from :
     m ≡ mem_records (limit - q.begun) m₀ input (length out₀) →
     Leaves limit input last c m₀ out₀ f out m
 left-from limit input last m₀ out₀ q c e {f = f} {out = out} {m = m} l g =
-    subst (λ (x : Counts). Leaves limit input last x m₀ out₀ f out m) (rejoined q c e) (l.0, (l.1.0, (g, l.1.1)))
+    subst (λ (x : Counts). Leaves limit input last x m₀ out₀ f out m) (rejoined q c e)
+    (record { value = l.0; out_after = l.1.0; mem_after = g; mem_after_2 = l.1.1 })

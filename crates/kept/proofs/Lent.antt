@@ -139,23 +139,26 @@ joint_front m l w (refuses k) = take-append-drop running_size m
 pub pose_replied :
     (t : Bool) (x : Pose) (out out' : List ℕ) → all_finite (numbers (pose_numbers x.sim3)) ≡ t →
     out' ≡ sets (set (set out 0 0x43) 1 0x48) 2 (items_bytes binary64 (framed_items x)) →
-    (step_told (step.Took (kind_of t) ch_size 70) ≡ took_of ch_size (ch_reply (answers x))) × (out' ≡ sets out 0 (ch_reply (answers x)).bytes)
+    record { result_value : step_told (step.Took (kind_of t) ch_size 70) ≡ took_of ch_size (ch_reply (answers x)); out_after : out' ≡ sets out 0 (ch_reply (answers x)).bytes }
 unfolding ch_reply reply_of mark_bytes
 pose_replied t x out out' e w =
     let n : length (0x43 ∷ 0x48 ∷ items_bytes binary64 (framed_items x)) ≡ 70 = ap (λ (k : ℕ). suc (suc k)) (framed-length binary64 x) in
-    (rw (framed-finite x, e, n) refl, w)
+    record { result_value = rw (framed-finite x, e, n) refl; out_after = w }
 
 pub pose-refused :
     (k : ℕ) (out : List ℕ) →
-    (step_told (step.Took kind.Refused ch_size 3) ≡ took_of ch_size (ch_reply (refuses k))) × (set (set (set out 0 0x4e) 1 0x4f) 2 k ≡ sets out 0 (ch_reply (refuses k)).bytes)
+    record {
+      result_value : step_told (step.Took kind.Refused ch_size 3) ≡ took_of ch_size (ch_reply (refuses k));
+      out_after : set (set (set out 0 0x4e) 1 0x4f) 2 k ≡ sets out 0 (ch_reply (refuses k)).bytes;
+    }
 unfolding ch_reply reply_of no_bytes
-pose-refused k out = (refl, refl)
+pose-refused k out = record { result_value = refl; out_after = refl }
 
 pub every_replied :
     (n : ℕ) (out out' : List ℕ) → out' ≡ sets (set (set out 0 0x52) 1 0x4e) 2 (frame n) →
-    (step_told (step.Took kind.Answered rn_size 4) ≡ took_of rn_size (rn_reply n)) × (out' ≡ sets out 0 (rn_reply n).bytes)
+    record { result_value : step_told (step.Took kind.Answered rn_size 4) ≡ took_of rn_size (rn_reply n); out_after : out' ≡ sets out 0 (rn_reply n).bytes }
 unfolding rn_reply reply_of mark_bytes all_finite items_bytes item_bytes word_bytes
-every_replied n out out' w = (refl, w)
+every_replied n out out' w = record { result_value = refl; out_after = w }
 
 -- ---- the record's own bytes, as the code lends them
 pub own : (w : ℕ) (s : List ℕ) → 2 + w ≤ length s → drop 2 (take (2 + w) s) ≡ take w (drop 2 s)
@@ -173,7 +176,8 @@ module _ (m s out : List ℕ) (l : length m ≡ memory) where
   ch-whole h r q out' R told wrote became left e =
       let t = told-whole ch_asks m s out l h r in
       let all = ap (λ (x : List ℕ). x ++ drop running_size m) became ∙ joint_front m l _ _ in
-      rw (t.0, t.1.0, t.1.1.0, t.1.1.1, own 76 s h) (told, (wrote, (all, front_back m l R _ e left)))
+      rw (t.0, t.1.0, t.1.1.0, t.1.1.1, own 76 s h)
+      (record { result_value = told; out_after = wrote; mem_after = all; mem_after_2 = front_back m l R _ e left })
 
   pub rn-whole :
       rn_size ≤ length s → longest ≤ length out → (q : Step) (out' R : List ℕ) → let n = word_at 2 (take 2 (drop 2 s)) 0 in
@@ -185,4 +189,5 @@ module _ (m s out : List ℕ) (l : length m ≡ memory) where
       let t = told-whole rn_asks m s out l h r in
       let n = word_at 2 (take 2 (drop 2 s)) 0 in
       let all = ap (λ (x : List ℕ). x ++ drop running_size m) became ∙ sets-part m (word_bytes 2 n) 0 running_size (omega arith) (omega (arith, word-length 2 n)) in
-      rw (t.0, t.1.0, t.1.1.0, t.1.1.1, own 2 s h) (told, (wrote, (all, front_back m l R _ e left)))
+      rw (t.0, t.1.0, t.1.1.0, t.1.1.1, own 2 s h)
+      (record { result_value = told; out_after = wrote; mem_after = all; mem_after_2 = front_back m l R _ e left })

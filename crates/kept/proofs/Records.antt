@@ -29,14 +29,17 @@ unheld m e = rw (ne_eqb (length m) memory e)
 
 -- ---- what a call tells and writes, and the state that it leaves
 abbrev pub Told : Asks → List ℕ → List ℕ → List ℕ → Step → List ℕ → List ℕ → Type 0
-Told a m s out q out' m' =
-    (step_told q ≡ met_by a m s (length out))
-    × ((out' ≡ sets out 0 (bytes_by a m s (length out))) × ((m' ≡ mem_by a m s (length out)) × (state_of m' ≡ state_by a m s (length out))))
+Told a m s out q out' m' = record {
+  result_value : step_told q ≡ met_by a m s (length out);
+  out_after : out' ≡ sets out 0 (bytes_by a m s (length out));
+  mem_after : m' ≡ mem_by a m s (length out);
+  mem_after_2 : state_of m' ≡ state_by a m s (length out);
+}
 
 module _ (a : Asks) (m s out : List ℕ) where
   pub told_unheld : (length m ≡ memory → ⊥) → Told a m s out step.Room out m
   unfolding met_by bytes_by mem_by state_by
-  told_unheld h = rw (unheld m h) (refl, (refl, (refl, refl)))
+  told_unheld h = rw (unheld m h) (record { result_value = refl; out_after = refl; mem_after = refl; mem_after_2 = refl })
 
   -- where they hold a state
   pub told_held :
@@ -55,7 +58,12 @@ module _ (a : Asks) (m s out : List ℕ) where
       let u = told_held h in
       let c = lt-ltb (length s) a.bytes l in
       rw (u.0, u.1.0, u.1.1.0, u.1.1.1)
-      (t.0, (ap (sets out 0) t.1, (sym (rw c (same (ltb (length out) longest) m)), sym (rw c (same (ltb (length out) longest) (state_of m))))))
+      (record {
+        result_value = t.0;
+        out_after = ap (sets out 0) t.1;
+        mem_after = sym (rw c (same (ltb (length out) longest) m));
+        mem_after_2 = sym (rw c (same (ltb (length out) longest) (state_of m)));
+      })
 
   pub told-roomless : length m ≡ memory → a.bytes ≤ length s → length out < longest → Told a m s out step.Room out m
   unfolding found_by
@@ -63,7 +71,13 @@ module _ (a : Asks) (m s out : List ℕ) where
       let t = reply-roomless (length out) a.bytes (λ r. (a.step (state_of m) r).reply) s l r in
       let u = told_held h in
       let c = lt-ltb (length out) longest r in
-      rw (u.0, u.1.0, u.1.1.0, u.1.1.1) (t.0, (ap (sets out 0) t.1, (sym (rw c refl), sym (rw c refl))))
+      rw (u.0, u.1.0, u.1.1.0, u.1.1.1)
+      (record {
+        result_value = t.0;
+        out_after = ap (sets out 0) t.1;
+        mem_after = sym (rw c refl);
+        mem_after_2 = sym (rw c refl);
+      })
 
   pub told-whole :
       length m ≡ memory → a.bytes ≤ length s → longest ≤ length out → let k = a.step (state_of m) (take a.bytes s) in

@@ -32,19 +32,22 @@ use Rattle.kept.proofs.State.{rest_none, rest_back}
 -- ---- the answers as the code writes them: SH, SQ by whether its numbers are finite, and the refusals
 pub shelf_replied :
     (how before : ℕ) (out out' : List ℕ) → how < 256 → out' ≡ sets (set (set (set out 0 0x53) 1 0x48) 2 how) 3 (frame before) →
-    (step_told (step.Took kind.Answered sh_size 5) ≡ took_of sh_size (sh_reply (shelved how before))) × (out' ≡ sets out 0 (sh_reply (shelved how before)).bytes)
+    record {
+      result_value : step_told (step.Took kind.Answered sh_size 5) ≡ took_of sh_size (sh_reply (shelved how before));
+      out_after : out' ≡ sets out 0 (sh_reply (shelved how before)).bytes;
+    }
 unfolding sh_reply reply_of mark_bytes all_finite items_bytes item_bytes word_bytes
-shelf_replied how before out out' h w = let e : how % 256 ≡ how = mod-eq_of_lt h in (refl, rw e w)
+shelf_replied how before out out' h w = let e : how % 256 ≡ how = mod-eq_of_lt h in record { result_value = refl; out_after = rw e w }
 
 pub shot_replied :
     (t : Bool) (x : Shot) (out out' : List ℕ) → all_finite (numbers (pose_numbers x.pose.sim3)) ≡ t →
     out' ≡ sets (sets (set (set out 0 0x53) 1 0x51) 2 (frame x.take)) 4 (items_bytes binary64 (framed_items x.pose)) →
-    (step_told (step.Took (kind_of t) sq_size 72) ≡ took_of sq_size (sq_reply (answers x))) × (out' ≡ sets out 0 (sq_reply (answers x)).bytes)
+    record { result_value : step_told (step.Took (kind_of t) sq_size 72) ≡ took_of sq_size (sq_reply (answers x)); out_after : out' ≡ sets out 0 (sq_reply (answers x)).bytes }
 unfolding sq_reply reply_of mark_bytes all_finite items_bytes item_bytes word_bytes
 shot_replied t x out out' e w =
     let n : length (0x53 ∷ 0x51 ∷ x.take % 256 ∷ x.take / 256 % 256 ∷ items_bytes binary64 (framed_items x.pose)) ≡ 72 =
     ap (λ (k : ℕ). suc (suc (suc (suc k)))) (framed-length binary64 x.pose) in
-    (rw (framed-finite x.pose, e, n) refl, w)
+    record { result_value = rw (framed-finite x.pose, e, n) refl; out_after = w }
 
 pub sh-refused :
     (k : ℕ) → (wrote kind.Refused sh_size 3 ≡ took_of sh_size (sh_reply (refuses k))) × (no_bytes k ≡ (sh_reply (refuses k)).bytes)
@@ -82,14 +85,20 @@ module _ (m s out : List ℕ) (l : length m ≡ memory) where
       let t = told-whole sh_asks m s out l h r in
       let d = rest_is m running_size in
       let all = ap (λ (x : List ℕ). take running_size m ++ x) (rest_none m l R ∙ (rw d at became)) in
-      rw (t.0, t.1.0, t.1.1.0, t.1.1.1, own 72 s h) (rw d at told, (rw d at put, (all, rest_back m l R _ (rw d at left))))
+      rw (t.0, t.1.0, t.1.1.0, t.1.1.1, own 72 s h)
+      (record {
+        result_value = rw d at told;
+        out_after = rw d at put;
+        mem_after = all;
+        mem_after_2 = rest_back m l R _ (rw d at left);
+      })
 
   pub sq-whole :
       sq_size ≤ length s → longest ≤ length out → (q : Step) (out' : List ℕ) → let a = ask (sheets_of store) (word_at 2 (take 2 (drop 2 s)) 0) in
       step_told q ≡ took_of sq_size (sq_reply a) → out' ≡ sets out 0 (sq_reply a).bytes →
-      (step_told q ≡ met_by sq_asks m s (length out)) × (out' ≡ sets out 0 (bytes_by sq_asks m s (length out)))
+      record { result_value : step_told q ≡ met_by sq_asks m s (length out); out_after : out' ≡ sets out 0 (bytes_by sq_asks m s (length out)) }
   unfolding sq_step state_of
   sq-whole h r q out' told put =
       let t = told-whole sq_asks m s out l h r in
       let d = rest_is m running_size in
-      rw (t.0, t.1.0, own 2 s h) (rw d at told, rw d at put)
+      rw (t.0, t.1.0, own 2 s h) (record { result_value = rw d at told; out_after = rw d at put })

@@ -77,14 +77,18 @@ pub made_fresh :
     (m R : List ℕ) → length m ≡ memory → let d = take (length (zeroed m) - running_size) (drop running_size (zeroed m)) in
     R ≡ fresh_bytes d → sheets_of R ≡ cond (store_holds d) no_sheets (sheets_of d) →
     let m' = take running_size (zeroed m) ++ (R ++ drop (length (zeroed m) - running_size) (drop running_size (zeroed m))) in
-    (m' ≡ fresh_of m) × (state_of m' ≡ cond (holds m) state_none (state_of m))
+    record { mem_after : m' ≡ fresh_of m; mem_after_2 : state_of m' ≡ cond (holds m) state_none (state_of m) }
 unfolding holds fresh_of
 made_fresh m R e b k =
     let n = zeroed_length m ∙ e in
     let all = ap (λ (x : List ℕ). take running_size (zeroed m) ++ x) (rest_none (zeroed m) n R ∙ (rw (rest_is (zeroed m) running_size) at b)) in
     rw (eq-eqb (length m) memory e)
-    (all, rest_back (zeroed m) n R no_sheets (rw (store_holds_lem (zeroed m) n) at k) ∙ (λ i. record { running = zeroed_running m e i; sheets = no_sheets }))
+    (record {
+      mem_after = all;
+      mem_after_2 = rest_back (zeroed m) n R no_sheets (rw (store_holds_lem (zeroed m) n) at k)
+          ∙ (λ i. record { running = zeroed_running m e i; sheets = no_sheets });
+    })
 
-pub left_alone : (m : List ℕ) → (length m ≡ memory → ⊥) → (m ≡ fresh_of m) × (state_of m ≡ cond (holds m) state_none (state_of m))
+pub left_alone : (m : List ℕ) → (length m ≡ memory → ⊥) → record { mem_after : m ≡ fresh_of m; mem_after_2 : state_of m ≡ cond (holds m) state_none (state_of m) }
 unfolding holds fresh_of
-left_alone m e = rw (ne_eqb (length m) memory e) (refl, refl)
+left_alone m e = rw (ne_eqb (length m) memory e) (record { mem_after = refl; mem_after_2 = refl })

@@ -150,20 +150,29 @@ next_more z (x ∷ y ∷ s) ys how k b q = next-at_more (mark_of x y) z (x ∷ y
 
 -- ---- what a call tells and writes, and the state that it leaves: where the bytes m hold no state; by what stands at the head; and by what its mark asks for
 abbrev pub Met : List ℕ → List ℕ → List ℕ → Step → List ℕ → List ℕ → Type 0
-Met m s out q out' m' =
-    (step_told q ≡ met_of m s (length out))
-    × ((out' ≡ sets out 0 (met_bytes m s (length out))) × ((m' ≡ met_mem m s (length out)) × (state_of m' ≡ met_state m s (length out))))
+Met m s out q out' m' = record {
+  result_value : step_told q ≡ met_of m s (length out);
+  out_after : out' ≡ sets out 0 (met_bytes m s (length out));
+  mem_after : m' ≡ met_mem m s (length out);
+  mem_after_2 : state_of m' ≡ met_state m s (length out);
+}
 
 pub met_unheld : (m s out : List ℕ) → (length m ≡ memory → ⊥) → Met m s out step.Room out m
 unfolding met_of met_bytes met_mem met_state
-met_unheld m s out h = rw (unheld m h) (refl, (refl, (refl, refl)))
+met_unheld m s out h = rw (unheld m h) (record { result_value = refl; out_after = refl; mem_after = refl; mem_after_2 = refl })
 
 pub met_still :
     (m s out : List ℕ) → length m ≡ memory → (f : Found) → Meets (state_of m) s f (state_of m) → behind_of m s ≡ m → (q : Step) →
     step_told q ≡ became_of f (length out) → out ≡ sets out 0 (written_of f (length out)) → Met m s out q out m
 unfolding met_of met_bytes met_mem met_state
 met_still m s out h f t u q a b =
-    rw (held m h, t.0, t.1, u) (a, (b, (sym (same (ltb (length out) longest) m), sym (same (ltb (length out) longest) (state_of m)))))
+    rw (held m h, t.0, t.1, u)
+    (record {
+      result_value = a;
+      out_after = b;
+      mem_after = sym (same (ltb (length out) longest) m);
+      mem_after_2 = sym (same (ltb (length out) longest) (state_of m));
+    })
 
 pub met_by_lem :
     (m s out : List ℕ) (l : Listed) → 2 ≤ length s → mark_of (get_or s 0 0) (get_or s 1 0) ≡ answers l → (q : Step) (out' m' : List ℕ) →
@@ -180,7 +189,13 @@ entry-told f e m s out h q out' a b =
     let t = told_held (entry_asks f e) m s out h in
     let n = same (ltb (length s) (entry_asks f e).bytes) (state_of m) in
     let u = same (ltb (length s) (entry_asks f e).bytes) m in
-    rw (t.0, t.1.0, t.1.1.0, t.1.1.1, n, u) (a, (b, (sym (same (ltb (length out) longest) m), sym (same (ltb (length out) longest) (state_of m)))))
+    rw (t.0, t.1.0, t.1.1.0, t.1.1.1, n, u)
+    (record {
+      result_value = a;
+      out_after = b;
+      mem_after = sym (same (ltb (length out) longest) m);
+      mem_after_2 = sym (same (ltb (length out) longest) (state_of m));
+    })
 
 -- SQ, which is lent the state to read
 pub asked-told :
@@ -191,7 +206,12 @@ asked-told m s out h q out' a b =
     let t = told_held sq_asks m s out h in
     let n = same (ltb (length s) sq_size) (state_of m) in
     let u = same (ltb (length s) sq_size) m in
-    (a, (b, (sym (t.1.1.0 ∙ rw u (same (ltb (length out) longest) m)), sym (t.1.1.1 ∙ rw n (same (ltb (length out) longest) (state_of m))))))
+    record {
+      result_value = a;
+      out_after = b;
+      mem_after = sym (t.1.1.0 ∙ rw u (same (ltb (length out) longest) m));
+      mem_after_2 = sym (t.1.1.1 ∙ rw n (same (ltb (length out) longest) (state_of m)));
+    }
 
 -- what the contract says where the bytes hold a state
 pub met : (m s : List ℕ) (room : ℕ) → holds m ≡ true →

@@ -64,8 +64,16 @@ unfolding row_known
 row_mark m s l h n e = sym (met_held m s h ∙ two s n ∙ ap row_known e)
 
 -- the fifth fact beside four
-pub beside : {A B C D E : Type 0} → A × (B × (C × D)) → E → A × (B × (C × (D × E)))
-beside t e = (t.0, (t.1.0, (t.1.1.0, (t.1.1.1, e))))
+pub beside :
+    {A B C D E : Type 0} → record { result_value : A; out_after : B; mem_after : C; mem_after_2 : D } → E →
+    record { step_value : A; out_after : B; mem_after : C; mem_after_2 : D; row_value : E }
+beside t e = record {
+  step_value = t.result_value;
+  out_after = t.out_after;
+  mem_after = t.mem_after;
+  mem_after_2 = t.mem_after_2;
+  row_value = e;
+}
 
 -- ---- whatever follows
 pub row_more : (z : State) (s ys : List ℕ) (f : Found) → found_of z s ≡ f → settled f ≡ true → row_at (s ++ ys) ≡ row_at s

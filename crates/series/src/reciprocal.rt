@@ -5,14 +5,6 @@ ghost use Rattle.tables.specs.Tables.{recip_fact};
 
 use tables::double::{Recip, recip_fact};
 
-// Stands where nothing can come: whoever calls it has proved so.
-fn never() -> f64
-    requires { ⊥ }
-    ensures { ⊥ }
-{
-    loop {}
-}
-
 // 1/n!, for an index that the table has.
 pub fn table_entry(n: usize) -> f64
     requires { n ≤ 32 }
@@ -20,7 +12,7 @@ pub fn table_entry(n: usize) -> f64
 {
     match recip_fact(n) {
         Recip::Number(r) => r,
-        Recip::None => never(),
+        Recip::None => unreachable!(),
     }
 }
 

@@ -32,15 +32,15 @@ module _ (m : List ℕ) where
 
   -- ---- made fresh
   abbrev Fresh : List ℕ → Type 0
-  Fresh m' = (m' ≡ fresh_bytes m) × (sheets_of m' ≡ cond (holds m) no_sheets (sheets_of m))
+  Fresh m' = record { store_after : m' ≡ fresh_bytes m; store_after_2 : sheets_of m' ≡ cond (holds m) no_sheets (sheets_of m) }
 
   pub fresh_made : length m ≡ size → Fresh (sets m tail (word_bytes 2 0))
   unfolding fresh_bytes
-  fresh_made l = (rw (holding l) refl, rw (holding l) (emptied m l))
+  fresh_made l = record { store_after = rw (holding l) refl; store_after_2 = rw (holding l) (emptied m l) }
 
   pub fresh_left : (length m ≡ size → ⊥) → Fresh m
   unfolding fresh_bytes
-  fresh_left l = (rw (unholding l) refl, rw (unholding l) refl)
+  fresh_left l = record { store_after = rw (unholding l) refl; store_after_2 = rw (unholding l) refl }
 
   -- ---- the slot for a sheet that has none
   module _ (u : ℕ) (v : u ≡ used_of m) where
@@ -54,7 +54,7 @@ module _ (m : List ℕ) where
 
     module _ (i : ℕ) (e : i ≡ next_slot m) (n : ℕ) (x : Shot) where
       abbrev Add : PutAnswer → List ℕ → Type 0
-      Add r m' = (put_told r ≡ add_told m) × (m' ≡ add_bytes m n x)
+      Add r m' = record { result_value : put_told r ≡ add_told m; store_after : m' ≡ add_bytes m n x }
 
       told-new : i < most → put_told put.New ≡ add_told m
       unfolding put_told add_told
@@ -65,13 +65,13 @@ module _ (m : List ℕ) where
       unfolding add_bytes add_of
       add-next h k m' w =
           let same : i ≡ u = e ∙ sym (next-used k) in
-          (told-new h, rw (← v, lt-ltb u most k) (rw same at w))
+          record { result_value = told-new h; store_after = rw (← v, lt-ltb u most k) (rw same at w) }
 
       pub add_free : i < most → most ≤ u → (m' : List ℕ) → m' ≡ assign_of m n i x → Add put.New m'
       unfolding add_bytes
       add_free h k m' w =
           let same : i ≡ free_slot m = e ∙ sym (next_free k) in
-          (told-new h, rw (← v, le-ltb u most k, ← same, lt-ltb i most h) w)
+          record { result_value = told-new h; store_after = rw (← v, le-ltb u most k, ← same, lt-ltb i most h) w }
 
       full-bytes : most ≤ i → (b : Bool) → ltb u most ≡ b → m ≡ add_bytes m n x
       unfolding add_bytes
@@ -82,7 +82,7 @@ module _ (m : List ℕ) where
 
       pub add-full : most ≤ i → Add (put.Refused 11) m
       unfolding put_told add_told
-      add-full h = (rw (← e, le-ltb i most h) refl, full-bytes h (ltb u most) refl)
+      add-full h = record { result_value = rw (← e, le-ltb i most h) refl; store_after = full-bytes h (ltb u most) refl }
 
   module _ (n : ℕ) where
     -- ---- a question
@@ -105,11 +105,19 @@ module _ (m : List ℕ) where
     -- ---- a shot
     module _ (x : Shot) where
       abbrev Put : PutAnswer → List ℕ → Type 0
-      Put r m' = (put_told r ≡ put_answer m n x) × ((m' ≡ put_bytes m n x) × (sheets_of m' ≡ put_sheets m n x))
+      Put r m' = record {
+        result_value : put_told r ≡ put_answer m n x;
+        store_after : m' ≡ put_bytes m n x;
+        store_after_2 : sheets_of m' ≡ put_sheets m n x;
+      }
 
       pub put_storeless : (length m ≡ size → ⊥) → Put put.Storeless m
       unfolding put_told put_answer put_sheets put_bytes
-      put_storeless l = (rw (unholding l) refl, (rw (unholding l) refl, rw (unholding l) refl))
+      put_storeless l = record {
+        result_value = rw (unholding l) refl;
+        store_after = rw (unholding l) refl;
+        store_after_2 = rw (unholding l) refl;
+      }
 
       module _ (i : ℕ) (q : n < 65536) (o : i ≡ slot_of m n) (l : length m ≡ size) where
         module _ (t : x.take < 65536) (f : Fit x.pose) where
@@ -131,11 +139,19 @@ module _ (m : List ℕ) where
           unfolding put_answer put_sheets put_bytes
           put_added h r m' z w =
               let s = added h (ltb (used_of m) most) refl in
-              (rw (holding l) (z ∙ s.0), (rw (holding l, ← o, h) w, rw (holding l) (ap sheets_of w ∙ s.1)))
+              record {
+                result_value = rw (holding l) (z ∙ s.0);
+                store_after = rw (holding l, ← o, h) w;
+                store_after_2 = rw (holding l) (ap sheets_of w ∙ s.1);
+              }
 
           pub put_again :
               held_at m n i ≡ true → (r : PutAnswer) (m' : List ℕ) → put_told r ≡ retake_told m i x → m' ≡ retake_bytes m i n x → Put r m'
           unfolding put_answer put_sheets put_bytes
           put_again h r m' z w =
               let s = took_again m n i q o l x t f h in
-              (rw (holding l) (z ∙ s.0), (rw (holding l, ← o, h) w, rw (holding l) (ap sheets_of w ∙ s.1)))
+              record {
+                result_value = rw (holding l) (z ∙ s.0);
+                store_after = rw (holding l, ← o, h) w;
+                store_after_2 = rw (holding l) (ap sheets_of w ∙ s.1);
+              }

@@ -1,4 +1,4 @@
--- Written by tools/widths from crates/sim3: edit that one. Digest 3a948d8258b0b5e5.
+-- Written by tools/widths from crates/sim3: edit that one. Digest 55487355d0c36b21.
 -- The structs of sim3_f32 field by field, as rules for `simp`: a number that the code reads of a struct is the number of the definitions' record. Assumes nothing.
 use mathlib.Core.Path.{◌≡◌, refl}
 use lib.Ieee.{Float}
@@ -42,4 +42,4 @@ pub made-Sim3Tangent : (phi : Vec3) (rho : Vec3) (sigma : Float) → as_sim3_tan
 unfolding as_sim3_tangent
 made-Sim3Tangent phi rho sigma = refl
 
-pub ruleset sim3-singles = (q_of-Sim3, t_of-Sim3, sigma_of-Sim3, made-Sim3, phi_of-Sim3Tangent, rho_of-Sim3Tangent, sigma_of-Sim3Tangent, made-Sim3Tangent)
+pub ruleset sim3_singles = (q_of-Sim3, t_of-Sim3, sigma_of-Sim3, made-Sim3, phi_of-Sim3Tangent, rho_of-Sim3Tangent, sigma_of-Sim3Tangent, made-Sim3Tangent)

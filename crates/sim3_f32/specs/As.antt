@@ -1,4 +1,4 @@
--- Written by tools/widths from crates/sim3: edit that one. Digest a3d440c8690ed9e1.
+-- Written by tools/widths from crates/sim3: edit that one. Digest c9ca7a05b68fbf00.
 -- The structs of sim3_f32 as the records that the definitions speak of, number by number: a float of either width is one type of the logic.
 use Rattle.sim3.specs.declared.sim3.Sim3 as WideSim3
 use Rattle.sim3_f32.specs.declared.sim3_f32.Sim3.{Sim3}

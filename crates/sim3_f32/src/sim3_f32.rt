@@ -1,4 +1,4 @@
-// Written by tools/widths from crates/sim3/src/sim3.rt: edit that one. Digest 2eaf68f1c20b9457.
+// Written by tools/widths from crates/sim3/src/sim3.rt: edit that one. Digest 1963cbe0ec7fb535.
 // A pose of Sim(3), X p = e^sigma R p + t, by its numbers alone. Exponentials of log scales are handed
 // in.
 ghost use Rattle.std.specs.Prelude.{◌≡◌};

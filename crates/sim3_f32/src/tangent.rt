@@ -1,4 +1,4 @@
-// Written by tools/widths from crates/sim3/src/tangent.rt: edit that one. Digest a9c76dad8b4fab69.
+// Written by tools/widths from crates/sim3/src/tangent.rt: edit that one. Digest 99bd0fda41ca1a10.
 // A tangent of Sim(3): the rotation vector, the translation part and the log scale.
 ghost use Rattle.std.specs.Prelude.{◌≡◌};
 ghost use Rattle.std.specs.Float.{binary32};

@@ -1,4 +1,4 @@
--- Written by tools/widths from crates/so3: edit that one. Digest 6e7a18cf3b1211a7.
+-- Written by tools/widths from crates/so3: edit that one. Digest 30f9a177a21c7286.
 -- The structs of so3_f32 field by field, as rules for `simp`: a number that the code reads of a struct is the number of the definitions' record. Assumes nothing.
 use mathlib.Core.Path.{◌≡◌, refl}
 use lib.Ieee.{Float}

@@ -1,4 +1,4 @@
-// Written by tools/widths from crates/so3/src/lib.rt: edit that one. Digest 3f5c969533fc78e7.
+// Written by tools/widths from crates/so3/src/lib.rt: edit that one. Digest 36528d4b36f3a640.
 // Rotations of three dimensions by quaternions of singles.
 #![tactic(auto)]
 

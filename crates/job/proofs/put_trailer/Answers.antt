@@ -1,5 +1,4 @@
 -- `job::put_trailer` meets its contract: its stores are the run of the mark, the four counts and those by mark.
--- as many counts by mark as the array has
 use borrow.Author.Rules.{rules}
 use mathlib.Core.Path.{◌≡◌, sym}
 use lib.ListN.{length}
@@ -7,13 +6,11 @@ use Rattle.marks.specs.Rows.{row_count}
 use Rattle.job.proofs.Ending.{trailer_run, trailer-length}
 use Rattle.job.proofs.put_trailer.Goals as goal
 
-many : (c : goal.Start) → length c.args.c.rows ≡ row_count
-many c = search rules
-
 pub returns : goal.returns
 returns c =
     let a = c.args in
-    let w = many c in
+    -- as many counts by mark as the array has
+    let w : length c.args.c.rows ≡ row_count = search rules in
     record {
       value = sym (trailer-length a.c w);
       out_after = cc (trailer_run a.c a.out.now a.at);

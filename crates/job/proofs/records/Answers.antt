@@ -20,46 +20,9 @@ use Rattle.job.specs.Private.{joined}
 use Rattle.job.proofs.Rows.{row_small, small, more_begun, joined_more, rejoined}
 use Rattle.job.proofs.Loop.{Going, going_start}
 use Rattle.job.proofs.Steps.{left-full, Turn, place-few, after-length, round, round-to, left-roomless, left_end, left_pause, left-unknown, left_cut, left-part}
+use Rattle.job.proofs.Heard.{heard, heard_behind}
 use Rattle.job.proofs.Lent.{left-from, mem_full, mem_round, mem_roomless, mem_end, mem_unknown, mem_cut}
 use Rattle.job.proofs.records.Goals as goal
-
--- what is known where the record at the head has been replied to
-turn :
-    (c : goal.After-reply-heard invariant_loop decreases_loop) →
-    let l =
-    c in
-    let a = l.before.before.before.before.before.before.args in
-    Turn job_limit a.input.now a.last (standing (joined l.before.before.without-rows.result a.c0.rows) (state_of a.mem.now)) a.out.now
-    (standing (joined l.loop.c l.loop.rows) (state_of l.loop.mem)) l.loop.out l.loop.at l.loop.to
-    c.reply-heard.result.step c.reply-heard.result.row c.reply-heard.new.out (state_of c.reply-heard.new.mem)
-turn c =
-    let l = c.loop-c in
-    let s = take (length c.args.input.now - l.at) (drop l.at c.args.input.now) in
-    let o = take (length l.out - l.to) (drop l.to l.out) in
-    let k = met l.mem s (length o) (held l.mem l.invariant.0) in
-    record {
-      going = l.invariant.1.0;
-      few = c.if-c-eq-LIMIT.false;
-      told = c.reply-heard.ensures.step_value ∙ k.0;
-      wrote = c.reply-heard.ensures.out_after ∙ ap (sets o 0) k.1.0;
-      place = c.reply-heard.ensures.row_value ∙ row_held l.mem s (held l.mem l.invariant.0);
-      left = c.reply-heard.ensures.mem_after_2 ∙ k.1.1.1;
-    }
-
--- and the lent bytes
-behind :
-    (c : goal.After-reply-heard invariant_loop decreases_loop) →
-    let l =
-    c in
-    let a = l.before.before.before.before.before.before.args in
-    c.reply-heard.new.mem ≡
-    cond (ltb (length (take (length l.loop.out - l.loop.to) (drop l.loop.to l.loop.out))) longest) l.loop.mem
-    (behind_of l.loop.mem (take (length a.input.now - l.loop.at) (drop l.loop.at a.input.now)))
-behind c =
-    let l = c.loop-c in
-    let s = take (length c.args.input.now - l.at) (drop l.at c.args.input.now) in
-    let o = take (length l.out - l.to) (drop l.to l.out) in
-    c.reply-heard.ensures.mem_after ∙ (met l.mem s (length o) (held l.mem l.invariant.0)).1.1.0
 
 pub loop-c-init : goal.loop-c-init
 loop-c-init c =
@@ -101,11 +64,17 @@ counted-c-requires c =
 
 pub offset_bounds-rows-row : goal.offset_bounds-rows-row
 offset_bounds-rows-row c =
-    omega (arith, place-few (turn c))
+    let e = c.reply-heard.ensures in
+    let t = heard c.loop-c.mem c.loop-c.invariant.0 c.loop-c.invariant.1.0 c.if-c-eq-LIMIT.false c.reply-heard.result.step c.reply-heard.result.row
+    c.reply-heard.new.out (state_of c.reply-heard.new.mem) e.step_value e.out_after e.row_value e.mem_after_2 in
+    omega (arith, place-few t)
 
 pub bounds-rows-row : goal.bounds-rows-row
 bounds-rows-row c =
-    place-few (turn c)
+    let e = c.reply-heard.ensures in
+    let t = heard c.loop-c.mem c.loop-c.invariant.0 c.loop-c.invariant.1.0 c.if-c-eq-LIMIT.false c.reply-heard.result.step c.reply-heard.result.row
+    c.reply-heard.new.out (state_of c.reply-heard.new.mem) e.step_value e.out_after e.row_value e.mem_after_2 in
+    place-few t
 
 pub overflow_add-rows : goal.overflow_add-rows
 overflow_add-rows c =
@@ -117,23 +86,33 @@ overflow_add-rows c =
 
 pub offset_bounds-rows-row-in-Took : goal.offset_bounds-rows-row-in-Took
 offset_bounds-rows-row-in-Took c =
-    omega (arith, place-few (turn c))
+    let e = c.reply-heard.ensures in
+    let t = heard c.loop-c.mem c.loop-c.invariant.0 c.loop-c.invariant.1.0 c.if-c-eq-LIMIT.false c.reply-heard.result.step c.reply-heard.result.row
+    c.reply-heard.new.out (state_of c.reply-heard.new.mem) e.step_value e.out_after e.row_value e.mem_after_2 in
+    omega (arith, place-few t)
 
 pub bounds-rows-row-in-Took : goal.bounds-rows-row-in-Took
 bounds-rows-row-in-Took c =
-    place-few (turn c)
+    let e = c.reply-heard.ensures in
+    let t = heard c.loop-c.mem c.loop-c.invariant.0 c.loop-c.invariant.1.0 c.if-c-eq-LIMIT.false c.reply-heard.result.step c.reply-heard.result.row
+    c.reply-heard.new.out (state_of c.reply-heard.new.mem) e.step_value e.out_after e.row_value e.mem_after_2 in
+    place-few t
 
 pub overflow_add-at : goal.overflow_add-at
 overflow_add-at c =
-    let k = c.step-1.given in
-    let next = round (turn c) c.in-Took.kind c.in-Took.used c.in-Took.written c.in-Took.is in
-    omega (arith, next.inside, c.well-formed)
+    let e = c.reply-heard.ensures in
+    let t = heard c.loop-c.mem c.loop-c.invariant.0 c.loop-c.invariant.1.0 c.if-c-eq-LIMIT.false c.reply-heard.result.step c.reply-heard.result.row
+    c.reply-heard.new.out (state_of c.reply-heard.new.mem) e.step_value e.out_after e.row_value e.mem_after_2 in
+    let next = round t c.in-Took.kind c.in-Took.used c.in-Took.written c.in-Took.is in
+    omega (arith, next.inside, c.well_formed)
 
 pub overflow_add-to : goal.overflow_add-to
 overflow_add-to c =
-    let k = c.step-1.given in
-    let next = round (turn c) c.in-Took.kind c.in-Took.used c.in-Took.written c.in-Took.is in
-    omega (arith, next.room, next.kept, c.well-formed)
+    let e = c.reply-heard.ensures in
+    let t = heard c.loop-c.mem c.loop-c.invariant.0 c.loop-c.invariant.1.0 c.if-c-eq-LIMIT.false c.reply-heard.result.step c.reply-heard.result.row
+    c.reply-heard.new.out (state_of c.reply-heard.new.mem) e.step_value e.out_after e.row_value e.mem_after_2 in
+    let next = round t c.in-Took.kind c.in-Took.used c.in-Took.written c.in-Took.is in
+    omega (arith, next.room, next.kept, c.well_formed)
 
 pub loop-c-smaller : goal.loop-c-smaller
 loop-c-smaller c =
@@ -144,30 +123,41 @@ loop-c-smaller c =
 
 pub loop-c-preserved : goal.loop-c-preserved
 loop-c-preserved c =
-    let k = c.step-1.given in
+    let e = c.reply-heard.ensures in
+    let t = heard c.loop-c.mem c.loop-c.invariant.0 c.loop-c.invariant.1.0 c.if-c-eq-LIMIT.false c.reply-heard.result.step c.reply-heard.result.row
+    c.reply-heard.new.out (state_of c.reply-heard.new.mem) e.step_value e.out_after e.row_value e.mem_after_2 in
+    let b = heard_behind c.loop-c.mem c.loop-c.invariant.0 _ _ c.reply-heard.new.mem e.mem_after in
     let d = joined_more c.in-Took.kind c.reply-heard.result.row c.loop-c.c c.counted-c.result
     c.loop-c.rows c.counted-c.ensures in (
       c.reply-heard.auto.mem ∙ c.loop-c.invariant.0,
       (
-        round-to (turn c) c.in-Took.kind c.in-Took.used c.in-Took.written c.in-Took.is _ d,
-        mem_round (turn c) c.args.mem.now c.loop-c.mem
-            c.reply-heard.new.mem refl (behind c)
+        round-to t c.in-Took.kind c.in-Took.used c.in-Took.written c.in-Took.is _ d,
+        mem_round t c.args.mem.now c.loop-c.mem
+            c.reply-heard.new.mem refl b
             c.loop-c.invariant.1.1
             c.in-Took.kind c.in-Took.used c.in-Took.written c.in-Took.is _ d,
       ),
     )
 
 pub lose-left-requires : goal.lose-left-requires
-lose-left-requires c = record {
-  sound = c.loop-c.invariant.1.0.sound;
-  row_lt_row_count = omega (arith, place-few (turn c));
-}
+lose-left-requires c =
+    let e = c.reply-heard.ensures in
+    let t = heard c.loop-c.mem c.loop-c.invariant.0 c.loop-c.invariant.1.0 c.if-c-eq-LIMIT.false c.reply-heard.result.step c.reply-heard.result.row
+    c.reply-heard.new.out (state_of c.reply-heard.new.mem) e.step_value e.out_after e.row_value e.mem_after_2 in
+    record {
+      sound = c.loop-c.invariant.1.0.sound;
+      row_lt_row_count = omega (arith, place-few t);
+    }
 
 pub lose-left-requires-then-last-2 : goal.lose-left-requires-then-last-2
-lose-left-requires-then-last-2 c = record {
-  sound = c.loop-c.invariant.1.0.sound;
-  row_lt_row_count = omega (arith, place-few (turn c));
-}
+lose-left-requires-then-last-2 c =
+    let e = c.reply-heard.ensures in
+    let t = heard c.loop-c.mem c.loop-c.invariant.0 c.loop-c.invariant.1.0 c.if-c-eq-LIMIT.false c.reply-heard.result.step c.reply-heard.result.row
+    c.reply-heard.new.out (state_of c.reply-heard.new.mem) e.step_value e.out_after e.row_value e.mem_after_2 in
+    record {
+      sound = c.loop-c.invariant.1.0.sound;
+      row_lt_row_count = omega (arith, place-few t);
+    }
 
 pub overflow_sub-out : goal.overflow_sub-out
 overflow_sub-out c = c.loop-c.invariant.1.0.room
@@ -183,77 +173,116 @@ returns-then-c-eq-LIMIT c =
 
 pub returns-in-Room : goal.returns-in-Room
 returns-in-Room c =
+    let e = c.reply-heard.ensures in
+    let t = heard c.loop-c.mem c.loop-c.invariant.0 c.loop-c.invariant.1.0 c.if-c-eq-LIMIT.false c.reply-heard.result.step c.reply-heard.result.row
+    c.reply-heard.new.out (state_of c.reply-heard.new.mem) e.step_value e.out_after e.row_value e.mem_after_2 in
+    let b = heard_behind c.loop-c.mem c.loop-c.invariant.0 _ _ c.reply-heard.new.mem e.mem_after in
     left-from job_limit c.args.input.now c.args.last c.args.mem.now c.args.out.now c.without_rows-c.result c.args.c0 c.without_rows-c.ensures
-    (left-roomless (turn c) c.in-Room.is c.leave-left.result (rw c.with_rows.ensures at c.leave-left.ensures))
-    (mem_roomless (turn c) c.args.mem.now c.loop-c.mem
-    c.reply-heard.new.mem refl (behind c)
+    (left-roomless t c.in-Room.is c.leave-left.result (rw c.with_rows.ensures at c.leave-left.ensures))
+    (mem_roomless t c.args.mem.now c.loop-c.mem
+    c.reply-heard.new.mem refl b
     c.loop-c.invariant.1.1 c.in-Room.is)
 
 pub returns-then-last : goal.returns-then-last
 returns-then-last c =
+    let e = c.reply-heard.ensures in
+    let t = heard c.loop-c.mem c.loop-c.invariant.0 c.loop-c.invariant.1.0 c.if-c-eq-LIMIT.false c.reply-heard.result.step c.reply-heard.result.row
+    c.reply-heard.new.out (state_of c.reply-heard.new.mem) e.step_value e.out_after e.row_value e.mem_after_2 in
+    let b = heard_behind c.loop-c.mem c.loop-c.invariant.0 _ _ c.reply-heard.new.mem e.mem_after in
     left-from job_limit c.args.input.now c.args.last c.args.mem.now c.args.out.now c.without_rows-c.result c.args.c0 c.without_rows-c.ensures
-    (left_end (turn c) c.in-End.is c.if-last.true c.pause-left-then-last.result c.pause-left-then-last.ensures)
-    (mem_end (turn c) c.args.mem.now c.loop-c.mem
-    c.reply-heard.new.mem refl (behind c)
+    (left_end t c.in-End.is c.if-last.true c.pause-left-then-last.result c.pause-left-then-last.ensures)
+    (mem_end t c.args.mem.now c.loop-c.mem
+    c.reply-heard.new.mem refl b
     c.loop-c.invariant.1.1 c.in-End.is)
 
 pub returns-else-last : goal.returns-else-last
 returns-else-last c =
+    let e = c.reply-heard.ensures in
+    let t = heard c.loop-c.mem c.loop-c.invariant.0 c.loop-c.invariant.1.0 c.if-c-eq-LIMIT.false c.reply-heard.result.step c.reply-heard.result.row
+    c.reply-heard.new.out (state_of c.reply-heard.new.mem) e.step_value e.out_after e.row_value e.mem_after_2 in
+    let b = heard_behind c.loop-c.mem c.loop-c.invariant.0 _ _ c.reply-heard.new.mem e.mem_after in
     left-from job_limit c.args.input.now c.args.last c.args.mem.now c.args.out.now c.without_rows-c.result c.args.c0 c.without_rows-c.ensures
-    (left_pause (turn c) c.in-End.is c.if-last.false c.pause-left-in-End.result c.pause-left-in-End.ensures)
-    (mem_end (turn c) c.args.mem.now c.loop-c.mem
-    c.reply-heard.new.mem refl (behind c)
+    (left_pause t c.in-End.is c.if-last.false c.pause-left-in-End.result c.pause-left-in-End.ensures)
+    (mem_end t c.args.mem.now c.loop-c.mem
+    c.reply-heard.new.mem refl b
     c.loop-c.invariant.1.1 c.in-End.is)
 
 pub returns-in-Unknown : goal.returns-in-Unknown
 returns-in-Unknown c =
+    let e = c.reply-heard.ensures in
+    let t = heard c.loop-c.mem c.loop-c.invariant.0 c.loop-c.invariant.1.0 c.if-c-eq-LIMIT.false c.reply-heard.result.step c.reply-heard.result.row
+    c.reply-heard.new.out (state_of c.reply-heard.new.mem) e.step_value e.out_after e.row_value e.mem_after_2 in
+    let b = heard_behind c.loop-c.mem c.loop-c.invariant.0 _ _ c.reply-heard.new.mem e.mem_after in
     left-from job_limit c.args.input.now c.args.last
     c.args.mem.now c.args.out.now c.without_rows-c.result
     c.args.c0 c.without_rows-c.ensures
-    (left-unknown (turn c) c.in-Unknown.is c.lose-left.result c.lose-left.ensures)
-    (mem_unknown (turn c) c.args.mem.now c.loop-c.mem
-    c.reply-heard.new.mem refl (behind c) c.loop-c.invariant.1.1
+    (left-unknown t c.in-Unknown.is c.lose-left.result c.lose-left.ensures)
+    (mem_unknown t c.args.mem.now c.loop-c.mem
+    c.reply-heard.new.mem refl b c.loop-c.invariant.1.1
     c.in-Unknown.is)
 
 pub returns-then-last-2 : goal.returns-then-last-2
 returns-then-last-2 c =
+    let e = c.reply-heard.ensures in
+    let t = heard c.loop-c.mem c.loop-c.invariant.0 c.loop-c.invariant.1.0 c.if-c-eq-LIMIT.false c.reply-heard.result.step c.reply-heard.result.row
+    c.reply-heard.new.out (state_of c.reply-heard.new.mem) e.step_value e.out_after e.row_value e.mem_after_2 in
+    let b = heard_behind c.loop-c.mem c.loop-c.invariant.0 _ _ c.reply-heard.new.mem e.mem_after in
     left-from job_limit c.args.input.now c.args.last c.args.mem.now c.args.out.now c.without_rows-c.result c.args.c0 c.without_rows-c.ensures
-    (left_cut (turn c) c.in-Cut.is c.if-last-2.true c.lose-left-then-last-2.result c.lose-left-then-last-2.ensures)
-    (mem_cut (turn c) c.args.mem.now c.loop-c.mem
-    c.reply-heard.new.mem refl (behind c)
+    (left_cut t c.in-Cut.is c.if-last-2.true c.lose-left-then-last-2.result c.lose-left-then-last-2.ensures)
+    (mem_cut t c.args.mem.now c.loop-c.mem
+    c.reply-heard.new.mem refl b
     c.loop-c.invariant.1.1 c.in-Cut.is)
 
 pub returns-else-last-2 : goal.returns-else-last-2
 returns-else-last-2 c =
+    let e = c.reply-heard.ensures in
+    let t = heard c.loop-c.mem c.loop-c.invariant.0 c.loop-c.invariant.1.0 c.if-c-eq-LIMIT.false c.reply-heard.result.step c.reply-heard.result.row
+    c.reply-heard.new.out (state_of c.reply-heard.new.mem) e.step_value e.out_after e.row_value e.mem_after_2 in
+    let b = heard_behind c.loop-c.mem c.loop-c.invariant.0 _ _ c.reply-heard.new.mem e.mem_after in
     left-from job_limit c.args.input.now c.args.last c.args.mem.now c.args.out.now c.without_rows-c.result c.args.c0 c.without_rows-c.ensures
-    (left-part (turn c) c.in-Cut.is c.if-last-2.false c.pause-left-in-Cut.result c.pause-left-in-Cut.ensures)
-    (mem_cut (turn c) c.args.mem.now c.loop-c.mem
-    c.reply-heard.new.mem refl (behind c)
+    (left-part t c.in-Cut.is c.if-last-2.false c.pause-left-in-Cut.result c.pause-left-in-Cut.ensures)
+    (mem_cut t c.args.mem.now c.loop-c.mem
+    c.reply-heard.new.mem refl b
     c.loop-c.invariant.1.1 c.in-Cut.is)
 
 pub overflow_sub-out-then-last : goal.overflow_sub-out-then-last
 overflow_sub-out-then-last c =
+    let e = c.reply-heard.ensures in
+    let t = heard c.loop-c.mem c.loop-c.invariant.0 c.loop-c.invariant.1.0 c.if-c-eq-LIMIT.false c.reply-heard.result.step c.reply-heard.result.row
+    c.reply-heard.new.out (state_of c.reply-heard.new.mem) e.step_value e.out_after e.row_value e.mem_after_2 in
     let h : c.loop-c.to ≤ length c.loop-c.out = c.loop-c.invariant.1.0.room
-    in omega (arith, after-length (turn c))
+    in omega (arith, after-length t)
 
 pub overflow_sub-out-in-End : goal.overflow_sub-out-in-End
 overflow_sub-out-in-End c =
+    let e = c.reply-heard.ensures in
+    let t = heard c.loop-c.mem c.loop-c.invariant.0 c.loop-c.invariant.1.0 c.if-c-eq-LIMIT.false c.reply-heard.result.step c.reply-heard.result.row
+    c.reply-heard.new.out (state_of c.reply-heard.new.mem) e.step_value e.out_after e.row_value e.mem_after_2 in
     let h : c.loop-c.to ≤ length c.loop-c.out = c.loop-c.invariant.1.0.room
-    in omega (arith, after-length (turn c))
+    in omega (arith, after-length t)
 
 pub overflow_sub-out-in-Unknown : goal.overflow_sub-out-in-Unknown
 overflow_sub-out-in-Unknown c =
-    let h : c.loop-c.to ≤ length c.loop-c.out = c.loop-c.invariant.1.0.room in omega (arith, after-length (turn c))
+    let e = c.reply-heard.ensures in
+    let t = heard c.loop-c.mem c.loop-c.invariant.0 c.loop-c.invariant.1.0 c.if-c-eq-LIMIT.false c.reply-heard.result.step c.reply-heard.result.row
+    c.reply-heard.new.out (state_of c.reply-heard.new.mem) e.step_value e.out_after e.row_value e.mem_after_2 in
+    let h : c.loop-c.to ≤ length c.loop-c.out = c.loop-c.invariant.1.0.room in omega (arith, after-length t)
 
 pub overflow_sub-out-then-last-2 : goal.overflow_sub-out-then-last-2
 overflow_sub-out-then-last-2 c =
+    let e = c.reply-heard.ensures in
+    let t = heard c.loop-c.mem c.loop-c.invariant.0 c.loop-c.invariant.1.0 c.if-c-eq-LIMIT.false c.reply-heard.result.step c.reply-heard.result.row
+    c.reply-heard.new.out (state_of c.reply-heard.new.mem) e.step_value e.out_after e.row_value e.mem_after_2 in
     let h : c.loop-c.to ≤ length c.loop-c.out = c.loop-c.invariant.1.0.room
-    in omega (arith, after-length (turn c))
+    in omega (arith, after-length t)
 
 pub overflow_sub-out-in-Cut : goal.overflow_sub-out-in-Cut
 overflow_sub-out-in-Cut c =
+    let e = c.reply-heard.ensures in
+    let t = heard c.loop-c.mem c.loop-c.invariant.0 c.loop-c.invariant.1.0 c.if-c-eq-LIMIT.false c.reply-heard.result.step c.reply-heard.result.row
+    c.reply-heard.new.out (state_of c.reply-heard.new.mem) e.step_value e.out_after e.row_value e.mem_after_2 in
     let h : c.loop-c.to ≤ length c.loop-c.out = c.loop-c.invariant.1.0.room
-    in omega (arith, after-length (turn c))
+    in omega (arith, after-length t)
 
 pub shape_of-mem-in-Room : goal.shape_of-mem-in-Room
 shape_of-mem-in-Room c =
@@ -281,24 +310,42 @@ shape_of-mem-else-last-2 c =
 
 pub shape_of-out-in-Room : goal.shape_of-out-in-Room
 shape_of-out-in-Room c =
-    after-length (turn c) ∙ c.loop-c.invariant.1.0.kept
+    let e = c.reply-heard.ensures in
+    let t = heard c.loop-c.mem c.loop-c.invariant.0 c.loop-c.invariant.1.0 c.if-c-eq-LIMIT.false c.reply-heard.result.step c.reply-heard.result.row
+    c.reply-heard.new.out (state_of c.reply-heard.new.mem) e.step_value e.out_after e.row_value e.mem_after_2 in
+    after-length t ∙ c.loop-c.invariant.1.0.kept
 
 pub shape_of-out-then-last : goal.shape_of-out-then-last
 shape_of-out-then-last c =
-    after-length (turn c) ∙ c.loop-c.invariant.1.0.kept
+    let e = c.reply-heard.ensures in
+    let t = heard c.loop-c.mem c.loop-c.invariant.0 c.loop-c.invariant.1.0 c.if-c-eq-LIMIT.false c.reply-heard.result.step c.reply-heard.result.row
+    c.reply-heard.new.out (state_of c.reply-heard.new.mem) e.step_value e.out_after e.row_value e.mem_after_2 in
+    after-length t ∙ c.loop-c.invariant.1.0.kept
 
 pub shape_of-out-else-last : goal.shape_of-out-else-last
 shape_of-out-else-last c =
-    after-length (turn c) ∙ c.loop-c.invariant.1.0.kept
+    let e = c.reply-heard.ensures in
+    let t = heard c.loop-c.mem c.loop-c.invariant.0 c.loop-c.invariant.1.0 c.if-c-eq-LIMIT.false c.reply-heard.result.step c.reply-heard.result.row
+    c.reply-heard.new.out (state_of c.reply-heard.new.mem) e.step_value e.out_after e.row_value e.mem_after_2 in
+    after-length t ∙ c.loop-c.invariant.1.0.kept
 
 pub shape_of-out-in-Unknown : goal.shape_of-out-in-Unknown
 shape_of-out-in-Unknown c =
-    after-length (turn c) ∙ c.loop-c.invariant.1.0.kept
+    let e = c.reply-heard.ensures in
+    let t = heard c.loop-c.mem c.loop-c.invariant.0 c.loop-c.invariant.1.0 c.if-c-eq-LIMIT.false c.reply-heard.result.step c.reply-heard.result.row
+    c.reply-heard.new.out (state_of c.reply-heard.new.mem) e.step_value e.out_after e.row_value e.mem_after_2 in
+    after-length t ∙ c.loop-c.invariant.1.0.kept
 
 pub shape_of-out-then-last-2 : goal.shape_of-out-then-last-2
 shape_of-out-then-last-2 c =
-    after-length (turn c) ∙ c.loop-c.invariant.1.0.kept
+    let e = c.reply-heard.ensures in
+    let t = heard c.loop-c.mem c.loop-c.invariant.0 c.loop-c.invariant.1.0 c.if-c-eq-LIMIT.false c.reply-heard.result.step c.reply-heard.result.row
+    c.reply-heard.new.out (state_of c.reply-heard.new.mem) e.step_value e.out_after e.row_value e.mem_after_2 in
+    after-length t ∙ c.loop-c.invariant.1.0.kept
 
 pub shape_of-out-else-last-2 : goal.shape_of-out-else-last-2
 shape_of-out-else-last-2 c =
-    after-length (turn c) ∙ c.loop-c.invariant.1.0.kept
+    let e = c.reply-heard.ensures in
+    let t = heard c.loop-c.mem c.loop-c.invariant.0 c.loop-c.invariant.1.0 c.if-c-eq-LIMIT.false c.reply-heard.result.step c.reply-heard.result.row
+    c.reply-heard.new.out (state_of c.reply-heard.new.mem) e.step_value e.out_after e.row_value e.mem_after_2 in
+    after-length t ∙ c.loop-c.invariant.1.0.kept

@@ -20,8 +20,8 @@ returns c =
     let f = rw (c.no_counts.ensures, z, h) at c.feed.ensures in
     let n = input job_limit c.args.input.now (λ i. omega (arith, c.shared_slice_known-1.given i)) in
     record {
-      result_value = f.0;
-      out_after = f.1.0;
-      out_after_2 = (λ e. f.1.0 ∙ rw (whole job_limit c.args.input.now _ (sym (ap (λ (t : CallTold). ends_by t.reason) f.0) ∙ e)));
+      result_value = f.result_value;
+      out_after = f.out_after;
+      out_after_2 = (λ e. f.out_after ∙ rw (whole job_limit c.args.input.now _ (sym (ap (λ (t : CallTold). ends_by t.reason) f.result_value) ∙ e)));
       input_theorem = n;
     }

@@ -1,5 +1,4 @@
 -- `job::sound` meets its contract: by its tests. Assumes nothing.
--- as many counts by mark as the array has
 use borrow.Author.Rules.{rules}
 use mathlib.Core.Path.{◌≡◌}
 use borrow.Author.Tests.{le-leb, lt-leb, eq-eqb, ne_eqb}
@@ -8,13 +7,11 @@ use Rattle.marks.specs.Rows.{row_count}
 use Rattle.job.specs.Counts.{counts_sound}
 use Rattle.job.proofs.sound.Goals as goal
 
-many : (c : goal.Start) → length c.args.c.rows ≡ row_count
-many c = search rules
-
 pub returns-then-c-left-2 : goal.returns-then-c-left-2
 unfolding counts_sound
 returns-then-c-left-2 c =
-    let w = many c in
+    -- as many counts by mark as the array has
+    let w : length c.args.c.rows ≡ row_count = search rules in
     simp (le-leb _ _ c.if-c-le-LIMIT.true, le-leb _ _ c.if-c.true, le-leb _ _ c.if-c-left.true, eq-eqb _ _ c.if-c-left-2.true, eq-eqb _ _ w, c.add_up.ensures)
 
 pub returns-else-c-left-2 : goal.returns-else-c-left-2

@@ -1,5 +1,4 @@
 -- `sheets::put` meets its contract: by the length of the bytes, and by whether the slot is the sheet's. Assumes nothing.
--- the numbers are doubles, and the frames have 16 bits
 use borrow.Author.Rules.{rules}
 use native.Mathlib.Omega.{arith}
 use mathlib.Core.Path.{sym, ◌∙◌}
@@ -7,33 +6,45 @@ use Rattle.sheets.proofs.Framed.{Fit}
 use Rattle.sheets.proofs.Told.{put_storeless, put_added, put_again}
 use Rattle.sheets.proofs.put.Goals as goal
 
-fit : (c : goal.After-slot_of-slot) → let a = c.args in Fit a.shot.pose
-fit c = record {
-  w = search rules;
-  x₁ = search rules;
-  y₁ = search rules;
-  z₁ = search rules;
-  x₂ = search rules;
-  y₂ = search rules;
-  z₂ = search rules;
-  s = search rules;
-  from = search rules;
-  to = search rules;
-}
-
 pub returns-then-store-ne-STORE : goal.returns-then-store-ne-STORE
 returns-then-store-ne-STORE c = put_storeless c.args.store.now c.args.sheet c.args.shot c.if-store-ne-STORE.true
 
 pub returns-then-held : goal.returns-then-held
 returns-then-held c =
     let a = c.args in
+    -- the numbers are doubles, and the frames have 16 bits
+    let fit : Fit c.args.shot.pose = record {
+      w = search rules;
+      x₁ = search rules;
+      y₁ = search rules;
+      z₁ = search rules;
+      x₂ = search rules;
+      y₂ = search rules;
+      z₂ = search rules;
+      s = search rules;
+      from = search rules;
+      to = search rules;
+    } in
     put_again a.store.now a.sheet a.shot c.slot_of-slot.result (search rules) c.slot_of-slot.ensures.0
-    c.if-store-ne-STORE.false (search rules) (fit c)
+    c.if-store-ne-STORE.false (search rules) fit
     (sym c.held.ensures ∙ c.if-held.true) c.retake.result _ c.retake.ensures.result_value c.retake.ensures.store_after
 
 pub returns : goal.returns
 returns c =
     let a = c.args in
+    -- the numbers are doubles, and the frames have 16 bits
+    let fit : Fit c.args.shot.pose = record {
+      w = search rules;
+      x₁ = search rules;
+      y₁ = search rules;
+      z₁ = search rules;
+      x₂ = search rules;
+      y₂ = search rules;
+      z₂ = search rules;
+      s = search rules;
+      from = search rules;
+      to = search rules;
+    } in
     put_added a.store.now a.sheet a.shot c.slot_of-slot.result (search rules) c.slot_of-slot.ensures.0
-    c.if-store-ne-STORE.false (search rules) (fit c)
+    c.if-store-ne-STORE.false (search rules) fit
     (sym c.held.ensures ∙ c.if-held.false) c.add.result _ c.add.ensures.result_value c.add.ensures.store_after

@@ -6,4 +6,4 @@ use Rattle.sheets.proofs.shot_in.Goals as goal
 
 pub returns : goal.returns
 unfolding shot_in
-returns c = simp (c.Framed-at.ensures, c.short_at.ensures)
+returns c = simp (c.framed_at.ensures, c.short_at.ensures)

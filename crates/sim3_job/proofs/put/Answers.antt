@@ -1,5 +1,4 @@
 -- `sim3_job::put` meets its contract: from the sink's place on stand the bytes, or there is no room for them. Assumes nothing.
-use borrow.Author.Rules.{rules}
 use native.Mathlib.Omega.{arith}
 use Prim.Native.Nat.{ℕ, ◌+◌}
 use mathlib.Core.Path.{refl, sym, ap, ◌∙◌}
@@ -11,7 +10,7 @@ use Rattle.outcome.proofs.Never.{untrue}
 use Rattle.sim3_job.proofs.put.Goals as goal
 
 pub returns-then-live : goal.returns-then-live
-returns-then-live c = 
+returns-then-live c =
     let a = c.args in
     record {
       within_sink = sent_sink_within c.from_write.result _ a.sent c.from_write.ensures (length a.sink.now) c.requires;
@@ -20,12 +19,12 @@ returns-then-live c =
 
 pub returns-then-sink-sent : goal.returns-then-sink-sent
 returns-then-sink-sent c = record {
-      within_sink = tt;
-      to_sink = λ e. (refl, omega arith);
-    }
+  within_sink = tt;
+  to_sink = λ e. (refl, omega arith);
+}
 
 pub returns : goal.returns
-returns c = 
+returns c =
     let a = c.args in
     let b = a.bytes.now in
     let s = a.sink.now in

@@ -2,23 +2,23 @@
 use borrow.Author.Rules.{rules}
 use native.Mathlib.Omega.{arith}
 use borrow.Author.Tests.{eqb-true}
-use Prim.Native.Nat.{◌+◌, ◌≤◌}
+use Prim.Native.Nat.{◌+◌}
 use mathlib.Core.Path.{◌≡◌, refl, ap, ◌∙◌}
-use lib.ListN.{length, take, drop, length-drop}
+use lib.ListN.{take, drop, length-drop}
 use lib.Seq.{take-paste}
 use Rattle.sim3_job.proofs.read_tape.Goals as goal
 
 pub copy-requires : goal.copy-requires
 copy-requires c = record {
-      n_in_bounds = omega (arith, c.piece-n.ensures.upper_bound, c.least.ensures);
-      n_in_bounds_2 = omega (arith, c.piece-n.ensures.upper_bound, c.least.ensures);
-    }
+  n_in_bounds = omega (arith, c.piece-n.ensures.upper_bound, c.least.ensures);
+  n_in_bounds_2 = omega (arith, c.piece-n.ensures.upper_bound, c.least.ensures);
+}
 
 pub overflow_add-result : goal.overflow_add-result
 overflow_add-result c = search rules
 
 pub returns : goal.returns
-returns c = 
+returns c =
     let a = c.args in
     let n = c.piece-n.result in
     let p = c.piece-n.ensures in

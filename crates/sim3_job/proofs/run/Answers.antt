@@ -1,7 +1,6 @@
 -- `sim3_job::run` meets its contract. From a tape, what the sink holds and what the job still writes are together what it writes for the whole tape; and each
 -- turn brings the end nearer, wherever it reads from.
 use borrow.Author.Rules.{rules}
-use borrow.Author.Tests.{not-true, not-false}
 use native.Mathlib.Omega.{arith}
 use Prim.Native.Nat.{ℕ, ◌+◌, ◌-◌, ◌≤◌, ◌<◌}
 use mathlib.Core.Bool.{Bool, true, false}
@@ -40,7 +39,7 @@ loop-n-init c =
     }
 
 pub fill-requires : goal.fill-requires
-fill-requires c =  let i = c.loop-n.invariant in
+fill-requires c = let i = c.loop-n.invariant in
     record {
       at_in_bounds = i.at_in_bounds;
       have_in_bounds = omega (arith, i.have_in_bounds, i.buf_length);
@@ -54,7 +53,7 @@ overflow_add-have c =
     (arith, h.0, c.loop-n.invariant.buf_length)
 
 pub turn-f-requires : goal.turn-f-requires
-turn-f-requires c = 
+turn-f-requires c =
     let h = within c.in-Bytes.is c.loop-n.have (length c.loop-n.buf) c.loop-n.asked
     (length c.args.tape.now) c.fill.ensures.within in
     record {
@@ -89,7 +88,7 @@ loop-n-smaller c =
     let room : answer_room ≤ length l.out = omega (arith, l.invariant.out_length) in
     let fits : l.have + n ≤ 65536 = omega (arith, h.0, l.invariant.buf_length) in
     let told = rw (held l.mem l.invariant.mem_length) at t.ensures.value in
-    let on : goes_on t.result.reason ≡ true = sym c.goes_on.ensures ∙ not-false _ c.if-not-goes_on.false in
+    let on : goes_on t.result.reason ≡ true = sym c.goes_on.ensures ∙ c.if-not-goes_on.false in
     subst (λ (b : Bool). to_go t.result.counts (l.have + n - t.result.used) b < to_go l.c l.have l.asked) (sym c.asks_for-asked.ensures)
     (nearer (standing l.c (state_of l.mem)) (take (l.have + n) c.fill.new.buf) l.asked _ l.have n (length l.out) t.result
     l.invariant.sound room told on (λ u z. h.2 u ∙ rw z refl) fits)
@@ -113,7 +112,7 @@ loop-n-preserved c =
     let held₁ = held l.mem i.mem_length in
     let told = rw held₁ at t.ensures.value in
     let wrote = rw held₁ at t.ensures.out_after in
-    let on : goes_on t.result.reason ≡ true = sym c.goes_on.ensures ∙ not-false _ c.if-not-goes_on.false in
+    let on : goes_on t.result.reason ≡ true = sym c.goes_on.ensures ∙ c.if-not-goes_on.false in
     record {
       have_in_bounds = omega (arith, h.0, i.buf_length);
       buf_length = t.auto.buf ∙ f.auto.buf ∙ i.buf_length;
@@ -166,13 +165,13 @@ returns-in-Failed-put c =
     rw c.ended_as-left-in-Failed-put.ensures record {
       sent_in_bounds = omega (arith, i.sent_in_bounds, i.sink_length);
       performed = λ e.
-            let r = tape_read c.in-Bytes.is job_limit a.tape.now l.sink (standing l.c (state_of l.mem)) l.buf buf₁ l.last
-            l.at l.have l.sent (f.ensures.from_tape e) (i.underway e) in
-            let b = handed F.bytes l.out _ t.result.written (ap (λ (x : Fed). x.written) told) wrote in
-            let w = sink_short c.in-Failed-put.is _ l.sink _ l.sent (p.ensures.to_sink e) in
-            let s = underway_short job_limit a.tape.now l.sink (standing l.c (state_of l.mem)) (take (l.have + n) buf₁) ended next l.sent r i.sound (length l.out)
-            i.sent_in_bounds (omega (arith, w.1, ap length b)) in
-            (omega (arith, s.0, i.sink_length), rw w.0 s.1);
+          let r = tape_read c.in-Bytes.is job_limit a.tape.now l.sink (standing l.c (state_of l.mem)) l.buf buf₁ l.last
+          l.at l.have l.sent (f.ensures.from_tape e) (i.underway e) in
+          let b = handed F.bytes l.out _ t.result.written (ap (λ (x : Fed). x.written) told) wrote in
+          let w = sink_short c.in-Failed-put.is _ l.sink _ l.sent (p.ensures.to_sink e) in
+          let s = underway_short job_limit a.tape.now l.sink (standing l.c (state_of l.mem)) (take (l.have + n) buf₁) ended next l.sent r i.sound (length l.out)
+          i.sent_in_bounds (omega (arith, w.1, ap length b)) in
+          (omega (arith, s.0, i.sink_length), rw w.0 s.1);
       input_theorem = input job_limit a.tape.now (λ i. omega (arith, c.type_inv.tape i));
     }
 
@@ -194,16 +193,16 @@ returns-then-not-goes_on c =
     let held₁ = held l.mem i.mem_length in
     let told = rw held₁ at t.ensures.value in
     let wrote = rw held₁ at t.ensures.out_after in
-    let off : goes_on t.result.reason ≡ false = sym c.goes_on.ensures ∙ not-true _ c.if-not-goes_on.true in
+    let off : goes_on t.result.reason ≡ false = sym c.goes_on.ensures ∙ c.if-not-goes_on.true in
     rw c.ended_as-left-then-not-goes_on.ensures record {
       sent_in_bounds = omega (arith, sink_within c.in-All.is (length l.sink) p.ensures.within_sink, i.sink_length);
       performed = λ e.
-            let r = tape_read c.in-Bytes.is job_limit a.tape.now l.sink (standing l.c (state_of l.mem)) l.buf buf₁ l.last
-            l.at l.have l.sent (f.ensures.from_tape e) (i.underway e) in
-            let b = handed F.bytes l.out _ t.result.written (ap (λ (x : Fed). x.written) told) wrote in
-            let w : take end sink₁ ≡ take l.sent l.sink ++ F.bytes = sink_holds c.in-All.is _ l.sink sink₁
-            l.sent (p.ensures.to_sink e) ∙ ap (λ (x : List ℕ). take l.sent l.sink ++ x) b in
-            underway_done job_limit a.tape.now l.sink (standing l.c (state_of l.mem)) (take (l.have + n) buf₁) ended next l.sent r i.sound
-            (length l.out) sink₁ end t.result told off w;
+          let r = tape_read c.in-Bytes.is job_limit a.tape.now l.sink (standing l.c (state_of l.mem)) l.buf buf₁ l.last
+          l.at l.have l.sent (f.ensures.from_tape e) (i.underway e) in
+          let b = handed F.bytes l.out _ t.result.written (ap (λ (x : Fed). x.written) told) wrote in
+          let w : take end sink₁ ≡ take l.sent l.sink ++ F.bytes = sink_holds c.in-All.is _ l.sink sink₁
+          l.sent (p.ensures.to_sink e) ∙ ap (λ (x : List ℕ). take l.sent l.sink ++ x) b in
+          underway_done job_limit a.tape.now l.sink (standing l.c (state_of l.mem)) (take (l.have + n) buf₁) ended next l.sent r i.sound
+          (length l.out) sink₁ end t.result told off w;
       input_theorem = input job_limit a.tape.now (λ i. omega (arith, c.type_inv.tape i));
     }

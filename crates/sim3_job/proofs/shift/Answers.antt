@@ -1,6 +1,6 @@
 -- One more byte is moved.
 use native.Mathlib.Omega.{arith}
-use Prim.Native.Nat.{◌+◌, ◌-◌, ◌<◌}
+use Prim.Native.Nat.{◌-◌}
 use mathlib.Core.Path.{◌≡◌}
 use Rattle.sim3_job.proofs.Moves.{moved_more}
 use Rattle.sim3_job.proofs.shift.Goals as goal

@@ -1,10 +1,6 @@
 -- `sim3_job::shift` meets its contract: after i turns the first i bytes are those from `from` on, and the rest is as it was. Assumes nothing.
-use borrow.Author.Rules.{rules}
-use native.Mathlib.Omega.{arith}
-use mathlib.Core.Path.{◌≡◌, refl}
-use Prim.Native.Nat.{◌+◌, ◌-◌, ◌≤◌}
-use lib.ListN.{length}
-use Rattle.sim3_job.proofs.Moves.{Moved, moved_more}
+use Prim.Native.Nat.{◌-◌, ◌≤◌}
+use Rattle.sim3_job.proofs.Moves.{Moved}
 use Rattle.sim3_job.proofs.shift.Given as goal
 
 abbrev pub invariant-loop-i : goal.invariant-loop-i

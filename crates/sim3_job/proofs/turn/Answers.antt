@@ -26,7 +26,7 @@ shift-requires c =
     (omega (arith, simp length-take at c.feed-f.ensures.used_in_bounds.0), search rules)
 
 pub returns : goal.returns
-returns c = 
+returns c =
     let a = c.args in
     let f = c.feed-f in
     let xs = take a.have a.buf.now in

@@ -1,4 +1,4 @@
--- Written by tools/widths from crates/coeffs/proofs/sim3/sim3_coeffs_scaled_of/Answers.antt: edit that one. Digest beff4032338f8569.
+-- Written by tools/widths from crates/coeffs/proofs/sim3/sim3_coeffs_scaled_of/Answers.antt: edit that one. Digest fc8391c9513755cf.
 -- `coeffs_f32::sim3::sim3_coeffs_scaled_of` meets its contract: |phi|² is not below zero, so the entry answers. Assumes nothing.
 use mathlib.Core.Path.{sym, ap, ◌∙◌}
 use lib.Ieee.{binary32}
@@ -11,19 +11,16 @@ use Rattle.series_f32.specs.As.{as_sim3_coeffs}
 use Rattle.closed_f32.specs.As.{as_values}
 use Rattle.coeffs_f32.specs.As.{as_scaled}
 
-pub no_scaled-requires : goal.no_scaled-requires
+pub unreachable-requires : goal.unreachable-requires
 unfolding scaled_told scaled_answer as_scaled as_sim3_coeffs as_values as_vec3
-no_scaled-requires c =
+unreachable-requires c =
     let a = c.args in
     let r = sym (c.sim3_coeffs_scaled.ensures ∙ ap (λ z. scaled_answer binary32 a.sigma z (as_values a.v)) c.norm_sq.ensures) in
     angle_refuses binary32 (as_vec3 a.phi) _ _ (r ∙ ap scaled_told c.in-Refused.is)
 
-pub returns-in-Coeffs : goal.returns-in-Coeffs
+pub returns : goal.returns
 unfolding scaled_told scaled_answer as_scaled as_sim3_coeffs as_values as_vec3
-returns-in-Coeffs c =
+returns c =
     let a = c.args in
     let r = sym (c.sim3_coeffs_scaled.ensures ∙ ap (λ z. scaled_answer binary32 a.sigma z (as_values a.v)) c.norm_sq.ensures) in
     angle_answers binary32 (as_vec3 a.phi) _ _ (r ∙ ap scaled_told c.in-Coeffs.is)
-
-pub returns-in-Refused : goal.returns-in-Refused
-returns-in-Refused c = absurd c.no_scaled.ensures

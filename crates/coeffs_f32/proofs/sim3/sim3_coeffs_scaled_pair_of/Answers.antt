@@ -1,4 +1,4 @@
--- Written by tools/widths from crates/coeffs/proofs/sim3/sim3_coeffs_scaled_pair_of/Answers.antt: edit that one. Digest 3df71aecbf1c3c83.
+-- Written by tools/widths from crates/coeffs/proofs/sim3/sim3_coeffs_scaled_pair_of/Answers.antt: edit that one. Digest d2877c9ddc8bdccf.
 -- `coeffs_f32::sim3::sim3_coeffs_scaled_pair_of` meets its contract: |phi|² is not below zero, so the entry answers. Assumes nothing.
 use mathlib.Core.Path.{sym, ap, ◌∙◌}
 use lib.Ieee.{binary32}
@@ -11,19 +11,16 @@ use Rattle.series_f32.specs.As.{as_sim3_coeffs}
 use Rattle.closed_f32.specs.As.{as_values}
 use Rattle.coeffs_f32.specs.As.{as_scaled, as_scaled_pair}
 
-pub no_pair-requires : goal.no_pair-requires
+pub unreachable-requires : goal.unreachable-requires
 unfolding pair_told as_scaled as_scaled_pair as_sim3_coeffs as_values as_vec3
-no_pair-requires c =
+unreachable-requires c =
     let a = c.args in
     let r = sym (c.sim3_coeffs_scaled_pair.ensures ∙ ap (λ z. pair_answer binary32 a.sigma z (as_values a.v)) c.norm_sq.ensures) in
     angle_pair-refuses binary32 (as_vec3 a.phi) a.sigma (as_values a.v) _ (r ∙ ap pair_told c.in-Refused.is)
 
-pub returns-in-Coeffs : goal.returns-in-Coeffs
+pub returns : goal.returns
 unfolding pair_told as_scaled as_scaled_pair as_sim3_coeffs as_values as_vec3
-returns-in-Coeffs c =
+returns c =
     let a = c.args in
     let r = sym (c.sim3_coeffs_scaled_pair.ensures ∙ ap (λ z. pair_answer binary32 a.sigma z (as_values a.v)) c.norm_sq.ensures) in
     angle_pair-answers binary32 (as_vec3 a.phi) a.sigma (as_values a.v) _ (r ∙ ap pair_told c.in-Coeffs.is)
-
-pub returns-in-Refused : goal.returns-in-Refused
-returns-in-Refused c = absurd c.no_pair.ensures

@@ -1,4 +1,4 @@
--- Written by tools/widths from crates/coeffs/proofs/sim3/sim3_v_of/Answers.antt: edit that one. Digest d728874512cbbe8a.
+-- Written by tools/widths from crates/coeffs/proofs/sim3/sim3_v_of/Answers.antt: edit that one. Digest b9b64e5acd945f7c.
 -- `coeffs_f32::sim3::sim3_v_of` meets its contract: |phi|² is not below zero, so the entry answers. Assumes nothing.
 use mathlib.Core.Path.{sym, ap, ◌∙◌}
 use lib.Ieee.{binary32}
@@ -10,19 +10,16 @@ use Rattle.linalg_f32.specs.As.{as_vec3}
 use Rattle.series_f32.specs.As.{as_coeffs4}
 use Rattle.closed_f32.specs.As.{as_values}
 
-pub no_v-requires : goal.no_v-requires
+pub unreachable-requires : goal.unreachable-requires
 unfolding v_told v_answer as_coeffs4 as_values as_vec3
-no_v-requires c =
+unreachable-requires c =
     let a = c.args in
     let r = sym (c.sim3_v.ensures ∙ ap (λ z. v_answer binary32 a.sigma z (as_values a.v)) c.norm_sq.ensures) in
     angle_refuses binary32 (as_vec3 a.phi) _ _ (r ∙ ap v_told c.in-Refused.is)
 
-pub returns-in-Coeffs : goal.returns-in-Coeffs
+pub returns : goal.returns
 unfolding v_told v_answer as_coeffs4 as_values as_vec3
-returns-in-Coeffs c =
+returns c =
     let a = c.args in
     let r = sym (c.sim3_v.ensures ∙ ap (λ z. v_answer binary32 a.sigma z (as_values a.v)) c.norm_sq.ensures) in
     angle_answers binary32 (as_vec3 a.phi) _ _ (r ∙ ap v_told c.in-Coeffs.is)
-
-pub returns-in-Refused : goal.returns-in-Refused
-returns-in-Refused c = absurd c.no_v.ensures

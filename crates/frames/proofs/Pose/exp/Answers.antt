@@ -1,4 +1,3 @@
-use borrow.Author.Rules.{rules}
 use Rattle.frames.specs.Pose.{framed_exp}
 use Rattle.frames.proofs.Pose.exp.Goals as goal
 

@@ -1,4 +1,3 @@
-use borrow.Author.Rules.{rules}
 use Rattle.frames.specs.Pose.{framed_identity}
 use Rattle.frames.proofs.Pose.identity.Goals as goal
 

@@ -1,4 +1,3 @@
-use borrow.Author.Rules.{rules}
 use Rattle.frames.specs.Joins.{framed_inv_mul}
 use Rattle.frames.proofs.Pose.inv_mul.Goals as goal
 

@@ -1,4 +1,3 @@
-use borrow.Author.Rules.{rules}
 use Rattle.frames.specs.Pose.{framed_inverse}
 use Rattle.frames.proofs.Pose.inverse.Goals as goal
 

@@ -1,4 +1,3 @@
-use borrow.Author.Rules.{rules}
 use Rattle.frames.specs.Pose.{framed_lplus}
 use Rattle.frames.proofs.Pose.lplus.Goals as goal
 

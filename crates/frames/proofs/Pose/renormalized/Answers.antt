@@ -1,4 +1,3 @@
-use borrow.Author.Rules.{rules}
 use Rattle.frames.specs.Pose.{framed_renormalized}
 use Rattle.frames.proofs.Pose.renormalized.Goals as goal
 

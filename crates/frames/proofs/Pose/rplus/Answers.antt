@@ -1,4 +1,3 @@
-use borrow.Author.Rules.{rules}
 use Rattle.frames.specs.Pose.{framed_rplus}
 use Rattle.frames.proofs.Pose.rplus.Goals as goal
 

@@ -1,26 +1,26 @@
-use borrow.Author.Rules.{rules}
+-- Written by tools/widths from crates/frames/proofs/Pose/inv_mul/Answers.antt: edit that one. Digest 42390a87786c0ae9.
 use Rattle.frames.specs.Joins.{framed_inv_mul}
+use Rattle.frames_f32.proofs.Pose.inv_mul.Goals as goal
 use Rattle.linalg_f32.proofs.As.{linalg_singles}
-use Rattle.circle_f32.proofs.As.{circle-singles}
-use Rattle.series_f32.proofs.As.{series-singles}
-use Rattle.closed_f32.proofs.As.{closed-singles}
+use Rattle.circle_f32.proofs.As.{circle_singles}
+use Rattle.series_f32.proofs.As.{series_singles}
+use Rattle.closed_f32.proofs.As.{closed_singles}
 use Rattle.coeffs_f32.proofs.As.{coeffs_singles}
 use Rattle.so3_f32.proofs.As.{so3_singles}
-use Rattle.sim3_f32.proofs.As.{sim3-singles}
-use Rattle.frames_f32.proofs.As.{frames-singles}
-use Rattle.frames_f32.proofs.Pose.inv_mul.Goals as goal
+use Rattle.sim3_f32.proofs.As.{sim3_singles}
+use Rattle.frames_f32.proofs.As.{frames_singles}
 
 pub returns : goal.returns
 unfolding framed_inv_mul
 returns c = simp (
   linalg_singles,
-  circle-singles,
-  series-singles,
-  closed-singles,
+  circle_singles,
+  series_singles,
+  closed_singles,
   coeffs_singles,
   so3_singles,
-  sim3-singles,
-  frames-singles,
+  sim3_singles,
+  frames_singles,
   c.meet.ensures,
   c.between-joined.ensures,
   c.inv_mul.ensures,

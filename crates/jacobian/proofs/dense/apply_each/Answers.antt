@@ -1,4 +1,3 @@
-use borrow.Author.Rules.{rules}
 use Rattle.jacobian.specs.Dense.{seven_apply}
 use Rattle.jacobian.proofs.dense.apply_each.Goals as goal
 

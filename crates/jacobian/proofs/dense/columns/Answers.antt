@@ -1,4 +1,3 @@
-use borrow.Author.Rules.{rules}
 use Rattle.jacobian.specs.Dense.{seven_of}
 use Rattle.jacobian.proofs.dense.columns.Goals as goal
 

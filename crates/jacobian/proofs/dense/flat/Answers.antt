@@ -1,5 +1,4 @@
 -- `jacobian::dense::flat` meets its contract: the columns stored one behind another fill the matrix. Assumes nothing.
-use borrow.Author.Rules.{rules}
 use mathlib.Core.Path.{refl}
 use Rattle.jacobian.specs.Dense.{seven_flat}
 use Rattle.sim3.specs.Tangent.{tangent_to_dense}

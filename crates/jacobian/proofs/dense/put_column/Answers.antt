@@ -1,5 +1,4 @@
 -- `jacobian::dense::put_column` meets its contract: seven stores are the run of the column. Assumes nothing.
-use borrow.Author.Rules.{rules}
 use native.Mathlib.Omega.{arith}
 use native.Mathlib.Numerals.{towards_suc}
 use lib.ListN.{length-set}

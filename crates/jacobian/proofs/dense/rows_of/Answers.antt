@@ -1,4 +1,3 @@
-use borrow.Author.Rules.{rules}
 use Rattle.jacobian.specs.Private.{seven_rows}
 use Rattle.jacobian.proofs.dense.rows_of.Goals as goal
 

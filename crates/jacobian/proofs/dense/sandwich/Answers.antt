@@ -1,4 +1,3 @@
-use borrow.Author.Rules.{rules}
 use Rattle.jacobian.specs.Dense.{jac_sandwich}
 use Rattle.jacobian.proofs.dense.sandwich.Goals as goal
 

@@ -1,4 +1,3 @@
-use borrow.Author.Rules.{rules}
 use Rattle.jacobian.specs.Dense.{seven_transpose}
 use Rattle.jacobian.specs.Private.{seven_rows}
 use Rattle.jacobian.proofs.dense.transpose.Goals as goal

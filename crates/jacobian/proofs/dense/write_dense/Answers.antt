@@ -1,4 +1,3 @@
-use borrow.Author.Rules.{rules}
 use Rattle.jacobian.specs.Dense.{jac_dense}
 use lib.Ieee.{of_bits}
 use Rattle.jacobian.proofs.dense.write_dense.Goals as goal

@@ -1,22 +1,22 @@
+-- Written by tools/widths from crates/jacobian/proofs/dense/put_column/Answers.antt: edit that one. Digest 8c16253aee44685a.
 -- `jacobian_f32::dense::put_column` meets its contract: seven stores are the run of the column. Assumes nothing.
-use borrow.Author.Rules.{rules}
 use native.Mathlib.Omega.{arith}
 use native.Mathlib.Numerals.{towards_suc}
 use lib.ListN.{length-set}
 use Rattle.sim3.specs.Tangent.{tangent_to_dense}
+use Rattle.jacobian_f32.proofs.dense.put_column.Goals as goal
 use Rattle.linalg_f32.proofs.As.{linalg_singles}
-use Rattle.circle_f32.proofs.As.{circle-singles}
-use Rattle.series_f32.proofs.As.{series-singles}
-use Rattle.closed_f32.proofs.As.{closed-singles}
+use Rattle.circle_f32.proofs.As.{circle_singles}
+use Rattle.series_f32.proofs.As.{series_singles}
+use Rattle.closed_f32.proofs.As.{closed_singles}
 use Rattle.coeffs_f32.proofs.As.{coeffs_singles}
 use Rattle.so3_f32.proofs.As.{so3_singles}
-use Rattle.sim3_f32.proofs.As.{sim3-singles}
+use Rattle.sim3_f32.proofs.As.{sim3_singles}
 use Rattle.jacobian_f32.proofs.As.{jacobian_singles}
-use Rattle.jacobian_f32.proofs.dense.put_column.Goals as goal
 
 pub returns : goal.returns
 unfolding tangent_to_dense
-returns c = simp (linalg_singles, circle-singles, series-singles, closed-singles, coeffs_singles, so3_singles, sim3-singles, jacobian_singles, towards_suc)
+returns c = simp (linalg_singles, circle_singles, series_singles, closed_singles, coeffs_singles, so3_singles, sim3_singles, jacobian_singles, towards_suc)
 
 pub bounds-out-at-2 : goal.bounds-out-at-2
 bounds-out-at-2 c = simp length-set (omega arith)

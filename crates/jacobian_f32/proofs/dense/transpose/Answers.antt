@@ -1,27 +1,27 @@
-use borrow.Author.Rules.{rules}
+-- Written by tools/widths from crates/jacobian/proofs/dense/transpose/Answers.antt: edit that one. Digest 6c8dd68bb99c7ccc.
 use Rattle.jacobian.specs.Dense.{seven_transpose}
 use Rattle.jacobian.specs.Private.{seven_rows}
+use Rattle.jacobian_f32.proofs.dense.transpose.Goals as goal
 use Rattle.linalg_f32.proofs.As.{linalg_singles}
-use Rattle.circle_f32.proofs.As.{circle-singles}
-use Rattle.series_f32.proofs.As.{series-singles}
-use Rattle.closed_f32.proofs.As.{closed-singles}
+use Rattle.circle_f32.proofs.As.{circle_singles}
+use Rattle.series_f32.proofs.As.{series_singles}
+use Rattle.closed_f32.proofs.As.{closed_singles}
 use Rattle.coeffs_f32.proofs.As.{coeffs_singles}
 use Rattle.so3_f32.proofs.As.{so3_singles}
-use Rattle.sim3_f32.proofs.As.{sim3-singles}
+use Rattle.sim3_f32.proofs.As.{sim3_singles}
 use Rattle.jacobian_f32.proofs.As.{jacobian_singles}
-use Rattle.jacobian_f32.proofs.dense.transpose.Goals as goal
 
 pub returns : goal.returns
 unfolding seven_transpose seven_rows
 returns c =
     simp (
       linalg_singles,
-      circle-singles,
-      series-singles,
-      closed-singles,
+      circle_singles,
+      series_singles,
+      closed_singles,
       coeffs_singles,
       so3_singles,
-      sim3-singles,
+      sim3_singles,
       jacobian_singles,
       c.seven_numbers-c6.ensures,
       c.rows_of-q.ensures,

@@ -7,15 +7,15 @@ use Rattle.kept.proofs.bytes.put_framed.Goals as goal
 
 pub overflow_add-at-5 : goal.overflow_add-at-5
 overflow_add-at-5 c =
-    omega (arith, c.requires, c.well-formed)
+    omega (arith, c.requires, c.well_formed)
 
 pub overflow_add-at-6 : goal.overflow_add-at-6
 overflow_add-at-6 c =
-    omega (arith, c.requires, c.well-formed)
+    omega (arith, c.requires, c.well_formed)
 
 pub overflow_add-at-7 : goal.overflow_add-at-7
 overflow_add-at-7 c =
-    omega (arith, c.requires, c.well-formed)
+    omega (arith, c.requires, c.well_formed)
 
 pub put_number-requires-6 : goal.put_number-requires-6
 put_number-requires-6 c =
@@ -58,7 +58,7 @@ put_number-requires-8 c =
 
 pub overflow_add-at-8 : goal.overflow_add-at-8
 overflow_add-at-8 c =
-    omega (arith, c.requires, c.well-formed)
+    omega (arith, c.requires, c.well_formed)
 
 pub put_short-requires : goal.put_short-requires
 put_short-requires c =
@@ -77,7 +77,7 @@ put_short-requires c =
 
 pub overflow_add-at-9 : goal.overflow_add-at-9
 overflow_add-at-9 c =
-    omega (arith, c.requires, c.well-formed)
+    omega (arith, c.requires, c.well_formed)
 
 pub put_short-requires-2 : goal.put_short-requires-2
 put_short-requires-2 c =

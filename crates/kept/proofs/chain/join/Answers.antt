@@ -29,27 +29,30 @@ unfolding joint_bytes pose_told
 returns-in-Pose c =
     let a = c.args in
     let p = c.in-Pose.p in
-    let j = ch-joined a.mem.now a.b.now _ _ _ _ c.Framed-at.ensures c.number_at-up.ensures
+    let j = ch-joined a.mem.now a.b.now _ _ _ _ c.framed_at-x.ensures c.number_at-up.ensures
     c.running_at.ensures c.join-j.ensures in
     let e = sym (ap (λ (j : Joint). j.answer) j) ∙ ap pose_told c.in-Pose.is in
     let k = c.put_posed.ensures in
     let left : Joint → Running = λ j. record { pose = Posed p; every = j.running.every; since = j.running.since } in
-    rw e (
-      c.tell.ensures.result_value,
-      (
-        c.tell.ensures.out_after,
-        (
-          k.mem_after ∙ ap (λ (j : Joint). sets a.mem.now 0 (posed_bytes p j.running.every j.running.since)) j,
-          k.mem_after_2 ∙ ap left j ∙ sym (ch_stood (running_of a.mem.now) a.b.now p e),
-        ),
-      ),
-    )
+    rw e
+    (record {
+      result_value = c.tell.ensures.result_value;
+      out_after = c.tell.ensures.out_after;
+      mem_after = k.mem_after ∙ ap (λ (j : Joint). sets a.mem.now 0 (posed_bytes p j.running.every j.running.since)) j;
+      mem_after_2 = k.mem_after_2 ∙ ap left j ∙ sym (ch_stood (running_of a.mem.now) a.b.now p e);
+    })
 
 pub returns-in-Refused : goal.returns-in-Refused
 unfolding joint_bytes pose_told
 returns-in-Refused c =
     let a = c.args in
-    let j = ch-joined a.mem.now a.b.now _ _ _ _ c.Framed-at.ensures c.number_at-up.ensures
+    let j = ch-joined a.mem.now a.b.now _ _ _ _ c.framed_at-x.ensures c.number_at-up.ensures
     c.running_at.ensures c.join-j.ensures in
     let e = sym (ap (λ (j : Joint). j.answer) j) ∙ ap pose_told c.in-Refused.is in
-    rw e (c.refuse.ensures.result_value, (c.refuse.ensures.out_after, (refl, sym (ch-kept (running_of a.mem.now) a.b.now c.in-Refused.number e))))
+    rw e
+    (record {
+      result_value = c.refuse.ensures.result_value;
+      out_after = c.refuse.ensures.out_after;
+      mem_after = refl;
+      mem_after_2 = sym (ch-kept (running_of a.mem.now) a.b.now c.in-Refused.number e);
+    })

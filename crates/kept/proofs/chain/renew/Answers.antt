@@ -26,4 +26,10 @@ returns c =
     let n = c.short_at-n.ensures in
     let t = every_replied c.short_at-n.result c.args.out.now _ c.put_short-2.ensures in
     let w = c.put_short.ensures in
-    rw (← n) (t.0, (t.1, (w, ap running_of w ∙ every_stored c.short_at-n.result c.args.mem.now c.requires.mem_len (search rules))))
+    rw (← n)
+    (record {
+      result_value = t.result_value;
+      out_after = t.out_after;
+      mem_after = w;
+      mem_after_2 = ap running_of w ∙ every_stored c.short_at-n.result c.args.mem.now c.requires.mem_len (search rules);
+    })

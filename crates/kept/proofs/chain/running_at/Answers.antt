@@ -6,7 +6,7 @@ use Rattle.kept.proofs.chain.running_at.Goals as goal
 
 pub returns-then-mem-eq1 : goal.returns-then-mem-eq1
 unfolding running_of start_of
-returns-then-mem-eq1 c = simp (c.Framed-at.ensures, eq-eqb _ _ c.if-mem-eq1.true, c.short_at-since.ensures, c.short_at-every.ensures)
+returns-then-mem-eq1 c = simp (c.framed_at.ensures, eq-eqb _ _ c.if-mem-eq1.true, c.short_at-since.ensures, c.short_at-every.ensures)
 
 pub returns : goal.returns
 unfolding running_of start_of

@@ -11,11 +11,11 @@ unfolding lent_became lent_bytes
 returns c =
     let a = c.args in
     let t = shelf_told a.store.now a.b.now _ _ _ c.requires.store_len c.short_at-sheet.ensures
-    c.short_at-take.ensures c.Framed-at.ensures in
+    c.short_at-take.ensures c.framed_at-pose.ensures in
     let w = rw (c.put-told.ensures.result_value ∙ t.0) at c.answer_put.ensures in
     record {
-      result_value = w.0;
-      out_after = w.1;
+      result_value = w.result_value;
+      out_after = w.out_after;
       store_after = c.put-told.ensures.store_after ∙ t.1.0;
       store_after_2 = c.put-told.ensures.store_after_2 ∙ t.1.1;
     }

@@ -22,24 +22,24 @@ find-requires c = record {
 pub returns-then-mem-ne-MEMORY : goal.returns-then-mem-ne-MEMORY
 returns-then-mem-ne-MEMORY c = let a = c.args in let t = told_unheld sq_asks a.mem.now a.s.now a.out.now c.if-mem-ne-MEMORY.true in
     record {
-      result_value = t.0;
-      out_after = t.1.0;
+      result_value = t.result_value;
+      out_after = t.out_after;
     }
 
 pub returns-then-s-lt-SQ : goal.returns-then-s-lt-SQ
 returns-then-s-lt-SQ c =
     let a = c.args in let t = told-cut sq_asks a.mem.now a.s.now a.out.now c.if-mem-ne-MEMORY.false c.if-s-lt-SQ.true in
     record {
-      result_value = t.0;
-      out_after = t.1.0;
+      result_value = t.result_value;
+      out_after = t.out_after;
     }
 
 pub returns-then-out-lt-LONGEST : goal.returns-then-out-lt-LONGEST
 returns-then-out-lt-LONGEST c =
     let a = c.args in let t = told-roomless sq_asks a.mem.now a.s.now a.out.now c.if-mem-ne-MEMORY.false c.if-s-lt-SQ.false c.if-out-lt-LONGEST.true in
     record {
-      result_value = t.0;
-      out_after = t.1.0;
+      result_value = t.result_value;
+      out_after = t.out_after;
     }
 
 pub returns : goal.returns

@@ -5,15 +5,12 @@ use Rattle.tables.specs.Found.{recip_told}
 use Rattle.tables.proofs.Every.{recip_number, recip_not_none}
 use Rattle.series.proofs.reciprocal.table_entry.Goals as goal
 
-pub never-requires : goal.never-requires
+pub unreachable-requires : goal.unreachable-requires
 unfolding recip_told
-never-requires c = recip_not_none binary64 c.args.n c.requires
+unreachable-requires c = recip_not_none binary64 c.args.n c.requires
     (sym (ap recip_told c.in-None.is) ∙ c.recip_fact.ensures)
 
-pub returns-in-Number : goal.returns-in-Number
+pub returns : goal.returns
 unfolding recip_told
-returns-in-Number c = recip_number binary64 c.args.n _ c.requires
+returns c = recip_number binary64 c.args.n _ c.requires
     (sym (ap recip_told c.in-Number.is) ∙ c.recip_fact.ensures)
-
-pub returns-in-None : goal.returns-in-None
-returns-in-None c = absurd c.never.ensures

@@ -1,4 +1,3 @@
-use borrow.Author.Rules.{rules}
 use Rattle.sim3.specs.Exp.{poly_apply}
 use Rattle.sim3.proofs.sim3.poly_apply.Goals as goal
 

@@ -1,5 +1,4 @@
 -- `so3::so3::act` meets its contract: the sandwich step by step, by what the vector operations ensure. Assumes nothing.
-use borrow.Author.Rules.{rules}
 use Rattle.so3.specs.So3.{so3_act}
 use lib.Ieee.{of_bits}
 use Rattle.so3.proofs.so3.act.Goals as goal

@@ -1,5 +1,4 @@
 -- `so3::so3::exp` meets its contract: by what the circle functions ensure, then component by component. Assumes nothing.
-use borrow.Author.Rules.{rules}
 use Rattle.so3.specs.So3.{so3_exp}
 use Rattle.so3.proofs.so3.exp.Goals as goal
 

@@ -1,5 +1,4 @@
 -- `so3::so3::inv_act` meets its contract: the action of the conjugate, by what the two calls ensure. Assumes nothing.
-use borrow.Author.Rules.{rules}
 use Rattle.so3.specs.So3.{so3_inv_act}
 use Rattle.so3.proofs.so3.inv_act.Goals as goal
 

@@ -1,4 +1,3 @@
-use borrow.Author.Rules.{rules}
 use Rattle.jacobian.specs.Jac.{jac_apply_transpose}
 use Rattle.jacobian.proofs.jac.Sim3Jac.apply_transpose.Goals as goal
 

@@ -1,4 +1,3 @@
-use borrow.Author.Rules.{rules}
 use Rattle.jacobian.specs.Jac.{jac_identity}
 use lib.Ieee.{of_bits}
 use Rattle.jacobian.proofs.jac.Sim3Jac.identity.Goals as goal

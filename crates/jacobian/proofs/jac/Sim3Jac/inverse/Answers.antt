@@ -1,4 +1,3 @@
-use borrow.Author.Rules.{rules}
 use Rattle.jacobian.specs.Jac.{jac_told, jac_inverse_answer, jac_inverse}
 use lib.Ieee.{of_bits}
 use Rattle.jacobian.proofs.jac.Sim3Jac.inverse.Goals as goal

@@ -1,4 +1,3 @@
-use borrow.Author.Rules.{rules}
 use Rattle.jacobian.specs.Jac.{jac_mul}
 use Rattle.jacobian.proofs.jac.Sim3Jac.mul.Goals as goal
 

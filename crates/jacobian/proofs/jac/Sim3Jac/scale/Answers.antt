@@ -1,4 +1,3 @@
-use borrow.Author.Rules.{rules}
 use Rattle.jacobian.specs.Jac.{jac_scale}
 use Rattle.jacobian.proofs.jac.Sim3Jac.scale.Goals as goal
 

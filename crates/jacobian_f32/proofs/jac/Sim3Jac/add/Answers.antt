@@ -1,29 +1,16 @@
-use borrow.Author.Rules.{rules}
+-- Written by tools/widths from crates/jacobian/proofs/jac/Sim3Jac/add/Answers.antt: edit that one. Digest 6da327a79cb14983.
 use Rattle.jacobian.specs.Jac.{jac_add}
+use Rattle.jacobian_f32.proofs.jac.Sim3Jac.add.Goals as goal
 use Rattle.linalg_f32.proofs.As.{linalg_singles}
-use Rattle.circle_f32.proofs.As.{circle-singles}
-use Rattle.series_f32.proofs.As.{series-singles}
-use Rattle.closed_f32.proofs.As.{closed-singles}
+use Rattle.circle_f32.proofs.As.{circle_singles}
+use Rattle.series_f32.proofs.As.{series_singles}
+use Rattle.closed_f32.proofs.As.{closed_singles}
 use Rattle.coeffs_f32.proofs.As.{coeffs_singles}
 use Rattle.so3_f32.proofs.As.{so3_singles}
-use Rattle.sim3_f32.proofs.As.{sim3-singles}
+use Rattle.sim3_f32.proofs.As.{sim3_singles}
 use Rattle.jacobian_f32.proofs.As.{jacobian_singles}
-use Rattle.jacobian_f32.proofs.jac.Sim3Jac.add.Goals as goal
 
 pub returns : goal.returns
 unfolding jac_add
 returns c =
-    simp (
-      linalg_singles,
-      circle-singles,
-      series-singles,
-      closed-singles,
-      coeffs_singles,
-      so3_singles,
-      sim3-singles,
-      jacobian_singles,
-      c.add-4.ensures,
-      c.add-3.ensures,
-      c.add-2.ensures,
-      c.add.ensures,
-    )
+    simp (linalg_singles, circle_singles, series_singles, closed_singles, coeffs_singles, so3_singles, sim3_singles, jacobian_singles, c.add-4.ensures, c.add-3.ensures, c.add-2.ensures, c.add.ensures)

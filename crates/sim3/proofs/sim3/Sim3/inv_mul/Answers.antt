@@ -1,4 +1,3 @@
-use borrow.Author.Rules.{rules}
 use Rattle.sim3.specs.Pose.{pose_inv_mul}
 use Rattle.sim3.proofs.sim3.Sim3.inv_mul.Goals as goal
 

@@ -1,4 +1,3 @@
-use borrow.Author.Rules.{rules}
 use Rattle.sim3.specs.Exp.{pose_lplus}
 use Rattle.sim3.proofs.sim3.Sim3.lplus.Goals as goal
 

@@ -1,4 +1,3 @@
-use borrow.Author.Rules.{rules}
 use Rattle.sim3.specs.Pose.{pose_mul_inv}
 use Rattle.sim3.proofs.sim3.Sim3.mul_inv.Goals as goal
 

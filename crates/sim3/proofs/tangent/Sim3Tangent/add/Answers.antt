@@ -1,4 +1,3 @@
-use borrow.Author.Rules.{rules}
 use Rattle.sim3.specs.Tangent.{tangent_add}
 use Rattle.sim3.proofs.tangent.Sim3Tangent.add.Goals as goal
 

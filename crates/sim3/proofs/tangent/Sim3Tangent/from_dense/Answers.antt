@@ -1,4 +1,3 @@
-use borrow.Author.Rules.{rules}
 use mathlib.Core.Path.{refl}
 use Rattle.sim3.specs.Tangent.{tangent_from_dense}
 use Rattle.sim3.proofs.tangent.Sim3Tangent.from_dense.Goals as goal

@@ -1,25 +1,25 @@
-use borrow.Author.Rules.{rules}
+-- Written by tools/widths from crates/sim3/proofs/sim3/Sim3/mul_inv/Answers.antt: edit that one. Digest 476765046b1ca425.
 use Rattle.sim3.specs.Pose.{pose_mul_inv}
+use Rattle.sim3_f32.proofs.sim3_f32.Sim3.mul_inv.Goals as goal
 use Rattle.linalg_f32.proofs.As.{linalg_singles}
-use Rattle.circle_f32.proofs.As.{circle-singles}
-use Rattle.series_f32.proofs.As.{series-singles}
-use Rattle.closed_f32.proofs.As.{closed-singles}
+use Rattle.circle_f32.proofs.As.{circle_singles}
+use Rattle.series_f32.proofs.As.{series_singles}
+use Rattle.closed_f32.proofs.As.{closed_singles}
 use Rattle.coeffs_f32.proofs.As.{coeffs_singles}
 use Rattle.so3_f32.proofs.As.{so3_singles}
-use Rattle.sim3_f32.proofs.As.{sim3-singles}
-use Rattle.sim3_f32.proofs.sim3_f32.Sim3.mul_inv.Goals as goal
+use Rattle.sim3_f32.proofs.As.{sim3_singles}
 
 pub returns : goal.returns
 unfolding pose_mul_inv
 returns c =
     simp (
       linalg_singles,
-      circle-singles,
-      series-singles,
-      closed-singles,
+      circle_singles,
+      series_singles,
+      closed_singles,
       coeffs_singles,
       so3_singles,
-      sim3-singles,
+      sim3_singles,
       c.sub.ensures,
       c.scale.ensures,
       c.act-rt.ensures,

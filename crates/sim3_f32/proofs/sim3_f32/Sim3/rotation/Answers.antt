@@ -1,3 +1,4 @@
+-- Written by tools/widths from crates/sim3/src/sim3.rt: edit that one. Digest a35d3c93f1a3e79d.
 -- `sim3_f32::sim3_f32::Sim3::rotation` meets its contract: operation by operation, as the definition has it. Assumes nothing.
 use mathlib.Core.Path.{refl}
 use Rattle.linalg_f32.specs.As.{as_vec3}

@@ -1,5 +1,4 @@
 -- `so3::quat::Quat::from_jpl` meets its contract: each component is the entry of its place, negated but for w, and every place is below 4. Assumes nothing.
-use borrow.Author.Rules.{rules}
 use mathlib.Core.Path.{refl}
 use Rattle.so3.specs.Quat.{quat_of_jpl, quat_conjugate, quat_of_xyzw}
 use Rattle.so3.proofs.quat.Quat.from_jpl.Goals as goal

@@ -1,5 +1,4 @@
 -- `so3::quat::Quat::from_xyzw` meets its contract: each component is the entry of its place, and every place is below 4. Assumes nothing.
-use borrow.Author.Rules.{rules}
 use mathlib.Core.Path.{refl}
 use Rattle.so3.specs.Quat.{quat_of_xyzw}
 use Rattle.so3.proofs.quat.Quat.from_xyzw.Goals as goal

@@ -1,5 +1,4 @@
 -- `so3::quat::Quat::renormalized` meets its contract: by what `norm_sq` ensures, then operation by operation. Assumes nothing.
-use borrow.Author.Rules.{rules}
 use Rattle.so3.specs.Quat.{quat_renormalized}
 use lib.Ieee.{of_bits}
 use Rattle.so3.proofs.quat.Quat.renormalized.Goals as goal

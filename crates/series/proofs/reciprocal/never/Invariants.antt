@@ -1,8 +1,0 @@
--- `series::reciprocal::never` meets its contract: nobody calls it. Assumes nothing.
-use Rattle.series.proofs.reciprocal.never.Given as goal
-
-abbrev pub invariant-loop : goal.invariant-loop
-invariant-loop l = ⊥
-
-abbrev pub decreases-loop : goal.decreases-loop
-decreases-loop l = 0
