@@ -41,12 +41,19 @@ def contracts(sources, crate, module, text, used):
     return out + text[at:]
 
 
+def wire(sources, names):
+    """The imports of these names of `wire`: those that it has for both widths are the singles' ones."""
+    parts = (("single::", [n for n in names if n in sources.singles]), ("", [n for n in names if n not in sources.singles]))
+    return "\n".join(f"use wire::{path}{{{', '.join(held)}}};" for path, held in parts if held)
+
+
 def code(sources, crate, module, text):
     used = set()
     for name in sources.asked(text):
         text = re.sub(rf"\b{name}\b", twin(name), text)
     singles = "|".join(sources.singles)
     text = re.sub(rf"\bwire::(?=(?:{singles})\b)", "wire::single::", text)
+    text = re.sub(r"(?m)^use wire::\{([^}]*)\};", lambda m: wire(sources, re.findall(r"\w+", m.group(1))), text)
     text = imports(sources, crate, width(contracts(sources, crate, module, text, used)))
     text = after_uses(text, as_lines(sources, crate, used, "ghost use ", ";"), "ghost use")
     for c in sources.twins:

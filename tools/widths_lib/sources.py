@@ -105,8 +105,9 @@ class Sources:
                 self.told[name] = (crate, module, keep, taken, rest.removeprefix(" → "), body)
 
     def asked(self, text):
-        """The exported functions of other crates that a source file imports."""
-        return [name for crate, name in re.findall(r"(?m)^use (\w+)::(?:\w+::)*(\w+);", text) if (crate, name) in self.exported]
+        """The exported functions of other crates that a source file imports, one in an import or several in brackets."""
+        found = re.findall(r"(?m)^use (\w+)::(?:\w+::)*(\w+|\{[^}]*\});", text)
+        return [name for crate, names in found for name in re.findall(r"\w+", names) if (crate, name) in self.exported]
 
     def floating(self, name):
         """Whether a type is a struct of numbers, which the definitions have as a record of their own."""

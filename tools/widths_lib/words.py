@@ -1,7 +1,7 @@
 """Names at the other width: words, crates, modules and imports."""
 import re
 
-WORDS = {"f64": "f32", "binary64": "binary32", "doubles": "singles", "double": "single", "recip_told": "recip_single_told"}
+WORDS = {"f64": "f32", "binary64": "binary32", "doubles": "singles", "double": "single", "binary64_in_bounds": "binary32_in_bounds", "recip_told": "recip_single_told"}
 
 
 def twin(crate):
@@ -65,7 +65,7 @@ def imported(sources, crate, line):
     names = [name.strip() for name in names.split(",")]
     kept, told = [n for n in names if n not in sources.told], [n for n in names if n in sources.told]
     lines = [f"{start}{home(c, 'specs')}.{path}.{{{', '.join(kept)}}}{end}"] if kept else []
-    return lines + ([f"{start}{home(twin(crate), 'specs')}.Told.{{{', '.join(told)}}}{end}"] if told else [])
+    return lines + ([f"{start}{home(twin(c), 'specs')}.Told.{{{', '.join(told)}}}{end}"] if told else [])
 
 
 def imports(sources, crate, text):

@@ -1,4 +1,4 @@
-// Written by tools/widths from crates/replies/src/entries.rt: edit that one. Digest 174eea3dbe7a1ccf.
+// Written by tools/widths from crates/replies/src/entries.rt: edit that one. Digest e44b3d9b8b7894a0.
 // What each entry answers: the numbers behind the mark are decoded to lists, the function that C callers have is
 // called, and the lists that it wrote are encoded from the front of `out` on.
 ghost use Rattle.std.specs.Prelude.{◌≡◌, ◌+◌, ◌*◌, ◌≤◌, length};
@@ -16,10 +16,11 @@ use from_lists_f32::FRAMES;
 use layout::{BLOCK, BLOCK_PAIR, MAT, POSE, SCALED_PAIR, TANGENT, VALUES, VEC};
 use outcome::Gave;
 use sim3_c_entries_f32::{
-    ARMS, act_point, armed_pair, sim3_block_inverse, sim3_block_pair, sim3_exp, sim3_inverse,
-    sim3_mul, sim3_scaled_pair,
+    ARMS, act_point, armed_pair, sim3_block_inverse_f32, sim3_block_pair_f32, sim3_exp_f32,
+    sim3_inverse_f32, sim3_mul_f32, sim3_scaled_pair_f32,
 };
-use wire::{NUMBER, decode, decode_shorts, encode, encode_shorts};
+use wire::single::{NUMBER, decode, encode};
+use wire::{decode_shorts, encode_shorts};
 
 // Where the frames begin behind a pose.
 const AT: usize = NUMBER * POSE;
@@ -53,7 +54,7 @@ fn told(status: u32, y: &[f32], out: &mut [u8]) -> Gave
 fn told_framed(status: u32, y: &[f32], k: &[u16], out: &mut [u8]) -> Gave
     requires y_len { length y.now ≡ pose_count }
     requires k_len { length k.now ≡ 2 }
-    requires binary64_in_bounds { framed_width binary32 ≤ length out.old }
+    requires binary32_in_bounds { framed_width binary32 ≤ length out.old }
     ensures value { result ≡ gave_of binary32 (told_as status (framed_both y.now k.now)) }
     ensures out_after { out.new ≡ sets out.old 0 (gave_bytes binary32 (told_as status (framed_both y.now k.now))) }
 {
@@ -76,7 +77,7 @@ fn put_byte(out: &mut [u8], at: usize, n: u8)
 fn told_armed(status: u32, arms: &[u8], y: &[f32], out: &mut [u8]) -> Gave
     requires arms_len { length arms.now ≡ 4 }
     requires y_len { length y.now ≡ scaled_pair_count }
-    requires binary64_in_bounds { 4 + scaled_pair_count * width binary32 ≤ length out.old }
+    requires binary32_in_bounds { 4 + scaled_pair_count * width binary32 ≤ length out.old }
     ensures value { result ≡ gave_of binary32 (told_as status (armed_both arms.now y.now)) }
     ensures out_after { out.new ≡ sets out.old 0 (gave_bytes binary32 (told_as status (armed_both arms.now y.now))) }
 {
@@ -106,7 +107,7 @@ pub(crate) fn ex(b: &[u8], out: &mut [u8]) -> Gave
     decode(&b[0..end], &mut x);
     decode_shorts(&b[end..end + 2 * FRAME], &mut k);
     let p = &x[..];
-    let n = sim3_exp(
+    let n = sim3_exp_f32(
         &p[0..TANGENT],
         &p[TANGENT..TANGENT + VALUES],
         &k,
@@ -129,7 +130,7 @@ pub(crate) fn co(b: &[u8], out: &mut [u8]) -> Gave
     let sigma = x[0];
     let z = x[1];
     let p = &x[..];
-    let n = sim3_scaled_pair(sigma, z, &p[2..2 + VALUES], &mut y);
+    let n = sim3_scaled_pair_f32(sigma, z, &p[2..2 + VALUES], &mut y);
     told(n, &y, out)
 }
 
@@ -144,7 +145,7 @@ pub(crate) fn pa(b: &[u8], out: &mut [u8]) -> Gave
     let mut y = [0.0; BLOCK_PAIR];
     decode(&b[0..NUMBER * (TANGENT + VALUES + 2 * MAT)], &mut x);
     let p = &x[..];
-    let n = sim3_block_pair(&p[0..7], &p[7..17], &p[17..26], &p[26..35], &mut y);
+    let n = sim3_block_pair_f32(&p[0..7], &p[7..17], &p[17..26], &p[26..35], &mut y);
     told(n, &y, out)
 }
 
@@ -186,7 +187,7 @@ pub(crate) fn mu(b: &[u8], out: &mut [u8]) -> Gave
     decode_shorts(&b[FRAMED + AT..2 * FRAMED], &mut l);
     decode(&b[2 * FRAMED..2 * FRAMED + NUMBER], &mut u);
     let up = u[0];
-    let n = sim3_mul(&x, &k, &y, &l, up, &mut z, &mut m);
+    let n = sim3_mul_f32(&x, &k, &y, &l, up, &mut z, &mut m);
     told_framed(n, &z, &m, out)
 }
 
@@ -206,7 +207,7 @@ pub(crate) fn inv(b: &[u8], out: &mut [u8]) -> Gave
     decode_shorts(&b[AT..FRAMED], &mut k);
     decode(&b[FRAMED..FRAMED + NUMBER], &mut d);
     let down = d[0];
-    let n = sim3_inverse(&x, &k, down, &mut z, &mut m);
+    let n = sim3_inverse_f32(&x, &k, down, &mut z, &mut m);
     told_framed(n, &z, &m, out)
 }
 
@@ -220,7 +221,7 @@ pub(crate) fn ji(b: &[u8], out: &mut [u8]) -> Gave
     let mut x = [0.0; BLOCK];
     let mut y = [0.0; BLOCK];
     decode(&b[0..NUMBER * BLOCK], &mut x);
-    let n = sim3_block_inverse(&x, &mut y);
+    let n = sim3_block_inverse_f32(&x, &mut y);
     told(n, &y, out)
 }
 

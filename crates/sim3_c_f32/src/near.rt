@@ -1,9 +1,9 @@
-// Written by tools/widths from crates/sim3_c/src/near.rt: edit that one. Digest f4cbfa08410f0e8e.
+// Written by tools/widths from crates/sim3_c/src/near.rt: edit that one. Digest 6b54209d73d805b0.
 // How near another arm is, to a list of whole numbers: the count, which can be as large as a pattern
 // and so no single, the direction, and the arm there.
 ghost use Rattle.std.specs.Prelude.{◌≡◌};
 ghost use Rattle.std.specs.Float.{binary32};
-ghost use Rattle.sim3_c_f32.specs.Told.{way_told};
+ghost use Rattle.nearest_f32.specs.Told.{way_told};
 ghost use Rattle.to_lists.specs.Written.{status, written};
 ghost use Rattle.sim3_c.specs.Near.{way_number, near_call};
 

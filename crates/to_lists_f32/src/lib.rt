@@ -1,4 +1,4 @@
-// Written by tools/widths from crates/to_lists/src/lib.rt: edit that one. Digest 71a5d584e4b8d894.
+// Written by tools/widths from crates/to_lists/src/lib.rt: edit that one. Digest 0556073e0f554bf7.
 // The numbers of a thing, written to a list that a C function is lent and that has just their length:
 // 0, or LIST_LENGTH and nothing written.
 #![tactic(auto)]
@@ -8,7 +8,7 @@ ghost use Rattle.std.specs.Float.{binary32};
 ghost use Rattle.std.proofs.lemmas.List.Edits.{sets};
 ghost use Rattle.linalg.specs.Vector.{vec_numbers};
 ghost use Rattle.layout.specs.Layout.{mat_numbers, quat_numbers, pose_numbers, block_numbers, block_pair_numbers, coeffs_numbers, scaled_numbers, scaled_pair_numbers, two_numbers, act_numbers};
-ghost use Rattle.to_lists_f32.specs.Told.{pose_told};
+ghost use Rattle.frames_f32.specs.Told.{pose_told};
 ghost use Rattle.from_lists.specs.Lists.{pose_lists};
 ghost use Rattle.to_lists.specs.Written.{status, written, fitting, framed_written, framed_fitting, joined_fitting, arm_numbers, armed_numbers, armed_pair_numbers, renormalize_call};
 ghost use Rattle.linalg_f32.specs.As.{as_mat3, as_vec3};

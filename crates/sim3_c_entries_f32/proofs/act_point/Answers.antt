@@ -1,8 +1,8 @@
--- Written by tools/widths from crates/sim3_c_entries/proofs/act_point/Answers.antt: edit that one. Digest 58076ef39224ddf6.
+-- Written by tools/widths from crates/sim3_c_entries/proofs/act_point/Answers.antt: edit that one. Digest 75dc937ce264e85e.
 -- `sim3_c_entries_f32::act_point` meets its contract: the lists are read, the engine is asked, and its answer is written. Assumes nothing.
 use borrow.Author.Rules.{rules}
 use mathlib.Core.Path.{refl}
-use Rattle.sim3_c_entries_f32.specs.Told.{pose_read_told, vec_read_told}
+use Rattle.from_lists_f32.specs.Told.{pose_read_told, vec_read_told}
 use Rattle.to_lists.specs.Written.{status, written}
 use Rattle.sim3_c_entries.specs.Calls.{act_call}
 use Rattle.sim3_c_entries_f32.proofs.act_point.Goals as goal

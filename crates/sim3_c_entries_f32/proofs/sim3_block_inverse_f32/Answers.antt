@@ -1,9 +1,9 @@
--- Written by tools/widths from crates/sim3_c_entries/proofs/sim3_block_inverse/Answers.antt: edit that one. Digest 04f971086fdb2cac.
+-- Written by tools/widths from crates/sim3_c_entries/proofs/sim3_block_inverse/Answers.antt: edit that one. Digest cfec49b931d889ab.
 -- `sim3_c_entries_f32::sim3_block_inverse_f32` meets its contract: the lists are read, the engine is asked, and its answer is written or the refusal handed on. Assumes nothing.
 use borrow.Author.Rules.{rules}
 use mathlib.Core.Path.{refl}
-use Rattle.sim3_c_entries_f32.specs.Told.{jac_told}
-use Rattle.sim3_c_entries_f32.specs.Told.{block_read_told}
+use Rattle.jacobian_f32.specs.Told.{jac_told}
+use Rattle.from_lists_f32.specs.Told.{block_read_told}
 use Rattle.to_lists.specs.Written.{status, written}
 use Rattle.sim3_c_entries.specs.Calls.{block_inverse_call}
 use Rattle.sim3_c_entries_f32.proofs.sim3_block_inverse_f32.Goals as goal

@@ -1,8 +1,8 @@
--- Written by tools/widths from crates/sim3_c_entries/proofs/sim3_exp/Answers.antt: edit that one. Digest 24819f26042ec41e.
+-- Written by tools/widths from crates/sim3_c_entries/proofs/sim3_exp/Answers.antt: edit that one. Digest 03328837e2c8c4ef.
 -- `sim3_c_entries_f32::sim3_exp_f32` meets its contract: the lists are read, the engine is asked, and its answer is written or the refusal handed on. Assumes nothing.
 use borrow.Author.Rules.{rules}
 use mathlib.Core.Path.{refl}
-use Rattle.sim3_c_entries_f32.specs.Told.{tangent_read_told, values_read_told, frames_read_told}
+use Rattle.from_lists_f32.specs.Told.{tangent_read_told, values_read_told, frames_read_told}
 use Rattle.to_lists.specs.Written.{status, written}
 use Rattle.sim3_c_entries.specs.Calls.{exp_call}
 use Rattle.sim3_c_entries_f32.proofs.sim3_exp_f32.Goals as goal

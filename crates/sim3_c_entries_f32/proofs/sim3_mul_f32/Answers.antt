@@ -1,8 +1,8 @@
--- Written by tools/widths from crates/sim3_c_entries/proofs/sim3_mul/Answers.antt: edit that one. Digest 09be48256db2d0a9.
+-- Written by tools/widths from crates/sim3_c_entries/proofs/sim3_mul/Answers.antt: edit that one. Digest 065e5833ad60bca7.
 -- `sim3_c_entries_f32::sim3_mul_f32` meets its contract: the lists are read, the engine is asked, and its answer is written or the refusal handed on. Assumes nothing.
 use borrow.Author.Rules.{rules}
 use mathlib.Core.Path.{refl}
-use Rattle.sim3_c_entries_f32.specs.Told.{framed_read_told}
+use Rattle.from_lists_f32.specs.Told.{framed_read_told}
 use Rattle.to_lists.specs.Written.{status, written}
 use Rattle.sim3_c_entries.specs.Calls.{mul_call}
 use Rattle.sim3_c_entries_f32.proofs.sim3_mul_f32.Goals as goal

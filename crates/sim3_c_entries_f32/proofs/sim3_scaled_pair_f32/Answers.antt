@@ -1,9 +1,9 @@
--- Written by tools/widths from crates/sim3_c_entries/proofs/sim3_scaled_pair/Answers.antt: edit that one. Digest c9f6a71a36439cbe.
+-- Written by tools/widths from crates/sim3_c_entries/proofs/sim3_scaled_pair/Answers.antt: edit that one. Digest 0165ef58ad094f60.
 -- `sim3_c_entries_f32::sim3_scaled_pair_f32` meets its contract: the lists are read, the engine is asked, and its answer is written or the refusal handed on. Assumes nothing.
 use borrow.Author.Rules.{rules}
 use mathlib.Core.Path.{refl}
-use Rattle.sim3_c_entries_f32.specs.Told.{pair_told}
-use Rattle.sim3_c_entries_f32.specs.Told.{values_read_told}
+use Rattle.coeffs_f32.specs.Told.{pair_told}
+use Rattle.from_lists_f32.specs.Told.{values_read_told}
 use Rattle.to_lists.specs.Written.{status, written}
 use Rattle.sim3_c_entries.specs.Calls.{scaled_pair_call}
 use Rattle.sim3_c_entries_f32.proofs.sim3_scaled_pair_f32.Goals as goal

@@ -1,8 +1,8 @@
--- Written by tools/widths from crates/to_lists/proofs/put_joined/Answers.antt: edit that one. Digest eb36c98a64eb39c2.
+-- Written by tools/widths from crates/to_lists/proofs/put_joined/Answers.antt: edit that one. Digest c679d65a3f1a9629.
 -- `to_lists_f32::put_joined` meets its contract: the pose is written or the refusal handed on. Assumes nothing.
 use borrow.Author.Rules.{rules}
 use mathlib.Core.Path.{refl}
-use Rattle.to_lists_f32.specs.Told.{pose_told}
+use Rattle.frames_f32.specs.Told.{pose_told}
 use Rattle.to_lists.specs.Written.{status, written, joined_fitting}
 use Rattle.to_lists_f32.proofs.put_joined.Goals as goal
 

@@ -1,4 +1,4 @@
--- Written by tools/widths from crates/replies/proofs/entries/ar/Answers.antt: edit that one. Digest a5bc80d5d417d656.
+-- Written by tools/widths from crates/replies/proofs/entries/ar/Answers.antt: edit that one. Digest 30322911055c4a0d.
 -- `replies_f32::entries::ar` meets its contract: the call on lists is what the job asks for. Assumes nothing.
 -- a list of n zeros, as it is made
 use borrow.Author.Rules.{rules}
@@ -25,7 +25,7 @@ pub told_armed-requires : goal.told_armed-requires
 told_armed-requires c = record {
   arms_len = c.armed_pair-n.auto.arms;
   y_len = c.armed_pair-n.auto.out;
-  binary64_in_bounds = omega (arith, c.requires.longest_bound);
+  binary32_in_bounds = omega (arith, c.requires.longest_bound);
 }
 
 pub returns : goal.returns

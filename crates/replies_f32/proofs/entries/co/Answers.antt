@@ -1,4 +1,4 @@
--- Written by tools/widths from crates/replies/proofs/entries/co/Answers.antt: edit that one. Digest c6a022ac5c8e3754.
+-- Written by tools/widths from crates/replies/proofs/entries/co/Answers.antt: edit that one. Digest 1e7f344700317c4d.
 -- `replies_f32::entries::co` meets its contract: the call on lists is what the job asks for. Assumes nothing.
 -- a list of n zeros, as it is made
 use borrow.Author.Rules.{rules}
@@ -23,14 +23,14 @@ zeros n = replicate n (of_bits binary32 0)
 
 pub told-requires : goal.told-requires
 told-requires c =
-    let k : length c.sim3_scaled_pair-n.new.out ≡ 20 = c.sim3_scaled_pair-n.auto.out in omega (arith, c.requires.longest_bound, k)
+    let k : length c.sim3_scaled_pair_f32-n.new.out ≡ 20 = c.sim3_scaled_pair_f32-n.auto.out in omega (arith, c.requires.longest_bound, k)
 
 pub returns : goal.returns
 unfolding firsts
 returns c =
     let b = c.args.b.now in
     let x = c.decode.ensures ∙ decoded binary32 b (zeros 12) 12 (omega (arith, c.requires.b_len)) refl in
-    let s = c.sim3_scaled_pair-n.ensures in
+    let s = c.sim3_scaled_pair_f32-n.ensures in
     let t = co-told binary32 b _ (zeros 20) _ _ _ _ (rw x refl) (rw x refl) (rw x refl) refl s.value s.out_after in
     record {
       value = c.told.ensures.value ∙ ap (gave_of binary32) t;

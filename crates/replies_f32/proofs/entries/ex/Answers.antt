@@ -1,4 +1,4 @@
--- Written by tools/widths from crates/replies/proofs/entries/ex/Answers.antt: edit that one. Digest f30fc174c72733dc.
+-- Written by tools/widths from crates/replies/proofs/entries/ex/Answers.antt: edit that one. Digest 2b0a6a7bf98d27e1.
 -- `replies_f32::entries::ex` meets its contract: the call on lists is what the job asks for. Assumes nothing.
 -- a list of n zeros, as it is made
 use borrow.Author.Rules.{rules}
@@ -24,9 +24,9 @@ zeros n = replicate n (of_bits binary32 0)
 
 pub told_framed-requires : goal.told_framed-requires
 told_framed-requires c = record {
-  y_len = c.sim3_exp-n.auto.out;
-  k_len = c.sim3_exp-n.auto.out_frames;
-  binary64_in_bounds = omega (arith, c.requires.longest_bound);
+  y_len = c.sim3_exp_f32-n.auto.out;
+  k_len = c.sim3_exp_f32-n.auto.out_frames;
+  binary32_in_bounds = omega (arith, c.requires.longest_bound);
 }
 
 pub returns : goal.returns
@@ -36,7 +36,7 @@ returns c =
     let x = c.decode.ensures ∙ decoded binary32 b (zeros 17) 17 (omega (arith, c.requires.b_len)) refl in
     let end = 17 * width binary32 in
     let k = c.decode_shorts.ensures ∙ shorts_decoded (drop end b) (replicate 2 0) 2 (rw (length-drop end b) (omega (arith, c.requires.b_len))) refl in
-    let s = c.sim3_exp-n.ensures in
+    let s = c.sim3_exp_f32-n.ensures in
     let t = ex-told binary32 b _ _ _ (pose_lists (zeros 8) (replicate 2 0)) _ _ (rw x refl) (rw x refl) k refl refl s.value s.out_frames_after in
     record {
       value = c.told_framed.ensures.value ∙ ap (gave_of binary32) t;

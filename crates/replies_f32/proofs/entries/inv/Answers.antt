@@ -1,4 +1,4 @@
--- Written by tools/widths from crates/replies/proofs/entries/inv/Answers.antt: edit that one. Digest d6f1fa81eb469441.
+-- Written by tools/widths from crates/replies/proofs/entries/inv/Answers.antt: edit that one. Digest e14c60afa329ef1b.
 -- `replies_f32::entries::inv` meets its contract: the call on lists is what the job asks for. Assumes nothing.
 -- a list of n zeros, as it is made
 use borrow.Author.Rules.{rules}
@@ -24,9 +24,9 @@ zeros n = replicate n (of_bits binary32 0)
 
 pub told_framed-requires : goal.told_framed-requires
 told_framed-requires c = record {
-  y_len = c.sim3_inverse-n.auto.out;
-  k_len = c.sim3_inverse-n.auto.out_frames;
-  binary64_in_bounds = omega (arith, c.requires.longest_bound);
+  y_len = c.sim3_inverse_f32-n.auto.out;
+  k_len = c.sim3_inverse_f32-n.auto.out_frames;
+  binary32_in_bounds = omega (arith, c.requires.longest_bound);
 }
 
 pub returns : goal.returns
@@ -38,7 +38,7 @@ returns c =
     let x = c.decode.ensures ∙ decoded binary32 b (zeros 8) 8 (omega (arith, c.requires.b_len)) refl in
     let k = c.decode_shorts.ensures ∙ shorts_decoded (drop at b) (replicate 2 0) 2 (rw (length-drop at b) (omega (arith, c.requires.b_len))) refl in
     let d = c.decode-2.ensures ∙ decoded binary32 (drop w b) (zeros 1) 1 (rw (length-drop w b) (omega (arith, c.requires.b_len))) refl in
-    let s = c.sim3_inverse-n.ensures in
+    let s = c.sim3_inverse_f32-n.ensures in
     let t = in_told binary32 b _ (pose_lists (zeros 8) (replicate 2 0)) _ _ _ (rw (x, k) refl) (rw d refl) refl refl s.value s.out_frames_after in
     record {
       value = c.told_framed.ensures.value ∙ ap (gave_of binary32) t;

@@ -1,4 +1,4 @@
--- Written by tools/widths from crates/replies/proofs/entries/ji/Answers.antt: edit that one. Digest 855eb6fcfe8ba6c5.
+-- Written by tools/widths from crates/replies/proofs/entries/ji/Answers.antt: edit that one. Digest 36fc129bdc287753.
 -- `replies_f32::entries::ji` meets its contract: the call on lists is what the job asks for. Assumes nothing.
 -- a list of n zeros, as it is made
 use borrow.Author.Rules.{rules}
@@ -23,13 +23,13 @@ zeros n = replicate n (of_bits binary32 0)
 
 pub told-requires : goal.told-requires
 told-requires c =
-    let k : length c.sim3_block_inverse-n.new.out ≡ 31 = c.sim3_block_inverse-n.auto.out in omega (arith, c.requires.longest_bound, k)
+    let k : length c.sim3_block_inverse_f32-n.new.out ≡ 31 = c.sim3_block_inverse_f32-n.auto.out in omega (arith, c.requires.longest_bound, k)
 
 pub returns : goal.returns
 returns c =
     let b = c.args.b.now in
     let x = c.decode.ensures ∙ decoded binary32 b (zeros 31) 31 (omega (arith, c.requires.b_len)) refl in
-    let s = c.sim3_block_inverse-n.ensures in
+    let s = c.sim3_block_inverse_f32-n.ensures in
     let t = ji_told binary32 b _ (zeros 31) _ _ x refl s.value s.out_after in
     record {
       value = c.told.ensures.value ∙ ap (gave_of binary32) t;

@@ -1,4 +1,4 @@
--- Written by tools/widths from crates/replies/proofs/entries/mu/Answers.antt: edit that one. Digest fe475b36eed1b69a.
+-- Written by tools/widths from crates/replies/proofs/entries/mu/Answers.antt: edit that one. Digest c53d0295a6968f74.
 -- `replies_f32::entries::mu` meets its contract: the call on lists is what the job asks for. Assumes nothing.
 -- a list of n zeros, as it is made
 use borrow.Author.Rules.{rules}
@@ -24,9 +24,9 @@ zeros n = replicate n (of_bits binary32 0)
 
 pub told_framed-requires : goal.told_framed-requires
 told_framed-requires c = record {
-  y_len = c.sim3_mul-n.auto.out;
-  k_len = c.sim3_mul-n.auto.out_frames;
-  binary64_in_bounds = omega (arith, c.requires.longest_bound);
+  y_len = c.sim3_mul_f32-n.auto.out;
+  k_len = c.sim3_mul_f32-n.auto.out_frames;
+  binary32_in_bounds = omega (arith, c.requires.longest_bound);
 }
 
 pub returns : goal.returns
@@ -40,7 +40,7 @@ returns c =
     let y = c.decode-2.ensures ∙ decoded binary32 (drop w b) (zeros 8) 8 (rw (length-drop w b) (omega (arith, c.requires.b_len))) refl in
     let l = c.decode_shorts-2.ensures ∙ shorts_decoded (drop (w + at) b) (replicate 2 0) 2 (rw (length-drop (w + at) b) (omega (arith, c.requires.b_len))) refl in
     let u = c.decode-3.ensures ∙ decoded binary32 (drop (2 * w) b) (zeros 1) 1 (rw (length-drop (2 * w) b) (omega (arith, c.requires.b_len))) refl in
-    let s = c.sim3_mul-n.ensures in
+    let s = c.sim3_mul_f32-n.ensures in
     let t = mu_told binary32 b _ _ (pose_lists (zeros 8) (replicate 2 0)) _ _ _ (rw (x, k) refl) (rw (y, l) refl) (rw u refl) refl refl s.value s.out_frames_after in
     record {
       value = c.told_framed.ensures.value ∙ ap (gave_of binary32) t;

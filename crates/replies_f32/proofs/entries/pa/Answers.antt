@@ -1,4 +1,4 @@
--- Written by tools/widths from crates/replies/proofs/entries/pa/Answers.antt: edit that one. Digest ff781f79199929c1.
+-- Written by tools/widths from crates/replies/proofs/entries/pa/Answers.antt: edit that one. Digest 049e32c712dea945.
 -- `replies_f32::entries::pa` meets its contract: the call on lists is what the job asks for. Assumes nothing.
 -- a list of n zeros, as it is made
 use borrow.Author.Rules.{rules}
@@ -23,14 +23,14 @@ zeros n = replicate n (of_bits binary32 0)
 
 pub told-requires : goal.told-requires
 told-requires c =
-    let k : length c.sim3_block_pair-n.new.out ≡ 124 = c.sim3_block_pair-n.auto.out in omega (arith, c.requires.longest_bound, k)
+    let k : length c.sim3_block_pair_f32-n.new.out ≡ 124 = c.sim3_block_pair_f32-n.auto.out in omega (arith, c.requires.longest_bound, k)
 
 pub returns : goal.returns
 unfolding firsts
 returns c =
     let b = c.args.b.now in
     let x = c.decode.ensures ∙ decoded binary32 b (zeros 35) 35 (omega (arith, c.requires.b_len)) refl in
-    let s = c.sim3_block_pair-n.ensures in
+    let s = c.sim3_block_pair_f32-n.ensures in
     let t = pa-told binary32 b _ _ _ _ (zeros 124) _ _ (rw x refl) (rw x refl) (rw x refl) (rw x refl) refl s.value s.out_after in
     record {
       value = c.told.ensures.value ∙ ap (gave_of binary32) t;

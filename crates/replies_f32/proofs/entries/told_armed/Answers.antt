@@ -1,4 +1,4 @@
--- Written by tools/widths from crates/replies/proofs/entries/told_armed/Answers.antt: edit that one. Digest 3cfd4c3275f60d0c.
+-- Written by tools/widths from crates/replies/proofs/entries/told_armed/Answers.antt: edit that one. Digest 89d08b26e3e4f3ef.
 -- `replies_f32::entries::told_armed` meets its contract: a refusal is handed on, and the arms and the numbers are written at the front. Assumes nothing.
 use borrow.Author.Rules.{rules}
 use native.Mathlib.Omega.{arith}
@@ -21,7 +21,7 @@ pub returns : goal.returns
 returns c =
     let p = ending_armed binary32 c.args.out.now _ _ c.args.arms.now
     c.args.y.now _ _ c.requires.arms_len
-    c.requires.y_len c.requires.binary64_in_bounds
+    c.requires.y_len c.requires.binary32_in_bounds
     (rw (c.put_byte-3.ensures, c.put_byte-2.ensures, c.put_byte.ensures) at
     c.put_byte-4.ensures) c.encode-finite.ensures.value c.encode-finite.ensures.out_after
     c.gave.ensures in

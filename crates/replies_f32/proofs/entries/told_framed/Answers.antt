@@ -1,4 +1,4 @@
--- Written by tools/widths from crates/replies/proofs/entries/told_framed/Answers.antt: edit that one. Digest 8c2f02d9fa6df4ad.
+-- Written by tools/widths from crates/replies/proofs/entries/told_framed/Answers.antt: edit that one. Digest ad2aa632ca749f77.
 -- `replies_f32::entries::told_framed` meets its contract: a refusal is handed on, and the numbers and frames are written at the front. Assumes nothing.
 use borrow.Author.Rules.{rules}
 use native.Mathlib.Omega.{arith}
@@ -21,7 +21,7 @@ pub returns : goal.returns
 returns c =
     let p = ending_framed binary32 c.args.out.now _ _ c.args.y.now
     c.args.k.now _ _ c.requires.y_len c.requires.k_len
-    c.requires.binary64_in_bounds
+    c.requires.binary32_in_bounds
     c.encode-finite.ensures.value c.encode-finite.ensures.out_after c.encode_shorts.ensures c.gave.ensures in
     rw (eq-eqb c.args.status 0 c.if-status-ne0.false)
     (record {

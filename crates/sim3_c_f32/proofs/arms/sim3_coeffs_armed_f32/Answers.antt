@@ -1,9 +1,9 @@
--- Written by tools/widths from crates/sim3_c/proofs/arms/sim3_coeffs_armed/Answers.antt: edit that one. Digest 0ccad59137acbf46.
+-- Written by tools/widths from crates/sim3_c/proofs/arms/sim3_coeffs_armed/Answers.antt: edit that one. Digest c1363fadf197ae38.
 -- `sim3_c_f32::arms::sim3_coeffs_armed_f32` meets its contract: the lists are read, the engine is asked, and its answer is written or the refusal handed on. Assumes nothing.
 use borrow.Author.Rules.{rules}
 use mathlib.Core.Path.{refl}
-use Rattle.sim3_c_f32.specs.Told.{armed_told}
-use Rattle.sim3_c_f32.specs.Told.{values_read_told}
+use Rattle.coeffs_f32.specs.Told.{armed_told}
+use Rattle.from_lists_f32.specs.Told.{values_read_told}
 use Rattle.to_lists.specs.Written.{status, written}
 use Rattle.sim3_c.specs.Calls.{armed_call}
 use Rattle.sim3_c_f32.proofs.arms.sim3_coeffs_armed_f32.Goals as goal

@@ -1,8 +1,8 @@
--- Written by tools/widths from crates/sim3_c/proofs/jacobians/sim3_inverse_jacobian_right/Answers.antt: edit that one. Digest 270333713edf7e84.
+-- Written by tools/widths from crates/sim3_c/proofs/jacobians/sim3_inverse_jacobian_right/Answers.antt: edit that one. Digest c9a8b99bb56b1aff.
 -- `sim3_c_f32::jacobians::sim3_inverse_jacobian_right_f32` meets its contract: the lists are read, the engine is asked, and its answer is written or the refusal handed on. Assumes nothing.
 use borrow.Author.Rules.{rules}
 use mathlib.Core.Path.{refl}
-use Rattle.sim3_c_f32.specs.Told.{pose_read_told}
+use Rattle.from_lists_f32.specs.Told.{pose_read_told}
 use Rattle.to_lists.specs.Written.{status, written}
 use Rattle.sim3_c.specs.Calls.{inverse_jacobian_right_call}
 use Rattle.sim3_c_f32.proofs.jacobians.sim3_inverse_jacobian_right_f32.Goals as goal

@@ -1,11 +1,11 @@
--- Written by tools/widths from crates/sim3_c/proofs/near/sim3_nearest_arm/Answers.antt: edit that one. Digest fc74da07dbbf6bbd.
+-- Written by tools/widths from crates/sim3_c/proofs/near/sim3_nearest_arm/Answers.antt: edit that one. Digest 316c3b37357c54d6.
 -- `sim3_c_f32::near::sim3_nearest_arm_f32` meets its contract: a refusal is handed on; a list of three has the numbers written, and any other is left as it was. Assumes nothing.
 use borrow.Author.Rules.{rules}
 use borrow.Author.Tests.{eq-eqb, ne_eqb}
 use mathlib.Core.Path.{refl}
 use mathlib.Core.List.{[], ◌∷◌}
 use lib.ListN.{length-set}
-use Rattle.sim3_c_f32.specs.Told.{step_told, nearest_told}
+use Rattle.nearest_f32.specs.Told.{step_told, nearest_told}
 use Rattle.to_lists.specs.Written.{status, written}
 use Rattle.sim3_c.specs.Near.{near_numbers, near_call}
 use Rattle.to_lists.proofs.Fits.{sets-all}

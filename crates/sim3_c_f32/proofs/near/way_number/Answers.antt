@@ -1,8 +1,8 @@
--- Written by tools/widths from crates/sim3_c/proofs/near/way_number/Answers.antt: edit that one. Digest 506aea8c76b3d0ad.
+-- Written by tools/widths from crates/sim3_c/proofs/near/way_number/Answers.antt: edit that one. Digest 43171079db6e2fcc.
 -- `sim3_c_f32::near::way_number` meets its contract: each case has its number. Assumes nothing.
 use borrow.Author.Rules.{rules}
 use mathlib.Core.Path.{refl}
-use Rattle.sim3_c_f32.specs.Told.{way_told}
+use Rattle.nearest_f32.specs.Told.{way_told}
 use Rattle.sim3_c_f32.proofs.near.way_number.Goals as goal
 
 pub returns-in-Down : goal.returns-in-Down

@@ -1,9 +1,9 @@
--- Written by tools/widths from crates/sim3_c/proofs/points/sim3_act_many/Answers.antt: edit that one. Digest 7324b713ca70bc34.
+-- Written by tools/widths from crates/sim3_c/proofs/points/sim3_act_many/Answers.antt: edit that one. Digest f4d0ebbffabe9547.
 -- `sim3_c_f32::points::sim3_act_many_f32` meets its contract: the lists are read, the engine is asked, and its answer is written or the refusal handed on. Assumes nothing.
 use borrow.Author.Rules.{rules}
 use mathlib.Core.Path.{refl, sym, ap, ◌∙◌}
-use Rattle.sim3_c_f32.specs.Told.{list_told}
-use Rattle.sim3_c_f32.specs.Told.{pose_read_told}
+use Rattle.point_lists_f32.specs.Told.{list_told}
+use Rattle.from_lists_f32.specs.Told.{pose_read_told}
 use Rattle.to_lists.specs.Written.{status, written}
 use Rattle.sim3_c.specs.Calls.{act_call, act_many_call}
 use Rattle.sim3_c.proofs.Alone.{points_alone}

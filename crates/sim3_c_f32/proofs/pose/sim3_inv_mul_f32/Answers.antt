@@ -1,8 +1,8 @@
--- Written by tools/widths from crates/sim3_c/proofs/pose/sim3_inv_mul/Answers.antt: edit that one. Digest f0afd0658a38767d.
+-- Written by tools/widths from crates/sim3_c/proofs/pose/sim3_inv_mul/Answers.antt: edit that one. Digest fbb55cb7bf7d428b.
 -- `sim3_c_f32::pose::sim3_inv_mul_f32` meets its contract: the lists are read, the engine is asked, and its answer is written or the refusal handed on. Assumes nothing.
 use borrow.Author.Rules.{rules}
 use mathlib.Core.Path.{refl}
-use Rattle.sim3_c_f32.specs.Told.{framed_read_told}
+use Rattle.from_lists_f32.specs.Told.{framed_read_told}
 use Rattle.to_lists.specs.Written.{status, written}
 use Rattle.sim3_c.specs.Calls.{inv_mul_call}
 use Rattle.sim3_c_f32.proofs.pose.sim3_inv_mul_f32.Goals as goal
