@@ -1,4 +1,5 @@
--- `sim3_job::from_read` meets its contract: both sides compute, once what was read is an error or a number. Assumes nothing.
+-- `sim3_job::from_read` meets its contract: both sides compute, once what was read is an error or a number. Assumes
+-- nothing.
 use Prim.Native.Nat.{ℕ}
 use mathlib.Core.Path.{refl, ap}
 use lib.Dec.{eqb}

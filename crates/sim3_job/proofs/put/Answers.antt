@@ -1,4 +1,5 @@
--- `sim3_job::put` meets its contract: from the sink's place on stand the bytes, or there is no room for them. Assumes nothing.
+-- `sim3_job::put` meets its contract: from the sink's place on stand the bytes, or there is no room for them. Assumes
+-- nothing.
 use native.Mathlib.Omega.{arith}
 use Prim.Native.Nat.{ℕ, ◌+◌}
 use mathlib.Core.Path.{refl, sym, ap, ◌∙◌}

@@ -1,4 +1,5 @@
--- `sim3_job::read_tape` meets its contract: a piece of the tape is copied behind the bytes at hand, and there is none only at the tape's end. Assumes nothing.
+-- `sim3_job::read_tape` meets its contract: a piece of the tape is copied behind the bytes at hand, and there is none
+-- only at the tape's end. Assumes nothing.
 use borrow.Author.Rules.{rules}
 use native.Mathlib.Omega.{arith}
 use borrow.Author.Tests.{eqb-true}

@@ -1,5 +1,5 @@
--- `sim3_job::run`: from a tape, what the sink holds and what the job still writes are together what it writes for the whole tape; and each turn brings the
--- end nearer, wherever it reads from.
+-- `sim3_job::run`: from a tape, what the sink holds and what the job still writes are together what it writes for the
+-- whole tape; and each turn brings the end nearer, wherever it reads from.
 use Prim.Native.Nat.{◌≤◌, ◌<◌}
 use mathlib.Core.Bool.{true, false}
 use mathlib.Core.Path.{◌≡◌}

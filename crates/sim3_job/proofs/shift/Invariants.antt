@@ -1,4 +1,5 @@
--- `sim3_job::shift` meets its contract: after i turns the first i bytes are those from `from` on, and the rest is as it was. Assumes nothing.
+-- `sim3_job::shift` meets its contract: after i turns the first i bytes are those from `from` on, and the rest is as it
+-- was. Assumes nothing.
 use Prim.Native.Nat.{◌-◌, ◌≤◌}
 use Rattle.sim3_job.proofs.Moves.{Moved}
 use Rattle.sim3_job.proofs.shift.Given as goal
