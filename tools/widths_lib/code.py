@@ -19,7 +19,7 @@ def clause(sources, text, function, used):
     result = sources.types.get(function.result)
     if result and sources.floating(result.name):
         text, count = re.subn(r"(?<![\w.])result(?= ≡)", f"{reading(result.name)} result", text)
-        text, last = re.subn(r"(?<= )(?<!as_)(?<!\w )result(?= $| \}|$)", f"({reading(result.name)} result)", text)
+        text, last = re.subn(r"(?<= )result(?=\s*\}$)", f"({reading(result.name)} result)", text)
         used |= {result.name} if count or last else set()
     elif result:
         for name, held in result.fields:

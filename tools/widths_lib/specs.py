@@ -25,6 +25,12 @@ def read(sources, name, held, value):
     return f"{reading(held)} {value}" if sources.floating(held) else value
 
 
+def record(fields, longest=120):
+    """A record of these fields, each with its text: in one line, or in a line each where that is long."""
+    line = "record { " + "; ".join(f"{n} = {value}" for n, value in fields) + " }"
+    return line if len(line) <= longest else "record {\n" + "".join(f"  {n} = {value};\n" for n, value in fields) + "}"
+
+
 def as_file(sources, crate):
     """specs/As.antt: each struct of floats as the record that the definitions speak of."""
     structs = own(sources, crate)
@@ -36,8 +42,8 @@ def as_file(sources, crate):
         lines.append(f"use {home(twin(crate), 'specs')}.declared.{module_of(t)}{t.name}.{{{t.name}}}")
     lines += as_lines(sources, crate, {held for t in structs for _, held in t.fields if sources.floating(held) and sources.types[held].crate != crate})
     for t in structs:
-        fields = "; ".join(f"{n} = {read(sources, n, held, f'a.{n}')}" for n, held in t.fields)
-        lines += ["", f"unfoldable pub {reading(t.name)} : {t.name} → Wide{t.name}.{t.name}", f"{reading(t.name)} a = record {{ {fields} }}"]
+        read_as = record([(n, read(sources, n, held, f"a.{n}")) for n, held in t.fields])
+        lines += ["", f"unfoldable pub {reading(t.name)} : {t.name} → Wide{t.name}.{t.name}", f"{reading(t.name)} a = {read_as}"]
     return "\n".join(lines) + "\n"
 
 
@@ -115,8 +121,10 @@ def rules_file(sources, crate):
             bodies += ["", f"pub {names[-1]} : (a : {t.name}) → {said}", f"unfolding {reading(t.name)}", f"{names[-1]} a = refl"]
         names.append(f"made-{t.name}")
         given = " ".join(f"({n} : {KINDS.get(held, held)})" for n, held in t.fields)
-        made = "; ".join(f"{n} = {n}" for n, _ in t.fields)
-        wide = "; ".join(f"{n} = {reading(held) + ' ' if sources.floating(held) else ''}{n}" for n, held in t.fields)
-        bodies += ["", f"pub {names[-1]} : {given} → {reading(t.name)} (record {{ {made} }}) ≡ record {{ {wide} }}", f"unfolding {reading(t.name)}"]
+        made = record([(n, n) for n, _ in t.fields])
+        wide = record([(n, (reading(held) + " " if sources.floating(held) else "") + n) for n, held in t.fields])
+        said = f"{reading(t.name)} ({made}) ≡ {wide}"
+        indented = "\n    ".join(said.split("\n"))
+        bodies += ["", f"pub {names[-1]} : {given} →" + (f" {said}" if "\n" not in said else f"\n    {indented}"), f"unfolding {reading(t.name)}"]
         bodies.append(f"{names[-1]} {' '.join(n for n, _ in t.fields)} = refl")
     return "\n".join(heads + bodies) + f"\n\npub ruleset {crate}_singles = ({', '.join(names)})\n"

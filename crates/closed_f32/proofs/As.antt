@@ -1,4 +1,4 @@
--- Written by tools/widths from crates/closed: edit that one. Digest c13e9276b7345c7f.
+-- Written by tools/widths from crates/closed: edit that one. Digest 17d174695a216a3c.
 -- The structs of closed_f32 field by field, as rules for `simp`: a number that the code reads of a struct is the number of the definitions' record. Assumes nothing.
 use mathlib.Core.Path.{◌≡◌, refl}
 use lib.Ieee.{Float}
@@ -45,8 +45,8 @@ pub down_of-Values : (a : Values) → a.down ≡ (as_values a).down
 unfolding as_values
 down_of-Values a = refl
 
-pub made-Values : (root : Float) (sin_half : Float) (cos_half : Float) (sin : Float) (e : Float) (m : Float) (e0 : Float) (m0 : Float) (up : Float)
-    (down : Float) → as_values (record {
+pub made-Values : (root : Float) (sin_half : Float) (cos_half : Float) (sin : Float) (e : Float) (m : Float) (e0 : Float) (m0 : Float) (up : Float) (down : Float) →
+    as_values (record {
       root = root;
       sin_half = sin_half;
       cos_half = cos_half;
@@ -57,7 +57,18 @@ pub made-Values : (root : Float) (sin_half : Float) (cos_half : Float) (sin : Fl
       m0 = m0;
       up = up;
       down = down;
-    }) ≡ record { root = root; sin_half = sin_half; cos_half = cos_half; sin = sin; e = e; m = m; e0 = e0; m0 = m0; up = up; down = down }
+    }) ≡ record {
+      root = root;
+      sin_half = sin_half;
+      cos_half = cos_half;
+      sin = sin;
+      e = e;
+      m = m;
+      e0 = e0;
+      m0 = m0;
+      up = up;
+      down = down;
+    }
 unfolding as_values
 made-Values root sin_half cos_half sin e m e0 m0 up down = refl
 

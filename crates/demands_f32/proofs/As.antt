@@ -1,4 +1,4 @@
--- Written by tools/widths from crates/demands: edit that one. Digest 8bf86c4ba29f3164.
+-- Written by tools/widths from crates/demands: edit that one. Digest d58df4d45c06c6d3.
 -- The structs of demands_f32 field by field, as rules for `simp`: a number that the code reads of a struct is the number of the definitions' record. Assumes nothing.
 use mathlib.Core.Path.{◌≡◌, refl}
 use Rattle.demands_f32.specs.declared.ways.BothWays.{BothWays}
@@ -16,17 +16,17 @@ pub exp_of-BothWays : (a : BothWays) → as_pose a.exp ≡ (as_both_ways a).exp
 unfolding as_both_ways
 exp_of-BothWays a = refl
 
-pub exp-turned_of-BothWays : (a : BothWays) → as_pose a.exp_turned ≡ (as_both_ways a).exp_turned
+pub exp_turned_of-BothWays : (a : BothWays) → as_pose a.exp_turned ≡ (as_both_ways a).exp_turned
 unfolding as_both_ways
-exp-turned_of-BothWays a = refl
+exp_turned_of-BothWays a = refl
 
 pub left_of-BothWays : (a : BothWays) → as_sim3_jac a.left ≡ (as_both_ways a).left
 unfolding as_both_ways
 left_of-BothWays a = refl
 
-pub left-turned_of-BothWays : (a : BothWays) → as_sim3_jac a.left_turned ≡ (as_both_ways a).left_turned
+pub left_turned_of-BothWays : (a : BothWays) → as_sim3_jac a.left_turned ≡ (as_both_ways a).left_turned
 unfolding as_both_ways
-left-turned_of-BothWays a = refl
+left_turned_of-BothWays a = refl
 
 pub together_of-BothWays : (a : BothWays) → as_exp_and_jl a.together ≡ (as_both_ways a).together
 unfolding as_both_ways
@@ -48,36 +48,32 @@ pub pair_of-BothWays : (a : BothWays) → as_block_pair a.pair ≡ (as_both_ways
 unfolding as_both_ways
 pair_of-BothWays a = refl
 
-pub pair-turned_of-BothWays : (a : BothWays) → as_block_pair a.pair_turned ≡ (as_both_ways a).pair_turned
+pub pair_turned_of-BothWays : (a : BothWays) → as_block_pair a.pair_turned ≡ (as_both_ways a).pair_turned
 unfolding as_both_ways
-pair-turned_of-BothWays a = refl
+pair_turned_of-BothWays a = refl
 
 pub made-BothWays : (exp : Pose) (exp_turned : Pose) (left : Sim3Jac) (left_turned : Sim3Jac) (together : ExpAndJl) (together_turned : ExpAndJl)
-    (inverted : JacAndInverse) (inverted_turned : JacAndInverse) (pair : BlockPair) (pair_turned : BlockPair) → as_both_ways
-    (record {
+    (inverted : JacAndInverse) (inverted_turned : JacAndInverse) (pair : BlockPair) (pair_turned : BlockPair) →
+    as_both_ways (record {
       exp = exp;
       exp_turned = exp_turned;
       left = left;
       left_turned = left_turned;
       together = together;
-      together_turned =
-          together_turned;
+      together_turned = together_turned;
       inverted = inverted;
       inverted_turned = inverted_turned;
       pair = pair;
       pair_turned = pair_turned;
-    })
-    ≡ record {
+    }) ≡ record {
       exp = as_pose exp;
       exp_turned = as_pose exp_turned;
       left = as_sim3_jac left;
       left_turned = as_sim3_jac left_turned;
-      together =
-          as_exp_and_jl together;
+      together = as_exp_and_jl together;
       together_turned = as_exp_and_jl together_turned;
       inverted = as_jac_and_inverse inverted;
-      inverted_turned = as_jac_and_inverse
-          inverted_turned;
+      inverted_turned = as_jac_and_inverse inverted_turned;
       pair = as_block_pair pair;
       pair_turned = as_block_pair pair_turned;
     }
@@ -86,14 +82,14 @@ made-BothWays exp exp_turned left left_turned together together_turned inverted 
 
 pub ruleset demands_singles = (
   exp_of-BothWays,
-  exp-turned_of-BothWays,
+  exp_turned_of-BothWays,
   left_of-BothWays,
-  left-turned_of-BothWays,
+  left_turned_of-BothWays,
   together_of-BothWays,
   together_turned_of-BothWays,
   inverted_of-BothWays,
   inverted_turned_of-BothWays,
   pair_of-BothWays,
-  pair-turned_of-BothWays,
+  pair_turned_of-BothWays,
   made-BothWays,
 )

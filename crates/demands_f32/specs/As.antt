@@ -1,4 +1,4 @@
--- Written by tools/widths from crates/demands: edit that one. Digest bae5ff89c1fe9b75.
+-- Written by tools/widths from crates/demands: edit that one. Digest b628fa356cc4193d.
 -- The structs of demands_f32 as the records that the definitions speak of, number by number: a float of either width is one type of the logic.
 use Rattle.demands.specs.declared.ways.BothWays as WideBothWays
 use Rattle.demands_f32.specs.declared.ways.BothWays.{BothWays}
@@ -11,14 +11,11 @@ as_both_ways a = record {
   exp = as_pose a.exp;
   exp_turned = as_pose a.exp_turned;
   left = as_sim3_jac a.left;
-  left_turned = as_sim3_jac
-      a.left_turned;
+  left_turned = as_sim3_jac a.left_turned;
   together = as_exp_and_jl a.together;
   together_turned = as_exp_and_jl a.together_turned;
-  inverted = as_jac_and_inverse
-      a.inverted;
+  inverted = as_jac_and_inverse a.inverted;
   inverted_turned = as_jac_and_inverse a.inverted_turned;
   pair = as_block_pair a.pair;
-  pair_turned = as_block_pair
-      a.pair_turned;
+  pair_turned = as_block_pair a.pair_turned;
 }

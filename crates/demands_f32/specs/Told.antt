@@ -1,4 +1,4 @@
--- Written by tools/widths from crates/demands: edit that one. Digest 28086d2048a63b62.
+-- Written by tools/widths from crates/demands: edit that one. Digest 6138cf1e1b2b3388.
 -- What each answer of demands_f32 says.
 use Rattle.demands_f32.specs.declared.BothSigns as CodeBothSigns
 use Rattle.demands.specs.Demand3.{Signs}

@@ -1,4 +1,4 @@
-// Written by tools/widths from crates/demands/src/lib.rt: edit that one. Digest 56ed8a7af842b2fe.
+// Written by tools/widths from crates/demands/src/lib.rt: edit that one. Digest 5323eb97fd3540e6.
 // What is said of several calls together. Each function here makes the calls of which a demand speaks,
 // and its contract is the demand: it rests on the contracts of these functions and on nothing else of
 // them. The third demand: the paired evaluation gives for both signs what the one-sign functions give.

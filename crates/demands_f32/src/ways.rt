@@ -1,4 +1,4 @@
-// Written by tools/widths from crates/demands/src/ways.rt: edit that one. Digest b4fe0de48f7064b3.
+// Written by tools/widths from crates/demands/src/ways.rt: edit that one. Digest 70dc47c50187dd9b.
 // Turning the translation round: with all of rho negated, the exponential's t and the blocks b and f of
 // the left Jacobian are negated, and all else of both has the same bits.
 ghost use Rattle.std.specs.Prelude.{◌≡◌};
@@ -57,7 +57,7 @@ pub fn both_ways(
     from: u16,
     to: u16,
 ) -> BothWays
-    ensures result_value { as_both_ways result ≡ ways_of binary32 (as_sim3_tangent tau) (as_values v) (as_mat3 jl) (as_mat3 jl_inv) from to }
+    ensures value { as_both_ways result ≡ ways_of binary32 (as_sim3_tangent tau) (as_values v) (as_mat3 jl) (as_mat3 jl_inv) from to }
     ensures turned { Turned (as_both_ways result) }
 {
     let back = turned_round(tau);

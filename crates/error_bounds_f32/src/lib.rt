@@ -1,4 +1,4 @@
-// Written by tools/widths from crates/error_bounds/src/lib.rt: edit that one. Digest 9d342f7235925d0f.
+// Written by tools/widths from crates/error_bounds/src/lib.rt: edit that one. Digest 3dcd777f8480be1a.
 // How far the engine's answers are from exact ones, tied to its functions: each function here makes one call,
 // and its contract is what is proved of that call's rounding and truncation errors. It rests on the call's own
 // contract and on nothing else, so a weaker contract there would leave it unproved. The running join's stands

@@ -1,4 +1,4 @@
--- Written by tools/widths from crates/framed_jacobian: edit that one. Digest 55c2c7308695feee.
+-- Written by tools/widths from crates/framed_jacobian: edit that one. Digest bd7d47011279fed6.
 -- The structs of framed_jacobian_f32 field by field, as rules for `simp`: a number that the code reads of a struct is the number of the definitions' record. Assumes nothing.
 use mathlib.Core.Path.{◌≡◌, refl}
 use Rattle.framed_jacobian_f32.specs.declared.PoseAndJl.{PoseAndJl}

@@ -1,4 +1,4 @@
--- Written by tools/widths from crates/framed_jacobian: edit that one. Digest 8d1953d3b4b12c83.
+-- Written by tools/widths from crates/framed_jacobian: edit that one. Digest d1488f3d8c11a661.
 -- The structs of framed_jacobian_f32 as the records that the definitions speak of, number by number: a float of either width is one type of the logic.
 use Rattle.framed_jacobian.specs.declared.PoseAndJl as WidePoseAndJl
 use Rattle.framed_jacobian_f32.specs.declared.PoseAndJl.{PoseAndJl}

@@ -1,4 +1,4 @@
-// Written by tools/widths from crates/framed_jacobian/src/lib.rt: edit that one. Digest 80ea8dd4e558d0cf.
+// Written by tools/widths from crates/framed_jacobian/src/lib.rt: edit that one. Digest e0aa7e1be410d682.
 // The exponential beside its left Jacobian, as a pose with its frames. It starts from no pose, so both
 // frames are given; the Jacobian reads none. The numbers are those of crate sides.
 #![tactic(auto)]

@@ -1,4 +1,4 @@
--- Written by tools/widths from crates/jacobian: edit that one. Digest cd3d9637407ebf71.
+-- Written by tools/widths from crates/jacobian: edit that one. Digest 6b3b51b64adb46f6.
 -- The structs of jacobian_f32 field by field, as rules for `simp`: a number that the code reads of a struct is the number of the definitions' record. Assumes nothing.
 use mathlib.Core.Path.{◌≡◌, refl}
 use lib.Ieee.{Float}
@@ -40,16 +40,14 @@ pub c6_of-Seven : (a : Seven) → as_sim3_tangent a.c6 ≡ (as_seven a).c6
 unfolding as_seven
 c6_of-Seven a = refl
 
-pub made-Seven : (c0 : Sim3Tangent) (c1 : Sim3Tangent) (c2 : Sim3Tangent) (c3 : Sim3Tangent) (c4 : Sim3Tangent) (c5 : Sim3Tangent) (c6 : Sim3Tangent)
-    → as_seven (record { c0 = c0; c1 = c1; c2 = c2; c3 = c3; c4 = c4; c5 = c5; c6 = c6 })
-    ≡ record {
+pub made-Seven : (c0 : Sim3Tangent) (c1 : Sim3Tangent) (c2 : Sim3Tangent) (c3 : Sim3Tangent) (c4 : Sim3Tangent) (c5 : Sim3Tangent) (c6 : Sim3Tangent) →
+    as_seven (record { c0 = c0; c1 = c1; c2 = c2; c3 = c3; c4 = c4; c5 = c5; c6 = c6 }) ≡ record {
       c0 = as_sim3_tangent c0;
       c1 = as_sim3_tangent c1;
       c2 = as_sim3_tangent c2;
       c3 = as_sim3_tangent c3;
       c4 = as_sim3_tangent c4;
-      c5 =
-          as_sim3_tangent c5;
+      c5 = as_sim3_tangent c5;
       c6 = as_sim3_tangent c6;
     }
 unfolding as_seven

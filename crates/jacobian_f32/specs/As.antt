@@ -1,4 +1,4 @@
--- Written by tools/widths from crates/jacobian: edit that one. Digest 7de9f132f4fc7137.
+-- Written by tools/widths from crates/jacobian: edit that one. Digest a99cf1a372a60f17.
 -- The structs of jacobian_f32 as the records that the definitions speak of, number by number: a float of either width is one type of the logic.
 use Rattle.jacobian.specs.declared.dense.Seven as WideSeven
 use Rattle.jacobian_f32.specs.declared.dense.Seven.{Seven}
@@ -15,8 +15,7 @@ as_seven a = record {
   c1 = as_sim3_tangent a.c1;
   c2 = as_sim3_tangent a.c2;
   c3 = as_sim3_tangent a.c3;
-  c4 = as_sim3_tangent
-      a.c4;
+  c4 = as_sim3_tangent a.c4;
   c5 = as_sim3_tangent a.c5;
   c6 = as_sim3_tangent a.c6;
 }

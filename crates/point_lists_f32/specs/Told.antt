@@ -1,4 +1,4 @@
--- Written by tools/widths from crates/point_lists: edit that one. Digest c8ed0bf25cfc1061.
+-- Written by tools/widths from crates/point_lists: edit that one. Digest 7ad28116ff37b179.
 -- What each answer of point_lists_f32 says.
 use Rattle.point_lists_f32.specs.declared.Listed as CodeListed
 use Rattle.point_lists_f32.specs.declared.Listed.TheVariants as InListed

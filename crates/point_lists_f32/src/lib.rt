@@ -1,4 +1,4 @@
-// Written by tools/widths from crates/point_lists/src/lib.rt: edit that one. Digest c8bc66538439bcd1.
+// Written by tools/widths from crates/point_lists/src/lib.rt: edit that one. Digest 113062ff5d471f09.
 // The action of a pose on a list of points, three numbers each, into another list. Two entries:
 // act_many has the bits of the Rust's act_many, which forms the matrix s R once; act_each moves each
 // point as Sim3::act and the mark AC do. The two differ in the last bits.

@@ -52,5 +52,5 @@ module _ (f : Format) (b : List ℕ) where
   ar_as_co =
       record {
         same_numbers = numbers_of arm ends pair ∙ ap (λ a. and_then a (λ l. answers (drop 4 l))) (sym ar_told);
-        same-arms = λ l e. arms_of arm ends pair l (sym ar_told ∙ e);
+        same_arms = λ l e. arms_of arm ends pair l (sym ar_told ∙ e);
       }

@@ -9,4 +9,4 @@ pub record ArAsCo (f : Format) (b : List ℕ) : Type 0 where
   -- behind the four bytes stand CO's numbers; and where one refuses, the other does, by the same number
   pub same_numbers : co_of f b ≡ and_then (ar_of f b) (λ l. answers (drop 4 l))
   -- the two bytes of σ are the two of −σ
-  pub same-arms : (l : List Item) → ar_of f b ≡ answers l → take 2 l ≡ take 2 (drop 2 l)
+  pub same_arms : (l : List Item) → ar_of f b ≡ answers l → take 2 l ≡ take 2 (drop 2 l)

@@ -1,4 +1,4 @@
--- Written by tools/widths from crates/series: edit that one. Digest 248fd35d34ea8afc.
+-- Written by tools/widths from crates/series: edit that one. Digest 8e361ec8649a7f1f.
 -- The structs of series_f32 field by field, as rules for `simp`: a number that the code reads of a struct is the number of the definitions' record. Assumes nothing.
 use mathlib.Core.Path.{◌≡◌, refl}
 use lib.Ieee.{Float}
@@ -286,9 +286,13 @@ pub closed_alone_of-Stopped : (a : Stopped) → as_horner a.closed_alone ≡ (as
 unfolding as_stopped
 closed_alone_of-Stopped a = refl
 
-pub made-Stopped : (series : Horner) (series_alone : Horner) (closed : Horner) (closed_alone : Horner) → as_stopped
-    (record { series = series; series_alone = series_alone; closed = closed; closed_alone = closed_alone })
-    ≡ record { series = as_horner series; series_alone = as_horner series_alone; closed = as_horner closed; closed_alone = as_horner closed_alone }
+pub made-Stopped : (series : Horner) (series_alone : Horner) (closed : Horner) (closed_alone : Horner) →
+    as_stopped (record { series = series; series_alone = series_alone; closed = closed; closed_alone = closed_alone }) ≡ record {
+      series = as_horner series;
+      series_alone = as_horner series_alone;
+      closed = as_horner closed;
+      closed_alone = as_horner closed_alone;
+    }
 unfolding as_stopped
 made-Stopped series series_alone closed closed_alone = refl
 

@@ -1,4 +1,4 @@
--- Written by tools/widths from crates/series: edit that one. Digest 522592e5576a5e11.
+-- Written by tools/widths from crates/series: edit that one. Digest 5121fdee710d3d23.
 -- The structs of series_f32 as the records that the definitions speak of, number by number: a float of either width is one type of the logic.
 use Rattle.series.specs.declared.recurrence.Level as WideLevel
 use Rattle.series_f32.specs.declared.recurrence.Level.{Level}
@@ -34,7 +34,15 @@ unfoldable pub as_sums : Sums → WideSums.Sums
 as_sums a = record { v1 = a.v1; dv1 = a.dv1; v2 = a.v2; dv2 = a.dv2; w1 = a.w1; w2 = a.w2 }
 
 unfoldable pub as_tail : Tail → WideTail.Tail
-as_tail a = record { v2 = a.v2; w2 = a.w2; dv1 = a.dv1; dv1_next = a.dv1_next; dv2 = a.dv2; dv2_next = a.dv2_next; dv2_last = a.dv2_last }
+as_tail a = record {
+  v2 = a.v2;
+  w2 = a.w2;
+  dv1 = a.dv1;
+  dv1_next = a.dv1_next;
+  dv2 = a.dv2;
+  dv2_next = a.dv2_next;
+  dv2_last = a.dv2_last;
+}
 
 unfoldable pub as_turns : Turns → WideTurns.Turns
 as_turns a = record { level = as_level a.level; sums = as_sums a.sums }
@@ -49,7 +57,17 @@ unfoldable pub as_sums_pair : SumsPair → WideSumsPair.SumsPair
 as_sums_pair a = record { pos = as_sums a.pos; neg = as_sums a.neg }
 
 unfoldable pub as_sim3_coeffs : Sim3Coeffs → WideSim3Coeffs.Sim3Coeffs
-as_sim3_coeffs a = record { v0 = a.v0; v1 = a.v1; v2 = a.v2; w0 = a.w0; w1 = a.w1; w2 = a.w2; dv1 = a.dv1; dv2 = a.dv2; chi_delta = a.chi_delta }
+as_sim3_coeffs a = record {
+  v0 = a.v0;
+  v1 = a.v1;
+  v2 = a.v2;
+  w0 = a.w0;
+  w1 = a.w1;
+  w2 = a.w2;
+  dv1 = a.dv1;
+  dv2 = a.dv2;
+  chi_delta = a.chi_delta;
+}
 
 unfoldable pub as_coeffs4 : Coeffs4 → WideCoeffs4.Coeffs4
 as_coeffs4 a = record { v0 = a.v0; v1 = a.v1; v2 = a.v2; chi_delta = a.chi_delta }
@@ -64,4 +82,9 @@ unfoldable pub as_horner : Horner → WideHorner.Horner
 as_horner a = record { v0 = as_g_pair a.v0; w0 = as_g_pair a.w0 }
 
 unfoldable pub as_stopped : Stopped → WideStopped.Stopped
-as_stopped a = record { series = as_horner a.series; series_alone = as_horner a.series_alone; closed = as_horner a.closed; closed_alone = as_horner a.closed_alone }
+as_stopped a = record {
+  series = as_horner a.series;
+  series_alone = as_horner a.series_alone;
+  closed = as_horner a.closed;
+  closed_alone = as_horner a.closed_alone;
+}

@@ -1,4 +1,4 @@
--- Written by tools/widths from crates/sides: edit that one. Digest 6b925d8691d80ca2.
+-- Written by tools/widths from crates/sides: edit that one. Digest c066abffa1b13fc5.
 -- The structs of sides_f32 field by field, as rules for `simp`: a number that the code reads of a struct is the number of the definitions' record. Assumes nothing.
 use mathlib.Core.Path.{◌≡◌, refl}
 use lib.Ieee.{Float}
@@ -61,9 +61,13 @@ pub right_inv_of-BlockPair : (a : BlockPair) → as_sim3_jac a.right_inv ≡ (as
 unfolding as_block_pair
 right_inv_of-BlockPair a = refl
 
-pub made-BlockPair : (left : Sim3Jac) (left_inv : Sim3Jac) (right : Sim3Jac) (right_inv : Sim3Jac) → as_block_pair
-    (record { left = left; left_inv = left_inv; right = right; right_inv = right_inv })
-    ≡ record { left = as_sim3_jac left; left_inv = as_sim3_jac left_inv; right = as_sim3_jac right; right_inv = as_sim3_jac right_inv }
+pub made-BlockPair : (left : Sim3Jac) (left_inv : Sim3Jac) (right : Sim3Jac) (right_inv : Sim3Jac) →
+    as_block_pair (record { left = left; left_inv = left_inv; right = right; right_inv = right_inv }) ≡ record {
+      left = as_sim3_jac left;
+      left_inv = as_sim3_jac left_inv;
+      right = as_sim3_jac right;
+      right_inv = as_sim3_jac right_inv;
+    }
 unfolding as_block_pair
 made-BlockPair left left_inv right right_inv = refl
 

@@ -1,4 +1,4 @@
--- Written by tools/widths from crates/sides: edit that one. Digest 6868502eed344b3c.
+-- Written by tools/widths from crates/sides: edit that one. Digest 9c048f1b19a9c185.
 -- The structs of sides_f32 as the records that the definitions speak of, number by number: a float of either width is one type of the logic.
 use Rattle.sides.specs.declared.blocks.Three as WideThree
 use Rattle.sides_f32.specs.declared.blocks.Three.{Three}
@@ -23,7 +23,12 @@ unfoldable pub as_jac_and_inverse : JacAndInverse → WideJacAndInverse.JacAndIn
 as_jac_and_inverse a = record { j = as_sim3_jac a.j; inv = as_sim3_jac a.inv }
 
 unfoldable pub as_block_pair : BlockPair → WideBlockPair.BlockPair
-as_block_pair a = record { left = as_sim3_jac a.left; left_inv = as_sim3_jac a.left_inv; right = as_sim3_jac a.right; right_inv = as_sim3_jac a.right_inv }
+as_block_pair a = record {
+  left = as_sim3_jac a.left;
+  left_inv = as_sim3_jac a.left_inv;
+  right = as_sim3_jac a.right;
+  right_inv = as_sim3_jac a.right_inv;
+}
 
 unfoldable pub as_act_jacobians : ActJacobians → WideActJacobians.ActJacobians
 as_act_jacobians a = record { rot = as_mat3 a.rot; trans = as_mat3 a.trans; scale = as_vec3 a.scale; point = as_mat3 a.point }

@@ -1,4 +1,4 @@
-// Written by tools/widths from crates/sides/src/blocks.rt: edit that one. Digest 3bc5b2308088dbf0.
+// Written by tools/widths from crates/sides/src/blocks.rt: edit that one. Digest 4a94f6722cb59922.
 // J_l of the exponential and its inverse by blocks, from the coefficients at (sigma, |phi|^2), the
 // rotation Jacobian of phi and its inverse.
 ghost use Rattle.std.specs.Prelude.{◌≡◌};

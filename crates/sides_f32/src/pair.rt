@@ -1,4 +1,4 @@
-// Written by tools/widths from crates/sides/src/pair.rt: edit that one. Digest 02629689b8a9f699.
+// Written by tools/widths from crates/sides/src/pair.rt: edit that one. Digest 9d059817698792ef.
 // The blocks of both sides from one paired evaluation of the coefficients.
 ghost use Rattle.std.specs.Prelude.{◌≡◌};
 ghost use Rattle.std.specs.Float.{binary32};
@@ -24,14 +24,6 @@ pub struct BlockPair {
     pub right_inv: Sim3Jac,
 }
 
-// Stands in an arm that is never taken: whoever calls it has proved that nothing comes there.
-fn no_blocks() -> BlockPair
-    requires { ⊥ }
-    ensures { ⊥ }
-{
-    loop {}
-}
-
 // The left block and inverse of tau, and those of -tau on the mirrored values and the transposed
 // matrices, which are the right ones: as the end of the Rust's log_inverses assembles them, with
 // J_l(phi) and its inverse given. |phi|^2 is the same at -phi, and never below zero: nothing is
@@ -44,7 +36,7 @@ pub fn block_pair(tau: Sim3Tangent, v: Values, jl_phi: Mat3, jl_inv: Mat3) -> Bl
     let rho = tau.rho;
     let z = phi.norm_sq();
     let ArmedPairAnswer::Coeffs(p) = sim3_coeffs_armed_pair(tau.sigma, z, v) else {
-        return no_blocks();
+        unreachable!();
     };
     let pos = p.pos.s;
     let neg = p.neg.s;

@@ -1,4 +1,4 @@
-// Written by tools/widths from crates/sides/src/side.rt: edit that one. Digest 1d57062d7c7df44b.
+// Written by tools/widths from crates/sides/src/side.rt: edit that one. Digest ccfe5fa615caf6af.
 // The Jacobians of both sides: right, X Exp(tau), and left, Exp(tau) X. The two sides read different
 // handed-in values, so each has its own function.
 ghost use Rattle.std.specs.Prelude.{◌≡◌};

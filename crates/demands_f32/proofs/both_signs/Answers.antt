@@ -1,5 +1,5 @@
+-- Written by tools/widths from crates/demands/proofs/both_signs/Answers.antt: edit that one. Digest 9daabf68efd1d7a3.
 -- `demands_f32::both_signs` meets its contract, demand 3: by what the eight calls ensure, and what negation, mirroring and transposing ensure of their arguments.
-use borrow.Author.Rules.{rules}
 use mathlib.Core.Path.{◌≡◌, ap, ◌∙◌}
 use lib.Ieee.{binary32, neg}
 use Rattle.linalg.specs.Matrix.{mat_transpose}
@@ -9,11 +9,11 @@ use Rattle.sim3.specs.Tangent.{tangent_neg}
 use Rattle.sim3.specs.Exp.{pose_exp}
 use Rattle.sides.specs.Blocks.{jl_and_inverse}
 use Rattle.demands.proofs.Holds.{demand_3}
+use Rattle.demands_f32.proofs.both_signs.Goals as goal
 use Rattle.linalg_f32.specs.As.{as_mat3, as_vec3}
 use Rattle.closed_f32.specs.As.{as_values}
 use Rattle.so3_f32.specs.As.{as_quat}
 use Rattle.sim3_f32.specs.As.{as_sim3, as_sim3_tangent}
-use Rattle.demands_f32.proofs.both_signs.Goals as goal
 
 pub returns : goal.returns
 unfolding as_mat3 as_quat as_sim3 as_sim3_tangent as_values as_vec3

@@ -1,10 +1,11 @@
+-- Written by tools/widths from crates/error_bounds/proofs/act/Answers.antt: edit that one. Digest 65e15eab0285d255.
 -- `error_bounds_f32::act` meets its contract: by what its call ensures. Assumes nothing.
 use borrow.Author.Rules.{rules}
 use lib.Ieee.{binary32}
 use Rattle.error_bounds.proofs.Holds.{act_holds}
+use Rattle.error_bounds_f32.proofs.act.Goals as goal
 use Rattle.linalg_f32.specs.As.{as_vec3}
 use Rattle.sim3_f32.specs.As.{as_sim3}
-use Rattle.error_bounds_f32.proofs.act.Goals as goal
 
 pub returns : goal.returns
 returns c =

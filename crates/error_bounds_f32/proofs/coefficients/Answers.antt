@@ -1,9 +1,10 @@
+-- Written by tools/widths from crates/error_bounds/proofs/coefficients/Answers.antt: edit that one. Digest 9d05ab1abbc2754f.
 -- `error_bounds_f32::coefficients` meets its contract: by what its call ensures. Assumes nothing.
 use borrow.Author.Rules.{rules}
 use lib.Ieee.{binary32}
 use Rattle.error_bounds.proofs.Holds.{coefficients_hold}
-use Rattle.closed_f32.specs.As.{as_values}
 use Rattle.error_bounds_f32.proofs.coefficients.Goals as goal
+use Rattle.closed_f32.specs.As.{as_values}
 
 pub returns : goal.returns
 returns c =

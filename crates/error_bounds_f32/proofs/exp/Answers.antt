@@ -1,10 +1,11 @@
+-- Written by tools/widths from crates/error_bounds/proofs/exp/Answers.antt: edit that one. Digest 0c1a7034a1819673.
 -- `error_bounds_f32::exp` meets its contract: by what its call ensures. Assumes nothing.
 use borrow.Author.Rules.{rules}
 use lib.Ieee.{binary32}
 use Rattle.error_bounds.proofs.Holds.{exp-holds}
+use Rattle.error_bounds_f32.proofs.exp.Goals as goal
 use Rattle.closed_f32.specs.As.{as_values}
 use Rattle.sim3_f32.specs.As.{as_sim3_tangent}
-use Rattle.error_bounds_f32.proofs.exp.Goals as goal
 
 pub returns : goal.returns
 returns c =

@@ -1,9 +1,10 @@
+-- Written by tools/widths from crates/error_bounds/proofs/inverse/Answers.antt: edit that one. Digest 57579bcf40f8963b.
 -- `error_bounds_f32::inverse` meets its contract: by what its call ensures. Assumes nothing.
 use borrow.Author.Rules.{rules}
 use lib.Ieee.{binary32}
 use Rattle.error_bounds.proofs.Holds.{inverse-holds}
-use Rattle.sim3_f32.specs.As.{as_sim3}
 use Rattle.error_bounds_f32.proofs.inverse.Goals as goal
+use Rattle.sim3_f32.specs.As.{as_sim3}
 
 pub returns : goal.returns
 returns c =

@@ -1,9 +1,10 @@
+-- Written by tools/widths from crates/error_bounds/proofs/mul/Answers.antt: edit that one. Digest 63a2faa49ae561a3.
 -- `error_bounds_f32::mul` meets its contract: by what its call ensures. Assumes nothing.
 use borrow.Author.Rules.{rules}
 use lib.Ieee.{binary32}
 use Rattle.error_bounds.proofs.Holds.{mul_holds}
-use Rattle.sim3_f32.specs.As.{as_sim3}
 use Rattle.error_bounds_f32.proofs.mul.Goals as goal
+use Rattle.sim3_f32.specs.As.{as_sim3}
 
 pub returns : goal.returns
 returns c =

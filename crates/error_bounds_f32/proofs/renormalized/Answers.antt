@@ -1,9 +1,10 @@
+-- Written by tools/widths from crates/error_bounds/proofs/renormalized/Answers.antt: edit that one. Digest a76915221ba5dc1f.
 -- `error_bounds_f32::renormalized` meets its contract: by what its call ensures. Assumes nothing.
 use borrow.Author.Rules.{rules}
 use lib.Ieee.{binary32}
 use Rattle.error_bounds.proofs.Holds.{renormalized-holds}
-use Rattle.sim3_f32.specs.As.{as_sim3}
 use Rattle.error_bounds_f32.proofs.renormalized.Goals as goal
+use Rattle.sim3_f32.specs.As.{as_sim3}
 
 pub returns : goal.returns
 returns c =

@@ -1,7 +1,8 @@
-use borrow.Author.Rules.{rules}
+-- Written by tools/widths from crates/framed_jacobian/proofs/exp_and_jl/Answers.antt: edit that one. Digest a81ee376a4bc6b8e.
 use Rattle.framed_jacobian.specs.ExpAndJl.{framed_exp_and_jl}
 use Rattle.frames.specs.Pose.{framed_exp}
 use Rattle.sides.specs.Side.{exp_and_jl}
+use Rattle.framed_jacobian_f32.proofs.exp_and_jl.Goals as goal
 use Rattle.linalg_f32.proofs.As.{linalg_singles}
 use Rattle.circle_f32.proofs.As.{circle_singles}
 use Rattle.series_f32.proofs.As.{series_singles}
@@ -13,7 +14,6 @@ use Rattle.jacobian_f32.proofs.As.{jacobian_singles}
 use Rattle.sides_f32.proofs.As.{sides_singles}
 use Rattle.frames_f32.proofs.As.{frames_singles}
 use Rattle.framed_jacobian_f32.proofs.As.{framed_jacobian_singles}
-use Rattle.framed_jacobian_f32.proofs.exp_and_jl.Goals as goal
 
 pub returns : goal.returns
 unfolding framed_exp_and_jl framed_exp exp_and_jl

@@ -1,11 +1,12 @@
+-- Written by tools/widths from crates/point_lists/proofs/act_many/Answers.antt: edit that one. Digest 7530979a34f3fc85.
 -- `point_lists_f32::act_many` meets its contract: lists that are accepted have every triple moved, and others are left as they were. Assumes nothing.
-use borrow.Author.Rules.{rules}
 use mathlib.Core.Path.{◌≡◌, sym, ◌∙◌}
 use mathlib.Core.Bool.{true, false}
 use lib.ListN.{length}
 use Rattle.point_lists.specs.Points.{points_accepted, points_answer, points_out}
 use Rattle.point_lists_f32.specs.Told.{list_told}
 use Rattle.point_lists.proofs.Lists.{accepted_thirds}
+use Rattle.point_lists_f32.proofs.act_many.Goals as goal
 use Rattle.linalg_f32.specs.As.{as_vec3}
 use Rattle.so3_f32.specs.As.{as_quat}
 use Rattle.sim3_f32.specs.As.{as_sim3}
@@ -16,7 +17,6 @@ use Rattle.closed_f32.proofs.As.{closed_singles}
 use Rattle.coeffs_f32.proofs.As.{coeffs_singles}
 use Rattle.so3_f32.proofs.As.{so3_singles}
 use Rattle.sim3_f32.proofs.As.{sim3_singles}
-use Rattle.point_lists_f32.proofs.act_many.Goals as goal
 
 pub many-requires : goal.many-requires
 unfolding as_quat as_sim3 as_vec3
@@ -31,19 +31,7 @@ returns-then-accepted c =
     let h : points_accepted (length a.pts.now) (length a.out.now) ≡ true = sym c.accepted.ensures ∙ c.if-accepted.true in
     record {
       result_value = simp (linalg_singles, circle_singles, series_singles, closed_singles, coeffs_singles, so3_singles, sim3_singles, h);
-      out_after = simp (
-        linalg_singles,
-        circle_singles,
-        series_singles,
-        closed_singles,
-        coeffs_singles,
-        so3_singles,
-        sim3_singles,
-        h,
-        c.many.ensures,
-        c.scale-m.ensures,
-        c.to_matrix.ensures,
-      );
+      out_after = simp (linalg_singles, circle_singles, series_singles, closed_singles, coeffs_singles, so3_singles, sim3_singles, h, c.many.ensures, c.scale-m.ensures, c.to_matrix.ensures);
     }
 
 pub returns : goal.returns
@@ -53,6 +41,5 @@ returns c =
     let h : points_accepted (length a.pts.now) (length a.out.now) ≡ false = sym c.accepted.ensures ∙ c.if-accepted.false in
     record {
       result_value = simp (linalg_singles, circle_singles, series_singles, closed_singles, coeffs_singles, so3_singles, sim3_singles, h);
-      out_after = simp
-          (linalg_singles, circle_singles, series_singles, closed_singles, coeffs_singles, so3_singles, sim3_singles, h);
+      out_after = simp (linalg_singles, circle_singles, series_singles, closed_singles, coeffs_singles, so3_singles, sim3_singles, h);
     }

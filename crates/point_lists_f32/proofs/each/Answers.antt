@@ -1,14 +1,13 @@
+-- Written by tools/widths from crates/point_lists/proofs/each/Answers.antt: edit that one. Digest 0a0874a423ea0053.
 -- `point_lists_f32::each` meets its contract: after i turns the first i triples are moved and the rest is as it was, and what is left to read begins at triple i. Assumes nothing.
-use borrow.Author.Rules.{rules}
-use Prim.Native.Nat.{◌+◌, ◌*◌, ◌-◌, ◌≤◌}
+use Prim.Native.Nat.{◌-◌}
 use mathlib.Core.Path.{◌≡◌, refl, ◌∙◌}
-use mathlib.Core.List.{◌++◌}
 use native.Mathlib.Omega.{arith}
-use lib.ListN.{length, drop}
 use lib.Ieee.{binary32}
 use Rattle.point_lists.specs.Points.{points_moved}
 use Rattle.sim3.specs.Pose.{pose_act}
 use Rattle.point_lists.proofs.Lists.{moved_more, moved_all, left-first, left-next, left-length}
+use Rattle.point_lists_f32.proofs.each.Goals as goal
 use Rattle.linalg_f32.specs.As.{as_vec3}
 use Rattle.so3_f32.specs.As.{as_quat}
 use Rattle.sim3_f32.specs.As.{as_sim3}
@@ -19,7 +18,6 @@ use Rattle.closed_f32.proofs.As.{closed_singles}
 use Rattle.coeffs_f32.proofs.As.{coeffs_singles}
 use Rattle.so3_f32.proofs.As.{so3_singles}
 use Rattle.sim3_f32.proofs.As.{sim3_singles}
-use Rattle.point_lists_f32.proofs.each.Goals as goal
 
 pub loop-i-init : goal.loop-i-init
 unfolding points_moved as_quat as_sim3 as_vec3

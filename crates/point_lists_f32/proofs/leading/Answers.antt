@@ -1,13 +1,14 @@
+-- Written by tools/widths from crates/point_lists/proofs/leading/Answers.antt: edit that one. Digest 7a4550688374028c.
 -- `point_lists_f32::leading` meets its contract: after i turns the first i triples are moved and the rest is as it was, and what is left to read begins at triple i. Assumes nothing.
-use borrow.Author.Rules.{rules}
-use Prim.Native.Nat.{ℕ, ◌+◌, ◌*◌, ◌-◌, ◌≤◌}
+use Prim.Native.Nat.{ℕ, ◌+◌, ◌*◌, ◌-◌}
 use mathlib.Core.Path.{◌≡◌, refl, ap, ◌∙◌}
 use mathlib.Core.List.{◌++◌}
 use native.Mathlib.Omega.{arith}
-use lib.ListN.{length, drop}
+use lib.ListN.{drop}
 use lib.Ieee.{binary32}
 use Rattle.point_lists.specs.Points.{points_moved, mat_act}
 use Rattle.point_lists.proofs.Lists.{moved_more, left-first, left-next, left-length}
+use Rattle.point_lists_f32.proofs.leading.Goals as goal
 use Rattle.linalg_f32.specs.As.{as_mat3, as_vec3}
 use Rattle.linalg_f32.proofs.As.{linalg_singles}
 use Rattle.circle_f32.proofs.As.{circle_singles}
@@ -16,7 +17,6 @@ use Rattle.closed_f32.proofs.As.{closed_singles}
 use Rattle.coeffs_f32.proofs.As.{coeffs_singles}
 use Rattle.so3_f32.proofs.As.{so3_singles}
 use Rattle.sim3_f32.proofs.As.{sim3_singles}
-use Rattle.point_lists_f32.proofs.leading.Goals as goal
 
 pub loop-i-init : goal.loop-i-init
 unfolding points_moved as_mat3 as_vec3

@@ -1,5 +1,6 @@
-use borrow.Author.Rules.{rules}
+-- Written by tools/widths from crates/point_lists/proofs/mat_act/Answers.antt: edit that one. Digest 097ba7a0b2dc0e5f.
 use Rattle.point_lists.specs.Points.{mat_act}
+use Rattle.point_lists_f32.proofs.mat_act.Goals as goal
 use Rattle.linalg_f32.proofs.As.{linalg_singles}
 use Rattle.circle_f32.proofs.As.{circle_singles}
 use Rattle.series_f32.proofs.As.{series_singles}
@@ -7,7 +8,6 @@ use Rattle.closed_f32.proofs.As.{closed_singles}
 use Rattle.coeffs_f32.proofs.As.{coeffs_singles}
 use Rattle.so3_f32.proofs.As.{so3_singles}
 use Rattle.sim3_f32.proofs.As.{sim3_singles}
-use Rattle.point_lists_f32.proofs.mat_act.Goals as goal
 
 pub returns : goal.returns
 unfolding mat_act

@@ -1,11 +1,11 @@
+-- Written by tools/widths from crates/point_lists/proofs/put_point/Answers.antt: edit that one. Digest caf14b3a726cfabd.
 -- `point_lists_f32::put_point` meets its contract: three stores, one after another. Assumes nothing.
-use borrow.Author.Rules.{rules}
 use mathlib.Core.Path.{refl}
 use native.Mathlib.Omega.{arith}
 use lib.ListN.{length-set}
 use Rattle.point_lists.specs.Private.{put_point}
-use Rattle.linalg_f32.specs.As.{as_vec3}
 use Rattle.point_lists_f32.proofs.put_point.Goals as goal
+use Rattle.linalg_f32.specs.As.{as_vec3}
 
 pub returns : goal.returns
 unfolding put_point as_vec3

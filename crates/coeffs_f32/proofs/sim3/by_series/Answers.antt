@@ -1,10 +1,10 @@
--- Written by tools/widths from crates/coeffs/proofs/sim3/by_series/Answers.antt: edit that one. Digest 9bf06fcdd931d58d.
+-- Written by tools/widths from crates/coeffs/proofs/sim3/by_series/Answers.antt: edit that one. Digest 1de75d138d4c9721.
 -- `coeffs_f32::sim3::by_series` meets its contract: what the series answers at the arm's terms is answered, and its refusal is handed upward. Assumes nothing.
 use mathlib.Core.Path.{sym, ap, ◌∙◌}
 use mathlib.Core.Bool.{false}
 use lib.Ieee.{binary32}
 use Rattle.series.specs.Series.{series_answer, series_full}
-use Rattle.coeffs_f32.specs.Told.{series_told}
+use Rattle.series_f32.specs.Told.{series_told}
 use Rattle.coeffs.specs.Private.{series_arm}
 use Rattle.coeffs_f32.specs.Told.{scaled_told}
 use Rattle.coeffs.proofs.Arms.{series-answers, series-refuses}

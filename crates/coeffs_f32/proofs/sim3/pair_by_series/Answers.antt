@@ -1,11 +1,11 @@
--- Written by tools/widths from crates/coeffs/proofs/sim3/pair_by_series/Answers.antt: edit that one. Digest 0137542265f9bc4c.
+-- Written by tools/widths from crates/coeffs/proofs/sim3/pair_by_series/Answers.antt: edit that one. Digest 6d1b94590c5f7b58.
 -- `coeffs_f32::sim3::pair_by_series` meets its contract: what the series at both signs answers at the arm's terms is answered, and its refusal is handed upward. Assumes nothing.
 use mathlib.Core.Path.{sym, ap, ◌∙◌}
 use Prim.Native.Nat.{ℕ}
 use mathlib.Core.Bool.{false}
 use lib.Ieee.{binary32, neg}
 use Rattle.series.specs.Series.{series_full}
-use Rattle.coeffs_f32.specs.Told.{series_pair_told}
+use Rattle.series_f32.specs.Told.{series_pair_told}
 use Rattle.series.specs.declared.sim3.CoeffsPair.{CoeffsPair}
 use Rattle.coeffs.specs.declared.sim3.ScaledPair.{ScaledPair}
 use Rattle.coeffs.specs.Private.{series_arms}

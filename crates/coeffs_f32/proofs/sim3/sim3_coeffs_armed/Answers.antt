@@ -1,4 +1,4 @@
--- Written by tools/widths from crates/coeffs/proofs/sim3/sim3_coeffs_armed/Answers.antt: edit that one. Digest 8fcf77f0c30f28be.
+-- Written by tools/widths from crates/coeffs/proofs/sim3/sim3_coeffs_armed/Answers.antt: edit that one. Digest 33ee6184f6108dfd.
 -- `coeffs_f32::sim3::sim3_coeffs_armed` meets its contract: the answer is that of the arm at Δ, with that arm told. Assumes nothing.
 use mathlib.Core.Path.{sym, ap, ◌∙◌}
 use borrow.Author.Tests.{lt-ltb, le-ltb}
@@ -6,7 +6,7 @@ use lib.Dec.{ltb}
 use lib.Ieee.{binary32}
 use Rattle.linalg.specs.Answer.{answers, and_then}
 use Rattle.circle.specs.Kernel.{circle_sinc_abd_answer}
-use Rattle.coeffs_f32.specs.Told.{sinc_abd_told}
+use Rattle.circle_f32.specs.Told.{sinc_abd_told}
 use Rattle.closed.specs.Limits.{coeffs_delta}
 use Rattle.closed.specs.Arm.{coeffs_arm}
 use Rattle.coeffs.specs.Private.{series_arm}

@@ -1,4 +1,4 @@
--- Written by tools/widths from crates/coeffs/proofs/sim3/sim3_coeffs_armed_pair/Answers.antt: edit that one. Digest 6a02e9e703e2179e.
+-- Written by tools/widths from crates/coeffs/proofs/sim3/sim3_coeffs_armed_pair/Answers.antt: edit that one. Digest edcee9221a5245ad.
 -- `coeffs_f32::sim3::sim3_coeffs_armed_pair` meets its contract: the answer is that of the arm at Δ, with that arm told. Assumes nothing.
 use mathlib.Core.Path.{sym, ap, ◌∙◌}
 use borrow.Author.Tests.{lt-ltb, le-ltb}
@@ -6,7 +6,7 @@ use lib.Dec.{ltb}
 use lib.Ieee.{binary32}
 use Rattle.linalg.specs.Answer.{answers, and_then}
 use Rattle.circle.specs.Kernel.{circle_sinc_abd_answer}
-use Rattle.coeffs_f32.specs.Told.{sinc_abd_told}
+use Rattle.circle_f32.specs.Told.{sinc_abd_told}
 use Rattle.closed.specs.Limits.{coeffs_delta}
 use Rattle.closed.specs.Arm.{coeffs_arm}
 use Rattle.coeffs.specs.Private.{series_arms}

@@ -1,11 +1,11 @@
--- Written by tools/widths from crates/coeffs/proofs/sim3/sim3_coeffs_scaled/Answers.antt: edit that one. Digest f8eb4c6ef41cf607.
+-- Written by tools/widths from crates/coeffs/proofs/sim3/sim3_coeffs_scaled/Answers.antt: edit that one. Digest 334353976fb9a339.
 -- `coeffs_f32::sim3::sim3_coeffs_scaled` meets its contract: the answer is that of the arm at Δ. Assumes nothing.
 use mathlib.Core.Path.{sym, ap, ◌∙◌}
 use borrow.Author.Tests.{lt-ltb, le-ltb}
 use lib.Dec.{ltb}
 use lib.Ieee.{binary32}
 use Rattle.circle.specs.Kernel.{circle_sinc_abd_answer}
-use Rattle.coeffs_f32.specs.Told.{sinc_abd_told}
+use Rattle.circle_f32.specs.Told.{sinc_abd_told}
 use Rattle.closed.specs.Limits.{coeffs_delta}
 use Rattle.coeffs.specs.Private.{series_arm}
 use Rattle.coeffs_f32.specs.Told.{scaled_told}

@@ -1,4 +1,4 @@
--- Written by tools/widths from crates/coeffs/proofs/sim3/sim3_v_scaled/Answers.antt: edit that one. Digest 5f078b49bd515199.
+-- Written by tools/widths from crates/coeffs/proofs/sim3/sim3_v_scaled/Answers.antt: edit that one. Digest 7f7591606561265c.
 -- `coeffs_f32::sim3::sim3_v_scaled` meets its contract: in either arm what the arm answers is answered, and its refusal is handed upward. Assumes nothing.
 use mathlib.Core.Path.{sym, ap, ◌∙◌}
 use borrow.Author.Tests.{lt-ltb, le-ltb}
@@ -6,9 +6,9 @@ use lib.Dec.{ltb}
 use mathlib.Core.Bool.{false}
 use lib.Ieee.{binary32, of_bits}
 use Rattle.series.specs.Series.{series_v_answer}
-use Rattle.coeffs_f32.specs.Told.{series_v_told}
+use Rattle.series_f32.specs.Told.{series_v_told}
 use Rattle.circle.specs.Kernel.{circle_sinc_a_answer}
-use Rattle.coeffs_f32.specs.Told.{sinc_a_told}
+use Rattle.circle_f32.specs.Told.{sinc_a_told}
 use Rattle.closed.specs.Limits.{coeffs_delta}
 use Rattle.closed.specs.Arm.{arm_terms}
 use Rattle.coeffs.specs.Entries.{v_scaled_answer}

@@ -1,5 +1,5 @@
+-- Written by tools/widths from crates/demands/proofs/ways/both_ways/Answers.antt: edit that one. Digest 82b9a477ed23ead7.
 -- `demands_f32::ways::both_ways` meets its contract: the ten answers are the definitions' by what the calls ensure, and so they are turned, as the theorem says.
-use borrow.Author.Rules.{rules}
 use mathlib.Core.Path.{◌≡◌, ◌∙◌}
 use lib.Ieee.{binary32}
 use Rattle.sides.specs.Blocks.{jac_jl, jl_and_inverse}
@@ -8,6 +8,7 @@ use Rattle.sides.specs.Pair.{block_pair}
 use Rattle.frames.specs.Pose.{framed_exp}
 use Rattle.demands.specs.Turned.{turned_round}
 use Rattle.demands.proofs.Turned.{ways_turned}
+use Rattle.demands_f32.proofs.ways.both_ways.Goals as goal
 use Rattle.linalg_f32.specs.As.{as_mat3, as_vec3}
 use Rattle.closed_f32.specs.As.{as_values}
 use Rattle.so3_f32.specs.As.{as_quat}
@@ -16,7 +17,6 @@ use Rattle.jacobian_f32.specs.As.{as_sim3_jac}
 use Rattle.sides_f32.specs.As.{as_block_pair, as_exp_and_jl, as_jac_and_inverse}
 use Rattle.frames_f32.specs.As.{as_pose}
 use Rattle.demands_f32.specs.As.{as_both_ways}
-use Rattle.demands_f32.proofs.ways.both_ways.Goals as goal
 
 pub returns : goal.returns
 unfolding as_block_pair as_both_ways as_exp_and_jl as_jac_and_inverse as_mat3 as_pose as_quat as_sim3 as_sim3_jac as_sim3_tangent as_values as_vec3

@@ -1,5 +1,6 @@
-use borrow.Author.Rules.{rules}
+-- Written by tools/widths from crates/demands/proofs/ways/turned_round/Answers.antt: edit that one. Digest bc59c272e1ace0af.
 use Rattle.demands.specs.Turned.{turned_round}
+use Rattle.demands_f32.proofs.ways.turned_round.Goals as goal
 use Rattle.linalg_f32.proofs.As.{linalg_singles}
 use Rattle.circle_f32.proofs.As.{circle_singles}
 use Rattle.series_f32.proofs.As.{series_singles}
@@ -11,7 +12,6 @@ use Rattle.jacobian_f32.proofs.As.{jacobian_singles}
 use Rattle.sides_f32.proofs.As.{sides_singles}
 use Rattle.frames_f32.proofs.As.{frames_singles}
 use Rattle.demands_f32.proofs.As.{demands_singles}
-use Rattle.demands_f32.proofs.ways.turned_round.Goals as goal
 
 pub returns : goal.returns
 unfolding turned_round

@@ -1,4 +1,5 @@
-use borrow.Author.Rules.{rules}
+-- Written by tools/widths from crates/sides/proofs/blocks/combine/Answers.antt: edit that one. Digest e19bd357dd3792d8.
+use Rattle.sides_f32.proofs.blocks.combine.Goals as goal
 use Rattle.linalg_f32.proofs.As.{linalg_singles}
 use Rattle.circle_f32.proofs.As.{circle_singles}
 use Rattle.series_f32.proofs.As.{series_singles}
@@ -8,7 +9,6 @@ use Rattle.so3_f32.proofs.As.{so3_singles}
 use Rattle.sim3_f32.proofs.As.{sim3_singles}
 use Rattle.jacobian_f32.proofs.As.{jacobian_singles}
 use Rattle.sides_f32.proofs.As.{sides_singles}
-use Rattle.sides_f32.proofs.blocks.combine.Goals as goal
 
 pub returns : goal.returns
 returns c =

@@ -1,5 +1,6 @@
+-- Written by tools/widths from crates/sides/proofs/blocks/jl_and_inverse_from/Answers.antt: edit that one. Digest 4094f3bf3b2956a9.
 -- `sides_f32::blocks::jl_and_inverse_from` meets its contract: by what its calls ensure. Assumes nothing.
-use borrow.Author.Rules.{rules}
+use Rattle.sides_f32.proofs.blocks.jl_and_inverse_from.Goals as goal
 use Rattle.linalg_f32.proofs.As.{linalg_singles}
 use Rattle.circle_f32.proofs.As.{circle_singles}
 use Rattle.series_f32.proofs.As.{series_singles}
@@ -9,7 +10,6 @@ use Rattle.so3_f32.proofs.As.{so3_singles}
 use Rattle.sim3_f32.proofs.As.{sim3_singles}
 use Rattle.jacobian_f32.proofs.As.{jacobian_singles}
 use Rattle.sides_f32.proofs.As.{sides_singles}
-use Rattle.sides_f32.proofs.blocks.jl_and_inverse_from.Goals as goal
 
 pub returns : goal.returns
 returns c = simp (

@@ -1,5 +1,5 @@
+-- Written by tools/widths from crates/sides/proofs/pair/block_pair/Answers.antt: edit that one. Digest b3fff4b15cd9027a.
 -- `sides_f32::pair::block_pair` meets its contract: |phi|² is not below zero, so the entry answers, and the sides are what their calls ensure. Assumes nothing.
-use borrow.Author.Rules.{rules}
 use mathlib.Core.Path.{sym, ap, ◌∙◌}
 use lib.Ieee.{binary32}
 use Rattle.so3.proofs.Even.{norm_sq_even}
@@ -11,6 +11,7 @@ use Rattle.closed.specs.Values.{mirrored}
 use Rattle.sim3.specs.Tangent.{tangent_neg}
 use Rattle.sides.specs.Pair.{block_pair}
 use Rattle.sides.specs.Blocks.{jl_and_inverse}
+use Rattle.sides_f32.proofs.pair.block_pair.Goals as goal
 use Rattle.linalg_f32.specs.As.{as_mat3, as_vec3}
 use Rattle.series_f32.specs.As.{as_sim3_coeffs}
 use Rattle.closed_f32.specs.As.{as_values}
@@ -27,18 +28,14 @@ use Rattle.so3_f32.proofs.As.{so3_singles}
 use Rattle.sim3_f32.proofs.As.{sim3_singles}
 use Rattle.jacobian_f32.proofs.As.{jacobian_singles}
 use Rattle.sides_f32.proofs.As.{sides_singles}
-use Rattle.sides_f32.proofs.pair.block_pair.Goals as goal
 
-pub no_blocks-requires : goal.no_blocks-requires
+pub unreachable-requires : goal.unreachable-requires
 unfolding armed_pair_told as_armed as_armed_pair as_block_pair as_mat3 as_scaled as_sim3_coeffs as_sim3_jac as_sim3_tangent as_values as_vec3
-no_blocks-requires c =
+unreachable-requires c =
     let a = c.args in
     let entry = c.sim3_coeffs_armed_pair.ensures in
     let at = ap (λ x. armed_pair_answer binary32 (as_sim3_tangent a.tau).sigma x (as_values a.v)) c.norm_sq-z.ensures in
     angle_armed-refuses binary32 (as_sim3_tangent a.tau).phi (as_sim3_tangent a.tau).sigma (as_values a.v) _ (sym (entry ∙ at) ∙ ap armed_pair_told c.in_default.is)
-
-pub returns-in_default : goal.returns-in_default
-returns-in_default c = absurd c.no_blocks.ensures
 
 pub returns : goal.returns
 unfolding block_pair jl_and_inverse tangent_neg coeffs_armed_pair coeffs_armed mirrored armed_pair_told as_sim3_tangent as_values

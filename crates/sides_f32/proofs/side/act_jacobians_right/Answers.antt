@@ -1,5 +1,6 @@
-use borrow.Author.Rules.{rules}
+-- Written by tools/widths from crates/sides/proofs/side/act_jacobians_right/Answers.antt: edit that one. Digest ed48b8343dff9d49.
 use Rattle.sides.specs.Side.{act_jacobians_right}
+use Rattle.sides_f32.proofs.side.act_jacobians_right.Goals as goal
 use Rattle.linalg_f32.proofs.As.{linalg_singles}
 use Rattle.circle_f32.proofs.As.{circle_singles}
 use Rattle.series_f32.proofs.As.{series_singles}
@@ -9,7 +10,6 @@ use Rattle.so3_f32.proofs.As.{so3_singles}
 use Rattle.sim3_f32.proofs.As.{sim3_singles}
 use Rattle.jacobian_f32.proofs.As.{jacobian_singles}
 use Rattle.sides_f32.proofs.As.{sides_singles}
-use Rattle.sides_f32.proofs.side.act_jacobians_right.Goals as goal
 
 pub returns : goal.returns
 unfolding act_jacobians_right

@@ -1,6 +1,7 @@
-use borrow.Author.Rules.{rules}
+-- Written by tools/widths from crates/sides/proofs/side/adjoint/Answers.antt: edit that one. Digest f8f357595efee1e0.
 use Rattle.sides.specs.Side.{pose_adjoint}
 use lib.Ieee.{of_bits}
+use Rattle.sides_f32.proofs.side.adjoint.Goals as goal
 use Rattle.linalg_f32.proofs.As.{linalg_singles}
 use Rattle.circle_f32.proofs.As.{circle_singles}
 use Rattle.series_f32.proofs.As.{series_singles}
@@ -10,7 +11,6 @@ use Rattle.so3_f32.proofs.As.{so3_singles}
 use Rattle.sim3_f32.proofs.As.{sim3_singles}
 use Rattle.jacobian_f32.proofs.As.{jacobian_singles}
 use Rattle.sides_f32.proofs.As.{sides_singles}
-use Rattle.sides_f32.proofs.side.adjoint.Goals as goal
 
 pub returns : goal.returns
 unfolding pose_adjoint of_bits

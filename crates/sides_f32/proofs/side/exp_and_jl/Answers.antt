@@ -1,9 +1,10 @@
-use borrow.Author.Rules.{rules}
+-- Written by tools/widths from crates/sides/proofs/side/exp_and_jl/Answers.antt: edit that one. Digest 1ffa59e4bb17b19b.
 use Rattle.sides.specs.Side.{exp_and_jl}
 use Rattle.sides.specs.Blocks.{jac_jl}
 use Rattle.sim3.specs.Exp.{pose_exp}
 use Rattle.coeffs.specs.Group.{coeffs_v}
 use Rattle.series.specs.Series.{coeffs4}
+use Rattle.sides_f32.proofs.side.exp_and_jl.Goals as goal
 use Rattle.linalg_f32.proofs.As.{linalg_singles}
 use Rattle.circle_f32.proofs.As.{circle_singles}
 use Rattle.series_f32.proofs.As.{series_singles}
@@ -13,7 +14,6 @@ use Rattle.so3_f32.proofs.As.{so3_singles}
 use Rattle.sim3_f32.proofs.As.{sim3_singles}
 use Rattle.jacobian_f32.proofs.As.{jacobian_singles}
 use Rattle.sides_f32.proofs.As.{sides_singles}
-use Rattle.sides_f32.proofs.side.exp_and_jl.Goals as goal
 
 pub returns : goal.returns
 unfolding exp_and_jl jac_jl pose_exp coeffs_v coeffs4

@@ -1,5 +1,6 @@
-use borrow.Author.Rules.{rules}
+-- Written by tools/widths from crates/sides/proofs/side/inverse_adjoint/Answers.antt: edit that one. Digest f8bb2b52eafaae83.
 use Rattle.sides.specs.Side.{pose_inverse_adjoint}
+use Rattle.sides_f32.proofs.side.inverse_adjoint.Goals as goal
 use Rattle.linalg_f32.proofs.As.{linalg_singles}
 use Rattle.circle_f32.proofs.As.{circle_singles}
 use Rattle.series_f32.proofs.As.{series_singles}
@@ -9,20 +10,7 @@ use Rattle.so3_f32.proofs.As.{so3_singles}
 use Rattle.sim3_f32.proofs.As.{sim3_singles}
 use Rattle.jacobian_f32.proofs.As.{jacobian_singles}
 use Rattle.sides_f32.proofs.As.{sides_singles}
-use Rattle.sides_f32.proofs.side.inverse_adjoint.Goals as goal
 
 pub returns : goal.returns
 unfolding pose_inverse_adjoint
-returns c = simp (
-  linalg_singles,
-  circle_singles,
-  series_singles,
-  closed_singles,
-  coeffs_singles,
-  so3_singles,
-  sim3_singles,
-  jacobian_singles,
-  sides_singles,
-  c.adjoint.ensures,
-  c.inverse.ensures,
-)
+returns c = simp (linalg_singles, circle_singles, series_singles, closed_singles, coeffs_singles, so3_singles, sim3_singles, jacobian_singles, sides_singles, c.adjoint.ensures, c.inverse.ensures)

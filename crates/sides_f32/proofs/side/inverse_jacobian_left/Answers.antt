@@ -1,5 +1,6 @@
-use borrow.Author.Rules.{rules}
+-- Written by tools/widths from crates/sides/proofs/side/inverse_jacobian_left/Answers.antt: edit that one. Digest 9ee523a96668cc2a.
 use Rattle.sides.specs.Side.{inverse_jacobian_left}
+use Rattle.sides_f32.proofs.side.inverse_jacobian_left.Goals as goal
 use Rattle.linalg_f32.proofs.As.{linalg_singles}
 use Rattle.circle_f32.proofs.As.{circle_singles}
 use Rattle.series_f32.proofs.As.{series_singles}
@@ -9,20 +10,7 @@ use Rattle.so3_f32.proofs.As.{so3_singles}
 use Rattle.sim3_f32.proofs.As.{sim3_singles}
 use Rattle.jacobian_f32.proofs.As.{jacobian_singles}
 use Rattle.sides_f32.proofs.As.{sides_singles}
-use Rattle.sides_f32.proofs.side.inverse_jacobian_left.Goals as goal
 
 pub returns : goal.returns
 unfolding inverse_jacobian_left
-returns c = simp (
-  linalg_singles,
-  circle_singles,
-  series_singles,
-  closed_singles,
-  coeffs_singles,
-  so3_singles,
-  sim3_singles,
-  jacobian_singles,
-  sides_singles,
-  c.neg.ensures,
-  c.inverse_adjoint.ensures,
-)
+returns c = simp (linalg_singles, circle_singles, series_singles, closed_singles, coeffs_singles, so3_singles, sim3_singles, jacobian_singles, sides_singles, c.neg.ensures, c.inverse_adjoint.ensures)

@@ -1,5 +1,6 @@
-use borrow.Author.Rules.{rules}
+-- Written by tools/widths from crates/sides/proofs/side/jr_inv/Answers.antt: edit that one. Digest 802aae96790e291e.
 use Rattle.sides.specs.Side.{jac_jr_inv}
+use Rattle.sides_f32.proofs.side.jr_inv.Goals as goal
 use Rattle.linalg_f32.proofs.As.{linalg_singles}
 use Rattle.circle_f32.proofs.As.{circle_singles}
 use Rattle.series_f32.proofs.As.{series_singles}
@@ -9,20 +10,7 @@ use Rattle.so3_f32.proofs.As.{so3_singles}
 use Rattle.sim3_f32.proofs.As.{sim3_singles}
 use Rattle.jacobian_f32.proofs.As.{jacobian_singles}
 use Rattle.sides_f32.proofs.As.{sides_singles}
-use Rattle.sides_f32.proofs.side.jr_inv.Goals as goal
 
 pub returns : goal.returns
 unfolding jac_jr_inv
-returns c = simp (
-  linalg_singles,
-  circle_singles,
-  series_singles,
-  closed_singles,
-  coeffs_singles,
-  so3_singles,
-  sim3_singles,
-  jacobian_singles,
-  sides_singles,
-  c.jl_inv.ensures,
-  c.neg.ensures,
-)
+returns c = simp (linalg_singles, circle_singles, series_singles, closed_singles, coeffs_singles, so3_singles, sim3_singles, jacobian_singles, sides_singles, c.jl_inv.ensures, c.neg.ensures)

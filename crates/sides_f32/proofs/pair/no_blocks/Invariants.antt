@@ -1,8 +1,0 @@
--- `sides_f32::pair::no_blocks` meets its contract: nobody calls it. Assumes nothing.
-use Rattle.sides_f32.proofs.pair.no_blocks.Given as goal
-
-abbrev pub invariant-loop : goal.invariant-loop
-invariant-loop l = ⊥
-
-abbrev pub decreases-loop : goal.decreases-loop
-decreases-loop l = 0
