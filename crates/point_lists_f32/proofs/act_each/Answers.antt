@@ -10,12 +10,12 @@ use Rattle.linalg_f32.specs.As.{as_vec3}
 use Rattle.so3_f32.specs.As.{as_quat}
 use Rattle.sim3_f32.specs.As.{as_sim3}
 use Rattle.linalg_f32.proofs.As.{linalg_singles}
-use Rattle.circle_f32.proofs.As.{circle_singles}
-use Rattle.series_f32.proofs.As.{series_singles}
-use Rattle.closed_f32.proofs.As.{closed_singles}
+use Rattle.circle_f32.proofs.As.{circle-singles}
+use Rattle.series_f32.proofs.As.{series-singles}
+use Rattle.closed_f32.proofs.As.{closed-singles}
 use Rattle.coeffs_f32.proofs.As.{coeffs_singles}
 use Rattle.so3_f32.proofs.As.{so3_singles}
-use Rattle.sim3_f32.proofs.As.{sim3_singles}
+use Rattle.sim3_f32.proofs.As.{sim3-singles}
 use Rattle.point_lists_f32.proofs.act_each.Goals as goal
 
 pub each-requires : goal.each-requires
@@ -30,15 +30,15 @@ returns-then-accepted c =
     let a = c.args in
     let h : points_accepted (length a.pts.now) (length a.out.now) ≡ true = sym c.accepted.ensures ∙ c.if-accepted.true in
     record {
-      result_value = simp (linalg_singles, circle_singles, series_singles, closed_singles, coeffs_singles, so3_singles, sim3_singles, h);
+      result_value = simp (linalg_singles, circle-singles, series-singles, closed-singles, coeffs_singles, so3_singles, sim3-singles, h);
       out_after = simp (
         linalg_singles,
-        circle_singles,
-        series_singles,
-        closed_singles,
+        circle-singles,
+        series-singles,
+        closed-singles,
         coeffs_singles,
         so3_singles,
-        sim3_singles,
+        sim3-singles,
         h,
         c.each.ensures,
       );
@@ -50,7 +50,7 @@ returns c =
     let a = c.args in
     let h : points_accepted (length a.pts.now) (length a.out.now) ≡ false = sym c.accepted.ensures ∙ c.if-accepted.false in
     record {
-      result_value = simp (linalg_singles, circle_singles, series_singles, closed_singles, coeffs_singles, so3_singles, sim3_singles, h);
+      result_value = simp (linalg_singles, circle-singles, series-singles, closed-singles, coeffs_singles, so3_singles, sim3-singles, h);
       out_after = simp
-          (linalg_singles, circle_singles, series_singles, closed_singles, coeffs_singles, so3_singles, sim3_singles, h);
+          (linalg_singles, circle-singles, series-singles, closed-singles, coeffs_singles, so3_singles, sim3-singles, h);
     }

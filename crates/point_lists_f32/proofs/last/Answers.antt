@@ -8,12 +8,12 @@ use Rattle.point_lists.specs.Points.{points_moved, mat_act}
 use Rattle.point_lists.proofs.Lists.{moved_last, moved_all}
 use Rattle.linalg_f32.specs.As.{as_mat3, as_vec3}
 use Rattle.linalg_f32.proofs.As.{linalg_singles}
-use Rattle.circle_f32.proofs.As.{circle_singles}
-use Rattle.series_f32.proofs.As.{series_singles}
-use Rattle.closed_f32.proofs.As.{closed_singles}
+use Rattle.circle_f32.proofs.As.{circle-singles}
+use Rattle.series_f32.proofs.As.{series-singles}
+use Rattle.closed_f32.proofs.As.{closed-singles}
 use Rattle.coeffs_f32.proofs.As.{coeffs_singles}
 use Rattle.so3_f32.proofs.As.{so3_singles}
-use Rattle.sim3_f32.proofs.As.{sim3_singles}
+use Rattle.sim3_f32.proofs.As.{sim3-singles}
 use Rattle.point_lists_f32.proofs.last.Goals as goal
 
 pub returns-then-e-n : goal.returns-then-e-n
@@ -35,12 +35,12 @@ returns c =
     let moved = moved_last g a.pts.now a.out.now a.e (omega arith) ∙ ap (points_moved g a.pts.now) q in
     simp (
       linalg_singles,
-      circle_singles,
-      series_singles,
-      closed_singles,
+      circle-singles,
+      series-singles,
+      closed-singles,
       coeffs_singles,
       so3_singles,
-      sim3_singles,
+      sim3-singles,
       c.put_point.ensures,
       c.mat_act.ensures,
       c.point_at.ensures,

@@ -10,12 +10,12 @@ use Rattle.point_lists.specs.Points.{points_moved, mat_act}
 use Rattle.point_lists.proofs.Lists.{moved_more, left-first, left-next, left-length}
 use Rattle.linalg_f32.specs.As.{as_mat3, as_vec3}
 use Rattle.linalg_f32.proofs.As.{linalg_singles}
-use Rattle.circle_f32.proofs.As.{circle_singles}
-use Rattle.series_f32.proofs.As.{series_singles}
-use Rattle.closed_f32.proofs.As.{closed_singles}
+use Rattle.circle_f32.proofs.As.{circle-singles}
+use Rattle.series_f32.proofs.As.{series-singles}
+use Rattle.closed_f32.proofs.As.{closed-singles}
 use Rattle.coeffs_f32.proofs.As.{coeffs_singles}
 use Rattle.so3_f32.proofs.As.{so3_singles}
-use Rattle.sim3_f32.proofs.As.{sim3_singles}
+use Rattle.sim3_f32.proofs.As.{sim3-singles}
 use Rattle.point_lists_f32.proofs.leading.Goals as goal
 
 pub loop-i-init : goal.loop-i-init
@@ -29,12 +29,12 @@ loop-i-preserved c =
       omega arith,
       simp (
         linalg_singles,
-        circle_singles,
-        series_singles,
-        closed_singles,
+        circle-singles,
+        series-singles,
+        closed-singles,
         coeffs_singles,
         so3_singles,
-        sim3_singles,
+        sim3-singles,
         c.put_point.ensures,
         c.mat_act-p.ensures,
         c.point_at.ensures,

@@ -10,12 +10,12 @@ use Rattle.point_lists.specs.Points.{points_moved, mat_act}
 use Rattle.point_lists.proofs.Lists.{moved_more, left-first, left-next, left-length}
 use Rattle.linalg_f32.specs.As.{as_mat3, as_vec3}
 use Rattle.linalg_f32.proofs.As.{linalg_singles}
-use Rattle.circle_f32.proofs.As.{circle_singles}
-use Rattle.series_f32.proofs.As.{series_singles}
-use Rattle.closed_f32.proofs.As.{closed_singles}
+use Rattle.circle_f32.proofs.As.{circle-singles}
+use Rattle.series_f32.proofs.As.{series-singles}
+use Rattle.closed_f32.proofs.As.{closed-singles}
 use Rattle.coeffs_f32.proofs.As.{coeffs_singles}
 use Rattle.so3_f32.proofs.As.{so3_singles}
-use Rattle.sim3_f32.proofs.As.{sim3_singles}
+use Rattle.sim3_f32.proofs.As.{sim3-singles}
 use Rattle.point_lists_f32.proofs.leading.Given as goal
 
 abbrev pub invariant-loop-i : goal.invariant-loop-i
