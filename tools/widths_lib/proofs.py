@@ -136,9 +136,10 @@ def proof(sources, crate, function, text):
 
 
 def exported(text, function):
-    """The proof with the name that the function has at the other width."""
+    """The proof with the function's name at the other width, in its imports and its heading.
+    A step that calls another function of that name keeps it."""
     old, new = function.name, twin(function.name)
-    return text.replace(f".{old}.", f".{new}.").replace(f"::{old}`", f"::{new}`")
+    return re.sub(rf"(?m)^(use \S*\.){old}(?=\.)", rf"\1{new}", text).replace(f"::{old}`", f"::{new}`")
 
 
 def computed(sources, crate, function):

@@ -105,7 +105,7 @@ class Sources:
                 self.told[name] = (crate, module, keep, taken, rest.removeprefix(" → "), body)
 
     def asked(self, text):
-        """The exported functions of other crates that a source file imports, one in an import or several in brackets."""
+        """The exported functions of other crates that a source file imports, by itself or in brackets."""
         found = re.findall(r"(?m)^use (\w+)::(?:\w+::)*(\w+|\{[^}]*\});", text)
         return [name for crate, names in found for name in re.findall(r"\w+", names) if (crate, name) in self.exported]
 

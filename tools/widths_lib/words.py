@@ -1,7 +1,14 @@
 """Names at the other width: words, crates, modules and imports."""
 import re
 
-WORDS = {"f64": "f32", "binary64": "binary32", "doubles": "singles", "double": "single", "binary64_in_bounds": "binary32_in_bounds", "recip_told": "recip_single_told"}
+WORDS = {
+    "f64": "f32",
+    "binary64": "binary32",
+    "binary64_in_bounds": "binary32_in_bounds",
+    "doubles": "singles",
+    "double": "single",
+    "recip_told": "recip_single_told",
+}
 
 
 def twin(crate):

@@ -1,4 +1,4 @@
--- Written by tools/widths from crates/sim3_c/proofs/arms/sim3_coeffs_armed/Answers.antt: edit that one. Digest c1363fadf197ae38.
+-- Written by tools/widths from crates/sim3_c/proofs/arms/sim3_coeffs_armed/Answers.antt: edit that one. Digest f339cd1612a05cf8.
 -- `sim3_c_f32::arms::sim3_coeffs_armed_f32` meets its contract: the lists are read, the engine is asked, and its answer is written or the refusal handed on. Assumes nothing.
 use borrow.Author.Rules.{rules}
 use mathlib.Core.Path.{refl}
@@ -22,7 +22,7 @@ returns-in-Coeffs c =
     rw (
       ← c.values_from.ensures,
       c.in-Got.is,
-      ← c.sim3_coeffs_armed_f32.ensures,
+      ← c.sim3_coeffs_armed.ensures,
       c.in-Coeffs.is,
     )
     (record {
@@ -36,7 +36,7 @@ returns-in-Refused c =
     rw (
       ← c.values_from.ensures,
       c.in-Got.is,
-      ← c.sim3_coeffs_armed_f32.ensures,
+      ← c.sim3_coeffs_armed.ensures,
       c.in-Refused.is,
     )
     (record {
