@@ -1,5 +1,6 @@
--- Written by tools/widths from crates/demands/proofs/ways/both_ways/Answers.antt: edit that one. Digest 82b9a477ed23ead7.
+-- Written by tools/widths from crates/demands/proofs/ways/both_ways/Answers.antt: edit that one. Digest 21d609b2aaef1b08.
 -- `demands_f32::ways::both_ways` meets its contract: the ten answers are the definitions' by what the calls ensure, and so they are turned, as the theorem says.
+use borrow.Author.Rules.{rules}
 use mathlib.Core.Path.{◌≡◌, ◌∙◌}
 use lib.Ieee.{binary32}
 use Rattle.sides.specs.Blocks.{jac_jl, jl_and_inverse}
@@ -7,6 +8,7 @@ use Rattle.sides.specs.Side.{exp_and_jl}
 use Rattle.sides.specs.Pair.{block_pair}
 use Rattle.frames.specs.Pose.{framed_exp}
 use Rattle.demands.specs.Turned.{turned_round}
+use Rattle.demands.specs.declared.ways.BothWays.{BothWays}
 use Rattle.demands.proofs.Turned.{ways_turned}
 use Rattle.demands_f32.proofs.ways.both_ways.Goals as goal
 use Rattle.linalg_f32.specs.As.{as_mat3, as_vec3}
@@ -22,8 +24,20 @@ pub returns : goal.returns
 unfolding as_block_pair as_both_ways as_exp_and_jl as_jac_and_inverse as_mat3 as_pose as_quat as_sim3 as_sim3_jac as_sim3_tangent as_values as_vec3
 returns c =
     let a = c.args in
+    let r : BothWays = record {
+      exp = c.exp-exp.result;
+      exp_turned = c.exp-exp_turned.result;
+      left = c.jl-left.result;
+      left_turned = c.jl-left_turned.result;
+      together = c.exp_and_jl-together.result;
+      together_turned = c.exp_and_jl-together_turned.result;
+      inverted = c.jl_and_inverse-inverted.result;
+      inverted_turned = c.jl_and_inverse-inverted_turned.result;
+      pair = c.block_pair-pair.result;
+      pair_turned = c.block_pair-pair_turned.result;
+    } in
     let back : as_sim3_tangent c.turned_round-back.result ≡ turned_round (as_sim3_tangent a.tau) = c.turned_round-back.ensures in
-    ways_turned binary32 (as_sim3_tangent a.tau) (as_values a.v) (as_mat3 a.jl) (as_mat3 a.jl_inv) a.from a.to _
+    let p = ways_turned binary32 (as_sim3_tangent a.tau) (as_values a.v) (as_mat3 a.jl) (as_mat3 a.jl_inv) a.from a.to r
     c.exp-exp.ensures
     (c.exp-exp_turned.ensures ∙ (λ i. framed_exp binary32 (back i) (as_values a.v) a.from a.to))
     c.jl-left.ensures
@@ -33,4 +47,5 @@ returns c =
     c.jl_and_inverse-inverted.ensures
     (c.jl_and_inverse-inverted_turned.ensures ∙ (λ i. jl_and_inverse binary32 (back i) (as_values a.v) (as_mat3 a.jl) (as_mat3 a.jl_inv)))
     c.block_pair-pair.ensures
-    (c.block_pair-pair_turned.ensures ∙ (λ i. block_pair binary32 (back i) (as_values a.v) (as_mat3 a.jl) (as_mat3 a.jl_inv)))
+    (c.block_pair-pair_turned.ensures ∙ (λ i. block_pair binary32 (back i) (as_values a.v) (as_mat3 a.jl) (as_mat3 a.jl_inv))) in
+    record { value = p.0; turned = p.1 }
