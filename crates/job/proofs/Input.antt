@@ -94,13 +94,13 @@ written (suc n) j xs = by (head xs) (written n)
 
 -- ---- where a reply stands
 placed :
-    (z : State) (before : List (List ℕ)) (r : List ℕ) (rest : List (List ℕ)) →
-    replies_to z (before ++ (r ∷ rest))
-    ≡ replies_to z before ++ (reply_to (kept_after z before) r ++ replies_to (kept_after z (before ++ (r ∷ []))) rest)
+    (z : State) (before : List (List ℕ)) (r : List ℕ) (later : List (List ℕ)) →
+    replies_to z (before ++ (r ∷ later))
+    ≡ replies_to z before ++ (reply_to (kept_after z before) r ++ replies_to (kept_after z (before ++ (r ∷ []))) later)
 unfolding replies_to kept_after
-placed z [] r rest = refl
-placed z (a ∷ before) r rest =
-    ap (λ (l : List ℕ). reply_to z a ++ l) (placed (next_of z a) before r rest)
+placed z [] r later = refl
+placed z (a ∷ before) r later =
+    ap (λ (l : List ℕ). reply_to z a ++ l) (placed (next_of z a) before r later)
     ∙ sym (append_assoc (reply_to z a) (replies_to (next_of z a) before) _)
 
 -- ---- each record of an input of bytes is whole, and bytes

@@ -18,7 +18,7 @@ returns c =
     let z : state_of m ≡ state_none = c.fresh.ensures.mem_after_2 in
     let h : holds m ≡ true = held m c.fresh.auto.mem in
     let f = rw (c.no_counts.ensures, z, h) at c.feed.ensures in
-    let n = input job_limit c.args.input.now (λ i. omega (arith, c.shared_slice_known-1.given i)) in
+    let n = input job_limit c.args.input.now (λ i. omega (arith, c.type_inv.input i)) in
     record {
       result_value = f.result_value;
       out_after = f.out_after;

@@ -1,5 +1,6 @@
 -- `marks::known` meets its contract: by the number, and by its being none of the table's. Assumes nothing.
 use borrow.Author.Tests.{ne_eqb}
+use native.Mathlib.Omega.{arith}
 use Rattle.marks.specs.Marks.{look_up}
 use Rattle.marks.proofs.known.Goals as goal
 
@@ -82,24 +83,25 @@ returns-in-21329 c = simp c.in-21329.is
 pub returns-in_default : goal.returns-in_default
 unfolding look_up
 returns-in_default c =
+    let k = c.args.k in
     simp (
-      ne_eqb _ _ c.in_default.in_default-own.rest.1,
-      ne_eqb _ _ c.in_default.in_default-own.rest.0.1,
-      ne_eqb _ _ c.in_default.in_default-own.rest.0.0.1,
-      ne_eqb _ _ c.in_default.in_default-own.rest.0.0.0.1,
-      ne_eqb _ _ c.in_default.in_default-own.rest.0.0.0.0.1,
-      ne_eqb _ _ c.in_default.in_default-own.rest.0.0.0.0.0.1,
-      ne_eqb _ _ c.in_default.in_default-own.rest.0.0.0.0.0.0.1,
-      ne_eqb _ _ c.in_default.in_default-own.rest.0.0.0.0.0.0.0.1,
-      ne_eqb _ _ c.in_default.in_default-own.rest.0.0.0.0.0.0.0.0.1,
-      ne_eqb _ _ c.in_default.in_default-own.rest.0.0.0.0.0.0.0.0.0.1,
-      ne_eqb _ _ c.in_default.in_default-own.rest.0.0.0.0.0.0.0.0.0.0.1,
-      ne_eqb _ _ c.in_default.in_default-own.rest.0.0.0.0.0.0.0.0.0.0.0.1,
-      ne_eqb _ _ c.in_default.in_default-own.rest.0.0.0.0.0.0.0.0.0.0.0.0.1,
-      ne_eqb _ _ c.in_default.in_default-own.rest.0.0.0.0.0.0.0.0.0.0.0.0.0.1,
-      ne_eqb _ _ c.in_default.in_default-own.rest.0.0.0.0.0.0.0.0.0.0.0.0.0.0.1,
-      ne_eqb _ _ c.in_default.in_default-own.rest.0.0.0.0.0.0.0.0.0.0.0.0.0.0.0.1,
-      ne_eqb _ _ c.in_default.in_default-own.rest.0.0.0.0.0.0.0.0.0.0.0.0.0.0.0.0.1,
-      ne_eqb _ _ c.in_default.in_default-own.rest.0.0.0.0.0.0.0.0.0.0.0.0.0.0.0.0.0.1,
-      ne_eqb _ _ c.in_default.in_default-own.rest.0.0.0.0.0.0.0.0.0.0.0.0.0.0.0.0.0.0.1,
+      ne_eqb k 17752 (omega arith),
+      ne_eqb k 17231 (omega arith),
+      ne_eqb k 20545 (omega arith),
+      ne_eqb k 16707 (omega arith),
+      ne_eqb k 19797 (omega arith),
+      ne_eqb k 18766 (omega arith),
+      ne_eqb k 19017 (omega arith),
+      ne_eqb k 25976 (omega arith),
+      ne_eqb k 25455 (omega arith),
+      ne_eqb k 28769 (omega arith),
+      ne_eqb k 24931 (omega arith),
+      ne_eqb k 28021 (omega arith),
+      ne_eqb k 26990 (omega arith),
+      ne_eqb k 27241 (omega arith),
+      ne_eqb k 16722 (omega arith),
+      ne_eqb k 17224 (omega arith),
+      ne_eqb k 21070 (omega arith),
+      ne_eqb k 21320 (omega arith),
+      ne_eqb k 21329 (omega arith),
     )
