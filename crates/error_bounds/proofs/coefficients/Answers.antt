@@ -1,5 +1,4 @@
 -- `error_bounds::coefficients` meets its contract: by what its call ensures. Assumes nothing.
-use borrow.Author.Rules.{rules}
 use lib.Ieee.{binary64}
 use Rattle.error_bounds.proofs.Holds.{coefficients_hold}
 use Rattle.error_bounds.proofs.coefficients.Goals as goal

@@ -1,5 +1,4 @@
 -- `error_bounds::inverse` meets its contract: by what its call ensures. Assumes nothing.
-use borrow.Author.Rules.{rules}
 use lib.Ieee.{binary64}
 use Rattle.error_bounds.proofs.Holds.{inverse-holds}
 use Rattle.error_bounds.proofs.inverse.Goals as goal

@@ -1,5 +1,4 @@
 -- `error_bounds::mul` meets its contract: by what its call ensures. Assumes nothing.
-use borrow.Author.Rules.{rules}
 use lib.Ieee.{binary64}
 use Rattle.error_bounds.proofs.Holds.{mul_holds}
 use Rattle.error_bounds.proofs.mul.Goals as goal

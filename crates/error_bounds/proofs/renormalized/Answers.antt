@@ -1,5 +1,4 @@
 -- `error_bounds::renormalized` meets its contract: by what its call ensures. Assumes nothing.
-use borrow.Author.Rules.{rules}
 use lib.Ieee.{binary64}
 use Rattle.error_bounds.proofs.Holds.{renormalized-holds}
 use Rattle.error_bounds.proofs.renormalized.Goals as goal

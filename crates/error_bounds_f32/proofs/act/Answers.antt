@@ -1,6 +1,5 @@
--- Written by tools/widths from crates/error_bounds/proofs/act/Answers.antt: edit that one. Digest 65e15eab0285d255.
+-- Written by tools/widths from crates/error_bounds/proofs/act/Answers.antt: edit that one. Digest 14eb1b8552cb63ae.
 -- `error_bounds_f32::act` meets its contract: by what its call ensures. Assumes nothing.
-use borrow.Author.Rules.{rules}
 use lib.Ieee.{binary32}
 use Rattle.error_bounds.proofs.Holds.{act_holds}
 use Rattle.error_bounds_f32.proofs.act.Goals as goal

@@ -1,6 +1,5 @@
--- Written by tools/widths from crates/error_bounds/proofs/coefficients/Answers.antt: edit that one. Digest 9d05ab1abbc2754f.
+-- Written by tools/widths from crates/error_bounds/proofs/coefficients/Answers.antt: edit that one. Digest d0747cc89c5ad4f4.
 -- `error_bounds_f32::coefficients` meets its contract: by what its call ensures. Assumes nothing.
-use borrow.Author.Rules.{rules}
 use lib.Ieee.{binary32}
 use Rattle.error_bounds.proofs.Holds.{coefficients_hold}
 use Rattle.error_bounds_f32.proofs.coefficients.Goals as goal

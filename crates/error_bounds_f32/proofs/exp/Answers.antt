@@ -1,6 +1,5 @@
--- Written by tools/widths from crates/error_bounds/proofs/exp/Answers.antt: edit that one. Digest 0c1a7034a1819673.
+-- Written by tools/widths from crates/error_bounds/proofs/exp/Answers.antt: edit that one. Digest 361f7d79d56c1e93.
 -- `error_bounds_f32::exp` meets its contract: by what its call ensures. Assumes nothing.
-use borrow.Author.Rules.{rules}
 use lib.Ieee.{binary32}
 use Rattle.error_bounds.proofs.Holds.{exp-holds}
 use Rattle.error_bounds_f32.proofs.exp.Goals as goal

@@ -1,6 +1,5 @@
--- Written by tools/widths from crates/error_bounds/proofs/inverse/Answers.antt: edit that one. Digest 57579bcf40f8963b.
+-- Written by tools/widths from crates/error_bounds/proofs/inverse/Answers.antt: edit that one. Digest 384611b2456d5cc6.
 -- `error_bounds_f32::inverse` meets its contract: by what its call ensures. Assumes nothing.
-use borrow.Author.Rules.{rules}
 use lib.Ieee.{binary32}
 use Rattle.error_bounds.proofs.Holds.{inverse-holds}
 use Rattle.error_bounds_f32.proofs.inverse.Goals as goal

@@ -1,6 +1,5 @@
--- Written by tools/widths from crates/error_bounds/proofs/mul/Answers.antt: edit that one. Digest 63a2faa49ae561a3.
+-- Written by tools/widths from crates/error_bounds/proofs/mul/Answers.antt: edit that one. Digest dbe2b9c4071877de.
 -- `error_bounds_f32::mul` meets its contract: by what its call ensures. Assumes nothing.
-use borrow.Author.Rules.{rules}
 use lib.Ieee.{binary32}
 use Rattle.error_bounds.proofs.Holds.{mul_holds}
 use Rattle.error_bounds_f32.proofs.mul.Goals as goal

@@ -1,6 +1,5 @@
--- Written by tools/widths from crates/error_bounds/proofs/renormalized/Answers.antt: edit that one. Digest a76915221ba5dc1f.
+-- Written by tools/widths from crates/error_bounds/proofs/renormalized/Answers.antt: edit that one. Digest f9b8e3e54999e972.
 -- `error_bounds_f32::renormalized` meets its contract: by what its call ensures. Assumes nothing.
-use borrow.Author.Rules.{rules}
 use lib.Ieee.{binary32}
 use Rattle.error_bounds.proofs.Holds.{renormalized-holds}
 use Rattle.error_bounds_f32.proofs.renormalized.Goals as goal

@@ -1,6 +1,4 @@
 -- `finite::pose` meets its contract: the product equals itself where it is a zero. Assumes nothing.
-use borrow.Author.Rules.{rules}
-use lib.Ieee.{binary64}
 use Rattle.ieee.proofs.Finite.{zero-told}
 use Rattle.finite.proofs.pose.Goals as goal
 

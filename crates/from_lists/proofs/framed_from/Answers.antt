@@ -1,5 +1,4 @@
 -- `from_lists::framed_from` meets its contract: the numbers and the frames are read, each from its list, or a wrong length is told. Assumes nothing.
-use borrow.Author.Rules.{rules}
 use mathlib.Core.Path.{refl}
 use Rattle.from_lists.specs.Lists.{pose_read_told, frames_read_told, framed_from, framed_read_told}
 use Rattle.from_lists.proofs.framed_from.Goals as goal

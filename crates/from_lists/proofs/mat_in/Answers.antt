@@ -1,5 +1,4 @@
 -- `from_lists::mat_in` meets its contract: three columns, one behind another. Assumes nothing.
-use borrow.Author.Rules.{rules}
 use Rattle.layout.specs.Layout.{mat_in}
 use Rattle.from_lists.proofs.mat_in.Goals as goal
 

@@ -1,6 +1,4 @@
 -- `from_lists::pose_in` meets its contract: eight numbers from a place on. Assumes nothing.
-use borrow.Author.Rules.{rules}
-use native.Mathlib.Nat.{add_assoc}
 use Rattle.layout.specs.Layout.{pose_in, quat_in}
 use Rattle.from_lists.proofs.pose_in.Goals as goal
 

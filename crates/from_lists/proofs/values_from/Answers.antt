@@ -1,5 +1,4 @@
 -- `from_lists::values_from` meets its contract: a list of the length that is due is read, and any other is told. Assumes nothing.
-use borrow.Author.Rules.{rules}
 use mathlib.Core.Path.{sym}
 use Rattle.layout.specs.Layout.{values_in}
 use Rattle.from_lists.specs.Lists.{values_from, values_read_told}

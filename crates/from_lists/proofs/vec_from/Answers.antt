@@ -1,5 +1,4 @@
 -- `from_lists::vec_from` meets its contract: a list of the length that is due is read, and any other is told. Assumes nothing.
-use borrow.Author.Rules.{rules}
 use mathlib.Core.Path.{sym}
 use Rattle.from_lists.specs.Lists.{vec_from, vec_read_told}
 use Rattle.from_lists.proofs.Lists.{sized-right, sized_wrong}

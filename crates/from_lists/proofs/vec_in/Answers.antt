@@ -1,5 +1,4 @@
 -- `from_lists::vec_in` meets its contract: three numbers from a place on. Assumes nothing.
-use borrow.Author.Rules.{rules}
 use mathlib.Core.Path.{refl}
 use Rattle.layout.specs.Layout.{vec_in}
 use Rattle.from_lists.proofs.vec_in.Goals as goal

@@ -1,6 +1,5 @@
--- Written by tools/widths from crates/from_lists/proofs/block_from/Answers.antt: edit that one. Digest e6ac65d72a90198d.
+-- Written by tools/widths from crates/from_lists/proofs/block_from/Answers.antt: edit that one. Digest 4f164edb4adee6da.
 -- `from_lists_f32::block_from` meets its contract: a list of the length that is due is read, and any other is told. Assumes nothing.
-use borrow.Author.Rules.{rules}
 use mathlib.Core.Path.{sym}
 use Rattle.layout.specs.Layout.{block_in}
 use Rattle.from_lists.specs.Lists.{block_from}

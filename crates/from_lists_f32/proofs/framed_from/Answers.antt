@@ -1,6 +1,5 @@
--- Written by tools/widths from crates/from_lists/proofs/framed_from/Answers.antt: edit that one. Digest 30888cbd73b81e3a.
+-- Written by tools/widths from crates/from_lists/proofs/framed_from/Answers.antt: edit that one. Digest f7800760d7805479.
 -- `from_lists_f32::framed_from` meets its contract: the numbers and the frames are read, each from its list, or a wrong length is told. Assumes nothing.
-use borrow.Author.Rules.{rules}
 use mathlib.Core.Path.{refl}
 use Rattle.from_lists.specs.Lists.{framed_from}
 use Rattle.from_lists_f32.specs.Told.{pose_read_told, frames_read_told, framed_read_told}

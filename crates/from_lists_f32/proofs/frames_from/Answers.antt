@@ -1,6 +1,5 @@
--- Written by tools/widths from crates/from_lists/proofs/frames_from/Answers.antt: edit that one. Digest 3160f1f856bbd279.
+-- Written by tools/widths from crates/from_lists/proofs/frames_from/Answers.antt: edit that one. Digest d28ea2e7e8065ca1.
 -- `from_lists_f32::frames_from` meets its contract: a list of the length that is due is read, and any other is told. Assumes nothing.
-use borrow.Author.Rules.{rules}
 use mathlib.Core.Path.{sym}
 use Rattle.from_lists.specs.Lists.{frames_from}
 use Rattle.from_lists_f32.specs.Told.{frames_read_told}

@@ -1,6 +1,5 @@
--- Written by tools/widths from crates/from_lists/proofs/mat_from/Answers.antt: edit that one. Digest a9b7b28cca52e9da.
+-- Written by tools/widths from crates/from_lists/proofs/mat_from/Answers.antt: edit that one. Digest b2036f2b22fd99c9.
 -- `from_lists_f32::mat_from` meets its contract: a list of the length that is due is read, and any other is told. Assumes nothing.
-use borrow.Author.Rules.{rules}
 use mathlib.Core.Path.{sym}
 use Rattle.from_lists.specs.Lists.{mat_from}
 use Rattle.from_lists_f32.specs.Told.{mat_read_told}

@@ -1,6 +1,5 @@
--- Written by tools/widths from crates/from_lists/proofs/mat_in/Answers.antt: edit that one. Digest 423e89666f9a3c39.
+-- Written by tools/widths from crates/from_lists/proofs/mat_in/Answers.antt: edit that one. Digest 9841c5b20db207c4.
 -- `from_lists_f32::mat_in` meets its contract: three columns, one behind another. Assumes nothing.
-use borrow.Author.Rules.{rules}
 use Rattle.layout.specs.Layout.{mat_in}
 use Rattle.from_lists_f32.proofs.mat_in.Goals as goal
 use Rattle.linalg_f32.proofs.As.{linalg_singles}

@@ -1,6 +1,5 @@
--- Written by tools/widths from crates/from_lists/proofs/pose_from/Answers.antt: edit that one. Digest 9280fa02c0b3f5f4.
+-- Written by tools/widths from crates/from_lists/proofs/pose_from/Answers.antt: edit that one. Digest 445a5550a853758c.
 -- `from_lists_f32::pose_from` meets its contract: a list of the length that is due is read, and any other is told. Assumes nothing.
-use borrow.Author.Rules.{rules}
 use mathlib.Core.Path.{sym}
 use Rattle.from_lists.specs.Lists.{pose_from}
 use Rattle.from_lists_f32.specs.Told.{pose_read_told}

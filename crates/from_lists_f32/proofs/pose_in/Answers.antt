@@ -1,7 +1,5 @@
--- Written by tools/widths from crates/from_lists/proofs/pose_in/Answers.antt: edit that one. Digest 154583254c5cc11e.
+-- Written by tools/widths from crates/from_lists/proofs/pose_in/Answers.antt: edit that one. Digest f318a8e5554c595c.
 -- `from_lists_f32::pose_in` meets its contract: eight numbers from a place on. Assumes nothing.
-use borrow.Author.Rules.{rules}
-use native.Mathlib.Nat.{add_assoc}
 use Rattle.layout.specs.Layout.{pose_in, quat_in}
 use Rattle.from_lists_f32.proofs.pose_in.Goals as goal
 use Rattle.linalg_f32.proofs.As.{linalg_singles}

@@ -1,6 +1,5 @@
--- Written by tools/widths from crates/from_lists/proofs/tangent_from/Answers.antt: edit that one. Digest ed62c09aa95d76c5.
+-- Written by tools/widths from crates/from_lists/proofs/tangent_from/Answers.antt: edit that one. Digest c1ed485a8d59cf47.
 -- `from_lists_f32::tangent_from` meets its contract: a list of the length that is due is read, and any other is told. Assumes nothing.
-use borrow.Author.Rules.{rules}
 use mathlib.Core.Path.{sym}
 use Rattle.layout.specs.Layout.{tangent_in}
 use Rattle.from_lists.specs.Lists.{tangent_from}

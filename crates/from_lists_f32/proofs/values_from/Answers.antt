@@ -1,6 +1,5 @@
--- Written by tools/widths from crates/from_lists/proofs/values_from/Answers.antt: edit that one. Digest 3438e317dabbca84.
+-- Written by tools/widths from crates/from_lists/proofs/values_from/Answers.antt: edit that one. Digest 319435bb4f245991.
 -- `from_lists_f32::values_from` meets its contract: a list of the length that is due is read, and any other is told. Assumes nothing.
-use borrow.Author.Rules.{rules}
 use mathlib.Core.Path.{sym}
 use Rattle.layout.specs.Layout.{values_in}
 use Rattle.from_lists.specs.Lists.{values_from}

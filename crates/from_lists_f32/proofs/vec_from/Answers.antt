@@ -1,6 +1,5 @@
--- Written by tools/widths from crates/from_lists/proofs/vec_from/Answers.antt: edit that one. Digest a910fa5aa94fa4b6.
+-- Written by tools/widths from crates/from_lists/proofs/vec_from/Answers.antt: edit that one. Digest e6ad92ba7c04aaf0.
 -- `from_lists_f32::vec_from` meets its contract: a list of the length that is due is read, and any other is told. Assumes nothing.
-use borrow.Author.Rules.{rules}
 use mathlib.Core.Path.{sym}
 use Rattle.from_lists.specs.Lists.{vec_from}
 use Rattle.from_lists_f32.specs.Told.{vec_read_told}

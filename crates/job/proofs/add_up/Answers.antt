@@ -1,11 +1,7 @@
 -- `job::add_up` meets its contract: i turns have taken the sum of the first i counts. Assumes nothing.
 use borrow.Author.Rules.{rules}
 use native.Mathlib.Omega.{arith}
-use mathlib.Core.Path.{◌≡◌}
-use Prim.Native.Nat.{ℕ, ◌+◌, ◌-◌, ◌≤◌}
-use lib.ListN.{length, take}
-use Rattle.marks.specs.Rows.{row_count}
-use Rattle.job.specs.Counts.{total}
+use Prim.Native.Nat.{◌-◌}
 use Rattle.job.proofs.Rows.{taken_none, taken_short, taken_more, taken_all}
 use Rattle.job.proofs.add_up.Goals as goal
 

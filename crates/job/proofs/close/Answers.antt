@@ -1,5 +1,4 @@
 -- `job::close` meets its contract: for each reason the run of what it says is written.
-use borrow.Author.Rules.{rules}
 use native.Mathlib.Omega.{arith}
 use mathlib.Core.Path.{refl}
 use Rattle.job.specs.Feed.{closing_of}

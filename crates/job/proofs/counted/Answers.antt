@@ -1,5 +1,4 @@
 -- `job::counted` meets its contract: by how the record counts. Assumes nothing.
-use borrow.Author.Rules.{rules}
 use Rattle.job.specs.Private.{four_more}
 use Rattle.job.proofs.counted.Goals as goal
 

@@ -1,5 +1,4 @@
 -- `job::lose` meets its contract: by what its calls ensure. Assumes nothing.
-use borrow.Author.Rules.{rules}
 use Rattle.job.proofs.lose.Goals as goal
 
 pub returns : goal.returns

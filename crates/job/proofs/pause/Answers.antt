@@ -1,5 +1,4 @@
 -- `job::pause` meets its contract: by what its calls ensure. Assumes nothing.
-use borrow.Author.Rules.{rules}
 use Rattle.job.proofs.pause.Goals as goal
 
 pub returns : goal.returns

@@ -1,5 +1,4 @@
 -- `job::put_count` meets its contract: the four stores are the run of the count's bytes. Assumes nothing.
-use borrow.Author.Rules.{rules}
 use native.Mathlib.Omega.{arith}
 use lib.ListN.{length-set}
 use Rattle.wire.proofs.Places.{count_stored}

@@ -1,5 +1,4 @@
 -- `job::put_no` meets its contract: the three stores are the run of three bytes. Assumes nothing.
-use borrow.Author.Rules.{rules}
 use native.Mathlib.Omega.{arith}
 use lib.ListN.{length-set}
 use native.Mathlib.Numerals.{towards_suc}

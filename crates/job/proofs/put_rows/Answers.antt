@@ -1,12 +1,10 @@
 -- `job::put_rows` meets its contract: i turns have stored the first i counts. Assumes nothing.
 use borrow.Author.Rules.{rules}
 use native.Mathlib.Omega.{arith}
-use mathlib.Core.Path.{◌≡◌, refl, ap, ◌∙◌}
-use Prim.Native.Nat.{ℕ, ◌+◌, ◌-◌, ◌≤◌}
+use mathlib.Core.Path.{refl, ap, ◌∙◌}
+use Prim.Native.Nat.{ℕ, ◌-◌}
 use mathlib.Core.List.{List}
-use lib.ListN.{length, take}
 use lib.Seq.{sets, take_all}
-use Rattle.marks.specs.Rows.{row_count}
 use Rattle.job.specs.Counts.{rows_bytes}
 use Rattle.job.proofs.Rows.{stored_none, stored_more}
 use Rattle.job.proofs.put_rows.Goals as goal

@@ -1,5 +1,4 @@
 -- `job::put_zz` meets its contract: the two stores are the run of two bytes. Assumes nothing.
-use borrow.Author.Rules.{rules}
 use native.Mathlib.Omega.{arith}
 use lib.ListN.{length-set}
 use native.Mathlib.Numerals.{towards_suc}

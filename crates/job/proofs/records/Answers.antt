@@ -2,24 +2,15 @@
 use borrow.Author.Rules.{rules}
 use native.Mathlib.Omega.{arith}
 use Prim.Native.Nat.{◌+◌, ◌-◌, ◌≤◌}
-use mathlib.Core.Path.{◌≡◌, refl, sym, ap, ◌∙◌}
-use mathlib.Core.Bool.{cond}
+use mathlib.Core.Path.{◌≡◌, refl, sym, ◌∙◌}
 use native.Mathlib.Nat.{sub-zero}
-use lib.ListN.{length, take, drop}
-use lib.Seq.{sets}
-use lib.Dec.{ltb}
-use Rattle.outcome.specs.Outcome.{longest}
-use Rattle.marks.specs.Marks.{behind_of}
-use Rattle.kept.specs.State.{state_of, memory}
-use Rattle.marks.proofs.Heads.{met}
-use Rattle.kept.proofs.Records.{held}
-use Rattle.marks.proofs.Rows.{row_held}
+use lib.ListN.{length}
+use Rattle.kept.specs.State.{state_of}
 use Rattle.job.specs.Job.{standing, job_limit}
-use Rattle.job.specs.Feed.{mem_records}
 use Rattle.job.specs.Private.{joined}
 use Rattle.job.proofs.Rows.{row_small, small, more_begun, joined_more, rejoined}
-use Rattle.job.proofs.Loop.{Going, going_start}
-use Rattle.job.proofs.Steps.{left-full, Turn, place-few, after-length, round, round-to, left-roomless, left_end, left_pause, left-unknown, left_cut, left-part}
+use Rattle.job.proofs.Loop.{going_start}
+use Rattle.job.proofs.Steps.{left-full, place-few, after-length, round, round-to, left-roomless, left_end, left_pause, left-unknown, left_cut, left-part}
 use Rattle.job.proofs.Heard.{heard, heard_behind}
 use Rattle.job.proofs.Lent.{left-from, mem_full, mem_round, mem_roomless, mem_end, mem_unknown, mem_cut}
 use Rattle.job.proofs.records.Goals as goal

@@ -1,5 +1,4 @@
 -- `job::refused` meets its contract: the four are counted, and one more in the mark's place. Assumes nothing.
-use borrow.Author.Rules.{rules}
 use native.Mathlib.Omega.{arith}
 use mathlib.Core.Path.{◌∙◌}
 use Rattle.outcome.specs.declared.Kind.TheVariants.{Refused}

@@ -1,5 +1,4 @@
 -- `job::run` meets its contract: one call with all the input is the whole job, unless it ran out of room. Assumes nothing.
-use borrow.Author.Rules.{rules}
 use native.Mathlib.Omega.{arith}
 use mathlib.Core.Path.{◌≡◌, sym, ap, ◌∙◌}
 use mathlib.Core.Bool.{true}

@@ -1,5 +1,4 @@
 -- `job::stop` meets its contract: by its test. Assumes nothing.
-use borrow.Author.Rules.{rules}
 use mathlib.Core.Path.{◌∙◌}
 use borrow.Author.Tests.{lt-ltb, le-ltb}
 use Rattle.job.specs.Private.{stop_of}

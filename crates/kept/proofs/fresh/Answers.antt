@@ -1,5 +1,4 @@
 -- `kept::fresh` meets its contract: five zeros are a running join without a pose, and the store is made fresh. Assumes nothing.
-use borrow.Author.Rules.{rules}
 use native.Mathlib.Omega.{arith}
 use mathlib.Core.Path.{◌∙◌}
 use Prim.Native.Nat.{◌-◌}

@@ -1,5 +1,4 @@
 -- `marks::look_up` meets its contract: by what its calls ensure. Assumes nothing.
-use borrow.Author.Rules.{rules}
 use Rattle.marks.specs.Marks.{mark_of}
 use Rattle.marks.proofs.look_up.Goals as goal
 

@@ -1,5 +1,4 @@
 -- `marks::reply` meets its contract: by the lent bytes, by the length of the input, by its mark, and by what that asks for. Assumes nothing.
-use borrow.Author.Rules.{rules}
 use native.Mathlib.Omega.{arith}
 use mathlib.Core.Path.{refl, sym, ap, ◌∙◌}
 use lib.Ieee.{binary32, binary64}

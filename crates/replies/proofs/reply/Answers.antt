@@ -1,13 +1,12 @@
 -- `replies::reply` meets its contract: a cut record and an output without room are told; else the mark or NO is stored before what the entry wrote. Assumes nothing.
 -- what is known where the entry has answered
-use borrow.Author.Rules.{rules}
 use native.Mathlib.Omega.{arith}
 use Prim.Native.Nat.{ℕ, ◌+◌, ◌-◌, ◌≤◌, ◌<◌}
-use mathlib.Core.Path.{◌≡◌, refl, sym, ap, ◌∙◌}
+use mathlib.Core.Path.{◌≡◌, ap}
 use mathlib.Core.Bool.{true, false}
 use lib.Ieee.{binary64}
-use lib.ListN.{length, take, drop, length-drop, length-set}
-use lib.Seq.{sets, length-take-le}
+use lib.ListN.{length, take, drop, length-set}
+use lib.Seq.{sets}
 use Rattle.outcome.proofs.Record.{reply-cut, reply-roomless}
 use mathlib.Core.List.{List}
 use Rattle.outcome.specs.Outcome.{longest, gave_of, gave_bytes}

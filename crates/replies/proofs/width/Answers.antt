@@ -1,5 +1,4 @@
 -- `replies::width` meets its contract: by the entry. Assumes nothing.
-use borrow.Author.Rules.{rules}
 use Rattle.replies.proofs.width.Goals as goal
 
 pub returns-in-Ex : goal.returns-in-Ex

@@ -1,6 +1,5 @@
--- Written by tools/widths from crates/replies/proofs/width/Answers.antt: edit that one. Digest 71c8650581ff258b.
+-- Written by tools/widths from crates/replies/proofs/width/Answers.antt: edit that one. Digest 354065bcd20535f2.
 -- `replies_f32::width` meets its contract: by the entry. Assumes nothing.
-use borrow.Author.Rules.{rules}
 use Rattle.replies_f32.proofs.width.Goals as goal
 use Rattle.linalg_f32.proofs.As.{linalg_singles}
 use Rattle.circle_f32.proofs.As.{circle_singles}

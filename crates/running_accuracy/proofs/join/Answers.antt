@@ -1,5 +1,4 @@
 -- `running_accuracy::join` meets its contract: by what its call ensures. Assumes nothing.
-use borrow.Author.Rules.{rules}
 use mathlib.Core.Path.{ap}
 use Rattle.running.specs.Running.{Joint}
 use Rattle.running_accuracy.proofs.OneMore.{join-holds}

@@ -1,7 +1,5 @@
 -- `sheets::add` meets its contract: by whether there is a slot, and whether it is one more. Assumes nothing.
-use borrow.Author.Rules.{rules}
 use native.Mathlib.Omega.{arith}
-use mathlib.Core.Path.{◌∙◌}
 use Rattle.wire.specs.Wire.{item_bytes}
 use Rattle.sheets.specs.Store.{used_of}
 use Rattle.sheets.proofs.Told.{add-full, add-next, add_free}

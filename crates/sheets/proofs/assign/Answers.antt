@@ -1,5 +1,4 @@
 -- `sheets::assign` meets its contract: the index, and the slot. Assumes nothing.
-use borrow.Author.Rules.{rules}
 use native.Mathlib.Omega.{arith}
 use mathlib.Core.Path.{◌∙◌}
 use Rattle.wire.specs.Wire.{item_bytes}

@@ -1,11 +1,8 @@
 -- `sheets::free_slot` meets its contract: all slots before the one looked at are a sheet's own. Assumes nothing.
-use borrow.Author.Rules.{rules}
-use native.Mathlib.Omega.{arith}
-use Prim.Native.Nat.{ℕ, suc, ◌+◌, ◌-◌, ◌≤◌, ◌<◌}
-use mathlib.Core.Path.{◌≡◌, refl, sym, ap, ◌∙◌}
+use Prim.Native.Nat.{◌-◌, ◌≤◌}
+use mathlib.Core.Path.{◌≡◌}
 use Rattle.sheets.specs.Sheets.{most}
-use Rattle.sheets.specs.Store.{slot_of, sheet_in, free_from, free_slot}
-use Rattle.sheets.proofs.Own.{search_start, search_none, search_free, search_next}
+use Rattle.sheets.specs.Store.{free_from, free_slot}
 use Rattle.sheets.proofs.free_slot.Given as goal
 
 abbrev pub invariant-loop-slot : goal.invariant-loop-slot

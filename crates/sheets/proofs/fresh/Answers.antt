@@ -1,5 +1,4 @@
 -- `sheets::fresh` meets its contract: no slot is in use. Assumes nothing.
-use borrow.Author.Rules.{rules}
 use native.Mathlib.Omega.{arith}
 use Rattle.wire.specs.Wire.{item_bytes}
 use Rattle.sheets.proofs.Told.{fresh_made, fresh_left}

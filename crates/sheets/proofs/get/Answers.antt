@@ -1,9 +1,6 @@
 -- `sheets::get` meets its contract: by the length of the bytes, and by whether the slot is the sheet's. Assumes nothing.
 use borrow.Author.Rules.{rules}
-use native.Mathlib.Omega.{arith}
 use mathlib.Core.Path.{sym, ◌∙◌}
-use lib.Seq.{length-take-le}
-use lib.ListN.{length-drop}
 use Rattle.sheets.proofs.Told.{get_storeless, get_kept, get_none}
 use Rattle.sheets.proofs.get.Goals as goal
 

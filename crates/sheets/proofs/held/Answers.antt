@@ -1,5 +1,4 @@
 -- `sheets::held` meets its contract: by the number of slots in use, and by the sheet in the slot. Assumes nothing.
-use borrow.Author.Rules.{rules}
 use native.Mathlib.Omega.{arith}
 use Rattle.sheets.specs.Store.{used_of, held_at}
 use Rattle.sheets.proofs.held.Goals as goal

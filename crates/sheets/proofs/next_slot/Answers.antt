@@ -1,6 +1,4 @@
 -- `sheets::next_slot` meets its contract: by whether all slots are in use. Assumes nothing.
-use borrow.Author.Rules.{rules}
-use native.Mathlib.Omega.{arith}
 use mathlib.Core.Path.{◌∙◌}
 use Rattle.sheets.proofs.Told.{next-used, next_free}
 use Rattle.sheets.proofs.next_slot.Goals as goal

@@ -1,6 +1,5 @@
 -- `sheets::put` meets its contract: by the length of the bytes, and by whether the slot is the sheet's. Assumes nothing.
 use borrow.Author.Rules.{rules}
-use native.Mathlib.Omega.{arith}
 use mathlib.Core.Path.{sym, ◌∙◌}
 use Rattle.sheets.proofs.Framed.{Fit}
 use Rattle.sheets.proofs.Told.{put_storeless, put_added, put_again}

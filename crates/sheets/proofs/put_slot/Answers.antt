@@ -1,5 +1,4 @@
 -- `sheets::put_slot` meets its contract: three stores are one run. Assumes nothing.
-use borrow.Author.Rules.{rules}
 use native.Mathlib.Omega.{arith}
 use mathlib.Core.Path.{◌∙◌}
 use Rattle.sheets.proofs.Stored.{slot_stored}

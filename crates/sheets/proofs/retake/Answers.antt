@@ -1,7 +1,6 @@
 -- `sheets::retake` meets its contract: by the two takes. Assumes nothing.
-use borrow.Author.Rules.{rules}
 use native.Mathlib.Omega.{arith}
-use mathlib.Core.Path.{refl, sym, ap, ◌∙◌}
+use mathlib.Core.Path.{refl}
 use borrow.Author.Tests.{eq-eqb, ne_eqb, lt-ltb, le-ltb}
 use Rattle.sheets.specs.Store.{put_told, retake_told, retake_bytes}
 use Rattle.sheets.proofs.retake.Goals as goal

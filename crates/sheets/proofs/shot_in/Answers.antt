@@ -1,6 +1,4 @@
 -- `sheets::shot_in` meets its contract: the take, and behind it the pose with its frames. Assumes nothing.
-use borrow.Author.Rules.{rules}
-use native.Mathlib.Omega.{arith}
 use Rattle.sheets.specs.Store.{shot_in}
 use Rattle.sheets.proofs.shot_in.Goals as goal
 

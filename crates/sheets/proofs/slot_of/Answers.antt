@@ -1,5 +1,4 @@
 -- `sheets::slot_of` meets its contract: the two bytes of the index, modulo the number of slots. Assumes nothing.
-use borrow.Author.Rules.{rules}
 use native.Mathlib.Omega.{arith}
 use mathlib.Core.Path.{ap}
 use Prim.Native.Nat.{ℕ, ◌%◌}

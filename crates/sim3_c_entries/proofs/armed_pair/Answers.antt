@@ -1,5 +1,4 @@
 -- `sim3_c_entries::armed_pair` meets its contract: the list is read, the engine is asked, and its answer is written or the refusal handed on. Assumes nothing.
-use borrow.Author.Rules.{rules}
 use mathlib.Core.Path.{refl}
 use Rattle.coeffs.specs.Entries.{armed_pair_told}
 use Rattle.from_lists.specs.Lists.{values_read_told}

@@ -1,16 +1,13 @@
 -- `sim3_c_entries::put_arms` meets its contract: an `out` of the length that is due has the arms and the numbers written, and with any other both are left as they were. Assumes nothing.
-use borrow.Author.Rules.{rules}
-use mathlib.Core.Path.{◌≡◌, refl, sym, ap, ◌∙◌}
-use mathlib.Core.List.{List}
+use mathlib.Core.Path.{refl, ◌∙◌}
 use borrow.Author.Tests.{eq-eqb, ne_eqb}
 use native.Mathlib.Omega.{arith}
 use lib.ListN.{length, length-set}
-use lib.Ieee.{Float}
 use Rattle.layout.specs.Layout.{scaled_pair_numbers, armed_scaled}
 use Rattle.layout.proofs.Numbers.{scaled-pair-count}
 use Rattle.to_lists.specs.Written.{status, written}
 use Rattle.to_lists.proofs.Fits.{fitted}
-use Rattle.sim3_c_entries.specs.Calls.{arm_lists, arm_bytes, arms_fitting}
+use Rattle.sim3_c_entries.specs.Calls.{arms_fitting}
 use Rattle.sim3_c_entries.proofs.Arms.{bytes_stored}
 use Rattle.sim3_c_entries.proofs.put_arms.Goals as goal
 

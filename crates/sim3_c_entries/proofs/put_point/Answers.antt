@@ -1,5 +1,4 @@
 -- `sim3_c_entries::put_point` meets its contract: an `out` of the length that is due has the numbers written, and any other is left as it was. Assumes nothing.
-use borrow.Author.Rules.{rules}
 use mathlib.Core.Path.{refl, ◌∙◌}
 use Rattle.linalg.specs.Vector.{vec_numbers}
 use Rattle.layout.proofs.Numbers.{vec-count}

@@ -1,5 +1,4 @@
 -- `sim3_c_entries::sim3_block_inverse` meets its contract: the lists are read, the engine is asked, and its answer is written or the refusal handed on. Assumes nothing.
-use borrow.Author.Rules.{rules}
 use mathlib.Core.Path.{refl}
 use Rattle.jacobian.specs.Jac.{jac_told}
 use Rattle.from_lists.specs.Lists.{block_read_told}

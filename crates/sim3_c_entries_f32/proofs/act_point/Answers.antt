@@ -1,6 +1,5 @@
--- Written by tools/widths from crates/sim3_c_entries/proofs/act_point/Answers.antt: edit that one. Digest 75dc937ce264e85e.
+-- Written by tools/widths from crates/sim3_c_entries/proofs/act_point/Answers.antt: edit that one. Digest 727f45e3c0357ad5.
 -- `sim3_c_entries_f32::act_point` meets its contract: the lists are read, the engine is asked, and its answer is written. Assumes nothing.
-use borrow.Author.Rules.{rules}
 use mathlib.Core.Path.{refl}
 use Rattle.from_lists_f32.specs.Told.{pose_read_told, vec_read_told}
 use Rattle.to_lists.specs.Written.{status, written}

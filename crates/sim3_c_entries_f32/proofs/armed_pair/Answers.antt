@@ -1,6 +1,5 @@
--- Written by tools/widths from crates/sim3_c_entries/proofs/armed_pair/Answers.antt: edit that one. Digest fa40620d80d6e192.
+-- Written by tools/widths from crates/sim3_c_entries/proofs/armed_pair/Answers.antt: edit that one. Digest ebf3f70d3e726081.
 -- `sim3_c_entries_f32::armed_pair` meets its contract: the list is read, the engine is asked, and its answer is written or the refusal handed on. Assumes nothing.
-use borrow.Author.Rules.{rules}
 use mathlib.Core.Path.{refl}
 use Rattle.coeffs_f32.specs.Told.{armed_pair_told}
 use Rattle.from_lists_f32.specs.Told.{values_read_told}

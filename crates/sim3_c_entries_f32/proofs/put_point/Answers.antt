@@ -1,6 +1,5 @@
--- Written by tools/widths from crates/sim3_c_entries/proofs/put_point/Answers.antt: edit that one. Digest c011de5a74d39074.
+-- Written by tools/widths from crates/sim3_c_entries/proofs/put_point/Answers.antt: edit that one. Digest f04f97830a3c4b5d.
 -- `sim3_c_entries_f32::put_point` meets its contract: an `out` of the length that is due has the numbers written, and any other is left as it was. Assumes nothing.
-use borrow.Author.Rules.{rules}
 use mathlib.Core.Path.{refl, ◌∙◌}
 use Rattle.linalg.specs.Vector.{vec_numbers}
 use Rattle.layout.proofs.Numbers.{vec-count}

@@ -1,6 +1,5 @@
--- Written by tools/widths from crates/sim3_c_entries/proofs/sim3_block_inverse/Answers.antt: edit that one. Digest cfec49b931d889ab.
+-- Written by tools/widths from crates/sim3_c_entries/proofs/sim3_block_inverse/Answers.antt: edit that one. Digest 8723691013600519.
 -- `sim3_c_entries_f32::sim3_block_inverse_f32` meets its contract: the lists are read, the engine is asked, and its answer is written or the refusal handed on. Assumes nothing.
-use borrow.Author.Rules.{rules}
 use mathlib.Core.Path.{refl}
 use Rattle.jacobian_f32.specs.Told.{jac_told}
 use Rattle.from_lists_f32.specs.Told.{block_read_told}

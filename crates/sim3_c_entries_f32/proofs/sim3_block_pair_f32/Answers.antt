@@ -1,6 +1,5 @@
--- Written by tools/widths from crates/sim3_c_entries/proofs/sim3_block_pair/Answers.antt: edit that one. Digest 010d11925a160864.
+-- Written by tools/widths from crates/sim3_c_entries/proofs/sim3_block_pair/Answers.antt: edit that one. Digest 07f7a5fd72e16d64.
 -- `sim3_c_entries_f32::sim3_block_pair_f32` meets its contract: the lists are read, the engine is asked, and its answer is written or the refusal handed on. Assumes nothing.
-use borrow.Author.Rules.{rules}
 use mathlib.Core.Path.{refl}
 use Rattle.from_lists_f32.specs.Told.{mat_read_told, tangent_read_told, values_read_told}
 use Rattle.to_lists.specs.Written.{status, written}

@@ -1,6 +1,5 @@
--- Written by tools/widths from crates/sim3_c_entries/proofs/sim3_exp/Answers.antt: edit that one. Digest 03328837e2c8c4ef.
+-- Written by tools/widths from crates/sim3_c_entries/proofs/sim3_exp/Answers.antt: edit that one. Digest 27f6c59305910890.
 -- `sim3_c_entries_f32::sim3_exp_f32` meets its contract: the lists are read, the engine is asked, and its answer is written or the refusal handed on. Assumes nothing.
-use borrow.Author.Rules.{rules}
 use mathlib.Core.Path.{refl}
 use Rattle.from_lists_f32.specs.Told.{tangent_read_told, values_read_told, frames_read_told}
 use Rattle.to_lists.specs.Written.{status, written}

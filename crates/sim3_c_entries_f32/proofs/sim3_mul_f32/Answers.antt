@@ -1,6 +1,5 @@
--- Written by tools/widths from crates/sim3_c_entries/proofs/sim3_mul/Answers.antt: edit that one. Digest 065e5833ad60bca7.
+-- Written by tools/widths from crates/sim3_c_entries/proofs/sim3_mul/Answers.antt: edit that one. Digest 5645c786fb56c9d1.
 -- `sim3_c_entries_f32::sim3_mul_f32` meets its contract: the lists are read, the engine is asked, and its answer is written or the refusal handed on. Assumes nothing.
-use borrow.Author.Rules.{rules}
 use mathlib.Core.Path.{refl}
 use Rattle.from_lists_f32.specs.Told.{framed_read_told}
 use Rattle.to_lists.specs.Written.{status, written}

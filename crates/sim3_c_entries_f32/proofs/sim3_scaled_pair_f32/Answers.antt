@@ -1,6 +1,5 @@
--- Written by tools/widths from crates/sim3_c_entries/proofs/sim3_scaled_pair/Answers.antt: edit that one. Digest 0165ef58ad094f60.
+-- Written by tools/widths from crates/sim3_c_entries/proofs/sim3_scaled_pair/Answers.antt: edit that one. Digest 4f7e384c7d632b6c.
 -- `sim3_c_entries_f32::sim3_scaled_pair_f32` meets its contract: the lists are read, the engine is asked, and its answer is written or the refusal handed on. Assumes nothing.
-use borrow.Author.Rules.{rules}
 use mathlib.Core.Path.{refl}
 use Rattle.coeffs_f32.specs.Told.{pair_told}
 use Rattle.from_lists_f32.specs.Told.{values_read_told}

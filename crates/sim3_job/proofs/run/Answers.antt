@@ -1,21 +1,19 @@
 -- `sim3_job::run` meets its contract. From a tape, what the sink holds and what the job still writes are together what
 -- it writes for the whole tape; and each turn brings the end nearer, wherever it reads from.
-use borrow.Author.Rules.{rules}
 use native.Mathlib.Omega.{arith}
 use Prim.Native.Nat.{ℕ, ◌+◌, ◌-◌, ◌≤◌, ◌<◌}
 use mathlib.Core.Bool.{Bool, true, false}
 use mathlib.Core.Path.{◌≡◌, refl, sym, ap, subst, ◌∙◌}
 use mathlib.Core.List.{List, ◌++◌}
 use lib.Seq.{length-take-le}
-use lib.ListN.{length, take, drop}
+use lib.ListN.{length, take}
 use Rattle.job.specs.declared.Fed.{Fed}
-use Rattle.kept.specs.State.{state_none, state_of, memory, holds}
+use Rattle.kept.specs.State.{state_none, state_of, holds}
 use Rattle.kept.proofs.Records.{held}
-use Rattle.job.specs.Counts.{counts_sound}
 use Rattle.job.specs.Job.{standing, job_limit}
-use Rattle.job.specs.Feed.{feed_of, goes_on, answer_room, record_room}
+use Rattle.job.specs.Feed.{feed_of, goes_on, answer_room}
 use Rattle.job.proofs.Input.{input}
-use Rattle.sim3_job.proofs.Underway.{Underway, underway_start, underway_feed, underway_done, underway_short, within, tape_read, tape_failed, sink_within, sink_holds, sink_short, handed}
+use Rattle.sim3_job.proofs.Underway.{underway_start, underway_feed, underway_done, underway_short, within, tape_read, tape_failed, sink_within, sink_holds, sink_short, handed}
 use Rattle.sim3_job.proofs.Nearer.{to_go, nearer, still_sound, none_sound, asks_more}
 use Rattle.sim3_job.proofs.run.Goals as goal
 

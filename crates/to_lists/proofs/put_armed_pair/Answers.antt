@@ -1,5 +1,4 @@
 -- `to_lists::put_armed_pair` meets its contract: an `out` of the length that is due has the numbers written, and any other is left as it was. Assumes nothing.
-use borrow.Author.Rules.{rules}
 use mathlib.Core.Path.{◌∙◌}
 use lib.Ieee.{binary64}
 use Rattle.to_lists.specs.Written.{armed_pair_numbers}

@@ -1,5 +1,4 @@
 -- `to_lists::put_joined` meets its contract: the pose is written or the refusal handed on. Assumes nothing.
-use borrow.Author.Rules.{rules}
 use mathlib.Core.Path.{refl}
 use Rattle.frames.specs.Joins.{pose_told}
 use Rattle.to_lists.specs.Written.{status, written, joined_fitting}

@@ -1,5 +1,4 @@
 -- `to_lists::put_scaled_pair` meets its contract: an `out` of the length that is due has the numbers written, and any other is left as it was. Assumes nothing.
-use borrow.Author.Rules.{rules}
 use mathlib.Core.Path.{◌∙◌}
 use Rattle.layout.specs.Layout.{scaled_pair_numbers}
 use Rattle.layout.proofs.Numbers.{scaled-pair-count}

@@ -1,5 +1,4 @@
 -- `to_lists::renormalize_pose` meets its contract: the pose is read, renormalised and written in its place, or a wrong length is told. Assumes nothing.
-use borrow.Author.Rules.{rules}
 use mathlib.Core.Path.{refl}
 use Rattle.from_lists.specs.Lists.{pose_read_told}
 use Rattle.to_lists.specs.Written.{status, written, renormalize_call}

@@ -1,5 +1,4 @@
 -- `to_lists::set_arm` meets its contract: two stores are the run of the arm and its ends. Assumes nothing.
-use borrow.Author.Rules.{rules}
 use native.Mathlib.Omega.{arith}
 use lib.ListN.{length-set}
 use lib.Ieee.{of_bits, binary64}

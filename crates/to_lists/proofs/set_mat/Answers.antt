@@ -1,5 +1,4 @@
 -- `to_lists::set_mat` meets its contract: the runs of its columns are its run. Assumes nothing.
-use borrow.Author.Rules.{rules}
 use Rattle.to_lists.proofs.Stores.{mat_stored}
 use Rattle.to_lists.proofs.set_mat.Goals as goal
 

@@ -1,6 +1,5 @@
 -- `to_lists::set_pose` meets its contract: the quaternion, the translation and the store of the log scale are the run of the numbers. Assumes nothing.
 use borrow.Author.Rules.{rules}
-use native.Mathlib.Omega.{arith}
 use lib.ListN.{length-set}
 use Rattle.to_lists.proofs.Stores.{pose_stored}
 use Rattle.to_lists.proofs.set_pose.Goals as goal

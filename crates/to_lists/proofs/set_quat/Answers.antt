@@ -1,5 +1,4 @@
 -- `to_lists::set_quat` meets its contract: four stores are the run of the quaternion. Assumes nothing.
-use borrow.Author.Rules.{rules}
 use native.Mathlib.Omega.{arith}
 use lib.ListN.{length-set}
 use Rattle.to_lists.proofs.Stores.{quat_stored}

@@ -1,5 +1,4 @@
 -- `to_lists::set_scaled` meets its contract: ten stores are the run of the coefficients and the flag. Assumes nothing.
-use borrow.Author.Rules.{rules}
 use native.Mathlib.Omega.{arith}
 use lib.ListN.{length-set}
 use lib.Ieee.{of_bits}

@@ -1,5 +1,4 @@
 -- `to_lists::set_three` meets its contract: three stores are the run of the vector. Assumes nothing.
-use borrow.Author.Rules.{rules}
 use native.Mathlib.Omega.{arith}
 use lib.ListN.{length-set}
 use Rattle.to_lists.proofs.Stores.{three_stored}

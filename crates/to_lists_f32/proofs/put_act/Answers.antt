@@ -1,6 +1,5 @@
--- Written by tools/widths from crates/to_lists/proofs/put_act/Answers.antt: edit that one. Digest 76c303a77e2e5b42.
+-- Written by tools/widths from crates/to_lists/proofs/put_act/Answers.antt: edit that one. Digest c6cd61efce2d8f77.
 -- `to_lists_f32::put_act` meets its contract: an `out` of the length that is due has the numbers written, and any other is left as it was. Assumes nothing.
-use borrow.Author.Rules.{rules}
 use mathlib.Core.Path.{◌∙◌}
 use Rattle.layout.specs.Layout.{act_numbers}
 use Rattle.layout.proofs.Numbers.{act_count_lem}

@@ -1,6 +1,5 @@
--- Written by tools/widths from crates/to_lists/proofs/put_armed/Answers.antt: edit that one. Digest fe7664068582e6cb.
+-- Written by tools/widths from crates/to_lists/proofs/put_armed/Answers.antt: edit that one. Digest 85f067d9195a0778.
 -- `to_lists_f32::put_armed` meets its contract: an `out` of the length that is due has the numbers written, and any other is left as it was. Assumes nothing.
-use borrow.Author.Rules.{rules}
 use mathlib.Core.Path.{◌∙◌}
 use lib.Ieee.{binary32}
 use Rattle.to_lists.specs.Written.{armed_numbers}

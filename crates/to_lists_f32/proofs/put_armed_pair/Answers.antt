@@ -1,6 +1,5 @@
--- Written by tools/widths from crates/to_lists/proofs/put_armed_pair/Answers.antt: edit that one. Digest 85e469b1d04df7ad.
+-- Written by tools/widths from crates/to_lists/proofs/put_armed_pair/Answers.antt: edit that one. Digest 16876d1212eb20ec.
 -- `to_lists_f32::put_armed_pair` meets its contract: an `out` of the length that is due has the numbers written, and any other is left as it was. Assumes nothing.
-use borrow.Author.Rules.{rules}
 use mathlib.Core.Path.{◌∙◌}
 use lib.Ieee.{binary32}
 use Rattle.to_lists.specs.Written.{armed_pair_numbers}

@@ -1,6 +1,5 @@
--- Written by tools/widths from crates/to_lists/proofs/put_block/Answers.antt: edit that one. Digest 992e3aedaf5a0234.
+-- Written by tools/widths from crates/to_lists/proofs/put_block/Answers.antt: edit that one. Digest 96cd458e4b6f5f0b.
 -- `to_lists_f32::put_block` meets its contract: an `out` of the length that is due has the numbers written, and any other is left as it was. Assumes nothing.
-use borrow.Author.Rules.{rules}
 use mathlib.Core.Path.{◌∙◌}
 use Rattle.layout.specs.Layout.{block_numbers}
 use Rattle.layout.proofs.Numbers.{block-count}

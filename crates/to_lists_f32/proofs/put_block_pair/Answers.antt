@@ -1,6 +1,5 @@
--- Written by tools/widths from crates/to_lists/proofs/put_block_pair/Answers.antt: edit that one. Digest 2579489a03dfb305.
+-- Written by tools/widths from crates/to_lists/proofs/put_block_pair/Answers.antt: edit that one. Digest a87c5807fcb8abda.
 -- `to_lists_f32::put_block_pair` meets its contract: an `out` of the length that is due has the numbers written, and any other is left as it was. Assumes nothing.
-use borrow.Author.Rules.{rules}
 use mathlib.Core.Path.{◌∙◌}
 use Rattle.layout.specs.Layout.{block_pair_numbers}
 use Rattle.layout.proofs.Numbers.{block-pair-count}

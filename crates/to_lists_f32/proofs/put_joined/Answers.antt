@@ -1,6 +1,5 @@
--- Written by tools/widths from crates/to_lists/proofs/put_joined/Answers.antt: edit that one. Digest c679d65a3f1a9629.
+-- Written by tools/widths from crates/to_lists/proofs/put_joined/Answers.antt: edit that one. Digest 03bee5f532075ab7.
 -- `to_lists_f32::put_joined` meets its contract: the pose is written or the refusal handed on. Assumes nothing.
-use borrow.Author.Rules.{rules}
 use mathlib.Core.Path.{refl}
 use Rattle.frames_f32.specs.Told.{pose_told}
 use Rattle.to_lists.specs.Written.{status, written, joined_fitting}

@@ -1,6 +1,5 @@
--- Written by tools/widths from crates/to_lists/proofs/put_pose/Answers.antt: edit that one. Digest 8b98b17d8979b49d.
+-- Written by tools/widths from crates/to_lists/proofs/put_pose/Answers.antt: edit that one. Digest df94b8062a2755cf.
 -- `to_lists_f32::put_pose` meets its contract: an `out` of the length that is due has the numbers written, and any other is left as it was. Assumes nothing.
-use borrow.Author.Rules.{rules}
 use mathlib.Core.Path.{◌∙◌}
 use Rattle.layout.specs.Layout.{pose_numbers}
 use Rattle.layout.proofs.Numbers.{pose-count}

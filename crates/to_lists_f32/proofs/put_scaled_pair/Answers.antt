@@ -1,6 +1,5 @@
--- Written by tools/widths from crates/to_lists/proofs/put_scaled_pair/Answers.antt: edit that one. Digest 62420c5885d13b52.
+-- Written by tools/widths from crates/to_lists/proofs/put_scaled_pair/Answers.antt: edit that one. Digest d095ac3db923a9f1.
 -- `to_lists_f32::put_scaled_pair` meets its contract: an `out` of the length that is due has the numbers written, and any other is left as it was. Assumes nothing.
-use borrow.Author.Rules.{rules}
 use mathlib.Core.Path.{◌∙◌}
 use Rattle.layout.specs.Layout.{scaled_pair_numbers}
 use Rattle.layout.proofs.Numbers.{scaled-pair-count}

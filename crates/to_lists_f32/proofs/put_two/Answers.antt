@@ -1,6 +1,5 @@
--- Written by tools/widths from crates/to_lists/proofs/put_two/Answers.antt: edit that one. Digest 275e64f4919b10ce.
+-- Written by tools/widths from crates/to_lists/proofs/put_two/Answers.antt: edit that one. Digest 12b92d1622ec68cb.
 -- `to_lists_f32::put_two` meets its contract: an `out` of the length that is due has the numbers written, and any other is left as it was. Assumes nothing.
-use borrow.Author.Rules.{rules}
 use mathlib.Core.Path.{◌∙◌}
 use Rattle.layout.specs.Layout.{two_numbers}
 use Rattle.layout.proofs.Numbers.{two_count_lem}

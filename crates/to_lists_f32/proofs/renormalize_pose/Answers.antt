@@ -1,6 +1,5 @@
--- Written by tools/widths from crates/to_lists/proofs/renormalize_pose/Answers.antt: edit that one. Digest 331594c3dfd8add7.
+-- Written by tools/widths from crates/to_lists/proofs/renormalize_pose/Answers.antt: edit that one. Digest 23a61144858ca986.
 -- `to_lists_f32::renormalize_pose` meets its contract: the pose is read, renormalised and written in its place, or a wrong length is told. Assumes nothing.
-use borrow.Author.Rules.{rules}
 use mathlib.Core.Path.{refl}
 use Rattle.from_lists_f32.specs.Told.{pose_read_told}
 use Rattle.to_lists.specs.Written.{status, written, renormalize_call}

@@ -1,6 +1,5 @@
--- Written by tools/widths from crates/to_lists/proofs/set_arm/Answers.antt: edit that one. Digest 98fd1a91004b2a54.
+-- Written by tools/widths from crates/to_lists/proofs/set_arm/Answers.antt: edit that one. Digest b7c1376ed4887ad3.
 -- `to_lists_f32::set_arm` meets its contract: two stores are the run of the arm and its ends. Assumes nothing.
-use borrow.Author.Rules.{rules}
 use native.Mathlib.Omega.{arith}
 use lib.ListN.{length-set}
 use lib.Ieee.{of_bits, binary32}

@@ -1,6 +1,5 @@
--- Written by tools/widths from crates/to_lists/proofs/set_mat/Answers.antt: edit that one. Digest 7e22f42eacd2c9ca.
+-- Written by tools/widths from crates/to_lists/proofs/set_mat/Answers.antt: edit that one. Digest 35ef503376a872e9.
 -- `to_lists_f32::set_mat` meets its contract: the runs of its columns are its run. Assumes nothing.
-use borrow.Author.Rules.{rules}
 use Rattle.to_lists.proofs.Stores.{mat_stored}
 use Rattle.to_lists_f32.proofs.set_mat.Goals as goal
 use Rattle.linalg_f32.specs.As.{as_mat3, as_vec3}

@@ -1,7 +1,6 @@
--- Written by tools/widths from crates/to_lists/proofs/set_pose/Answers.antt: edit that one. Digest faffde5cae131c3e.
+-- Written by tools/widths from crates/to_lists/proofs/set_pose/Answers.antt: edit that one. Digest 2a62c63c36333fe0.
 -- `to_lists_f32::set_pose` meets its contract: the quaternion, the translation and the store of the log scale are the run of the numbers. Assumes nothing.
 use borrow.Author.Rules.{rules}
-use native.Mathlib.Omega.{arith}
 use lib.ListN.{length-set}
 use Rattle.to_lists.proofs.Stores.{pose_stored}
 use Rattle.to_lists_f32.proofs.set_pose.Goals as goal

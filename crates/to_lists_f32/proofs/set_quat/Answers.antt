@@ -1,6 +1,5 @@
--- Written by tools/widths from crates/to_lists/proofs/set_quat/Answers.antt: edit that one. Digest ba137c46b8cd8fe3.
+-- Written by tools/widths from crates/to_lists/proofs/set_quat/Answers.antt: edit that one. Digest 91ba9c4145a720f6.
 -- `to_lists_f32::set_quat` meets its contract: four stores are the run of the quaternion. Assumes nothing.
-use borrow.Author.Rules.{rules}
 use native.Mathlib.Omega.{arith}
 use lib.ListN.{length-set}
 use Rattle.to_lists.proofs.Stores.{quat_stored}

@@ -1,6 +1,5 @@
--- Written by tools/widths from crates/to_lists/proofs/set_scaled/Answers.antt: edit that one. Digest 101609bf2d003c5c.
+-- Written by tools/widths from crates/to_lists/proofs/set_scaled/Answers.antt: edit that one. Digest 909a6908f0932285.
 -- `to_lists_f32::set_scaled` meets its contract: ten stores are the run of the coefficients and the flag. Assumes nothing.
-use borrow.Author.Rules.{rules}
 use native.Mathlib.Omega.{arith}
 use lib.ListN.{length-set}
 use lib.Ieee.{of_bits}

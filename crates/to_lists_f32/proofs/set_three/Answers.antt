@@ -1,6 +1,5 @@
--- Written by tools/widths from crates/to_lists/proofs/set_three/Answers.antt: edit that one. Digest 359c8349c1adcd0f.
+-- Written by tools/widths from crates/to_lists/proofs/set_three/Answers.antt: edit that one. Digest 2184ded178197038.
 -- `to_lists_f32::set_three` meets its contract: three stores are the run of the vector. Assumes nothing.
-use borrow.Author.Rules.{rules}
 use native.Mathlib.Omega.{arith}
 use lib.ListN.{length-set}
 use Rattle.to_lists.proofs.Stores.{three_stored}

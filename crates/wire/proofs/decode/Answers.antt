@@ -1,9 +1,7 @@
 -- `wire::decode` meets its contract: as many numbers as both have, by the look through them. Assumes nothing.
-use borrow.Author.Rules.{rules}
 use native.Mathlib.Omega.{arith}
-use mathlib.Core.Path.{◌≡◌, refl, sym, ap, ◌∙◌}
-use Prim.Native.Nat.{ℕ, ◌+◌, ◌-◌, ◌*◌, ◌/◌, ◌≤◌}
-use lib.ListN.{length}
+use mathlib.Core.Path.{◌≡◌, refl, sym, ◌∙◌}
+use Prim.Native.Nat.{◌+◌, ◌-◌, ◌*◌}
 use lib.Ieee.{binary64}
 use Rattle.wire.proofs.Nans.{part-plain}
 use Rattle.wire.proofs.decode.Goals as goal

@@ -1,14 +1,10 @@
 -- `wire::decode_any` meets its contract: i turns have stored the first i numbers. Assumes nothing.
-use borrow.Author.Rules.{rules}
-use native.Mathlib.Omega.{arith}
-use mathlib.Core.Path.{◌≡◌, refl, ap, ◌∙◌}
-use Prim.Native.Nat.{ℕ, ◌+◌, ◌-◌, ◌≤◌}
-use lib.ListN.{length, length-set}
+use mathlib.Core.Path.{◌≡◌}
+use Prim.Native.Nat.{◌-◌, ◌≤◌}
+use lib.ListN.{length}
 use lib.Seq.{sets}
 use lib.Ieee.{binary64}
-use Rattle.wire.specs.Wire.{word_at, number_of, number_at}
-use Rattle.wire.specs.Wire.{firsts, numbers_at}
-use Rattle.wire.proofs.Lists.{decoded_more}
+use Rattle.wire.specs.Wire.{numbers_at}
 use Rattle.wire.proofs.decode_any.Given as goal
 
 abbrev pub invariant-loop-i : goal.invariant-loop-i

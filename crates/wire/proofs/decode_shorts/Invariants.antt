@@ -1,12 +1,9 @@
 -- `wire::decode_shorts` meets its contract: i turns have stored the first i numbers. Assumes nothing.
-use borrow.Author.Rules.{rules}
-use native.Mathlib.Omega.{arith}
-use mathlib.Core.Path.{◌≡◌, refl, ap, ◌∙◌}
-use Prim.Native.Nat.{ℕ, ◌+◌, ◌-◌, ◌*◌, ◌/◌, ◌≤◌}
-use lib.ListN.{length, length-set}
+use mathlib.Core.Path.{◌≡◌}
+use Prim.Native.Nat.{◌-◌, ◌≤◌}
+use lib.ListN.{length}
 use lib.Seq.{sets}
-use Rattle.wire.specs.Wire.{word_at, fewer, firsts, words_at}
-use Rattle.wire.proofs.Lists.{decoded_more}
+use Rattle.wire.specs.Wire.{words_at}
 use Rattle.wire.proofs.decode_shorts.Given as goal
 
 abbrev pub invariant-loop-i : goal.invariant-loop-i

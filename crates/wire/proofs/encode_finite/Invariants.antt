@@ -1,13 +1,10 @@
 -- `wire::encode_finite` meets its contract: i turns have stored the first i numbers. Assumes nothing.
-use borrow.Author.Rules.{rules}
-use native.Mathlib.Omega.{arith}
-use mathlib.Core.Path.{◌≡◌, refl, sym, ap, ◌∙◌}
-use Prim.Native.Nat.{ℕ, ◌+◌, ◌-◌, ◌*◌, ◌/◌, ◌≤◌, ◌<◌}
-use lib.ListN.{length, take, length-set}
+use mathlib.Core.Path.{◌≡◌}
+use Prim.Native.Nat.{◌-◌, ◌≤◌}
+use lib.ListN.{length, take}
 use lib.Seq.{sets}
 use lib.Ieee.{binary64}
 use Rattle.wire.specs.Wire.{numbers_bytes}
-use Rattle.wire.proofs.Lists.{encoded_more, one-finite}
 use Rattle.wire.proofs.encode_finite.Given as goal
 
 abbrev pub invariant-loop-i : goal.invariant-loop-i

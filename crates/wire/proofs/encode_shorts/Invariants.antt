@@ -1,12 +1,9 @@
 -- `wire::encode_shorts` meets its contract: i turns have stored the first i numbers. Assumes nothing.
-use borrow.Author.Rules.{rules}
-use native.Mathlib.Omega.{arith}
-use mathlib.Core.Path.{◌≡◌, refl, ap, ◌∙◌}
-use Prim.Native.Nat.{ℕ, ◌+◌, ◌-◌, ◌*◌, ◌/◌, ◌≤◌}
+use mathlib.Core.Path.{◌≡◌}
+use Prim.Native.Nat.{◌-◌, ◌≤◌}
 use lib.ListN.{length, take}
 use lib.Seq.{sets}
-use Rattle.wire.specs.Wire.{fewer, words_bytes}
-use Rattle.wire.proofs.Lists.{words_more}
+use Rattle.wire.specs.Wire.{words_bytes}
 use Rattle.wire.proofs.encode_shorts.Given as goal
 
 abbrev pub invariant-loop-i : goal.invariant-loop-i

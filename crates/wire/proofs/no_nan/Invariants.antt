@@ -1,12 +1,10 @@
 -- `wire::no_nan` meets its contract: the highest bit of what was put together tells of the numbers looked at so far. Assumes nothing.
-use borrow.Author.Rules.{rules}
 use Prim.Native.Nat.{◌/◌, ◌-◌, ◌≤◌}
-use mathlib.Core.Path.{◌≡◌, refl}
-use native.Mathlib.Omega.{arith}
+use mathlib.Core.Path.{◌≡◌}
 use lib.ListN.{length}
 use lib.Ieee.{binary64}
-use Rattle.wire.specs.Wire.{none_nan, no_nan}
-use Rattle.wire.proofs.Nans.{high_bit_zero, one_more}
+use Rattle.wire.specs.Wire.{none_nan}
+use Rattle.wire.proofs.Nans.{high_bit_zero}
 use Rattle.wire.proofs.no_nan.Given as goal
 
 abbrev pub invariant-loop-i : goal.invariant-loop-i

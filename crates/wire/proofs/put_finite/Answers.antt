@@ -1,5 +1,4 @@
 -- `wire::put_finite` meets its contract: the eight stores are the run of the bytes of its bits. Assumes nothing.
-use borrow.Author.Rules.{rules}
 use native.Mathlib.Omega.{arith}
 use lib.ListN.{length-set}
 use Rattle.ieee.proofs.Finite.{finite-no_nan}

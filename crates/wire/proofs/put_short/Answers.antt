@@ -1,5 +1,4 @@
 -- `wire::put_short` meets its contract: two stores are a run of the two bytes. Assumes nothing.
-use borrow.Author.Rules.{rules}
 use native.Mathlib.Omega.{arith}
 use lib.ListN.{length-set}
 use Rattle.wire.proofs.Places.{short_stored}

@@ -1,4 +1,3 @@
-use borrow.Author.Rules.{rules}
 use mathlib.Core.Path.{refl}
 use Rattle.wire.specs.Wire.{word_bytes}
 use Rattle.wire.proofs.short_to_le_bytes.Goals as goal

@@ -1,5 +1,4 @@
 -- `wire::to_le_bytes` meets its contract: they are the bytes of its bits. Assumes nothing.
-use borrow.Author.Rules.{rules}
 use mathlib.Core.Path.{◌∙◌}
 use Rattle.wire.specs.Wire.{number_bytes}
 use Rattle.wire.proofs.to_le_bytes.Goals as goal

@@ -1,5 +1,4 @@
 -- `demands::ways::both_ways` meets its contract: the ten answers are the definitions' by what the calls ensure, and so they are turned, as the theorem says.
-use borrow.Author.Rules.{rules}
 use mathlib.Core.Path.{◌≡◌, ◌∙◌}
 use lib.Ieee.{binary64}
 use Rattle.sides.specs.Blocks.{jac_jl, jl_and_inverse}

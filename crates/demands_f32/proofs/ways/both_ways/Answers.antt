@@ -1,6 +1,5 @@
--- Written by tools/widths from crates/demands/proofs/ways/both_ways/Answers.antt: edit that one. Digest 21d609b2aaef1b08.
+-- Written by tools/widths from crates/demands/proofs/ways/both_ways/Answers.antt: edit that one. Digest b1a018272eae54b2.
 -- `demands_f32::ways::both_ways` meets its contract: the ten answers are the definitions' by what the calls ensure, and so they are turned, as the theorem says.
-use borrow.Author.Rules.{rules}
 use mathlib.Core.Path.{◌≡◌, ◌∙◌}
 use lib.Ieee.{binary32}
 use Rattle.sides.specs.Blocks.{jac_jl, jl_and_inverse}

@@ -1,5 +1,4 @@
 -- `kept::bytes::framed_at` meets its contract: the numbers stand one behind another, and behind them the frames. Assumes nothing.
-use borrow.Author.Rules.{rules}
 use Rattle.sheets.proofs.Framed.{framed_read}
 use Rattle.kept.proofs.bytes.framed_at.Goals as goal
 

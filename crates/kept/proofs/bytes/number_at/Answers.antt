@@ -1,5 +1,4 @@
 -- `kept::bytes::number_at` meets its contract: the eight bytes from the place on are those of the list. Assumes nothing.
-use borrow.Author.Rules.{rules}
 use native.Mathlib.Omega.{arith}
 use mathlib.Core.Path.{◌∙◌}
 use Rattle.sheets.proofs.Framed.{number_read}

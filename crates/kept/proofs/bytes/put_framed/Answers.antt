@@ -1,5 +1,4 @@
 -- `kept::bytes::put_framed` meets its contract: the ten stores are one run. Assumes nothing.
-use borrow.Author.Rules.{rules}
 use native.Mathlib.Omega.{arith}
 use mathlib.Core.Path.{◌∙◌}
 use Rattle.sheets.proofs.Framed.{framed_stored}

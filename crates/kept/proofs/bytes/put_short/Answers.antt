@@ -1,5 +1,4 @@
 -- `kept::bytes::put_short` meets its contract: two stores are a run of the two bytes. Assumes nothing.
-use borrow.Author.Rules.{rules}
 use native.Mathlib.Omega.{arith}
 use lib.ListN.{length-set}
 use Rattle.wire.specs.Wire.{item_bytes}

@@ -1,7 +1,5 @@
 -- `kept::chain::join` meets its contract: the state is read and joined, what is answered is written, and the answer told; a refusal writes no byte of the state. Assumes nothing.
-use borrow.Author.Rules.{rules}
-use native.Mathlib.Omega.{arith}
-use mathlib.Core.Path.{◌≡◌, refl, sym, ap, ◌∙◌}
+use mathlib.Core.Path.{refl, sym, ap, ◌∙◌}
 use lib.Seq.{sets}
 use Rattle.frames.specs.Joins.{pose_told}
 use Rattle.running.specs.Running.{Joint}

@@ -1,5 +1,4 @@
 -- `kept::chain::refuse` meets its contract: three bytes. Assumes nothing.
-use borrow.Author.Rules.{rules}
 use native.Mathlib.Omega.{arith}
 use lib.ListN.{length-set}
 use Rattle.kept.proofs.Lent.{pose-refused}

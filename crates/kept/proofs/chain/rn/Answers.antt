@@ -1,9 +1,8 @@
 -- `kept::chain::rn` meets its contract: lent bytes that are no state, a cut record and an output without room are told; else the record's own bytes are taken. Assumes nothing.
-use borrow.Author.Rules.{rules}
 use native.Mathlib.Omega.{arith}
 use Prim.Native.Nat.{◌+◌}
-use mathlib.Core.Path.{◌≡◌, sym, ap, ◌∙◌}
-use lib.ListN.{length, take, drop, length-drop}
+use mathlib.Core.Path.{sym, ap}
+use lib.ListN.{drop, length-drop}
 use lib.Seq.{length-take-le}
 use Rattle.kept.specs.Chain.{rn_asks}
 use Rattle.kept.proofs.Records.{told_unheld, told-cut, told-roomless}

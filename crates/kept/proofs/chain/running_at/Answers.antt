@@ -1,5 +1,4 @@
 -- `kept::chain::running_at` meets its contract: by the byte that says whether there is a pose. Assumes nothing.
-use borrow.Author.Rules.{rules}
 use borrow.Author.Tests.{eq-eqb, ne_eqb}
 use Rattle.kept.specs.State.{start_of, running_of}
 use Rattle.kept.proofs.chain.running_at.Goals as goal

@@ -1,5 +1,4 @@
 -- `kept::chain::tell` meets its contract: by whether the pose's numbers are finite. Assumes nothing.
-use borrow.Author.Rules.{rules}
 use native.Mathlib.Omega.{arith}
 use mathlib.Core.Bool.{true, false}
 use mathlib.Core.Path.{sym, ◌∙◌}

@@ -1,6 +1,4 @@
 -- `kept::retakes::answer_get` meets its contract: by what is kept. Assumes nothing.
-use borrow.Author.Rules.{rules}
-use native.Mathlib.Omega.{arith}
 use mathlib.Core.Path.{refl, ap, ◌∙◌}
 use lib.Seq.{sets}
 use Rattle.sheets.specs.Store.{get_told}

@@ -1,6 +1,4 @@
 -- `kept::retakes::answer_put` meets its contract: by what became of the shot. Assumes nothing.
-use borrow.Author.Rules.{rules}
-use native.Mathlib.Omega.{arith}
 use mathlib.Core.Path.{refl, ap, ◌∙◌}
 use lib.Seq.{sets}
 use Rattle.sheets.specs.Store.{put_told}

@@ -1,6 +1,4 @@
 -- `kept::retakes::find` meets its contract: the sheet is read and asked for, and what is kept told. Assumes nothing.
-use borrow.Author.Rules.{rules}
-use native.Mathlib.Omega.{arith}
 use mathlib.Core.Path.{◌∙◌}
 use Rattle.kept.specs.Retakes.{lent_became, lent_bytes}
 use Rattle.kept.proofs.Shelf.{shelf_asked}

@@ -1,5 +1,4 @@
 -- `kept::retakes::refuse` meets its contract: three stores. Assumes nothing.
-use borrow.Author.Rules.{rules}
 use native.Mathlib.Omega.{arith}
 use mathlib.Core.Path.{refl}
 use lib.ListN.{length-set}

@@ -1,9 +1,8 @@
 -- `kept::retakes::sh` meets its contract: lent bytes that are no state, a cut record and an output without room are told; else the record's own bytes are put. Assumes nothing.
-use borrow.Author.Rules.{rules}
 use native.Mathlib.Omega.{arith}
 use Prim.Native.Nat.{◌+◌, ◌-◌}
-use mathlib.Core.Path.{◌≡◌, sym, ap, ◌∙◌}
-use lib.ListN.{length, take, drop, length-drop}
+use mathlib.Core.Path.{ap}
+use lib.ListN.{length, drop, length-drop}
 use lib.Seq.{length-take-le}
 use borrow.Rule.Slice.PartMut.{same_len_mid}
 use Rattle.kept.specs.Retakes.{sh_asks}

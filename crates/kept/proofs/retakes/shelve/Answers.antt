@@ -1,6 +1,4 @@
 -- `kept::retakes::shelve` meets its contract: the shot is read and put, and what became of it told. Assumes nothing.
-use borrow.Author.Rules.{rules}
-use native.Mathlib.Omega.{arith}
 use mathlib.Core.Path.{◌∙◌}
 use Rattle.kept.specs.Retakes.{lent_became, lent_bytes}
 use Rattle.kept.proofs.Shelf.{shelf_told}

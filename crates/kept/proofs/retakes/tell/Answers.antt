@@ -1,5 +1,4 @@
 -- `kept::retakes::tell` meets its contract: the stores are one run, and it counts by whether its numbers are finite. Assumes nothing.
-use borrow.Author.Rules.{rules}
 use native.Mathlib.Omega.{arith}
 use mathlib.Core.Bool.{true, false}
 use mathlib.Core.Path.{sym, ◌∙◌}

@@ -1,19 +1,16 @@
 -- `replies::entries::ac` meets its contract: the call on lists is what the job asks for. Assumes nothing.
 -- a list of n zeros, as it is made
-use borrow.Author.Rules.{rules}
 use native.Mathlib.Omega.{arith}
-use mathlib.Core.Path.{◌≡◌, refl, sym, ap, ◌∙◌}
-use Prim.Native.Nat.{ℕ, ◌+◌, ◌*◌, ◌≤◌}
+use mathlib.Core.Path.{◌≡◌, refl, ap, ◌∙◌}
+use Prim.Native.Nat.{ℕ}
 use mathlib.Core.List.{List}
 use lib.ListN.{length, drop, replicate, length-drop}
 use lib.Seq.{sets}
 use lib.Ieee.{Float, binary64, of_bits}
 use Rattle.linalg.specs.Answer.{Answer}
-use Rattle.wire.specs.Wire.{Item, width, firsts, numbers_at, words_at}
-use Rattle.wire.proofs.Lists.{decoded, shorts_decoded}
+use Rattle.wire.specs.Wire.{Item, firsts}
+use Rattle.wire.proofs.Lists.{decoded}
 use Rattle.outcome.specs.Outcome.{gave_of, gave_bytes}
-use Rattle.from_lists.specs.Lists.{pose_lists}
-use Rattle.sim3_c_entries.specs.Calls.{arm_lists}
 use Rattle.replies.specs.Table.{framed_width}
 use Rattle.replies.proofs.Calls.{ac_told}
 use Rattle.replies.proofs.entries.ac.Goals as goal

@@ -1,5 +1,4 @@
 -- `replies::entries::put_byte` meets its contract: a byte is its own remainder. Assumes nothing.
-use borrow.Author.Rules.{rules}
 use native.Mathlib.Omega.{arith}
 use Prim.Native.Nat.{◌%◌}
 use mathlib.Core.Path.{◌≡◌, refl}

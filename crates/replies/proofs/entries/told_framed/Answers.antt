@@ -1,7 +1,5 @@
 -- `replies::entries::told_framed` meets its contract: a refusal is handed on, and the numbers and frames are written at the front. Assumes nothing.
-use borrow.Author.Rules.{rules}
-use native.Mathlib.Omega.{arith}
-use mathlib.Core.Path.{◌≡◌, refl, sym, ap, ◌∙◌}
+use mathlib.Core.Path.{refl}
 use borrow.Author.Tests.{eq-eqb, ne_eqb}
 use lib.Ieee.{binary64}
 use Rattle.outcome.specs.Outcome.{gave_of, gave_bytes}

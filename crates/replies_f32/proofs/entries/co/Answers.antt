@@ -1,20 +1,17 @@
--- Written by tools/widths from crates/replies/proofs/entries/co/Answers.antt: edit that one. Digest 1e7f344700317c4d.
+-- Written by tools/widths from crates/replies/proofs/entries/co/Answers.antt: edit that one. Digest b8b773db6e7e241c.
 -- `replies_f32::entries::co` meets its contract: the call on lists is what the job asks for. Assumes nothing.
 -- a list of n zeros, as it is made
-use borrow.Author.Rules.{rules}
 use native.Mathlib.Omega.{arith}
-use mathlib.Core.Path.{◌≡◌, refl, sym, ap, ◌∙◌}
-use Prim.Native.Nat.{ℕ, ◌+◌, ◌*◌, ◌≤◌}
+use mathlib.Core.Path.{◌≡◌, refl, ap, ◌∙◌}
+use Prim.Native.Nat.{ℕ}
 use mathlib.Core.List.{List}
-use lib.ListN.{length, drop, replicate, length-drop}
+use lib.ListN.{length, replicate}
 use lib.Seq.{sets}
 use lib.Ieee.{Float, binary32, of_bits}
 use Rattle.linalg.specs.Answer.{Answer}
-use Rattle.wire.specs.Wire.{Item, firsts, numbers_at, words_at}
-use Rattle.wire.proofs.Lists.{decoded, shorts_decoded}
+use Rattle.wire.specs.Wire.{Item, firsts}
+use Rattle.wire.proofs.Lists.{decoded}
 use Rattle.outcome.specs.Outcome.{gave_of, gave_bytes}
-use Rattle.from_lists.specs.Lists.{pose_lists}
-use Rattle.sim3_c_entries.specs.Calls.{arm_lists}
 use Rattle.replies.proofs.Calls.{co-told}
 use Rattle.replies_f32.proofs.entries.co.Goals as goal
 

@@ -1,6 +1,5 @@
--- Written by tools/widths from crates/replies/proofs/entries/put_byte/Answers.antt: edit that one. Digest 32e96568fd390121.
+-- Written by tools/widths from crates/replies/proofs/entries/put_byte/Answers.antt: edit that one. Digest 65b260a23683fd2a.
 -- `replies_f32::entries::put_byte` meets its contract: a byte is its own remainder. Assumes nothing.
-use borrow.Author.Rules.{rules}
 use native.Mathlib.Omega.{arith}
 use Prim.Native.Nat.{◌%◌}
 use mathlib.Core.Path.{◌≡◌, refl}

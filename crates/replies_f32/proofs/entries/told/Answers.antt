@@ -1,8 +1,6 @@
--- Written by tools/widths from crates/replies/proofs/entries/told/Answers.antt: edit that one. Digest 1684f0edbc31db61.
+-- Written by tools/widths from crates/replies/proofs/entries/told/Answers.antt: edit that one. Digest 308fdd77967c993e.
 -- `replies_f32::entries::told` meets its contract: a refusal is handed on, and the numbers are written at the front. Assumes nothing.
-use borrow.Author.Rules.{rules}
-use native.Mathlib.Omega.{arith}
-use mathlib.Core.Path.{◌≡◌, refl, sym, ap, ◌∙◌}
+use mathlib.Core.Path.{refl}
 use borrow.Author.Tests.{eq-eqb, ne_eqb}
 use lib.Ieee.{binary32}
 use Rattle.outcome.specs.Outcome.{gave_of, gave_bytes}

@@ -1,8 +1,6 @@
--- Written by tools/widths from crates/replies/proofs/entries/told_armed/Answers.antt: edit that one. Digest 89d08b26e3e4f3ef.
+-- Written by tools/widths from crates/replies/proofs/entries/told_armed/Answers.antt: edit that one. Digest c5d8979ba1946530.
 -- `replies_f32::entries::told_armed` meets its contract: a refusal is handed on, and the arms and the numbers are written at the front. Assumes nothing.
-use borrow.Author.Rules.{rules}
-use native.Mathlib.Omega.{arith}
-use mathlib.Core.Path.{◌≡◌, refl, sym, ap, ◌∙◌}
+use mathlib.Core.Path.{refl}
 use borrow.Author.Tests.{eq-eqb, ne_eqb}
 use lib.Ieee.{binary32}
 use Rattle.outcome.specs.Outcome.{gave_of, gave_bytes}

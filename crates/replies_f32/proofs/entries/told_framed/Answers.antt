@@ -1,8 +1,6 @@
--- Written by tools/widths from crates/replies/proofs/entries/told_framed/Answers.antt: edit that one. Digest ad2aa632ca749f77.
+-- Written by tools/widths from crates/replies/proofs/entries/told_framed/Answers.antt: edit that one. Digest 7e35a9896097b10b.
 -- `replies_f32::entries::told_framed` meets its contract: a refusal is handed on, and the numbers and frames are written at the front. Assumes nothing.
-use borrow.Author.Rules.{rules}
-use native.Mathlib.Omega.{arith}
-use mathlib.Core.Path.{◌≡◌, refl, sym, ap, ◌∙◌}
+use mathlib.Core.Path.{refl}
 use borrow.Author.Tests.{eq-eqb, ne_eqb}
 use lib.Ieee.{binary32}
 use Rattle.outcome.specs.Outcome.{gave_of, gave_bytes}

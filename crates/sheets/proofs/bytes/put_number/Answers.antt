@@ -1,5 +1,4 @@
 -- `sheets::bytes::put_number` meets its contract: the eight stores are the run of the double's bytes. Assumes nothing.
-use borrow.Author.Rules.{rules}
 use native.Mathlib.Omega.{arith}
 use lib.ListN.{length-set}
 use Rattle.wire.proofs.Places.{double_stored}

@@ -1,5 +1,4 @@
 -- `sheets::bytes::short_at` meets its contract: the two bytes from the place on are those of the list. Assumes nothing.
-use borrow.Author.Rules.{rules}
 use native.Mathlib.Omega.{arith}
 use mathlib.Core.Path.{◌∙◌}
 use Rattle.wire.proofs.Places.{short_read}

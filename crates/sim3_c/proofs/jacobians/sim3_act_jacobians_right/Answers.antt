@@ -1,5 +1,4 @@
 -- `sim3_c::jacobians::sim3_act_jacobians_right` meets its contract: the lists are read, the engine is asked, and its answer is written or the refusal handed on. Assumes nothing.
-use borrow.Author.Rules.{rules}
 use mathlib.Core.Path.{refl}
 use Rattle.from_lists.specs.Lists.{vec_read_told, pose_read_told}
 use Rattle.to_lists.specs.Written.{status, written}

@@ -1,5 +1,4 @@
 -- `sim3_c::near::way_number` meets its contract: each case has its number. Assumes nothing.
-use borrow.Author.Rules.{rules}
 use mathlib.Core.Path.{refl}
 use Rattle.nearest.specs.Nearest.{way_told}
 use Rattle.sim3_c.proofs.near.way_number.Goals as goal

@@ -1,5 +1,4 @@
 -- `sim3_c::points::sim3_act_many` meets its contract: the lists are read, the engine is asked, and its answer is written or the refusal handed on. Assumes nothing.
-use borrow.Author.Rules.{rules}
 use mathlib.Core.Path.{refl, sym, ap, ◌∙◌}
 use Rattle.point_lists.specs.Points.{list_told}
 use Rattle.from_lists.specs.Lists.{pose_read_told}

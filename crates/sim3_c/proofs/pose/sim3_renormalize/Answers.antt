@@ -1,5 +1,4 @@
 -- `sim3_c::pose::sim3_renormalize` meets its contract: it is what the list crate's function ensures. Assumes nothing.
-use borrow.Author.Rules.{rules}
 use Rattle.sim3_c.proofs.pose.sim3_renormalize.Goals as goal
 
 pub returns : goal.returns

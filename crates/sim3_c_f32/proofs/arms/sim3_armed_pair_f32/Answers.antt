@@ -1,6 +1,5 @@
--- Written by tools/widths from crates/sim3_c/proofs/arms/sim3_armed_pair/Answers.antt: edit that one. Digest 24740ad112a84e7c.
+-- Written by tools/widths from crates/sim3_c/proofs/arms/sim3_armed_pair/Answers.antt: edit that one. Digest 480a77ab7ee816e4.
 -- `sim3_c_f32::arms::sim3_armed_pair_f32` meets its contract: the lists are read, the engine is asked, and its answer is written or the refusal handed on. Assumes nothing.
-use borrow.Author.Rules.{rules}
 use mathlib.Core.Path.{refl}
 use Rattle.coeffs_f32.specs.Told.{armed_pair_told}
 use Rattle.from_lists_f32.specs.Told.{values_read_told}

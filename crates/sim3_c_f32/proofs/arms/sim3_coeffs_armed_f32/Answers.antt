@@ -1,6 +1,5 @@
--- Written by tools/widths from crates/sim3_c/proofs/arms/sim3_coeffs_armed/Answers.antt: edit that one. Digest f339cd1612a05cf8.
+-- Written by tools/widths from crates/sim3_c/proofs/arms/sim3_coeffs_armed/Answers.antt: edit that one. Digest 2727b3d10d241a1a.
 -- `sim3_c_f32::arms::sim3_coeffs_armed_f32` meets its contract: the lists are read, the engine is asked, and its answer is written or the refusal handed on. Assumes nothing.
-use borrow.Author.Rules.{rules}
 use mathlib.Core.Path.{refl}
 use Rattle.coeffs_f32.specs.Told.{armed_told}
 use Rattle.from_lists_f32.specs.Told.{values_read_told}

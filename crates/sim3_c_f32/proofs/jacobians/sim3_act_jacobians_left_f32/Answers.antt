@@ -1,6 +1,5 @@
--- Written by tools/widths from crates/sim3_c/proofs/jacobians/sim3_act_jacobians_left/Answers.antt: edit that one. Digest ee63228b33e28452.
+-- Written by tools/widths from crates/sim3_c/proofs/jacobians/sim3_act_jacobians_left/Answers.antt: edit that one. Digest dd5d50284bdc25b9.
 -- `sim3_c_f32::jacobians::sim3_act_jacobians_left_f32` meets its contract: the lists are read, the engine is asked, and its answer is written or the refusal handed on. Assumes nothing.
-use borrow.Author.Rules.{rules}
 use mathlib.Core.Path.{refl}
 use Rattle.from_lists_f32.specs.Told.{vec_read_told, pose_read_told}
 use Rattle.to_lists.specs.Written.{status, written}

@@ -1,6 +1,5 @@
--- Written by tools/widths from crates/sim3_c/proofs/jacobians/sim3_act_jacobians_right/Answers.antt: edit that one. Digest 2a2562ff6704695e.
+-- Written by tools/widths from crates/sim3_c/proofs/jacobians/sim3_act_jacobians_right/Answers.antt: edit that one. Digest 3a0aaf6021b253db.
 -- `sim3_c_f32::jacobians::sim3_act_jacobians_right_f32` meets its contract: the lists are read, the engine is asked, and its answer is written or the refusal handed on. Assumes nothing.
-use borrow.Author.Rules.{rules}
 use mathlib.Core.Path.{refl}
 use Rattle.from_lists_f32.specs.Told.{vec_read_told, pose_read_told}
 use Rattle.to_lists.specs.Written.{status, written}

@@ -1,6 +1,5 @@
--- Written by tools/widths from crates/sim3_c/proofs/jacobians/sim3_compose_jacobians_left/Answers.antt: edit that one. Digest 903e53b371fce67a.
+-- Written by tools/widths from crates/sim3_c/proofs/jacobians/sim3_compose_jacobians_left/Answers.antt: edit that one. Digest d447f07f2caf801b.
 -- `sim3_c_f32::jacobians::sim3_compose_jacobians_left_f32` meets its contract: the lists are read, the engine is asked, and its answer is written or the refusal handed on. Assumes nothing.
-use borrow.Author.Rules.{rules}
 use mathlib.Core.Path.{refl}
 use Rattle.from_lists_f32.specs.Told.{pose_read_told}
 use Rattle.to_lists.specs.Written.{status, written}

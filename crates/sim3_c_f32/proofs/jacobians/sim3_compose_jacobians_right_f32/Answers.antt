@@ -1,6 +1,5 @@
--- Written by tools/widths from crates/sim3_c/proofs/jacobians/sim3_compose_jacobians_right/Answers.antt: edit that one. Digest e29bacdbf6052e06.
+-- Written by tools/widths from crates/sim3_c/proofs/jacobians/sim3_compose_jacobians_right/Answers.antt: edit that one. Digest 6350bb59fca4d5b2.
 -- `sim3_c_f32::jacobians::sim3_compose_jacobians_right_f32` meets its contract: the lists are read, the engine is asked, and its answer is written or the refusal handed on. Assumes nothing.
-use borrow.Author.Rules.{rules}
 use mathlib.Core.Path.{refl}
 use Rattle.from_lists_f32.specs.Told.{pose_read_told}
 use Rattle.to_lists.specs.Written.{status, written}

@@ -1,6 +1,5 @@
--- Written by tools/widths from crates/sim3_c/proofs/jacobians/sim3_inverse_jacobian_right/Answers.antt: edit that one. Digest c9a8b99bb56b1aff.
+-- Written by tools/widths from crates/sim3_c/proofs/jacobians/sim3_inverse_jacobian_right/Answers.antt: edit that one. Digest c65ab893fdfcbbbe.
 -- `sim3_c_f32::jacobians::sim3_inverse_jacobian_right_f32` meets its contract: the lists are read, the engine is asked, and its answer is written or the refusal handed on. Assumes nothing.
-use borrow.Author.Rules.{rules}
 use mathlib.Core.Path.{refl}
 use Rattle.from_lists_f32.specs.Told.{pose_read_told}
 use Rattle.to_lists.specs.Written.{status, written}

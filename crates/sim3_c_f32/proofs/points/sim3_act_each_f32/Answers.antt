@@ -1,6 +1,5 @@
--- Written by tools/widths from crates/sim3_c/proofs/points/sim3_act_each/Answers.antt: edit that one. Digest 72f6891527c16127.
+-- Written by tools/widths from crates/sim3_c/proofs/points/sim3_act_each/Answers.antt: edit that one. Digest d0c82654f0a191a5.
 -- `sim3_c_f32::points::sim3_act_each_f32` meets its contract: the lists are read, the engine is asked, and its answer is written or the refusal handed on. Assumes nothing.
-use borrow.Author.Rules.{rules}
 use mathlib.Core.Path.{refl, sym, ap, ◌∙◌}
 use Rattle.point_lists_f32.specs.Told.{list_told}
 use Rattle.from_lists_f32.specs.Told.{pose_read_told}

@@ -1,6 +1,5 @@
--- Written by tools/widths from crates/sim3_c/proofs/points/sim3_act_many/Answers.antt: edit that one. Digest f4d0ebbffabe9547.
+-- Written by tools/widths from crates/sim3_c/proofs/points/sim3_act_many/Answers.antt: edit that one. Digest f2b61fcb9257514f.
 -- `sim3_c_f32::points::sim3_act_many_f32` meets its contract: the lists are read, the engine is asked, and its answer is written or the refusal handed on. Assumes nothing.
-use borrow.Author.Rules.{rules}
 use mathlib.Core.Path.{refl, sym, ap, ◌∙◌}
 use Rattle.point_lists_f32.specs.Told.{list_told}
 use Rattle.from_lists_f32.specs.Told.{pose_read_told}

@@ -1,6 +1,5 @@
--- Written by tools/widths from crates/sim3_c/proofs/pose/sim3_inv_mul/Answers.antt: edit that one. Digest fbb55cb7bf7d428b.
+-- Written by tools/widths from crates/sim3_c/proofs/pose/sim3_inv_mul/Answers.antt: edit that one. Digest 47781904460a7090.
 -- `sim3_c_f32::pose::sim3_inv_mul_f32` meets its contract: the lists are read, the engine is asked, and its answer is written or the refusal handed on. Assumes nothing.
-use borrow.Author.Rules.{rules}
 use mathlib.Core.Path.{refl}
 use Rattle.from_lists_f32.specs.Told.{framed_read_told}
 use Rattle.to_lists.specs.Written.{status, written}

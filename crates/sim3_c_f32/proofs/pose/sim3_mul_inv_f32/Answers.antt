@@ -1,6 +1,5 @@
--- Written by tools/widths from crates/sim3_c/proofs/pose/sim3_mul_inv/Answers.antt: edit that one. Digest fc55b9b12e470ddd.
+-- Written by tools/widths from crates/sim3_c/proofs/pose/sim3_mul_inv/Answers.antt: edit that one. Digest 5fc9e0b91650b125.
 -- `sim3_c_f32::pose::sim3_mul_inv_f32` meets its contract: the lists are read, the engine is asked, and its answer is written or the refusal handed on. Assumes nothing.
-use borrow.Author.Rules.{rules}
 use mathlib.Core.Path.{refl}
 use Rattle.from_lists_f32.specs.Told.{framed_read_told}
 use Rattle.to_lists.specs.Written.{status, written}

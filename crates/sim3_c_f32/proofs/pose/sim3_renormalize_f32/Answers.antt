@@ -1,6 +1,5 @@
--- Written by tools/widths from crates/sim3_c/proofs/pose/sim3_renormalize/Answers.antt: edit that one. Digest fcb71a589c520d60.
+-- Written by tools/widths from crates/sim3_c/proofs/pose/sim3_renormalize/Answers.antt: edit that one. Digest 5daf6bed42a9f12a.
 -- `sim3_c_f32::pose::sim3_renormalize_f32` meets its contract: it is what the list crate's function ensures. Assumes nothing.
-use borrow.Author.Rules.{rules}
 use Rattle.sim3_c_f32.proofs.pose.sim3_renormalize_f32.Goals as goal
 
 pub returns : goal.returns

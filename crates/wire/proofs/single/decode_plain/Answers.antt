@@ -1,13 +1,11 @@
 -- `wire::single::decode_plain` meets its contract: i turns have stored the first i numbers. Assumes nothing.
-use borrow.Author.Rules.{rules}
 use native.Mathlib.Omega.{arith}
 use mathlib.Core.Path.{◌≡◌, refl, ap, ◌∙◌}
-use Prim.Native.Nat.{ℕ, ◌+◌, ◌-◌, ◌≤◌}
-use lib.ListN.{length, length-set}
-use lib.Seq.{sets}
+use Prim.Native.Nat.{◌-◌}
+use lib.ListN.{length-set}
 use lib.Ieee.{binary32, of_bits}
 use Rattle.wire.specs.Wire.{word_at, number_of, number_at}
-use Rattle.wire.specs.Wire.{firsts, numbers_at}
+use Rattle.wire.specs.Wire.{firsts}
 use Rattle.wire.proofs.Lists.{bits, decoded_more}
 use Rattle.wire.proofs.single.decode_plain.Goals as goal
 

@@ -1,9 +1,6 @@
 -- `wire::single::encode` meets its contract: as many numbers as both have, by the test of all of them. Assumes nothing.
-use borrow.Author.Rules.{rules}
 use native.Mathlib.Omega.{arith}
-use mathlib.Core.Path.{◌≡◌, refl, sym, ap, ◌∙◌}
-use Prim.Native.Nat.{ℕ, ◌+◌, ◌*◌, ◌/◌, ◌≤◌}
-use lib.ListN.{length}
+use mathlib.Core.Path.{sym, ◌∙◌}
 use Rattle.wire.proofs.single.encode.Goals as goal
 
 pub all_finite-requires : goal.all_finite-requires

@@ -1,4 +1,3 @@
-use borrow.Author.Rules.{rules}
 use Rattle.wire.specs.Wire.{number_of}
 use Rattle.wire.proofs.single.from_le_bytes.Goals as goal
 

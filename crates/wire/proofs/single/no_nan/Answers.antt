@@ -1,12 +1,11 @@
 -- `wire::single::no_nan` meets its contract: the highest bit of what was put together tells of the numbers looked at so far. Assumes nothing.
-use borrow.Author.Rules.{rules}
-use Prim.Native.Nat.{◌/◌, ◌-◌, ◌≤◌}
+use Prim.Native.Nat.{◌/◌, ◌-◌}
 use mathlib.Core.Path.{◌≡◌, refl}
 use native.Mathlib.Omega.{arith}
 use lib.ListN.{length}
 use lib.Ieee.{binary32}
 use Rattle.wire.specs.Wire.{none_nan, no_nan}
-use Rattle.wire.proofs.Nans.{high_bit_zero, one_more}
+use Rattle.wire.proofs.Nans.{one_more}
 use Rattle.wire.proofs.single.no_nan.Goals as goal
 
 pub loop-i-init : goal.loop-i-init

@@ -1,4 +1,3 @@
-use borrow.Author.Rules.{rules}
 use Rattle.wire.specs.Wire.{number_bytes, count_bytes}
 use Rattle.wire.proofs.single.to_le_bytes.Goals as goal
 

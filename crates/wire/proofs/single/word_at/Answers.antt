@@ -1,5 +1,4 @@
 -- `wire::single::word_at` meets its contract: the four bytes from the place on are those of the list. Assumes nothing.
-use borrow.Author.Rules.{rules}
 use native.Mathlib.Omega.{arith}
 use Prim.Native.Nat.{◌*◌}
 use mathlib.Core.Path.{ap, ◌∙◌}
