@@ -24,7 +24,7 @@ unfolding v_apply
 returns-then-not-b_takes_exact_arm_of c =
     let a = c.args in
     let near : lt (vec_norm_sq binary32 (as_vec3 a.phi)) (row_limit binary32 b_row) ≡ true = not-false _
-    (sym c.b_takes_exact_arm_of.ensures ∙ not-true _ c.if-not-b_takes_exact_arm_of.true) in
+    (sym c.b_takes_exact_arm_of.ensures ∙ c.if-not-b_takes_exact_arm_of.true) in
     simp (linalg_singles, circle-singles, series-singles, closed-singles, coeffs_singles, so3_singles, sim3-singles, c.poly_apply.ensures, near)
 
 pub returns : goal.returns
@@ -32,7 +32,7 @@ unfolding v_apply coeffs_delta
 returns c =
     let a = c.args in
     let far : lt (vec_norm_sq binary32 (as_vec3 a.phi)) (row_limit binary32 b_row) ≡ false = not-true _
-    (sym c.b_takes_exact_arm_of.ensures ∙ not-false _ c.if-not-b_takes_exact_arm_of.false) in
+    (sym c.b_takes_exact_arm_of.ensures ∙ c.if-not-b_takes_exact_arm_of.false) in
     simp (
       linalg_singles,
       circle-singles,
