@@ -52,6 +52,21 @@ def statements(sources, text, used):
     return re.sub(r"(?m)(?<=\blet )(\w+ : )(.*?)(?= = )", lambda m: m.group(1) + equations(sources, m.group(2), used), text)
 
 
+def records(sources, text, used):
+    """The records of the definitions that a proof states by the way, `let x : T = record { .. }`: their structs through `as_t`."""
+
+    def one(found):
+        held = dict(sources.types[found.group(2)].fields) if sources.floating(found.group(2)) else {}
+        body = found.group(3)
+        for name, inner in held.items():
+            if sources.floating(inner):
+                body, count = re.subn(rf"(?m)^( *{name} = )(?=c\.)", rf"\g<1>{reading(inner)} ", body)
+                used.update([inner] if count else [])
+        return found.group(1) + body
+
+    return re.sub(r"(?ms)(\blet \w+ : (\w+) = record \{\n)(.*?\n *\})", one, text)
+
+
 def rest_of_simp(block):
     """Whether a `simp` of the block has a proof of what it leaves."""
     return any(re.match(r"\s+\(", block[end_of(block, found.end() - 1) :]) for found in re.finditer(r"\bsimp\s+\(", block))
@@ -124,7 +139,7 @@ def proof(sources, crate, function, text):
     """The proof of a twin's function from that of the f64 crate's."""
     used = set()
     text = arguments(sources, text, function, used)
-    text = statements(sources, invariants(sources, text, function, used), used)
+    text = records(sources, statements(sources, invariants(sources, text, function, used), used), used)
     text, lines = with_rules(sources, crate, text, function, used)
     text = imports(sources, crate, width(text))
     text = after_uses(text, as_lines(sources, crate, used) + lines, "use ")

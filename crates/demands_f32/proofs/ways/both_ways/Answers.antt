@@ -1,4 +1,4 @@
--- Written by tools/widths from crates/demands/proofs/ways/both_ways/Answers.antt: edit that one. Digest b1a018272eae54b2.
+-- Written by tools/widths from crates/demands/proofs/ways/both_ways/Answers.antt: edit that one. Digest 03cbbfb38f8fe247.
 -- `demands_f32::ways::both_ways` meets its contract: the ten answers are the definitions' by what the calls ensure, and so they are turned, as the theorem says.
 use mathlib.Core.Path.{◌≡◌, ◌∙◌}
 use lib.Ieee.{binary32}
@@ -24,16 +24,16 @@ unfolding as_block_pair as_both_ways as_exp_and_jl as_jac_and_inverse as_mat3 as
 returns c =
     let a = c.args in
     let r : BothWays = record {
-      exp = c.exp-exp.result;
-      exp_turned = c.exp-exp_turned.result;
-      left = c.jl-left.result;
-      left_turned = c.jl-left_turned.result;
-      together = c.exp_and_jl-together.result;
-      together_turned = c.exp_and_jl-together_turned.result;
-      inverted = c.jl_and_inverse-inverted.result;
-      inverted_turned = c.jl_and_inverse-inverted_turned.result;
-      pair = c.block_pair-pair.result;
-      pair_turned = c.block_pair-pair_turned.result;
+      exp = as_pose c.exp-exp.result;
+      exp_turned = as_pose c.exp-exp_turned.result;
+      left = as_sim3_jac c.jl-left.result;
+      left_turned = as_sim3_jac c.jl-left_turned.result;
+      together = as_exp_and_jl c.exp_and_jl-together.result;
+      together_turned = as_exp_and_jl c.exp_and_jl-together_turned.result;
+      inverted = as_jac_and_inverse c.jl_and_inverse-inverted.result;
+      inverted_turned = as_jac_and_inverse c.jl_and_inverse-inverted_turned.result;
+      pair = as_block_pair c.block_pair-pair.result;
+      pair_turned = as_block_pair c.block_pair-pair_turned.result;
     } in
     let back : as_sim3_tangent c.turned_round-back.result ≡ turned_round (as_sim3_tangent a.tau) = c.turned_round-back.ensures in
     let p = ways_turned binary32 (as_sim3_tangent a.tau) (as_values a.v) (as_mat3 a.jl) (as_mat3 a.jl_inv) a.from a.to r
