@@ -57,8 +57,8 @@ def corollaries(accuracy):
     """Whether the binding's bound of each corollary's box is at most the corollary's, and more than half of it."""
     log = {"RunningTheorem.doubles": (accuracy.running(1000, 65_535, 2 ** 10, 2, 2.0 ** -52), (-37, -12)),
            "RunningTheorem.singles": (accuracy.running(100, 16, 2 ** 10, 2, 2.0 ** -23, width=32), (-11, 10)),
-           "RunningTheorem.page-hundred": ((accuracy.page(100, 16, 2 ** 16, 2 ** 16, 4, 2.0 ** -50),), (-12,)),
-           "RunningTheorem.page-thousand": ((accuracy.page(1000, 16, 2 ** 16, 2 ** 16, 4, 2.0 ** -50),), (-5,))}
+           "RunningTheorem.page_hundred": ((accuracy.page(100, 16, 2 ** 16, 2 ** 16, 4, 2.0 ** -50),), (-12,)),
+           "RunningTheorem.page_thousand": ((accuracy.page(1000, 16, 2 ** 16, 2 ** 16, 4, 2.0 ** -50),), (-5,))}
     for name, (bounds, exponents) in log.items():
         for bound, exponent in zip(bounds, exponents, strict=True):
             if not 2.0 ** (exponent - 1) < bound <= 2.0 ** exponent:

@@ -38,7 +38,7 @@ row_no_overflow f w rule z i (suc n) =
     && (row_no_overflow f w rule z (suc i) n
     && (in_range f w (prod_reach w z (row_bound f w rule z (suc i) n)) && in_range f w (sum_reach (entry_bound f w rule i) (prod_bound f w z (row_bound f w rule z (suc i) n)))))
 
--- what is left out after k terms more than one, in units of 1 / restUnit
+-- what is left out after k terms more than one, in units of 1 / rest_unit
 unfoldable pub rest_unit : ℕ → (ℕ → Rational) → ℕ → ℕ → ℕ
 rest_unit w rule i zero = w * (rule (suc i)).den
 rest_unit w rule i (suc k) = w * rest_unit w rule (suc i) k
