@@ -66,7 +66,8 @@ slice_bounds-put-end c =
 
 pub slice_bounds-put-end-in-Bytes : goal.slice_bounds-put-end-in-Bytes
 slice_bounds-put-end-in-Bytes c =
-    sym (length-take-le c.turn-f.result.written _ (omega (arith, c.turn-f.ensures.used_le_have.1, c.turn-f.auto.out)))
+    let fits : c.turn-f.result.written ≤ length c.turn-f.new.out = omega (arith, c.turn-f.ensures.used_le_have.1, c.turn-f.auto.out) in
+    omega (arith, length-take-le c.turn-f.result.written c.turn-f.new.out fits)
 
 pub put-requires : goal.put-requires
 put-requires c =
