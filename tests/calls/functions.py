@@ -1,7 +1,7 @@
 """The functions that tests/calls drives: judge-lib's table (oracle/README.md) with the port's function for each id, six that the job's marks reach, those
 of poses with their frames, and the stopped pass over the reciprocals.
 
-A row is: id, name, what goes in, what comes out, the call and, where it can refuse, the variant of its answer that holds the result.
+A row is: id, name, what goes in, what comes out, the call and, where it can refuse, the case of its answer that holds the result.
 In: NAME:KIND, in the order of the record. Out: KIND, or KIND:EXPRESSION where the result r has several parts.
 `count`, `index` and `frame` are 64-bit whole numbers and go beside the doubles; a `list` is the last input and the only output.
 """
@@ -32,7 +32,7 @@ POSE_OUT = "pose:r.sim3 byte:r.from byte:r.to"
 FRAMES = "from:frame to:frame"
 HORNER_OUT = " ".join(f"num:r.{arm}.{sum}.{sign}" for arm in ("series", "series_alone", "closed", "closed_alone") for sum in ("v0", "w0") for sign in ("pos", "neg"))
 TWO_FRAMES = FRAMES + " other_from:frame other_to:frame"
-POSE, OTHER, JOINED = "framed(p, from, to)", "framed(o, other_from, other_to)", "frames::PoseAnswer::Pose"
+POSE, OTHER, JOINED = "framed(p, from, to)", "framed(o, other_from, other_to)", "Ok"
 
 ROWS = [
     (1, "Vec3 scale", "v:vec s:num", "vec", "v.scale(s)"),
@@ -54,10 +54,10 @@ ROWS = [
     (19, "hat", "v:vec", "mat", "linalg::matrix::hat(v)"),
     (20, "mul_hat", "a:mat v:vec", "mat", "linalg::matrix::mul_hat(a, v)"),
     (21, "hat_mul", "v:vec b:mat", "mat", "linalg::matrix::hat_mul(v, b)"),
-    (22, "Mat3 get", "m:mat i:index j:index", "num", "m.get(i, j)", "linalg::matrix::Entry::Number"),
-    (23, "Mat3 set", "m:mat i:index j:index s:num", "mat", "m.set(i, j, s)", "linalg::matrix::MatAnswer::Matrix"),
-    (24, "Mat3 col", "m:mat j:index", "vec", "m.col(j)", "linalg::matrix::VecAnswer::Vector"),
-    (25, "Mat3 row", "m:mat i:index", "vec", "m.row(i)", "linalg::matrix::VecAnswer::Vector"),
+    (22, "Mat3 get", "m:mat i:index j:index", "num", "m.get(i, j)", "Ok"),
+    (23, "Mat3 set", "m:mat i:index j:index s:num", "mat", "m.set(i, j, s)", "Ok"),
+    (24, "Mat3 col", "m:mat j:index", "vec", "m.col(j)", "Ok"),
+    (25, "Mat3 row", "m:mat i:index", "vec", "m.row(i)", "Ok"),
     (26, "Mat3 from_rows", "a:vec b:vec c:vec", "mat", "Mat3::from_rows(a, b, c)"),
     (30, "Quat from_wxyz_normalized", "w:num i:num j:num k:num n:num", "quat", "Quat::from_wxyz_normalized(w, i, j, k, n)"),
     (31, "Quat from_jpl", "a:four", "quat", "Quat::from_jpl(a)"),
@@ -71,20 +71,20 @@ ROWS = [
     (40, "SO3 act", "q:quat v:vec", "vec", "so3::so3::act(q, v)"),
     (41, "SO3 inv_act", "q:quat v:vec", "vec", "so3::so3::inv_act(q, v)"),
     (42, "SO3 exp", "phi:vec v:values", "quat", f"so3::so3::exp(phi, {HALVES})"),
-    (50, "exp_coeffs", "z:num v:values", "num:r.k num:r.cos_half", f"{CIRCLE}exp_coeffs(z, {HALVES})", CIRCLE + "ExpCoeffsAnswer::Coeffs"),
-    (51, "sinc_a_b_d", "z:num v:values", "num:r.sinc num:r.a num:r.b num:r.d", f"{CIRCLE}sinc_a_b_d(z, {HALVES}, v.sin)", CIRCLE + "SincABDAnswer::Coeffs"),
-    (52, "sinc_value", "z:num v:values", "num", f"{CIRCLE}sinc_value(z, {HALVES})", CIRCLE + "SincAnswer::Number"),
-    (60, "series, full", SERIES_IN, "coeffs", SERIES + "series(sigma, z, k)", SERIES + "SeriesAnswer::Coeffs"),
-    (61, "series, v alone", SERIES_IN, "coeffs4", SERIES + "series_v(sigma, z, k)", SERIES + "SeriesVAnswer::Coeffs"),
-    (62, "series, full pair", SERIES_IN, "coeffs:r.pos coeffs:r.neg", "series::pair::series_pair(sigma, z, k)", SERIES + "SeriesPairAnswer::Coeffs"),
-    (63, "sim3_coeffs", COEFFS_IN, "coeffs", COEFFS + "sim3_coeffs(sigma, z, v)", COEFFS + "CoeffsAnswer::Coeffs"),
-    (64, "sim3_v", COEFFS_IN, "coeffs4", COEFFS + "sim3_v(sigma, z, v)", COEFFS + "VAnswer::Coeffs"),
-    (65, "sim3_v_scaled", COEFFS_IN, "num:r.c.v0 num:r.c.v1 num:r.c.v2 flag:r.scaled", COEFFS + "sim3_v_scaled(sigma, z, v)", COEFFS + "VScaledAnswer::Coeffs"),
+    (50, "exp_coeffs", "z:num v:values", "num:r.k num:r.cos_half", f"{CIRCLE}exp_coeffs(z, {HALVES})", "Ok"),
+    (51, "sinc_a_b_d", "z:num v:values", "num:r.sinc num:r.a num:r.b num:r.d", f"{CIRCLE}sinc_a_b_d(z, {HALVES}, v.sin)", "Ok"),
+    (52, "sinc_value", "z:num v:values", "num", f"{CIRCLE}sinc_value(z, {HALVES})", "Ok"),
+    (60, "series, full", SERIES_IN, "coeffs", SERIES + "series(sigma, z, k)", "Ok"),
+    (61, "series, v alone", SERIES_IN, "coeffs4", SERIES + "series_v(sigma, z, k)", "Ok"),
+    (62, "series, full pair", SERIES_IN, "coeffs:r.pos coeffs:r.neg", "series::pair::series_pair(sigma, z, k)", "Ok"),
+    (63, "sim3_coeffs", COEFFS_IN, "coeffs", COEFFS + "sim3_coeffs(sigma, z, v)", "Ok"),
+    (64, "sim3_v", COEFFS_IN, "coeffs4", COEFFS + "sim3_v(sigma, z, v)", "Ok"),
+    (65, "sim3_v_scaled", COEFFS_IN, "num:r.c.v0 num:r.c.v1 num:r.c.v2 flag:r.scaled", COEFFS + "sim3_v_scaled(sigma, z, v)", "Ok"),
     (66, "unscale", "c:coeffs up:num scaled:num", "coeffs", COEFFS + "unscale(c, up, scaled != 0.0)"),
-    (67, "sim3_coeffs_scaled", COEFFS_IN, "coeffs:r.c flag:r.scaled", COEFFS + "sim3_coeffs_scaled(sigma, z, v)", COEFFS + "ScaledAnswer::Coeffs"),
+    (67, "sim3_coeffs_scaled", COEFFS_IN, "coeffs:r.c flag:r.scaled", COEFFS + "sim3_coeffs_scaled(sigma, z, v)", "Ok"),
     (68, "sim3_coeffs_scaled_pair", COEFFS_IN, "coeffs:r.pos.c flag:r.pos.scaled coeffs:r.neg.c flag:r.neg.scaled",
-     COEFFS + "sim3_coeffs_scaled_pair(sigma, z, v)", COEFFS + "PairAnswer::Coeffs"),
-    (69, "sim3_coeffs_armed", COEFFS_IN, "byte:r.arm flag:r.ends coeffs:r.s.c flag:r.s.scaled", COEFFS + "sim3_coeffs_armed(sigma, z, v)", COEFFS + "ArmedAnswer::Coeffs"),
+     COEFFS + "sim3_coeffs_scaled_pair(sigma, z, v)", "Ok"),
+    (69, "sim3_coeffs_armed", COEFFS_IN, "byte:r.arm flag:r.ends coeffs:r.s.c flag:r.s.scaled", COEFFS + "sim3_coeffs_armed(sigma, z, v)", "Ok"),
     (70, "Sim3Tangent zero", "", "tangent", "Sim3Tangent::zero()"),
     (71, "Sim3Tangent add", "a:tangent b:tangent", "tangent", "a.add(b)"),
     (72, "Sim3Tangent sub", "a:tangent b:tangent", "tangent", "a.sub(b)"),
@@ -95,8 +95,8 @@ ROWS = [
     (77, "Sim3Tangent read_dense", "a:seven", "tangent", "Sim3Tangent::from_dense(a)"),
     (80, "Sim3 mul_inv", "p:pose o:pose e:num", "pose", "p.mul_inv(o, e)"),
     (81, "Sim3 inv_mul", "p:pose o:pose down:num", "pose", "p.inv_mul(o, down)"),
-    (82, "Sim3 act_many", "p:pose up:num pts:list", "list", "point_lists::act_many(p, up, pts, out)", "point_lists::Listed::Written"),
-    (83, "Sim3 act on each", "p:pose up:num pts:list", "list", "point_lists::act_each(p, up, pts, out)", "point_lists::Listed::Written"),
+    (82, "Sim3 act_many", "p:pose up:num pts:list", "list", "point_lists::act_many(p, up, pts, out)", "Ok"),
+    (83, "Sim3 act on each", "p:pose up:num pts:list", "list", "point_lists::act_each(p, up, pts, out)", "Ok"),
     (84, "Sim3 act_jacobians, right", "p:pose up:num v:vec", ACT_OUT, SIDE + "act_jacobians_right(p, up, v)"),
     (85, "Sim3 act_jacobians, left", "p:pose up:num v:vec", ACT_OUT, SIDE + "act_jacobians_left(p, up, v)"),
     (86, "Sim3 adjoint", "p:pose up:num", "block", SIDE + "adjoint(p, up)"),
@@ -131,7 +131,7 @@ ROWS = [
     (202, "Sim3 inverse", "p:pose down:num", "pose", "p.inverse(down)"),
     (203, "Sim3 act", "p:pose up:num v:vec", "vec", "p.act(up, v)"),
     (204, "block_pair", TANGENT_BOTH, "block:r.left block:r.left_inv block:r.right block:r.right_inv", "sides::pair::block_pair(tau, v, jl, inv)"),
-    (205, "Sim3Jac inverse", "j:block", "block", "j.inverse()", "jacobian::jac::JacAnswer::Block"),
+    (205, "Sim3Jac inverse", "j:block", "block", "j.inverse()", "Ok"),
     # Poses with their frames, whose numbers are those of the functions above; framed.py has their answers.
     (210, "Pose from_parts", "p:pose " + FRAMES, POSE_OUT, "Pose::from_parts(p.q, p.t, p.sigma, frame(from), frame(to))"),
     (211, "Pose identity", FRAMES, POSE_OUT, "Pose::identity(frame(from), frame(to))"),
@@ -146,7 +146,7 @@ ROWS = [
     (220, "Pose exp_and_jl", TANGENT_JL + " " + FRAMES, "pose:r.x.sim3 block:r.jl byte:r.x.from byte:r.x.to",
      "framed_jacobian::exp_and_jl(tau, v, jl, frame(from), frame(to))"),
     # Of the port alone; stopped.py has its answers.
-    (221, "pass stopped", "sigma:num k:count stop:count", HORNER_OUT, "series::stopped::pass_stopped(sigma, k, stop)", "series::stopped::StoppedAnswer::Sums"),
+    (221, "pass stopped", "sigma:num k:count stop:count", HORNER_OUT, "series::stopped::pass_stopped(sigma, k, stop)", "Ok"),
 ]
 
 

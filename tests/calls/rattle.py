@@ -31,7 +31,7 @@ use frames::Pose;
 
 fn frame(n: usize) -> u16 { (n % 65536) as u16 }
 
-fn framed(sim3: Sim3, from: usize, to: usize) -> Pose { Pose { sim3, from: frame(from), to: frame(to) } }
+fn framed(sim3: Sim3<f64>, from: usize, to: usize) -> Pose<f64> { Pose { sim3, from: frame(from), to: frame(to) } }
 """
 
 # The types of the port: the fields, with their kinds, in the order in which they are laid out.
@@ -72,7 +72,7 @@ def takers():
     """The functions that read a value from x: a type's by its fields, an array's number by number, the square's by its columns."""
     for kind, (name, _) in TYPES.items():
         row = ", ".join(f"{field}: {taken(k, plus('at', n))}" for field, k, n in fields(kind))
-        yield taker(kind, name, f"{name} {{ {row} }}")
+        yield taker(kind, f"{name}<f64>", f"{name} {{ {row} }}")
     for kind in ("four", "seven"):
         width = WIDTHS[kind]
         yield taker(kind, f"[f64; {width}]", f"[{', '.join(taken('num', plus('at', n)) for n in range(width))}]")
@@ -97,7 +97,7 @@ def stored(kind, width, at, value):
 def putter(kind, width):
     """The function that stores a value of a kind in an array of a width."""
     if kind in TYPES:
-        name = TYPES[kind][0]
+        name = f"{TYPES[kind][0]}<f64>"
         rows = [stored(k, width, plus("at", n), f"v.{field}") for field, k, n in fields(kind)]
     else:
         name = f"[f64; {WIDTHS[kind]}]"
@@ -115,7 +115,7 @@ def maker(kind):
         else:
             rows.append(f"    let {field} = v.{field};\n")
             numbers += [f"{field}.{name}" for name, _, _ in fields(k)]
-    return f"\nfn of_{kind}(v: {TYPES[kind][0]}) -> [f64; {WIDTHS[kind]}] {{\n{''.join(rows)}    [{', '.join(numbers)}]\n}}\n"
+    return f"\nfn of_{kind}(v: {TYPES[kind][0]}<f64>) -> [f64; {WIDTHS[kind]}] {{\n{''.join(rows)}    [{', '.join(numbers)}]\n}}\n"
 
 
 def is_small(f):
@@ -190,10 +190,10 @@ def body(f):
         return inputs(f) + [f"let r = {f.call};"] + outputs(f) + ["0"]
     lines = inputs(f) + [f"let answer = {f.call};", "match answer {"]
     if is_list(f):
-        lines.append(f"    {f.answer} => 0,")
+        lines.append(f"    {f.answer}(()) => 0,")
     else:
         lines += [f"    {f.answer}(r) => {{"] + ["        " + line for line in outputs(f)] + ["        0", "    }"]
-    return lines + [f"    {f.answer.rsplit('::', 1)[0]}::Refused(n) => code(n),", "}"]
+    return lines + ["    Err(n) => code(n.number()),", "}"]
 
 
 def wrapper(f):

@@ -5,22 +5,24 @@ SOURCE = """\
 // the exponent; or the refusal's number.
 #![tactic(auto)]
 
+use ieee::Real;
+
 fn code(n: u8) -> u32 { n as u32 }
 
 #[unsafe(no_mangle)]
 pub extern "C" fn root_call(z: f64, out: &mut [u64; 3], power: &mut [i64; 1]) -> u32 {
     match root::root(z) {
-        root::RootAnswer::Parts(p) => {
+        Ok(p) => {
             let s = p.exponent;
             let x = p.nearest;
-            let b = ieee::to_bits(x);
+            let b = x.pattern();
             out[0] = p.root;
             out[1] = p.remainder;
             out[2] = b;
             power[0] = s;
             0
         }
-        root::RootAnswer::Refused(n) => code(n),
+        Err(n) => code(n.number()),
     }
 }
 """

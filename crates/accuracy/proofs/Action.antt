@@ -6,10 +6,10 @@ use lib.Dec.{T, lit<}
 use lib.Ieee.Fits.{and_l, and_r}
 use lib.Ieee.{Float, Format, binary32, binary64, sub}
 use Rattle.linalg.specs.Vector.{vec_scale, vec_cross, vec_add}
-use Rattle.linalg.specs.declared.vector.Vec3.{Vec3}
+use Rattle.linalg.specs.Floats.{Vec3}
 use Rattle.so3.specs.So3.{so3_act}
 use Rattle.sim3.specs.Pose.{pose_act}
-use Rattle.sim3.specs.declared.sim3.Sim3.{Sim3}
+use Rattle.sim3.specs.Floats.{Sim3}
 use Rattle.rounding.specs.Tree.{computed, exact, bound, no_overflow}
 use Rattle.rounding.specs.Leaves.{AllBounded, error_at_most}
 use Rattle.rounding.proofs.Leaves.{tree-error, two_bounded}

@@ -8,11 +8,11 @@ use lib.Dec.{T, ltb, lit≤}
 use lib.Ieee.{Float, Format, binary32, binary64, lt}
 use Rattle.ieee.specs.Numbers.{f0}
 use Rattle.series.specs.Series.{coeffs_delta, series_full}
-use Rattle.series.specs.declared.sim3.Sim3Coeffs.{Sim3Coeffs}
+use Rattle.series.specs.Floats.{Sim3Coeffs}
 use Rattle.circle.specs.Kernel.{circle_sinc_abd}
 use Rattle.closed.specs.Limits.{short_below, mid_below, upper_below, series_below}
 use Rattle.closed.specs.Arm.{coeffs_arm, arm_terms, arm_ends}
-use Rattle.closed.specs.declared.values.Values.{Values}
+use Rattle.closed.specs.Floats.{Values}
 use Rattle.coeffs.specs.Group.{coeffs_scaled, closed_scaled}
 use Rattle.rounding.specs.Value.{Value, value_of, AbsoluteError}
 use Rattle.accuracy.proofs.Chi.{chi-short_binary64, chi-mid_binary64, chi-upper_binary64, chi-series_binary64, chi-short_binary32, chi-mid_binary32, chi-upper_binary32, chi-series_binary32}

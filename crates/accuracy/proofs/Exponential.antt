@@ -12,18 +12,18 @@ use lib.Ieee.Fits.{and_l, and_r}
 use Rattle.ieee.specs.Numbers.{f0, f1}
 use Rattle.ieee.specs.Table.{factorial}
 use Rattle.linalg.specs.Vector.{vec_scale, vec_cross, vec_add, vec_norm_sq}
-use Rattle.linalg.specs.declared.vector.Vec3.{Vec3}
+use Rattle.linalg.specs.Floats.{Vec3}
 use Rattle.tables.specs.Tables.{recip_fact, b_row}
 use Rattle.circle.specs.Kernel.{circle_sinc_abd}
 use Rattle.circle.specs.Limits.{row_limit}
 use Rattle.series.specs.Series.{series_sum, series_level, coeffs_delta, series_full, coeffs4}
-use Rattle.series.specs.declared.sim3.Sim3Coeffs.{Sim3Coeffs}
+use Rattle.series.specs.Floats.{Sim3Coeffs}
 use Rattle.closed.specs.Limits.{short_below, mid_below, upper_below, series_below}
 use Rattle.closed.specs.Arm.{coeffs_arm, arm_terms, arm_ends}
-use Rattle.closed.specs.declared.values.Values.{Values}
+use Rattle.closed.specs.Floats.{Values}
 use Rattle.coeffs.specs.Group.{coeffs_scaled, closed_scaled, coeffs_unscale, coeffs_plain, coeffs_v}
 use Rattle.sim3.specs.Exp.{poly_apply, v_apply, pose_exp}
-use Rattle.sim3.specs.declared.tangent.Sim3Tangent.{Sim3Tangent}
+use Rattle.sim3.specs.Floats.{Sim3Tangent}
 use Rattle.rounding.specs.Value.{Value, times, value_of, AbsoluteError, AtMost}
 use Rattle.rounding.specs.Tree.{Term, computed, exact, Bound, prod_reach, bound, in_range, no_overflow, ForwardError}
 use Rattle.accuracy.specs.Box.{VecIn, VecError, exact_vec}

@@ -11,9 +11,9 @@ use Rattle.ieee.specs.Numbers.{f3, half}
 use Rattle.linalg.specs.Vector.{vec_neg, vec_scale, vec_cross, vec_add}
 use Rattle.so3.specs.Quat.{quat_conjugate, quat_mul, quat_renormalized, quat_norm_sq}
 use Rattle.so3.specs.So3.{so3_act}
-use Rattle.so3.specs.declared.quat.Quat.{Quat}
+use Rattle.so3.specs.Floats.{Quat}
 use Rattle.sim3.specs.Pose.{pose_inverse}
-use Rattle.sim3.specs.declared.sim3.Sim3.{Sim3}
+use Rattle.sim3.specs.Floats.{Sim3}
 use Rattle.rounding.specs.Tree.{Term, computed, exact, bound, no_overflow}
 use Rattle.rounding.specs.Leaves.{Bounded, AllBounded, error_at_most}
 use Rattle.rounding.proofs.Leaves.{tree-error, two_bounded}

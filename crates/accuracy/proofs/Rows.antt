@@ -18,7 +18,7 @@ use Rattle.rounding.specs.Value.{Value, plus, times, value_of, AtMost, Near, Abs
 use Rattle.rounding.specs.Roundoff.{rounding_error}
 use Rattle.rounding.specs.Tree.{Bound, sum_reach, prod_reach, prod_bound, in_range, ForwardError}
 use Rattle.linalg.specs.Vector.{vec_norm_sq}
-use Rattle.linalg.specs.declared.vector.Vec3.{Vec3}
+use Rattle.linalg.specs.Floats.{Vec3}
 use Rattle.so3.specs.So3.{so3_exp}
 use Rattle.rounding.specs.Leaves.{Bounded, plain}
 use Rattle.circle.proofs.Angle.{norm_not_below}

@@ -12,7 +12,7 @@ use Rattle.ieee.specs.Table.{factorial}
 use Rattle.ieee.specs.Table as Table
 use Rattle.tables.specs.Tables.{recip_fact, recip_rule}
 use Rattle.series.specs.Series.{series_first, series_next, series_level, series_sum, g_series, coeffs_delta, series_chi}
-use Rattle.series.specs.declared.recurrence.Level.{Level}
+use Rattle.series.specs.Floats.{Level}
 use Rattle.rounding.specs.Value.{Value, times, value_of, AbsoluteError}
 use Rattle.rounding.specs.Roundoff.{rounding_error}
 use Rattle.rounding.specs.Tree.{Term, computed, exact, Bound, sum_reach, prod_reach, prod_bound, bound, in_range, no_overflow, ForwardError}

@@ -2,9 +2,9 @@
 use Rattle.std.specs.Prelude.{Bool, ◌&&◌, List, [], ◌∷◌, ℕ, ◌+◌, ◌*◌, ◌^◌, ◌<◌, T, Float}
 use Rattle.std.specs.Float.{Format, binary32, binary64}
 use Rattle.ieee.specs.Numbers.{f2}
-use Rattle.linalg.specs.declared.vector.Vec3.{Vec3}
+use Rattle.linalg.specs.Floats.{Vec3}
 use Rattle.sim3.specs.Pose.{pose_act}
-use Rattle.sim3.specs.declared.sim3.Sim3.{Sim3}
+use Rattle.sim3.specs.Floats.{Sim3}
 use Rattle.rounding.specs.Value.{Value, value_of}
 use Rattle.rounding.specs.Tree.{Term, leaf}
 use Rattle.rounding.specs.Arithmetic.{Arithmetic, trees, exactly}

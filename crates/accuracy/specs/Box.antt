@@ -1,7 +1,7 @@
 -- Points and quaternions whose numbers are finite and at most b / w in size, and what is said of how near they are to exact ones.
 use Rattle.std.specs.Prelude.{ℕ}
-use Rattle.linalg.specs.declared.vector.Vec3.{Vec3}
-use Rattle.so3.specs.declared.quat.Quat.{Quat}
+use Rattle.linalg.specs.Floats.{Vec3}
+use Rattle.so3.specs.Floats.{Quat}
 use Rattle.rounding.specs.Value.{Value, value_of, AbsoluteError}
 use Rattle.rounding.specs.Leaves.{Bounded}
 

@@ -5,17 +5,17 @@ use Rattle.std.specs.Float.{Format, binary32, binary64}
 use Rattle.std.specs.Float.Ieee.{lt}
 use Rattle.ieee.specs.Numbers.{f0}
 use Rattle.linalg.specs.Vector.{vec_norm_sq}
-use Rattle.linalg.specs.declared.vector.Vec3.{Vec3}
+use Rattle.linalg.specs.Floats.{Vec3}
 use Rattle.tables.specs.Tables.{b_row, k_row, cos_half_row, row_rule}
 use Rattle.circle.specs.Limits.{row_limit}
 use Rattle.circle.specs.Kernel.{circle_exp}
-use Rattle.circle.specs.declared.kernel.ExpCoeffs.{ExpCoeffs}
+use Rattle.circle.specs.Floats.{ExpCoeffs}
 use Rattle.closed.specs.Limits.{coeffs_delta, series_below}
-use Rattle.closed.specs.declared.values.Values.{Values}
-use Rattle.so3.specs.declared.quat.Quat.{Quat}
+use Rattle.closed.specs.Floats.{Values}
+use Rattle.so3.specs.Floats.{Quat}
 use Rattle.sim3.specs.Exp.{pose_exp}
-use Rattle.sim3.specs.declared.sim3.Sim3.{Sim3}
-use Rattle.sim3.specs.declared.tangent.Sim3Tangent.{Sim3Tangent}
+use Rattle.sim3.specs.Floats.{Sim3}
+use Rattle.sim3.specs.Floats.{Sim3Tangent}
 use Rattle.rounding.specs.Value.{Value, value_of, AbsoluteError}
 use Rattle.rounding.specs.Tree.{Term, leaf, Bound, prod_bound, bound, no_overflow}
 use Rattle.rounding.specs.Arithmetic.{Arithmetic, trees, exactly}

@@ -3,11 +3,11 @@
 use Rattle.std.specs.Prelude.{Bool, ◌&&◌, List, [], ◌∷◌, ℕ, ◌+◌, ◌*◌, ◌/◌, ◌^◌, ◌<◌, T, Float}
 use Rattle.std.specs.Float.{Format, binary32, binary64}
 use Rattle.ieee.specs.Numbers.{f2, f3, half}
-use Rattle.linalg.specs.declared.vector.Vec3.{Vec3}
+use Rattle.linalg.specs.Floats.{Vec3}
 use Rattle.so3.specs.Quat.{quat_mul, quat_renormalized}
-use Rattle.so3.specs.declared.quat.Quat.{Quat}
+use Rattle.so3.specs.Floats.{Quat}
 use Rattle.sim3.specs.Pose.{pose_inverse}
-use Rattle.sim3.specs.declared.sim3.Sim3.{Sim3}
+use Rattle.sim3.specs.Floats.{Sim3}
 use Rattle.rounding.specs.Value.{Value, value_of}
 use Rattle.rounding.specs.Tree.{Term, leaf}
 use Rattle.rounding.specs.Arithmetic.{Arithmetic, trees, exactly}

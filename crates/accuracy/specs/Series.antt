@@ -7,11 +7,11 @@ use Rattle.ieee.specs.Numbers.{f0, f1}
 use Rattle.ieee.specs.Table.{factorial}
 use Rattle.closed.specs.Limits.{short_below, mid_below, upper_below, series_below}
 use Rattle.closed.specs.Arm.{arm_terms}
-use Rattle.closed.specs.declared.values.Values.{Values}
+use Rattle.closed.specs.Floats.{Values}
 use Rattle.coeffs.specs.Group.{coeffs_scaled}
 use Rattle.series.specs.Series.{coeffs_delta, series_full}
-use Rattle.series.specs.declared.recurrence.Level.{Level}
-use Rattle.series.specs.declared.sim3.Sim3Coeffs.{Sim3Coeffs}
+use Rattle.series.specs.Floats.{Level}
+use Rattle.series.specs.Floats.{Sim3Coeffs}
 use Rattle.rounding.specs.Value.{Value, plus, times, signed, value_of, AbsoluteError}
 use Rattle.rounding.specs.Roundoff.{rounding_error}
 use Rattle.rounding.specs.Leaves.{nth, no_bound}

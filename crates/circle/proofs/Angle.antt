@@ -6,7 +6,7 @@ use Rattle.ieee.specs.Numbers.{f0}
 use Rattle.ieee.proofs.Square.{squares_not_below}
 use Rattle.linalg.specs.Answer.{answers}
 use Rattle.linalg.specs.Vector.{vec_dot, vec_norm_sq}
-use Rattle.linalg.specs.declared.vector.Vec3.{Vec3}
+use Rattle.linalg.specs.Floats.{Vec3}
 use Rattle.circle.specs.Kernel.{circle_exp, circle_exp_answer}
 
 pub norm_not_below : (f : Format) (v : Vec3) → lt (vec_norm_sq f v) f0 ≡ false

@@ -1,27 +1,12 @@
--- No arm reads past its table, and the order of the limits. Assumes nothing.
+-- The order of the limits. Assumes nothing.
 use mathlib.Core.Path.{◌≡◌, sym, subst}
 use mathlib.Core.Bool.{true}
-use Prim.Native.Nat.{◌≤◌}
-use native.Mathlib.Omega.{arith}
 use lib.Dec.{T}
 use lib.Ieee.{Float, Format, binary32, binary64, of_bits, lt, le}
 use lib.Ieee.Bits.{is_true}
 use Rattle.ieee.proofs.Order.{lt-le_trans}
 use Rattle.tables.specs.Tables.{Row, cos_half_row, k_row, a_row, b_row, d_row}
-use Rattle.circle.specs.Limits.{row_terms, row_limit}
-
--- no arm reads past the table
-pub terms_fit : (f : Format) (row : Row) → row_terms f row ≤ 16
-terms_fit binary32 cos_half_row = omega arith
-terms_fit binary32 k_row = omega arith
-terms_fit binary32 a_row = omega arith
-terms_fit binary32 b_row = omega arith
-terms_fit binary32 d_row = omega arith
-terms_fit binary64 cos_half_row = omega arith
-terms_fit binary64 k_row = omega arith
-terms_fit binary64 a_row = omega arith
-terms_fit binary64 b_row = omega arith
-terms_fit binary64 d_row = omega arith
+use Rattle.circle.specs.Limits.{row_limit}
 
 -- cosine-half has the least limit, so below it every member is below its own
 cos_half-least : (f : Format) (row : Row) → T (le (row_limit f cos_half_row) (row_limit f row))

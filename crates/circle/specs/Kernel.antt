@@ -5,37 +5,12 @@ use Rattle.std.specs.Float.{Format}
 use Rattle.std.specs.Float.Ieee.{lt}
 use Rattle.ieee.specs.Numbers.{f0, f1, f2, half}
 use Rattle.ieee.specs.Infix.{operations}
-use Rattle.linalg.specs.Answer.{Answer, answers, refuses, unless_below_zero}
+use Rattle.linalg.specs.Answer.{Answer, answers, unless_below_zero}
 use Rattle.tables.specs.Tables.{Row, cos_half_row, k_row, a_row, b_row, d_row, row_table}
 use Rattle.circle.specs.Limits.{row_terms, row_limit, short_terms, exp_short_limit, five_short_limit}
-use Rattle.circle.specs.declared.kernel.ExpCoeffs.{ExpCoeffs}
-use Rattle.circle.specs.declared.kernel.SincABD.{SincABD}
-use Rattle.circle.specs.declared.kernel.SincA.{SincA}
-use Rattle.circle.specs.declared.kernel.ExpCoeffsAnswer.{ExpCoeffsAnswer}
-use Rattle.circle.specs.declared.kernel.ExpCoeffsAnswer.TheVariants as exp
-use Rattle.circle.specs.declared.kernel.SincABDAnswer.{SincABDAnswer}
-use Rattle.circle.specs.declared.kernel.SincABDAnswer.TheVariants as abd
-use Rattle.circle.specs.declared.kernel.SincAAnswer.{SincAAnswer}
-use Rattle.circle.specs.declared.kernel.SincAAnswer.TheVariants as two
-use Rattle.circle.specs.declared.kernel.SincAnswer.{SincAnswer}
-use Rattle.circle.specs.declared.kernel.SincAnswer.TheVariants as sinc
-
--- ---- what each case of an answer says
-unfoldable pub exp_coeffs_told : ExpCoeffsAnswer → Answer ExpCoeffs
-exp_coeffs_told (exp.Coeffs c) = answers c
-exp_coeffs_told (exp.Refused n) = refuses n
-
-unfoldable pub sinc_abd_told : SincABDAnswer → Answer SincABD
-sinc_abd_told (abd.Coeffs c) = answers c
-sinc_abd_told (abd.Refused n) = refuses n
-
-unfoldable pub sinc_a_told : SincAAnswer → Answer SincA
-sinc_a_told (two.Coeffs c) = answers c
-sinc_a_told (two.Refused n) = refuses n
-
-unfoldable pub sinc_told : SincAnswer → Answer Float
-sinc_told (sinc.Number x) = answers x
-sinc_told (sinc.Refused n) = refuses n
+use Rattle.circle.specs.Floats.{ExpCoeffs}
+use Rattle.circle.specs.Floats.{SincABD}
+use Rattle.circle.specs.Floats.{SincA}
 
 module _ (f : Format) where
   infixl 60 ◌⊕◌ ◌⊖◌

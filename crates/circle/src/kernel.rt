@@ -1,119 +1,91 @@
 // The exact arms, the series arms and the two groups, at a squared angle z = x^2. Its root x, the sine
 // and cosine of x/2 and the sine of x are handed in. A NaN is below no limit, so it takes the exact
 // arms.
-ghost use Rattle.std.specs.Prelude.{◌≡◌, not, ◌≤◌};
-ghost use Rattle.std.specs.Float.{binary64};
+ghost use Rattle.std.specs.Prelude.{◌≡◌, not, ◌≤◌, map};
 ghost use Rattle.std.specs.Float.Ieee.{lt};
 ghost use Rattle.ieee.specs.Numbers.{f0};
 ghost use Rattle.linalg.specs.Vector.{vec_norm_sq};
 ghost use Rattle.tables.specs.Tables.{b_row};
 ghost use Rattle.tables.specs.Rows.{row_named};
 ghost use Rattle.circle.specs.Limits.{row_limit};
-ghost use Rattle.circle.specs.Kernel.{exp_coeffs_told, sinc_abd_told, sinc_a_told, sinc_told, horner_sum, row_series, row_whole, row_own, exact_a, exact_b, exact_d, sinc_from, circle_exp, circle_sinc_abd, circle_sinc_a, circle_exp_answer, circle_sinc_answer, circle_sinc_abd_answer, circle_sinc_a_answer};
+ghost use Rattle.circle.specs.Kernel.{horner_sum, row_series, row_whole, row_own, exact_a, exact_b, exact_d, sinc_from, circle_exp, circle_sinc_abd, circle_sinc_a, circle_exp_answer, circle_sinc_answer, circle_sinc_abd_answer, circle_sinc_a_answer};
+ghost use Rattle.linalg.specs.Answer.{told};
+ghost use Rattle.circle.specs.Floats.{as_exp_coeffs, as_sinc_a, as_sinc_abd};
+ghost use Rattle.linalg.specs.Floats.{as_vec3};
 
-use crate::generated;
+use crate::generated::Limits;
+use linalg::refusal::Refusal;
 use linalg::vector::Vec3;
 use tables::Row;
 
 // sin(x/2)/x and cos(x/2): the exponential's quaternion is (cos_half, k phi).
 #[derive(Clone, Copy)]
-pub struct ExpCoeffs {
-    pub k: f64,
-    pub cos_half: f64,
+pub struct ExpCoeffs<T> {
+    pub k: T,
+    pub cos_half: T,
 }
 
 // (1 - cos x)/x^2, (x - sin x)/x^3, sin x/x, (x^2/2 - 1 + cos x)/x^4. PERF (D122): a and b stand together
 // because the compiler forms and stores them as one vector: read as halves of other vectors, which
 // another order brings about, they would have to wait for the store.
 #[derive(Clone, Copy)]
-pub struct SincABD {
-    pub a: f64,
-    pub b: f64,
-    pub sinc: f64,
-    pub d: f64,
+pub struct SincABD<T> {
+    pub a: T,
+    pub b: T,
+    pub sinc: T,
+    pub d: T,
 }
 
 // sin x/x and (1 - cos x)/x^2 alone.
 #[derive(Clone, Copy)]
-pub struct SincA {
-    pub sinc: f64,
-    pub a: f64,
-}
-
-// The coefficients, or refusal 1.
-#[derive(Clone, Copy)]
-pub enum ExpCoeffsAnswer {
-    Coeffs(ExpCoeffs),
-    Refused(u8),
-}
-
-// The coefficients, or refusal 1.
-#[derive(Clone, Copy)]
-pub enum SincABDAnswer {
-    Coeffs(SincABD),
-    Refused(u8),
-}
-
-// The coefficients, or refusal 1.
-#[derive(Clone, Copy)]
-pub enum SincAAnswer {
-    Coeffs(SincA),
-    Refused(u8),
-}
-
-// A number, or refusal 1.
-#[derive(Clone, Copy)]
-pub enum SincAnswer {
-    Number(f64),
-    Refused(u8),
+pub struct SincA<T> {
+    pub sinc: T,
+    pub a: T,
 }
 
 // The sum of t_j z^j as p_j = t_j + z p_(j+1). It starts at the last term itself: that term plus
 // z * 0 would differ where z is infinite or a NaN.
-fn horner(t: &[f64], z: f64) -> f64
-    ensures { result ≡ horner_sum binary64 z t.now }
+fn horner<T: Limits>(t: &[T], z: T) -> T
+    ensures { T.float result ≡ horner_sum T.format (T.float z) (map T.float t.now) }
 {
-    let n = t.len();
-    if n == 0 {
-        return 0.0;
-    }
-    let mut i = n - 1;
-    let mut p = t[i];
-    while 0 < i {
-        i -= 1;
-        p = t[i] + z * p;
+    let Some((last, rest)) = t.split_last() else {
+        return T::of(0.0);
+    };
+    let mut p = *last;
+    for c in rest.iter().rev() {
+        p = *c + z * p;
     }
     p
 }
 
 // The first n terms of a row.
-fn series(row: Row, n: usize, z: f64) -> f64
+fn series<T: Limits>(row: Row, n: usize, z: T) -> T
     requires { n ≤ 16 }
-    ensures { result ≡ row_series binary64 (row_named row) n z }
+    ensures { T.float result ≡ row_series T.format (row_named row) n (T.float z) }
 {
-    let t = tables::double::table(row);
+    let t = T::table(row);
     horner(&t[..n], z)
 }
 
 // The whole arm of a row.
-fn whole(row: Row, z: f64) -> f64
-    ensures { result ≡ row_whole binary64 (row_named row) z }
+fn whole<T: Limits>(row: Row, z: T) -> T
+    ensures { T.float result ≡ row_whole T.format (row_named row) (T.float z) }
 {
-    series(row, generated::terms(row), z)
+    series(row, T::terms(row), z)
 }
 
 // Whether a squared angle is refused. -0 and NaN are not below zero.
-fn negative(z: f64) -> bool
-    ensures { result ≡ lt z f0 }
+fn negative<T: Limits>(z: T) -> bool
+    ensures { result ≡ lt (T.float z) f0 }
 {
-    z < 0.0
+    z < T::of(0.0)
 }
 
 // A member above its group's short limit: its whole arm below its own limit, else `exact`.
-fn own_arm(row: Row, z: f64, exact: f64) -> f64
-    ensures { result ≡ row_own binary64 (row_named row) z exact }
+fn own_arm<T: Limits>(row: Row, z: T, exact: T) -> T
+    ensures { T.float result ≡ row_own T.format (row_named row) (T.float z) (T.float exact) }
 {
-    if z < generated::below(row) {
+    if z < T::below(row) {
         whole(row, z)
     } else {
         exact
@@ -122,17 +94,17 @@ fn own_arm(row: Row, z: f64, exact: f64) -> f64
 
 // The group of k and cos_half. The limit of cos_half is the lesser, so below it both are on their
 // series and no exact form is worked.
-fn exp_group(z: f64, root: f64, sin_half: f64, cos_half: f64) -> ExpCoeffs
-    ensures { result ≡ circle_exp binary64 z root sin_half cos_half }
+fn exp_group<T: Limits>(z: T, root: T, sin_half: T, cos_half: T) -> ExpCoeffs<T>
+    ensures { as_exp_coeffs T.float result ≡ circle_exp T.format (T.float z) (T.float root) (T.float sin_half) (T.float cos_half) }
 {
-    if z < generated::EXP_SHORT_BELOW {
-        let n = generated::SHORT_TERMS;
+    if z < T::exp_short_below() {
+        let n = T::short_terms();
         return ExpCoeffs {
             k: series(Row::K, n, z),
             cos_half: series(Row::CosHalf, n, z),
         };
     }
-    if z < generated::COS_HALF_BELOW {
+    if z < T::below(Row::CosHalf) {
         return ExpCoeffs {
             k: whole(Row::K, z),
             cos_half: whole(Row::CosHalf, z),
@@ -145,39 +117,44 @@ fn exp_group(z: f64, root: f64, sin_half: f64, cos_half: f64) -> ExpCoeffs
 }
 
 // (k, cos(x/2)) at x^2 = z; refusal 1 for z below zero.
-pub fn exp_coeffs(z: f64, root: f64, sin_half: f64, cos_half: f64) -> ExpCoeffsAnswer
-    ensures { exp_coeffs_told result ≡ circle_exp_answer binary64 z root sin_half cos_half }
+pub fn exp_coeffs<T: Limits>(
+    z: T,
+    root: T,
+    sin_half: T,
+    cos_half: T,
+) -> Result<ExpCoeffs<T>, Refusal>
+    ensures { told (as_exp_coeffs T.float) result ≡ circle_exp_answer T.format (T.float z) (T.float root) (T.float sin_half) (T.float cos_half) }
 {
     if negative(z) {
-        return ExpCoeffsAnswer::Refused(1);
+        return Err(Refusal::NegativeAngle);
     }
-    ExpCoeffsAnswer::Coeffs(exp_group(z, root, sin_half, cos_half))
+    Ok(exp_group(z, root, sin_half, cos_half))
 }
 
 // (k, cos(x/2)) of a rotation vector: z is its squared norm, which is never below zero.
-pub fn exp_coeffs_of(phi: Vec3, root: f64, sin_half: f64, cos_half: f64) -> ExpCoeffs
-    ensures { result ≡ circle_exp binary64 (vec_norm_sq binary64 phi) root sin_half cos_half }
+pub fn exp_coeffs_of<T: Limits>(phi: Vec3<T>, root: T, sin_half: T, cos_half: T) -> ExpCoeffs<T>
+    ensures { as_exp_coeffs T.float result ≡ circle_exp T.format (vec_norm_sq T.format (as_vec3 T.float phi)) (T.float root) (T.float sin_half) (T.float cos_half) }
 {
     exp_group(phi.norm_sq(), root, sin_half, cos_half)
 }
 
 // sin x/x at x^2 = z, 2 k cos(x/2) of `exp_coeffs`; refusal 1 for z below zero.
-pub fn sinc_value(z: f64, root: f64, sin_half: f64, cos_half: f64) -> SincAnswer
-    ensures { sinc_told result ≡ circle_sinc_answer binary64 z root sin_half cos_half }
+pub fn sinc_value<T: Limits>(z: T, root: T, sin_half: T, cos_half: T) -> Result<T, Refusal>
+    ensures { told T.float result ≡ circle_sinc_answer T.format (T.float z) (T.float root) (T.float sin_half) (T.float cos_half) }
 {
     if negative(z) {
-        return SincAnswer::Refused(1);
+        return Err(Refusal::NegativeAngle);
     }
     let c = exp_group(z, root, sin_half, cos_half);
-    SincAnswer::Number(sinc_from(c.k, c.cos_half))
+    Ok(sinc_from(c.k, c.cos_half))
 }
 
 // The group of five, k and cos_half as sin x/x.
-fn five_group(z: f64, root: f64, sin_half: f64, cos_half: f64, sin: f64) -> SincABD
-    ensures { result ≡ circle_sinc_abd binary64 z root sin_half cos_half sin }
+fn five_group<T: Limits>(z: T, root: T, sin_half: T, cos_half: T, sin: T) -> SincABD<T>
+    ensures { as_sinc_abd T.float result ≡ circle_sinc_abd T.format (T.float z) (T.float root) (T.float sin_half) (T.float cos_half) (T.float sin) }
 {
-    if z < generated::FIVE_SHORT_BELOW {
-        let n = generated::SHORT_TERMS;
+    if z < T::five_short_below() {
+        let n = T::short_terms();
         return SincABD {
             sinc: sinc_from(series(Row::K, n, z), series(Row::CosHalf, n, z)),
             a: series(Row::A, n, z),
@@ -185,7 +162,7 @@ fn five_group(z: f64, root: f64, sin_half: f64, cos_half: f64, sin: f64) -> Sinc
             d: series(Row::D, n, z),
         };
     }
-    if z < generated::COS_HALF_BELOW {
+    if z < T::below(Row::CosHalf) {
         return SincABD {
             sinc: sinc_from(whole(Row::K, z), whole(Row::CosHalf, z)),
             a: whole(Row::A, z),
@@ -204,33 +181,39 @@ fn five_group(z: f64, root: f64, sin_half: f64, cos_half: f64, sin: f64) -> Sinc
 
 // Whether b is on its exact arm at the squared norm of a rotation vector, which a NaN is: nothing is
 // worked. For a caller that forms sin x/x, which is 1 - b z, another way there.
-pub fn b_takes_exact_arm_of(phi: Vec3) -> bool
-    ensures { result ≡ not (lt (vec_norm_sq binary64 phi) (row_limit binary64 b_row)) }
+pub fn b_takes_exact_arm_of<T: Limits>(phi: Vec3<T>) -> bool
+    ensures { result ≡ not (lt (vec_norm_sq T.format (as_vec3 T.float phi)) (row_limit T.format b_row)) }
 {
-    !(phi.norm_sq() < generated::below(Row::B))
+    !(phi.norm_sq() < T::below(Row::B))
 }
 
 // (sin x/x, a, b, d) at x^2 = z, which the closed forms of Sim(3) read; refusal 1 for z below zero.
-pub fn sinc_a_b_d(z: f64, root: f64, sin_half: f64, cos_half: f64, sin: f64) -> SincABDAnswer
-    ensures { sinc_abd_told result ≡ circle_sinc_abd_answer binary64 z root sin_half cos_half sin }
+pub fn sinc_a_b_d<T: Limits>(
+    z: T,
+    root: T,
+    sin_half: T,
+    cos_half: T,
+    sin: T,
+) -> Result<SincABD<T>, Refusal>
+    ensures { told (as_sinc_abd T.float) result ≡ circle_sinc_abd_answer T.format (T.float z) (T.float root) (T.float sin_half) (T.float cos_half) (T.float sin) }
 {
     if negative(z) {
-        return SincABDAnswer::Refused(1);
+        return Err(Refusal::NegativeAngle);
     }
-    SincABDAnswer::Coeffs(five_group(z, root, sin_half, cos_half, sin))
+    Ok(five_group(z, root, sin_half, cos_half, sin))
 }
 
 // sinc and a of the group of five alone, with its bits.
-fn two_group(z: f64, root: f64, sin_half: f64, cos_half: f64) -> SincA
-    ensures { result ≡ circle_sinc_a binary64 z root sin_half cos_half }
+fn two_group<T: Limits>(z: T, root: T, sin_half: T, cos_half: T) -> SincA<T>
+    ensures { as_sinc_a T.float result ≡ circle_sinc_a T.format (T.float z) (T.float root) (T.float sin_half) (T.float cos_half) }
 {
-    if z < generated::FIVE_SHORT_BELOW {
-        let n = generated::SHORT_TERMS;
+    if z < T::five_short_below() {
+        let n = T::short_terms();
         let sinc = sinc_from(series(Row::K, n, z), series(Row::CosHalf, n, z));
         let a = series(Row::A, n, z);
         return SincA { sinc, a };
     }
-    if z < generated::COS_HALF_BELOW {
+    if z < T::below(Row::CosHalf) {
         let sinc = sinc_from(whole(Row::K, z), whole(Row::CosHalf, z));
         let a = whole(Row::A, z);
         return SincA { sinc, a };
@@ -241,39 +224,39 @@ fn two_group(z: f64, root: f64, sin_half: f64, cos_half: f64) -> SincA
 }
 
 // sinc and a of `sinc_a_b_d` alone, which the closed form of V reads; refusal 1 for z below zero.
-pub fn sinc_a(z: f64, root: f64, sin_half: f64, cos_half: f64) -> SincAAnswer
-    ensures { sinc_a_told result ≡ circle_sinc_a_answer binary64 z root sin_half cos_half }
+pub fn sinc_a<T: Limits>(z: T, root: T, sin_half: T, cos_half: T) -> Result<SincA<T>, Refusal>
+    ensures { told (as_sinc_a T.float) result ≡ circle_sinc_a_answer T.format (T.float z) (T.float root) (T.float sin_half) (T.float cos_half) }
 {
     if negative(z) {
-        return SincAAnswer::Refused(1);
+        return Err(Refusal::NegativeAngle);
     }
-    SincAAnswer::Coeffs(two_group(z, root, sin_half, cos_half))
+    Ok(two_group(z, root, sin_half, cos_half))
 }
 
 // sin x/x = 2 k cos(x/2).
-fn sinc_from(k: f64, cos_half: f64) -> f64
-    ensures { result ≡ sinc_from binary64 k cos_half }
+fn sinc_from<T: Limits>(k: T, cos_half: T) -> T
+    ensures { T.float result ≡ sinc_from T.format (T.float k) (T.float cos_half) }
 {
-    2.0 * k * cos_half
+    T::of(2.0) * k * cos_half
 }
 
 // (1 - cos x)/x^2 as 2 sin^2(x/2)/x^2.
-fn a_from(z: f64, sh: f64) -> f64
-    ensures { result ≡ exact_a binary64 z sh }
+fn a_from<T: Limits>(z: T, sh: T) -> T
+    ensures { T.float result ≡ exact_a T.format (T.float z) (T.float sh) }
 {
-    2.0 * sh * sh / z
+    T::of(2.0) * sh * sh / z
 }
 
 // (x - sin x)/x^3 as (1 - sin x/x)/x^2.
-fn b_from(z: f64, th: f64, s: f64) -> f64
-    ensures { result ≡ exact_b binary64 z th s }
+fn b_from<T: Limits>(z: T, th: T, s: T) -> T
+    ensures { T.float result ≡ exact_b T.format (T.float z) (T.float th) (T.float s) }
 {
-    (1.0 - s / th) / z
+    (T::of(1.0) - s / th) / z
 }
 
 // (x^2/2 - 1 + cos x)/x^4 as (1/2 - a)/x^2.
-fn d_from(z: f64, a: f64) -> f64
-    ensures { result ≡ exact_d binary64 z a }
+fn d_from<T: Limits>(z: T, a: T) -> T
+    ensures { T.float result ≡ exact_d T.format (T.float z) (T.float a) }
 {
-    (0.5 - a) / z
+    (T::of(0.5) - a) / z
 }

@@ -3,4 +3,4 @@
 #![tactic(auto)]
 
 pub mod kernel; // the coefficients of the exponential, and what the closed forms read
-mod generated; // the limits and term counts of the rows
+pub mod generated; // the limits and term counts of the rows

@@ -1,3 +1,4 @@
+pub mod Floats
 pub mod Values
 pub mod Limits
 pub mod Arm

@@ -2,7 +2,7 @@
 use Rattle.std.specs.Prelude.{Bool, cond, ◌&&◌, Float}
 use Rattle.std.specs.Float.Ieee.{le}
 use Rattle.ieee.specs.Numbers.{f0}
-use Rattle.closed.specs.declared.values.Values.{Values}
+use Rattle.closed.specs.Floats.{Values}
 
 -- σ is +0 or -0
 unfoldable pub at_zero : Float → Bool

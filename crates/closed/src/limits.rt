@@ -1,42 +1,127 @@
 // Where the arms of the coefficients change and how many terms the series takes: what the width of
 // the numbers decides.
 ghost use Rattle.std.specs.Prelude.{◌≡◌, ◌≤◌};
-ghost use Rattle.std.specs.Float.{binary64};
 ghost use Rattle.std.specs.Float.Ieee.{mul, lt, le};
-ghost use Rattle.closed.specs.Limits.{form_b_below, w0_below};
+ghost use Rattle.closed.specs.Limits.{short_below, mid_below, upper_below, series_below, form_b_below, w0_below};
 ghost use Rattle.closed.specs.Arm.{coeffs_arm, arm_terms};
 
+use ieee::Real;
+
 // The limits in delta, rising: a series arm is taken below its limit, the closed one at the last.
-const SHORT_BELOW: f64 = 5.424690937011326e-5; // 3f0c70e59cfc9f1f
+pub trait Arms: Real {
+    fn short_below() -> Self
+        ensures { Self.float result ≡ short_below Self.format };
 
-const MID_BELOW: f64 = 0.042169650342858224; // 3fa59742aa36710d
+    fn mid_below() -> Self
+        ensures { Self.float result ≡ mid_below Self.format };
 
-const UPPER_BELOW: f64 = 0.26416483203860924; // 3fd0e8139c96fc79
+    fn upper_below() -> Self
+        ensures { Self.float result ≡ upper_below Self.format };
 
-const SERIES_BELOW: f64 = 1.9809567785503388; // 3fffb1ffbc2a9c8c
+    fn series_below() -> Self
+        ensures { Self.float result ≡ series_below Self.format };
 
-// v1 takes its form b at and above it: here wherever the arm is closed.
-const FORM_B_BELOW: f64 = SERIES_BELOW;
+    // v1 takes its form b at and above it, and form a on the closed arm below it.
+    fn form_b_below() -> Self
+        ensures { Self.float result ≡ form_b_below Self.format };
 
-// The limit in sigma^2 below which the closed arm sums v0 and w0 by their series.
-const W0_BELOW: f64 = 0.5829415347136074; // 3fe2a77501626657
+    // The limit in sigma^2 below which the closed arm sums v0 and w0 by their series.
+    fn w0_below() -> Self
+        ensures { Self.float result ≡ w0_below Self.format };
+
+    // The series' term count on the arms 1 to 4: within what the series take, so no arm is refused 4.
+    fn arm_terms(arm: u8) -> usize
+        ensures count { result ≡ arm_terms Self.format arm }
+        ensures accepted { result ≤ 28 };
+}
+
+impl Arms for f64 {
+    fn short_below() -> f64 {
+        5.424690937011326e-5 // 3f0c70e59cfc9f1f
+    }
+
+    fn mid_below() -> f64 {
+        0.042169650342858224 // 3fa59742aa36710d
+    }
+
+    fn upper_below() -> f64 {
+        0.26416483203860924 // 3fd0e8139c96fc79
+    }
+
+    fn series_below() -> f64 {
+        1.9809567785503388 // 3fffb1ffbc2a9c8c
+    }
+
+    // Form b wherever the arm is closed.
+    fn form_b_below() -> f64 {
+        f64::series_below()
+    }
+
+    fn w0_below() -> f64 {
+        0.5829415347136074 // 3fe2a77501626657
+    }
+
+    fn arm_terms(arm: u8) -> usize {
+        match arm {
+            1 => 6,
+            2 => 11,
+            3 => 14,
+            _ => 19,
+        }
+    }
+}
+
+impl Arms for f32 {
+    fn short_below() -> f32 {
+        0.0009646616 // 3a7ce158
+    }
+
+    fn mid_below() -> f32 {
+        0.1286397 // 3e03ba20
+    }
+
+    fn upper_below() -> f32 {
+        0.62643355 // 3f205df3
+    }
+
+    fn series_below() -> f32 {
+        2.3713737 // 4017c496
+    }
+
+    fn form_b_below() -> f32 {
+        5.8294153 // 40ba8a92
+    }
+
+    fn w0_below() -> f32 {
+        0.58294153 // 3f153ba8
+    }
+
+    fn arm_terms(arm: u8) -> usize {
+        match arm {
+            1 => 4,
+            2 => 7,
+            3 => 9,
+            _ => 11,
+        }
+    }
+}
 
 // The number of the closed arm.
 pub const CLOSED: u8 = 5;
 
 // The arm at delta: 1 to 4 for the series with more and more terms, 5 for the closed one, which a NaN
 // takes. The last limit is tested first, so that the closed arm costs one test.
-pub fn arm(delta: f64) -> u8
-    ensures { result ≡ coeffs_arm binary64 delta }
+pub fn arm<T: Arms>(delta: T) -> u8
+    ensures { result ≡ coeffs_arm T.format (T.float delta) }
 {
-    if delta < SERIES_BELOW {
-        if delta < SHORT_BELOW {
+    if delta < T::series_below() {
+        if delta < T::short_below() {
             return 1;
         }
-        if delta < MID_BELOW {
+        if delta < T::mid_below() {
             return 2;
         }
-        if delta < UPPER_BELOW {
+        if delta < T::upper_below() {
             return 3;
         }
         return 4;
@@ -44,28 +129,16 @@ pub fn arm(delta: f64) -> u8
     CLOSED
 }
 
-// The series' term count on the arms 1 to 4: within what the series take, so no arm is refused 4.
-pub fn terms(arm: u8) -> usize
-    ensures { (result ≡ arm_terms binary64 arm) × (result ≤ 28) }
-{
-    match arm {
-        1 => 6,
-        2 => 11,
-        3 => 14,
-        _ => 19,
-    }
-}
-
 // Whether v1 takes its form b.
-pub fn on_form_b(delta: f64) -> bool
-    ensures { result ≡ le (form_b_below binary64) delta }
+pub fn on_form_b<T: Arms>(delta: T) -> bool
+    ensures { result ≡ le (form_b_below T.format) (T.float delta) }
 {
-    FORM_B_BELOW <= delta
+    T::form_b_below() <= delta
 }
 
 // Whether the closed arm sums v0 and w0 by their series.
-pub fn w0_small(sigma: f64) -> bool
-    ensures { result ≡ lt (mul binary64 sigma sigma) (w0_below binary64) }
+pub fn w0_small<T: Arms>(sigma: T) -> bool
+    ensures { result ≡ lt (mul T.format (T.float sigma) (T.float sigma)) (w0_below T.format) }
 {
-    sigma * sigma < W0_BELOW
+    sigma * sigma < T::w0_below()
 }

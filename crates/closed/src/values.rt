@@ -1,36 +1,39 @@
 // The function values that are handed in, and those of the negative.
 ghost use Rattle.std.specs.Prelude.{◌≡◌};
 ghost use Rattle.closed.specs.Values.{at_zero, mirrored};
+ghost use Rattle.closed.specs.Floats.{as_values};
+
+use ieee::Real;
 
 // Any ten numbers. A host gives the root of z, sine and cosine of half the root, the sine of the
 // root, e^t and e^t - 1 at t = -|sigma| (t = sigma where sigma is a zero or a NaN), the same two at
 // -sigma (read only where sigma is a zero), e^sigma and e^-sigma.
 #[derive(Clone, Copy)]
-pub struct Values {
-    pub root: f64,
-    pub sin_half: f64,
-    pub cos_half: f64,
-    pub sin: f64,
-    pub e: f64,
-    pub m: f64,
-    pub e0: f64,
-    pub m0: f64,
-    pub up: f64,
-    pub down: f64,
+pub struct Values<T> {
+    pub root: T,
+    pub sin_half: T,
+    pub cos_half: T,
+    pub sin: T,
+    pub e: T,
+    pub m: T,
+    pub e0: T,
+    pub m0: T,
+    pub up: T,
+    pub down: T,
 }
 
 // Whether sigma is +0 or -0.
-pub fn at_zero(sigma: f64) -> bool
-    ensures { result ≡ at_zero sigma }
+pub fn at_zero<T: Real>(sigma: T) -> bool
+    ensures { result ≡ at_zero (T.float sigma) }
 {
-    (sigma <= 0.0) & (0.0 <= sigma)
+    (sigma <= T::of(0.0)) & (T::of(0.0) <= sigma)
 }
 
-impl Values {
+impl<T: Real> Values<T> {
     // The values of the negative, the scope's mirrored values: up and down change places, and
     // where sigma is a zero so do e and e0, m and m0.
-    pub fn mirrored(self, sigma: f64) -> Values
-        ensures { result ≡ mirrored sigma self }
+    pub fn mirrored(self, sigma: T) -> Values<T>
+        ensures { as_values T.float result ≡ mirrored (T.float sigma) (as_values T.float self) }
     {
         let zero = at_zero(sigma);
         Values {

@@ -1,21 +1,19 @@
--- The entries hand a refusal of their arm upward, and what the arm answers is what the entry answers: g makes the entry's numbers of the arm's. Assumes nothing.
+-- What an arm answers is what the entry answers: g makes the entry's numbers of the arm's. Assumes nothing.
 use mathlib.Core.Path.{◌≡◌, refl, sym, ap, ◌∙◌}
-use Prim.Native.Nat.{ℕ, ◌≤◌}
+use Prim.Native.Nat.{ℕ}
 use mathlib.Core.Bool.{Bool, true, false, cond}
-use native.Mathlib.Omega.{arith}
-use borrow.Author.Tests.{le-ltb}
 use lib.Dec.{ltb}
-use lib.Ieee.{Float, Format, neg, mul, lt, le}
+use lib.Ieee.{Float, Format, mul, lt, le}
 use Rattle.ieee.specs.Numbers.{f0}
 use Rattle.linalg.specs.Answer.{answers, refuses, and_then}
 use Rattle.linalg.specs.Vector.{vec_norm_sq}
-use Rattle.linalg.specs.declared.vector.Vec3.{Vec3}
-use Rattle.linalg.proofs.Answers.{refused_as, answered_as, answered-at, not_refused}
+use Rattle.linalg.specs.Floats.{Vec3}
+use Rattle.linalg.proofs.Answers.{answered_as, answered-at, not_refused}
 use Rattle.circle.specs.Kernel.{not_below_zero, circle_sinc_abd, circle_sinc_a}
-use Rattle.circle.specs.declared.kernel.SincABD.{SincABD}
-use Rattle.circle.specs.declared.kernel.SincA.{SincA}
+use Rattle.circle.specs.Floats.{SincABD}
+use Rattle.circle.specs.Floats.{SincA}
 use Rattle.circle.proofs.Angle.{norm_not_below}
-use Rattle.series.specs.Series.{series_full, series_v, coeffs4, series_most, series_v_most, series_guard, series_answer, series_pair_answer}
+use Rattle.series.specs.Series.{series_full, series_v, coeffs4}
 use Rattle.closed.specs.Limits.{coeffs_delta, form_b_below, w0_below}
 use Rattle.closed.specs.Arm.{coeffs_arm, arm_terms, arm_ends}
 use Rattle.coeffs.specs.Closed.{closed_from, closed_v, closed_v_from, closed_only, closed_nine, closed_joined}
@@ -23,32 +21,14 @@ use Rattle.closed.proofs.Arm.{ends-closed}
 use Rattle.coeffs.specs.Private.{closed_one, series_arm}
 use Rattle.coeffs.specs.Group.{closed_scaled, coeffs_scaled, coeffs_armed, coeffs_v_scaled, coeffs_unscale, coeffs_unscale_v, coeffs_plain, coeffs_v}
 use Rattle.coeffs.specs.Entries.{scaled_answer, armed_answer}
-use Rattle.closed.specs.declared.values.Values.{Values}
-use Rattle.coeffs.specs.declared.sim3.Scaled.{Scaled}
-use Rattle.coeffs.specs.declared.sim3.VScaled.{VScaled}
-use Rattle.coeffs.specs.declared.sim3.Armed.{Armed}
+use Rattle.closed.specs.Floats.{Values}
+use Rattle.coeffs.specs.Floats.{Scaled}
+use Rattle.coeffs.specs.Floats.{VScaled}
+use Rattle.coeffs.specs.Floats.{Armed}
 
--- ---- the series arm: its answer x at a term count that is not refused
-guard_is : {A : Type 0} (most : ℕ) (z : Float) (k : ℕ) (a : A) → k ≤ most → series_guard most z k a ≡ not_below_zero z a
-guard_is most z k a h = rw (le-ltb most k h) refl
-
-pub series-answers :
-    {A B : Type 0} (most : ℕ) (z : Float) (k : ℕ) (x c : A) (y : B) (g : A → B) → k ≤ most → y ≡ g x → series_guard most z k x ≡ answers c → not_below_zero z y ≡ answers (g c)
-series-answers most z k x c y g h e r = ap (not_below_zero z) e ∙ answered_as (lt z f0) 1 x c g (sym (guard_is most z k x h) ∙ r)
-
-pub series-refuses : {A B : Type 0} (most : ℕ) (z : Float) (k n : ℕ) (x : A) (y : B) → k ≤ most → series_guard most z k x ≡ refuses n → not_below_zero z y ≡ refuses n
-series-refuses most z k n x y h r = refused_as (lt z f0) 1 n x y (sym (guard_is most z k x h) ∙ r)
-
--- what the full series take, the one for v alone takes too
-pub within-v : (k : ℕ) → k ≤ series_most → k ≤ series_v_most
-within-v k h = omega arith
-
--- ---- any other arm
+-- ---- any arm
 pub arm-answers : {A B : Type 0} (z : Float) (x c : A) (y : B) (g : A → B) → y ≡ g x → not_below_zero z x ≡ answers c → not_below_zero z y ≡ answers (g c)
 arm-answers z x c y g e r = ap (not_below_zero z) e ∙ answered_as (lt z f0) 1 x c g r
-
-pub arm-refuses : {A B : Type 0} (z : Float) (n : ℕ) (x : A) (y : B) → not_below_zero z x ≡ refuses n → not_below_zero z y ≡ refuses n
-arm-refuses z n x y r = refused_as (lt z f0) 1 n x y r
 
 -- ---- at |φ|², which is not below zero, the answer is given
 pub angle_answers : {A : Type 0} (f : Format) (phi : Vec3) (x c : A) → not_below_zero (vec_norm_sq f phi) x ≡ answers c → c ≡ x
@@ -87,10 +67,6 @@ pub by_closed :
 unfolding scaled_answer closed_one
 by_closed f sigma z v t h r = arm-answers z _ t _ (λ x. closed_one f sigma z (coeffs_delta f sigma z) (small f sigma) x v) (scaled-closed f sigma z v h) r
 
-pub closed-refuses : (f : Format) (sigma z : Float) (v : Values) (n : ℕ) (x : SincABD) → not_below_zero z x ≡ refuses n → scaled_answer f sigma z v ≡ refuses n
-unfolding scaled_answer
-closed-refuses f sigma z v n x r = arm-refuses z n x _ r
-
 -- ---- with the arm told
 pub then_as : {A B : Type 0} (t : Bool) (a : A) (g : A → B) → cond t (refuses 1) (answers (g a)) ≡ and_then (cond t (refuses 1) (answers a)) (λ x. answers (g x))
 then_as true a g = refl
@@ -107,24 +83,6 @@ unfolding armed_answer scaled_answer coeffs_armed
 armed-told f sigma z v =
     let arm = coeffs_arm f (coeffs_delta f sigma z) in
     then_as (lt z f0) (coeffs_scaled f sigma z v) (told_at arm (arm_ends f sigma arm))
-
-pub armed-refuses : (f : Format) (sigma z : Float) (v : Values) (n : ℕ) → scaled_answer f sigma z v ≡ refuses n → armed_answer f sigma z v ≡ refuses n
-armed-refuses f sigma z v n r =
-    let arm = coeffs_arm f (coeffs_delta f sigma z) in
-    armed-told f sigma z v ∙ ap (λ a. and_then a (λ s. answers (told_at arm (arm_ends f sigma arm) s))) r
-
--- ---- both signs behind the series' tests
-guards :
-    {A B C : Type 0} (s t : Bool) (a : A) (b : B) (g : A → B → C) →
-    and_then (cond s (refuses 1) (cond t (refuses 4) (answers a))) (λ x. and_then (cond s (refuses 1) (cond t (refuses 4) (answers b))) (λ y. answers (g x y)))
-    ≡ cond s (refuses 1) (cond t (refuses 4) (answers (g a b)))
-guards true t a b g = refl
-guards false true a b g = refl
-guards false false a b g = refl
-
-pub series-pair-is : (f : Format) (sigma z : Float) (k : ℕ) → series_pair_answer f sigma z k ≡ series_guard series_most z k (record { pos = series_full f sigma z k; neg = series_full f (neg sigma) z k })
-unfolding series_pair_answer series_answer
-series-pair-is f sigma z k = guards (lt z f0) (ltb series_most k) (series_full f sigma z k) (series_full f (neg sigma) z k) (λ p n. record { pos = p; neg = n })
 
 -- ---- v and χΔ alone: which arm
 pub v-series :
@@ -150,12 +108,6 @@ pub v-closed-answers :
 v-closed-answers f sigma z v t h r = arm-answers z _ t _ (v-scaled f sigma z v) (v-closed f sigma z v h) r
 
 -- ---- unscaled, from the scaled answer
-pub plain-answers :
-    (f : Format) (sigma z : Float) (v : Values) (s : Scaled) → not_below_zero z (coeffs_scaled f sigma z v) ≡ answers s →
-    not_below_zero z (coeffs_plain f sigma z v) ≡ answers (coeffs_unscale f s.c v.up s.scaled)
-unfolding coeffs_plain
-plain-answers f sigma z v s r = arm-answers z _ s _ (λ (x : Scaled). coeffs_unscale f x.c v.up x.scaled) refl r
-
 pub v-answers :
     (f : Format) (sigma z : Float) (v : Values) (s : VScaled) → not_below_zero z (coeffs_v_scaled f sigma z v) ≡ answers s →
     not_below_zero z (coeffs_v f sigma z v) ≡ answers (coeffs_unscale_v f s.c v.up s.scaled)

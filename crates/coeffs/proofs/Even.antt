@@ -5,12 +5,12 @@ use mathlib.Core.Bool.{Bool, true, false}
 use lib.Dec.{ltb}
 use lib.Ieee.{Float, Format, neg, mul, lt}
 use Rattle.ieee.specs.Numbers.{f0}
-use Rattle.linalg.specs.Answer.{Answer, answers, refuses, and_then}
+use Rattle.linalg.specs.Answer.{answers, refuses, and_then}
 use Rattle.linalg.specs.Vector.{vec_norm_sq}
-use Rattle.linalg.specs.declared.vector.Vec3.{Vec3}
-use Rattle.linalg.proofs.Answers.{never, answers-is, both_as}
+use Rattle.linalg.specs.Floats.{Vec3}
+use Rattle.linalg.proofs.Answers.{both_as}
 use Rattle.circle.specs.Kernel.{not_below_zero, circle_sinc_abd}
-use Rattle.circle.specs.declared.kernel.SincABD.{SincABD}
+use Rattle.circle.specs.Floats.{SincABD}
 use Rattle.series.specs.Series.{series_full}
 use Rattle.ieee.proofs.Sign.{mul-neg-neg}
 use Rattle.closed.specs.Values.{mirrored}
@@ -21,11 +21,11 @@ use Rattle.coeffs.specs.Entries.{scaled_answer, beside, pair_answer, armed_answe
 use Rattle.coeffs.specs.Closed.{closed_from, closed_v_from}
 use Rattle.coeffs.specs.Private.{closed_exps, closed_ends, closed_with}
 use Rattle.coeffs.specs.Private.{minus_et_mt, pair_ends, closed_pair, series_arms}
-use Rattle.closed.specs.declared.values.Values.{Values}
-use Rattle.coeffs.specs.declared.sim3.ScaledPair.{ScaledPair}
-use Rattle.coeffs.specs.declared.sim3.ArmedPair.{ArmedPair}
+use Rattle.closed.specs.Floats.{Values}
+use Rattle.coeffs.specs.Floats.{ScaledPair}
+use Rattle.coeffs.specs.Floats.{ArmedPair}
 use Rattle.closed.proofs.Arm.{delta_even, arm_even, ends_even}
-use Rattle.coeffs.proofs.Arms.{arm-answers, arm-refuses, scaled-series, scaled-closed, then_as, told_at, angle_answers, angle_refuses}
+use Rattle.coeffs.proofs.Arms.{arm-answers, scaled-series, scaled-closed, then_as, told_at, angle_answers, angle_refuses}
 
 -- ---- the pair in its two arms
 pub pair-series :
@@ -67,9 +67,6 @@ pub pair_by_closed :
 pair_by_closed f sigma z v t h r =
     pair-answer-is f sigma z v ∙ arm-answers z _ t _ (λ x. closed_pair f sigma z (coeffs_delta f sigma z) (pair_ends f sigma (lt (mul f sigma sigma) (w0_below f)) v) x v) (pair-closed f sigma z v h) r
 
-pub pair-closed-refuses : (f : Format) (sigma z : Float) (v : Values) (n : ℕ) (x : SincABD) → not_below_zero z x ≡ refuses n → pair_answer f sigma z v ≡ refuses n
-pair-closed-refuses f sigma z v n x r = pair-answer-is f sigma z v ∙ arm-refuses z n x _ r
-
 -- ---- with the arms told: the armed pair's answer is the pair's, with the arm at σ and its ends told at either sign
 abbrev pub told_both : ℕ → Bool → ScaledPair → ArmedPair
 told_both arm ends p = record { pos = told_at arm ends p.pos; neg = told_at arm ends p.neg }
@@ -97,31 +94,9 @@ armed-pair-told f sigma z v =
     ∙ then_as (lt z f0) (coeffs_pair f sigma z v) told
     ∙ ap (λ a. and_then a (λ p. answers (told p))) (sym (pair-answer-is f sigma z v))
 
-pub armed-pair-refuses : (f : Format) (sigma z : Float) (v : Values) (n : ℕ) → pair_answer f sigma z v ≡ refuses n → armed_pair_answer f sigma z v ≡ refuses n
-armed-pair-refuses f sigma z v n r =
-    let arm = coeffs_arm f (coeffs_delta f sigma z) in
-    armed-pair-told f sigma z v ∙ ap (λ a. and_then a (λ p. answers (told_both arm (arm_ends f sigma arm) p))) r
-
 armed-pair-answer-is : (f : Format) (sigma z : Float) (v : Values) → armed_pair_answer f sigma z v ≡ not_below_zero z (coeffs_armed_pair f sigma z v)
 unfolding armed_pair_answer beside_armed armed_answer coeffs_armed_pair
 armed-pair-answer-is f sigma z v = both_as (lt z f0) 1 (coeffs_armed f sigma z v) (coeffs_armed f (neg sigma) z (mirrored sigma v)) (λ p n. record { pos = p; neg = n })
-
--- what the armed pair answers is the pair's answer with more told
-untold : (arm : ℕ) (ends : Bool) (r : Answer ScaledPair) (p : ArmedPair) → and_then r (λ q. answers (told_both arm ends q)) ≡ answers p → r ≡ answers (record { pos = p.pos.s; neg = p.neg.s })
-untold arm ends (answers q) p e = let h = answers-is (told_both arm ends q) p e in ap (λ (x : ArmedPair). answers (record { pos = x.pos.s; neg = x.neg.s })) h
-untold arm ends (refuses n) p e = never p n (sym e)
-
-unasked : (arm : ℕ) (ends : Bool) (r : Answer ScaledPair) (n : ℕ) → and_then r (λ q. answers (told_both arm ends q)) ≡ refuses n → r ≡ refuses n
-unasked arm ends (answers q) n e = never (told_both arm ends q) n e
-unasked arm ends (refuses k) n e = let h : k ≡ n = cc in ap (λ (m : ℕ). refuses m) h
-
-pub armed-answers :
-    (f : Format) (sigma z : Float) (v : Values) (p : ArmedPair) → armed_pair_answer f sigma z v ≡ answers p →
-    pair_answer f sigma z v ≡ answers (record { pos = p.pos.s; neg = p.neg.s })
-armed-answers f sigma z v p r = untold _ _ (pair_answer f sigma z v) p (sym (armed-pair-told f sigma z v) ∙ r)
-
-pub armed-refused : (f : Format) (sigma z : Float) (v : Values) (n : ℕ) → armed_pair_answer f sigma z v ≡ refuses n → pair_answer f sigma z v ≡ refuses n
-armed-refused f sigma z v n r = unasked _ _ (pair_answer f sigma z v) n (sym (armed-pair-told f sigma z v) ∙ r)
 
 -- ---- at |φ|²
 pub angle_armed-answers :

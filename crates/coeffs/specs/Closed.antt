@@ -5,14 +5,14 @@ use Rattle.std.specs.Float.Ieee.{neg, lt}
 use Rattle.ieee.specs.Numbers.{f0, f1, f2, half}
 use Rattle.ieee.specs.Infix.{operations}
 use Rattle.series.specs.Series.{g_series, w0_terms}
-use Rattle.series.specs.declared.sim3.Sim3Coeffs.{Sim3Coeffs}
-use Rattle.series.specs.declared.sim3.Coeffs4.{Coeffs4}
-use Rattle.circle.specs.declared.kernel.SincABD.{SincABD}
-use Rattle.circle.specs.declared.kernel.SincA.{SincA}
+use Rattle.series.specs.Floats.{Sim3Coeffs}
+use Rattle.series.specs.Floats.{Coeffs4}
+use Rattle.circle.specs.Floats.{SincABD}
+use Rattle.circle.specs.Floats.{SincA}
 use Rattle.closed.specs.Values.{at_zero}
 use Rattle.closed.specs.Limits.{coeffs_delta}
-use Rattle.coeffs.specs.declared.closed_form.Ws.{Ws}
-use Rattle.coeffs.specs.declared.closed_form.Dvs.{Dvs}
+use Rattle.coeffs.specs.Floats.{Ws}
+use Rattle.coeffs.specs.Floats.{Dvs}
 
 -- the exponential's numbers where 0 < σ, and elsewhere: e, m₁ and g, which is e^-σ where scaled
 abbrev pub closed_e : Float → Float → Float

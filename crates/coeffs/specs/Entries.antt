@@ -2,61 +2,18 @@
 use Rattle.std.specs.Prelude.{Float}
 use Rattle.std.specs.Float.{Format}
 use Rattle.std.specs.Float.Ieee.{neg}
-use Rattle.linalg.specs.Answer.{Answer, answers, refuses, and_then}
+use Rattle.linalg.specs.Answer.{Answer, answers, and_then}
 use Rattle.circle.specs.Kernel.{not_below_zero}
-use Rattle.series.specs.declared.sim3.Sim3Coeffs.{Sim3Coeffs}
-use Rattle.series.specs.declared.sim3.Coeffs4.{Coeffs4}
+use Rattle.series.specs.Floats.{Sim3Coeffs}
+use Rattle.series.specs.Floats.{Coeffs4}
 use Rattle.closed.specs.Values.{mirrored}
 use Rattle.coeffs.specs.Group.{coeffs_scaled, coeffs_armed, coeffs_plain, coeffs_v, coeffs_v_scaled}
-use Rattle.closed.specs.declared.values.Values.{Values}
-use Rattle.coeffs.specs.declared.sim3.Scaled.{Scaled}
-use Rattle.coeffs.specs.declared.sim3.VScaled.{VScaled}
-use Rattle.coeffs.specs.declared.sim3.ScaledPair.{ScaledPair}
-use Rattle.coeffs.specs.declared.sim3.Armed.{Armed}
-use Rattle.coeffs.specs.declared.sim3.ArmedPair.{ArmedPair}
-use Rattle.coeffs.specs.declared.sim3.ScaledAnswer.{ScaledAnswer}
-use Rattle.coeffs.specs.declared.sim3.ScaledAnswer.TheVariants as scaled
-use Rattle.coeffs.specs.declared.sim3.CoeffsAnswer.{CoeffsAnswer}
-use Rattle.coeffs.specs.declared.sim3.CoeffsAnswer.TheVariants as plain
-use Rattle.coeffs.specs.declared.sim3.VAnswer.{VAnswer}
-use Rattle.coeffs.specs.declared.sim3.VAnswer.TheVariants as four
-use Rattle.coeffs.specs.declared.sim3.VScaledAnswer.{VScaledAnswer}
-use Rattle.coeffs.specs.declared.sim3.VScaledAnswer.TheVariants as three
-use Rattle.coeffs.specs.declared.sim3.PairAnswer.{PairAnswer}
-use Rattle.coeffs.specs.declared.sim3.PairAnswer.TheVariants as two
-use Rattle.coeffs.specs.declared.sim3.ArmedAnswer.{ArmedAnswer}
-use Rattle.coeffs.specs.declared.sim3.ArmedAnswer.TheVariants as armed
-use Rattle.coeffs.specs.declared.sim3.ArmedPairAnswer.{ArmedPairAnswer}
-use Rattle.coeffs.specs.declared.sim3.ArmedPairAnswer.TheVariants as both
-
--- ---- what each case of an answer says
-unfoldable pub scaled_told : ScaledAnswer → Answer Scaled
-scaled_told (scaled.Coeffs s) = answers s
-scaled_told (scaled.Refused n) = refuses n
-
-unfoldable pub coeffs_told : CoeffsAnswer → Answer Sim3Coeffs
-coeffs_told (plain.Coeffs c) = answers c
-coeffs_told (plain.Refused n) = refuses n
-
-unfoldable pub v_told : VAnswer → Answer Coeffs4
-v_told (four.Coeffs c) = answers c
-v_told (four.Refused n) = refuses n
-
-unfoldable pub v_scaled_told : VScaledAnswer → Answer VScaled
-v_scaled_told (three.Coeffs c) = answers c
-v_scaled_told (three.Refused n) = refuses n
-
-unfoldable pub pair_told : PairAnswer → Answer ScaledPair
-pair_told (two.Coeffs p) = answers p
-pair_told (two.Refused n) = refuses n
-
-unfoldable pub armed_told : ArmedAnswer → Answer Armed
-armed_told (armed.Coeffs a) = answers a
-armed_told (armed.Refused n) = refuses n
-
-unfoldable pub armed_pair_told : ArmedPairAnswer → Answer ArmedPair
-armed_pair_told (both.Coeffs p) = answers p
-armed_pair_told (both.Refused n) = refuses n
+use Rattle.closed.specs.Floats.{Values}
+use Rattle.coeffs.specs.Floats.{Scaled}
+use Rattle.coeffs.specs.Floats.{VScaled}
+use Rattle.coeffs.specs.Floats.{ScaledPair}
+use Rattle.coeffs.specs.Floats.{Armed}
+use Rattle.coeffs.specs.Floats.{ArmedPair}
 
 -- ---- refusal 1 exactly where z < 0: not at -0, not at a NaN
 unfoldable pub scaled_answer : Format → Float → Float → Values → Answer Scaled

@@ -5,20 +5,20 @@ use Rattle.std.specs.Float.Ieee.{neg, lt, le}
 use Rattle.ieee.specs.Numbers.{f0, f1}
 use Rattle.ieee.specs.Infix.{operations}
 use Rattle.series.specs.Series.{series_full, coeffs4}
-use Rattle.series.specs.declared.sim3.Sim3Coeffs.{Sim3Coeffs}
-use Rattle.series.specs.declared.sim3.Coeffs4.{Coeffs4}
+use Rattle.series.specs.Floats.{Sim3Coeffs}
+use Rattle.series.specs.Floats.{Coeffs4}
 use Rattle.circle.specs.Kernel.{circle_sinc_abd}
-use Rattle.circle.specs.declared.kernel.SincABD.{SincABD}
+use Rattle.circle.specs.Floats.{SincABD}
 use Rattle.closed.specs.Values.{mirrored}
 use Rattle.closed.specs.Limits.{coeffs_delta, form_b_below}
 use Rattle.closed.specs.Arm.{coeffs_arm, arm_terms, arm_ends}
 use Rattle.coeffs.specs.Closed.{closed_from}
-use Rattle.closed.specs.declared.values.Values.{Values}
-use Rattle.coeffs.specs.declared.sim3.Scaled.{Scaled}
-use Rattle.coeffs.specs.declared.sim3.VScaled.{VScaled}
-use Rattle.coeffs.specs.declared.sim3.ScaledPair.{ScaledPair}
-use Rattle.coeffs.specs.declared.sim3.Armed.{Armed}
-use Rattle.coeffs.specs.declared.sim3.ArmedPair.{ArmedPair}
+use Rattle.closed.specs.Floats.{Values}
+use Rattle.coeffs.specs.Floats.{Scaled}
+use Rattle.coeffs.specs.Floats.{VScaled}
+use Rattle.coeffs.specs.Floats.{ScaledPair}
+use Rattle.coeffs.specs.Floats.{Armed}
+use Rattle.coeffs.specs.Floats.{ArmedPair}
 
 -- the closed forms, from the circle functions t and from et and mt, v₀ and w₀ by their series where `ends`: scaled
 -- exactly where 0 < σ

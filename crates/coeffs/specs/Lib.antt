@@ -1,3 +1,4 @@
+pub mod Floats
 pub mod Closed
 pub mod Group
 pub mod Entries

@@ -5,19 +5,19 @@ use Rattle.std.specs.Float.Ieee.{neg, lt, le}
 use Rattle.ieee.specs.Numbers.{f0}
 use Rattle.linalg.specs.Answer.{Answer}
 use Rattle.series.specs.Series.{series_full}
-use Rattle.series.specs.declared.sim3.Sim3Coeffs.{Sim3Coeffs}
+use Rattle.series.specs.Floats.{Sim3Coeffs}
 use Rattle.circle.specs.Kernel.{not_below_zero}
-use Rattle.circle.specs.declared.kernel.SincABD.{SincABD}
+use Rattle.circle.specs.Floats.{SincABD}
 use Rattle.closed.specs.Values.{at_zero}
 use Rattle.closed.specs.Limits.{form_b_below}
 use Rattle.closed.specs.Arm.{arm_terms}
-use Rattle.closed.specs.declared.values.Values.{Values}
+use Rattle.closed.specs.Floats.{Values}
 use Rattle.coeffs.specs.Closed.{closed_e, closed_m, closed_g, closed_v0, closed_w0, closed_v, closed_nine, closed_from}
-use Rattle.coeffs.specs.declared.closed_form.Exps.{Exps}
-use Rattle.coeffs.specs.declared.closed_form.Ends.{Ends}
-use Rattle.coeffs.specs.declared.closed_form.EtMt.{EtMt}
-use Rattle.coeffs.specs.declared.sim3.Scaled.{Scaled}
-use Rattle.coeffs.specs.declared.sim3.ScaledPair.{ScaledPair}
+use Rattle.coeffs.specs.Floats.{Exps}
+use Rattle.coeffs.specs.Floats.{Ends}
+use Rattle.coeffs.specs.Floats.{EtMt}
+use Rattle.coeffs.specs.Floats.{Scaled}
+use Rattle.coeffs.specs.Floats.{ScaledPair}
 
 -- ---- the closed arm at both signs
 -- e, m₁ and g of one sign

@@ -1,41 +1,44 @@
 // The closed arm: the coefficients from the circle functions and the exponential, scaled by e^-sigma where
 // 0 < sigma, so that nothing overflows before the answer does.
 ghost use Rattle.std.specs.Prelude.{◌≡◌};
-ghost use Rattle.std.specs.Float.{binary64};
 ghost use Rattle.std.specs.Float.Ieee.{neg};
 ghost use Rattle.coeffs.specs.Closed.{closed_v0, closed_w0, closed_v, closed_ws, closed_dvs, closed_joined, closed_v_from, closed_only, closed_from};
 ghost use Rattle.coeffs.specs.Private.{closed_exps, closed_ends, closed_with};
+ghost use Rattle.series.specs.Floats.{as_coeffs4, as_coeffs_pair, as_sim3_coeffs};
+ghost use Rattle.coeffs.specs.Floats.{as_dvs, as_ends, as_exps, as_ws};
+ghost use Rattle.circle.specs.Floats.{as_sinc_a, as_sinc_abd};
 
+use crate::width::Width;
 use circle::kernel::{SincA, SincABD};
 use closed::values::at_zero;
 use series::sim3::{Coeffs4, CoeffsPair, Sim3Coeffs};
 
 // v0 by its series where `small`, else m1/sigma, and 1 where sigma is a zero.
-fn v0_of(sigma: f64, g: f64, m1: f64, small: bool) -> f64
-    ensures { result ≡ closed_v0 binary64 sigma g m1 small }
+fn v0_of<T: Width>(sigma: T, g: T, m1: T, small: bool) -> T
+    ensures { T.float result ≡ closed_v0 T.format (T.float sigma) (T.float g) (T.float m1) small }
 {
     if small {
         return g * series::small::g1(sigma);
     }
     let zero = at_zero(sigma);
-    let ss = ieee::pick(zero, 1.0, sigma);
-    ieee::pick(zero, 1.0, m1 / ss)
+    let ss = ieee::pick(zero, T::of(1.0), sigma);
+    ieee::pick(zero, T::of(1.0), m1 / ss)
 }
 
 // w0 by its series where `small`, else (m1 - sigma g)/sigma^2.
-fn w0_of(sigma: f64, g: f64, m1: f64, small: bool) -> f64
-    ensures { result ≡ closed_w0 binary64 sigma g m1 small }
+fn w0_of<T: Width>(sigma: T, g: T, m1: T, small: bool) -> T
+    ensures { T.float result ≡ closed_w0 T.format (T.float sigma) (T.float g) (T.float m1) small }
 {
     if small {
         return g * series::small::g2(sigma);
     }
-    let ss = ieee::pick(at_zero(sigma), 1.0, sigma);
+    let ss = ieee::pick(at_zero(sigma), T::of(1.0), sigma);
     (m1 - sigma * g) / (ss * ss)
 }
 
 // v1, v2 and chi_delta from v0.
-fn v_from(sigma: f64, z: f64, t: SincABD, e: f64, m1: f64, v0: f64, form_b: bool) -> Coeffs4
-    ensures { result ≡ closed_v binary64 sigma z t e m1 v0 form_b }
+fn v_from<T: Width>(sigma: T, z: T, t: SincABD<T>, e: T, m1: T, v0: T, form_b: bool) -> Coeffs4<T>
+    ensures { as_coeffs4 T.float result ≡ closed_v T.format (T.float sigma) (T.float z) (as_sinc_abd T.float t) (T.float e) (T.float m1) (T.float v0) form_b }
 {
     let sinc = t.sinc;
     let a = t.a;
@@ -55,14 +58,14 @@ fn v_from(sigma: f64, z: f64, t: SincABD, e: f64, m1: f64, v0: f64, form_b: bool
 
 // w1 and w2.
 #[derive(Clone, Copy)]
-pub struct Ws {
-    pub w1: f64,
-    pub w2: f64,
+pub struct Ws<T> {
+    pub w1: T,
+    pub w2: T,
 }
 
 // w1 and w2 from v1, v2 and w0.
-fn w_from(sigma: f64, z: f64, v: Coeffs4, w0: f64) -> Ws
-    ensures { result ≡ closed_ws binary64 sigma z v w0 }
+fn w_from<T: Width>(sigma: T, z: T, v: Coeffs4<T>, w0: T) -> Ws<T>
+    ensures { as_ws T.float result ≡ closed_ws T.format (T.float sigma) (T.float z) (as_coeffs4 T.float v) (T.float w0) }
 {
     let delta = sigma * sigma + z;
     let w2 = ((w0 + sigma * v.v2) - v.v1) / delta;
@@ -74,18 +77,18 @@ fn w_from(sigma: f64, z: f64, v: Coeffs4, w0: f64) -> Ws
 
 // The z-derivatives of v1 and v2.
 #[derive(Clone, Copy)]
-pub struct Dvs {
-    pub dv1: f64,
-    pub dv2: f64,
+pub struct Dvs<T> {
+    pub dv1: T,
+    pub dv2: T,
 }
 
 // The derivatives from v2 and those of the circle functions.
-fn dv_from(sigma: f64, z: f64, t: SincABD, e: f64, v2: f64) -> Dvs
-    ensures { result ≡ closed_dvs binary64 sigma z t e v2 }
+fn dv_from<T: Width>(sigma: T, z: T, t: SincABD<T>, e: T, v2: T) -> Dvs<T>
+    ensures { as_dvs T.float result ≡ closed_dvs T.format (T.float sigma) (T.float z) (as_sinc_abd T.float t) (T.float e) (T.float v2) }
 {
     let delta = sigma * sigma + z;
-    let da = -(0.5 * (t.b - 2.0 * t.d));
-    let dsinc = -(0.5 * (t.a - t.b));
+    let da = -(T::of(0.5) * (t.b - T::of(2.0) * t.d));
+    let dsinc = -(T::of(0.5) * (t.a - t.b));
     let dv2 = ((sigma * e * da - e * dsinc) - v2) / delta;
     Dvs {
         dv1: e * da - sigma * dv2,
@@ -94,8 +97,8 @@ fn dv_from(sigma: f64, z: f64, t: SincABD, e: f64, v2: f64) -> Dvs
 }
 
 // All nine, put together.
-fn nine(v: Coeffs4, w0: f64, w: Ws, d: Dvs) -> Sim3Coeffs
-    ensures { result ≡ closed_joined v w0 w d }
+fn nine<T: Width>(v: Coeffs4<T>, w0: T, w: Ws<T>, d: Dvs<T>) -> Sim3Coeffs<T>
+    ensures { as_sim3_coeffs T.float result ≡ closed_joined (as_coeffs4 T.float v) (T.float w0) (as_ws T.float w) (as_dvs T.float d) }
 {
     Sim3Coeffs {
         v0: v.v0,
@@ -112,54 +115,54 @@ fn nine(v: Coeffs4, w0: f64, w: Ws, d: Dvs) -> Sim3Coeffs
 
 // e^t and e^t - 1 at t = -|sigma|.
 #[derive(Clone, Copy)]
-pub struct EtMt {
-    pub et: f64,
-    pub mt: f64,
+pub struct EtMt<T> {
+    pub et: T,
+    pub mt: T,
 }
 
 // The exponential's numbers at one sign, from e^t and e^t - 1 at t = -|sigma|: e is e^sigma and m1 is
 // e^sigma - 1, both scaled by e^-sigma where 0 < sigma, and g is the scale, e^-sigma or 1.
 #[derive(Clone, Copy)]
-pub struct Exps {
-    pub e: f64,
-    pub m1: f64,
-    pub g: f64,
+pub struct Exps<T> {
+    pub e: T,
+    pub m1: T,
+    pub g: T,
 }
 
-fn exps_of(sigma: f64, et: f64, mt: f64) -> Exps
-    ensures { result ≡ closed_exps sigma et mt }
+fn exps_of<T: Width>(sigma: T, et: T, mt: T) -> Exps<T>
+    ensures { as_exps T.float result ≡ closed_exps (T.float sigma) (T.float et) (T.float mt) }
 {
-    let pos = 0.0 < sigma;
+    let pos = T::of(0.0) < sigma;
     Exps {
-        e: ieee::pick(pos, 1.0, et),
+        e: ieee::pick(pos, T::of(1.0), et),
         m1: ieee::pick(pos, -mt, mt),
-        g: ieee::pick(pos, et, 1.0),
+        g: ieee::pick(pos, et, T::of(1.0)),
     }
 }
 
 // The circle functions from those that v reads: b and d are left zero.
-fn only(t: SincA) -> SincABD
-    ensures { result ≡ closed_only t }
+fn only<T: Width>(t: SincA<T>) -> SincABD<T>
+    ensures { as_sinc_abd T.float result ≡ closed_only (as_sinc_a T.float t) }
 {
     SincABD {
         a: t.a,
-        b: 0.0,
+        b: T::of(0.0),
         sinc: t.sinc,
-        d: 0.0,
+        d: T::of(0.0),
     }
 }
 
 // v and chi_delta alone, from the circle functions t and from e^t, e^t - 1 at t = -|sigma|.
-pub fn closed_v(
-    sigma: f64,
-    z: f64,
-    t: SincA,
-    et: f64,
-    mt: f64,
+pub fn closed_v<T: Width>(
+    sigma: T,
+    z: T,
+    t: SincA<T>,
+    et: T,
+    mt: T,
     form_b: bool,
     small: bool,
-) -> Coeffs4
-    ensures { result ≡ closed_v_from binary64 sigma z (closed_only t) et mt form_b small }
+) -> Coeffs4<T>
+    ensures { as_coeffs4 T.float result ≡ closed_v_from T.format (T.float sigma) (T.float z) (closed_only (as_sinc_a T.float t)) (T.float et) (T.float mt) form_b small }
 {
     let x = exps_of(sigma, et, mt);
     let v0 = v0_of(sigma, x.g, x.m1, small);
@@ -167,16 +170,16 @@ pub fn closed_v(
 }
 
 // All nine, from the same.
-pub fn closed_from(
-    sigma: f64,
-    z: f64,
-    t: SincABD,
-    et: f64,
-    mt: f64,
+pub fn closed_from<T: Width>(
+    sigma: T,
+    z: T,
+    t: SincABD<T>,
+    et: T,
+    mt: T,
     form_b: bool,
     small: bool,
-) -> Sim3Coeffs
-    ensures { result ≡ closed_from binary64 sigma z t et mt form_b small }
+) -> Sim3Coeffs<T>
+    ensures { as_sim3_coeffs T.float result ≡ closed_from T.format (T.float sigma) (T.float z) (as_sinc_abd T.float t) (T.float et) (T.float mt) form_b small }
 {
     let x = exps_of(sigma, et, mt);
     let v0 = v0_of(sigma, x.g, x.m1, small);
@@ -189,16 +192,16 @@ pub fn closed_from(
 
 // v0 and w0 at both signs.
 #[derive(Clone, Copy)]
-pub struct Ends {
-    pub v0: f64,
-    pub w0: f64,
-    pub v0_neg: f64,
-    pub w0_neg: f64,
+pub struct Ends<T> {
+    pub v0: T,
+    pub w0: T,
+    pub v0_neg: T,
+    pub w0_neg: T,
 }
 
 // v0 and w0 at sigma, with the numbers x of the exponential, and at -sigma, with y.
-fn ends_of(sigma: f64, x: Exps, y: Exps, small: bool) -> Ends
-    ensures { result ≡ closed_ends binary64 sigma x y small }
+fn ends_of<T: Width>(sigma: T, x: Exps<T>, y: Exps<T>, small: bool) -> Ends<T>
+    ensures { as_ends T.float result ≡ closed_ends T.format (T.float sigma) (as_exps T.float x) (as_exps T.float y) small }
 {
     if small {
         let h = series::small::horner_small(sigma);
@@ -221,8 +224,8 @@ fn ends_of(sigma: f64, x: Exps, y: Exps, small: bool) -> Ends
 }
 
 // The same from e^t and e^t - 1 of each sign.
-pub fn ends_both(sigma: f64, x: EtMt, y: EtMt, small: bool) -> Ends
-    ensures { result ≡ closed_ends binary64 sigma (closed_exps sigma x.et x.mt) (closed_exps (neg sigma) y.et y.mt) small }
+pub fn ends_both<T: Width>(sigma: T, x: EtMt<T>, y: EtMt<T>, small: bool) -> Ends<T>
+    ensures { as_ends T.float result ≡ closed_ends T.format (T.float sigma) (closed_exps (T.float sigma) (T.float x.et) (T.float x.mt)) (closed_exps (neg (T.float sigma)) (T.float y.et) (T.float y.mt)) small }
 {
     let p = exps_of(sigma, x.et, x.mt);
     let n = exps_of(-sigma, y.et, y.mt);
@@ -231,16 +234,16 @@ pub fn ends_both(sigma: f64, x: EtMt, y: EtMt, small: bool) -> Ends
 
 // All nine at sigma, from x, and at -sigma, from y, with v0 and w0 of both: the circle functions and
 // the squares are shared.
-pub fn closed_both(
-    sigma: f64,
-    z: f64,
-    t: SincABD,
-    x: EtMt,
-    y: EtMt,
-    h: Ends,
+pub fn closed_both<T: Width>(
+    sigma: T,
+    z: T,
+    t: SincABD<T>,
+    x: EtMt<T>,
+    y: EtMt<T>,
+    h: Ends<T>,
     form_b: bool,
-) -> CoeffsPair
-    ensures { result ≡ record { pos = closed_with binary64 sigma z t x.et x.mt h.v0 h.w0 form_b; neg = closed_with binary64 (neg sigma) z t y.et y.mt h.v0_neg h.w0_neg form_b } }
+) -> CoeffsPair<T>
+    ensures { as_coeffs_pair T.float result ≡ record { pos = closed_with T.format (T.float sigma) (T.float z) (as_sinc_abd T.float t) (T.float x.et) (T.float x.mt) (T.float h.v0) (T.float h.w0) form_b; neg = closed_with T.format (neg (T.float sigma)) (T.float z) (as_sinc_abd T.float t) (T.float y.et) (T.float y.mt) (T.float h.v0_neg) (T.float h.w0_neg) form_b } }
 {
     let minus = -sigma;
     let p = exps_of(sigma, x.et, x.mt);

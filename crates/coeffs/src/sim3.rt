@@ -1,175 +1,130 @@
 // The entries of the coefficient group: scaled, with the arm told, unscaled, v alone, and the pair for
 // both signs. Each finds the arm once.
 ghost use Rattle.std.specs.Prelude.{◌≡◌};
-ghost use Rattle.std.specs.Float.{binary64};
-ghost use Rattle.linalg.specs.Answer.{answers, and_then};
 ghost use Rattle.linalg.specs.Vector.{vec_norm_sq};
 ghost use Rattle.coeffs.specs.Group.{coeffs_scaled, coeffs_unscale, coeffs_unscale_v, coeffs_plain, coeffs_v, coeffs_pair};
 ghost use Rattle.coeffs.specs.Private.{closed_one, minus_et_mt, pair_ends, closed_pair, series_arm, series_arms};
-ghost use Rattle.coeffs.specs.Entries.{scaled_told, coeffs_told, v_told, v_scaled_told, pair_told, scaled_answer, coeffs_answer, v_answer, v_scaled_answer, pair_answer};
-ghost use Rattle.coeffs.specs.Entries.{armed_told, armed_pair_told, armed_answer, armed_pair_answer};
+ghost use Rattle.coeffs.specs.Entries.{scaled_answer, coeffs_answer, v_answer, v_scaled_answer, pair_answer};
+ghost use Rattle.coeffs.specs.Entries.{armed_answer, armed_pair_answer};
+ghost use Rattle.linalg.specs.Answer.{told};
+ghost use Rattle.series.specs.Floats.{as_coeffs4, as_sim3_coeffs};
+ghost use Rattle.coeffs.specs.Floats.{as_armed, as_armed_pair, as_ends, as_et_mt, as_scaled, as_scaled_pair, as_v_scaled};
+ghost use Rattle.circle.specs.Floats.{as_sinc_abd};
+ghost use Rattle.linalg.specs.Floats.{as_vec3};
+ghost use Rattle.closed.specs.Floats.{as_values};
 
 use crate::closed_form::{Ends, EtMt, closed_both, closed_from, closed_v, ends_both};
-use circle::kernel::{SincAAnswer, SincABD, SincABDAnswer};
-use closed::limits::{CLOSED, arm, on_form_b, terms, w0_small};
+use crate::width::Width;
+use circle::kernel::SincABD;
+use closed::limits::{CLOSED, arm, on_form_b, w0_small};
 use closed::values::{Values, at_zero};
+use linalg::refusal::Refusal;
 use linalg::vector::Vec3;
-use series::sim3::{Coeffs4, SeriesAnswer, SeriesPairAnswer, SeriesVAnswer, Sim3Coeffs};
+use series::sim3::{Coeffs4, Sim3Coeffs};
 
 // The coefficients as their arm forms them: scaled by e^-sigma where `scaled`.
 #[derive(Clone, Copy)]
-pub struct Scaled {
-    pub c: Sim3Coeffs,
+pub struct Scaled<T> {
+    pub c: Sim3Coeffs<T>,
     pub scaled: bool,
 }
 
 // v and chi_delta alone, as their arm forms them.
 #[derive(Clone, Copy)]
-pub struct VScaled {
-    pub c: Coeffs4,
+pub struct VScaled<T> {
+    pub c: Coeffs4<T>,
     pub scaled: bool,
 }
 
 // The coefficients at sigma and at -sigma.
 #[derive(Clone, Copy)]
-pub struct ScaledPair {
-    pub pos: Scaled,
-    pub neg: Scaled,
+pub struct ScaledPair<T> {
+    pub pos: Scaled<T>,
+    pub neg: Scaled<T>,
 }
 
 // The coefficients with the arm that formed them, 1 to 4 for the series with more and more terms and 5
 // for the closed one; `ends` says whether v0 and w0 of the closed arm come from series of their own.
 #[derive(Clone, Copy)]
-pub struct Armed {
-    pub s: Scaled,
+pub struct Armed<T> {
+    pub s: Scaled<T>,
     pub arm: u8,
     pub ends: bool,
 }
 
 // The same at sigma and at -sigma.
 #[derive(Clone, Copy)]
-pub struct ArmedPair {
-    pub pos: Armed,
-    pub neg: Armed,
-}
-
-// The answers of the entries: the coefficients, or refusal 1.
-#[derive(Clone, Copy)]
-pub enum ScaledAnswer {
-    Coeffs(Scaled),
-    Refused(u8),
-}
-
-#[derive(Clone, Copy)]
-pub enum CoeffsAnswer {
-    Coeffs(Sim3Coeffs),
-    Refused(u8),
-}
-
-#[derive(Clone, Copy)]
-pub enum VAnswer {
-    Coeffs(Coeffs4),
-    Refused(u8),
-}
-
-#[derive(Clone, Copy)]
-pub enum VScaledAnswer {
-    Coeffs(VScaled),
-    Refused(u8),
-}
-
-#[derive(Clone, Copy)]
-pub enum PairAnswer {
-    Coeffs(ScaledPair),
-    Refused(u8),
-}
-
-#[derive(Clone, Copy)]
-pub enum ArmedAnswer {
-    Coeffs(Armed),
-    Refused(u8),
-}
-
-#[derive(Clone, Copy)]
-pub enum ArmedPairAnswer {
-    Coeffs(ArmedPair),
-    Refused(u8),
+pub struct ArmedPair<T> {
+    pub pos: Armed<T>,
+    pub neg: Armed<T>,
 }
 
 // The coefficients by a series arm.
-fn by_series(sigma: f64, z: f64, arm: u8) -> ScaledAnswer
-    ensures { scaled_told result ≡ series_arm binary64 sigma z arm }
+fn by_series<T: Width>(sigma: T, z: T, arm: u8) -> Result<Scaled<T>, Refusal>
+    ensures { told (as_scaled T.float) result ≡ series_arm T.format (T.float sigma) (T.float z) arm }
 {
-    match series::sim3::series(sigma, z, terms(arm)) {
-        SeriesAnswer::Coeffs(c) => ScaledAnswer::Coeffs(Scaled { c, scaled: false }),
-        SeriesAnswer::Refused(n) => ScaledAnswer::Refused(n),
-    }
+    let c = series::sim3::series(sigma, z, T::arm_terms(arm))?;
+    Ok(Scaled { c, scaled: false })
 }
 
 // The coefficients by the closed arm from the circle functions t, v0 and w0 by their series where
 // `small`.
-fn closed_one(sigma: f64, z: f64, delta: f64, small: bool, t: SincABD, v: Values) -> Scaled
-    ensures { result ≡ closed_one binary64 sigma z delta small t v }
+fn closed_one<T: Width>(
+    sigma: T,
+    z: T,
+    delta: T,
+    small: bool,
+    t: SincABD<T>,
+    v: Values<T>,
+) -> Scaled<T>
+    ensures { as_scaled T.float result ≡ closed_one T.format (T.float sigma) (T.float z) (T.float delta) small (as_sinc_abd T.float t) (as_values T.float v) }
 {
     let c = closed_from(sigma, z, t, v.e, v.m, on_form_b(delta), small);
     Scaled {
         c,
-        scaled: 0.0 < sigma,
+        scaled: T::of(0.0) < sigma,
     }
 }
 
 // The coefficients at (sigma, z = theta^2) and whether they are scaled; refusal 1 for z < 0.
-pub fn sim3_coeffs_scaled(sigma: f64, z: f64, v: Values) -> ScaledAnswer
-    ensures { scaled_told result ≡ scaled_answer binary64 sigma z v }
+pub fn sim3_coeffs_scaled<T: Width>(sigma: T, z: T, v: Values<T>) -> Result<Scaled<T>, Refusal>
+    ensures { told (as_scaled T.float) result ≡ scaled_answer T.format (T.float sigma) (T.float z) (as_values T.float v) }
 {
     let delta = sigma * sigma + z;
     let at = arm(delta);
     if at < CLOSED {
         return by_series(sigma, z, at);
     }
-    match circle::kernel::sinc_a_b_d(z, v.root, v.sin_half, v.cos_half, v.sin) {
-        SincABDAnswer::Coeffs(t) => {
-            let small = w0_small(sigma);
-            ScaledAnswer::Coeffs(closed_one(sigma, z, delta, small, t, v))
-        }
-        SincABDAnswer::Refused(n) => ScaledAnswer::Refused(n),
-    }
-}
-
-// What an arm answered, with the arm told.
-fn tell(r: ScaledAnswer, arm: u8, ends: bool) -> ArmedAnswer
-    ensures { armed_told result ≡ and_then (scaled_told r) (λ s. answers (record { s = s; arm = arm; ends = ends })) }
-{
-    match r {
-        ScaledAnswer::Coeffs(s) => ArmedAnswer::Coeffs(Armed { s, arm, ends }),
-        ScaledAnswer::Refused(n) => ArmedAnswer::Refused(n),
-    }
+    let t = circle::kernel::sinc_a_b_d(z, v.root, v.sin_half, v.cos_half, v.sin)?;
+    let small = w0_small(sigma);
+    Ok(closed_one(sigma, z, delta, small, t, v))
 }
 
 // sim3_coeffs_scaled with the arm told.
-pub fn sim3_coeffs_armed(sigma: f64, z: f64, v: Values) -> ArmedAnswer
-    ensures { armed_told result ≡ armed_answer binary64 sigma z v }
+pub fn sim3_coeffs_armed<T: Width>(sigma: T, z: T, v: Values<T>) -> Result<Armed<T>, Refusal>
+    ensures { told (as_armed T.float) result ≡ armed_answer T.format (T.float sigma) (T.float z) (as_values T.float v) }
 {
     let delta = sigma * sigma + z;
     let at = arm(delta);
     if at < CLOSED {
-        return tell(by_series(sigma, z, at), at, false);
+        let s = by_series(sigma, z, at)?;
+        return Ok(Armed {
+            s,
+            arm: at,
+            ends: false,
+        });
     }
-    match circle::kernel::sinc_a_b_d(z, v.root, v.sin_half, v.cos_half, v.sin) {
-        SincABDAnswer::Coeffs(t) => {
-            let ends = w0_small(sigma);
-            let s = closed_one(sigma, z, delta, ends, t, v);
-            tell(ScaledAnswer::Coeffs(s), at, ends)
-        }
-        SincABDAnswer::Refused(n) => ArmedAnswer::Refused(n),
-    }
+    let t = circle::kernel::sinc_a_b_d(z, v.root, v.sin_half, v.cos_half, v.sin)?;
+    let ends = w0_small(sigma);
+    let s = closed_one(sigma, z, delta, ends, t, v);
+    Ok(Armed { s, arm: at, ends })
 }
 
 // c times up where scaled, c times 1 elsewhere: the last step of the scaled form.
-pub fn unscale(c: Sim3Coeffs, up: f64, scaled: bool) -> Sim3Coeffs
-    ensures { result ≡ coeffs_unscale binary64 c up scaled }
+pub fn unscale<T: Width>(c: Sim3Coeffs<T>, up: T, scaled: bool) -> Sim3Coeffs<T>
+    ensures { as_sim3_coeffs T.float result ≡ coeffs_unscale T.format (as_sim3_coeffs T.float c) (T.float up) scaled }
 {
-    let s = ieee::pick(scaled, up, 1.0);
+    let s = ieee::pick(scaled, up, T::of(1.0));
     Sim3Coeffs {
         v0: s * c.v0,
         v1: s * c.v1,
@@ -184,53 +139,39 @@ pub fn unscale(c: Sim3Coeffs, up: f64, scaled: bool) -> Sim3Coeffs
 }
 
 // The coefficients at (sigma, z), unscaled; refusal 1 for z < 0.
-pub fn sim3_coeffs(sigma: f64, z: f64, v: Values) -> CoeffsAnswer
-    ensures { coeffs_told result ≡ coeffs_answer binary64 sigma z v }
+pub fn sim3_coeffs<T: Width>(sigma: T, z: T, v: Values<T>) -> Result<Sim3Coeffs<T>, Refusal>
+    ensures { told (as_sim3_coeffs T.float) result ≡ coeffs_answer T.format (T.float sigma) (T.float z) (as_values T.float v) }
 {
-    match sim3_coeffs_scaled(sigma, z, v) {
-        ScaledAnswer::Coeffs(s) => {
-            let c = s.c;
-            CoeffsAnswer::Coeffs(unscale(c, v.up, s.scaled))
-        }
-        ScaledAnswer::Refused(n) => CoeffsAnswer::Refused(n),
-    }
+    let s = sim3_coeffs_scaled(sigma, z, v)?;
+    let c = s.c;
+    Ok(unscale(c, v.up, s.scaled))
 }
 
 // v and chi_delta of sim3_coeffs_scaled alone: the same bits.
-pub fn sim3_v_scaled(sigma: f64, z: f64, v: Values) -> VScaledAnswer
-    ensures { v_scaled_told result ≡ v_scaled_answer binary64 sigma z v }
+pub fn sim3_v_scaled<T: Width>(sigma: T, z: T, v: Values<T>) -> Result<VScaled<T>, Refusal>
+    ensures { told (as_v_scaled T.float) result ≡ v_scaled_answer T.format (T.float sigma) (T.float z) (as_values T.float v) }
 {
     let delta = sigma * sigma + z;
     let at = arm(delta);
     if at < CLOSED {
-        match series::sim3::series_v(sigma, z, terms(at)) {
-            SeriesVAnswer::Coeffs(c) => {
-                return VScaledAnswer::Coeffs(VScaled { c, scaled: false });
-            }
-            SeriesVAnswer::Refused(n) => {
-                return VScaledAnswer::Refused(n);
-            }
-        }
+        let c = series::sim3::series_v(sigma, z, T::arm_terms(at))?;
+        return Ok(VScaled { c, scaled: false });
     }
-    match circle::kernel::sinc_a(z, v.root, v.sin_half, v.cos_half) {
-        SincAAnswer::Coeffs(t) => {
-            let form_b = on_form_b(delta);
-            let small = w0_small(sigma);
-            let c = closed_v(sigma, z, t, v.e, v.m, form_b, small);
-            VScaledAnswer::Coeffs(VScaled {
-                c,
-                scaled: 0.0 < sigma,
-            })
-        }
-        SincAAnswer::Refused(n) => VScaledAnswer::Refused(n),
-    }
+    let t = circle::kernel::sinc_a(z, v.root, v.sin_half, v.cos_half)?;
+    let form_b = on_form_b(delta);
+    let small = w0_small(sigma);
+    let c = closed_v(sigma, z, t, v.e, v.m, form_b, small);
+    Ok(VScaled {
+        c,
+        scaled: T::of(0.0) < sigma,
+    })
 }
 
 // unscale on v and chi_delta alone.
-fn unscale_v(c: Coeffs4, up: f64, scaled: bool) -> Coeffs4
-    ensures { result ≡ coeffs_unscale_v binary64 c up scaled }
+fn unscale_v<T: Width>(c: Coeffs4<T>, up: T, scaled: bool) -> Coeffs4<T>
+    ensures { as_coeffs4 T.float result ≡ coeffs_unscale_v T.format (as_coeffs4 T.float c) (T.float up) scaled }
 {
-    let s = ieee::pick(scaled, up, 1.0);
+    let s = ieee::pick(scaled, up, T::of(1.0));
     Coeffs4 {
         v0: s * c.v0,
         v1: s * c.v1,
@@ -240,27 +181,23 @@ fn unscale_v(c: Coeffs4, up: f64, scaled: bool) -> Coeffs4
 }
 
 // v and chi_delta of sim3_coeffs alone: the same bits; refusal 1 for z < 0.
-pub fn sim3_v(sigma: f64, z: f64, v: Values) -> VAnswer
-    ensures { v_told result ≡ v_answer binary64 sigma z v }
+pub fn sim3_v<T: Width>(sigma: T, z: T, v: Values<T>) -> Result<Coeffs4<T>, Refusal>
+    ensures { told (as_coeffs4 T.float) result ≡ v_answer T.format (T.float sigma) (T.float z) (as_values T.float v) }
 {
-    match sim3_v_scaled(sigma, z, v) {
-        VScaledAnswer::Coeffs(s) => {
-            let c = s.c;
-            VAnswer::Coeffs(unscale_v(c, v.up, s.scaled))
-        }
-        VScaledAnswer::Refused(n) => VAnswer::Refused(n),
-    }
+    let s = sim3_v_scaled(sigma, z, v)?;
+    let c = s.c;
+    Ok(unscale_v(c, v.up, s.scaled))
 }
 
 // e^t and e^t - 1 of the values at sigma, and at -sigma.
-fn at_plus(v: Values) -> EtMt
-    ensures { result ≡ record { et = v.e; mt = v.m } }
+fn at_plus<T: Width>(v: Values<T>) -> EtMt<T>
+    ensures { as_et_mt T.float result ≡ record { et = T.float v.e; mt = T.float v.m } }
 {
     EtMt { et: v.e, mt: v.m }
 }
 
-fn at_minus(sigma: f64, v: Values) -> EtMt
-    ensures { result ≡ minus_et_mt sigma v }
+fn at_minus<T: Width>(sigma: T, v: Values<T>) -> EtMt<T>
+    ensures { as_et_mt T.float result ≡ minus_et_mt (T.float sigma) (as_values T.float v) }
 {
     let zero = at_zero(sigma);
     EtMt {
@@ -270,16 +207,23 @@ fn at_minus(sigma: f64, v: Values) -> EtMt
 }
 
 // v0 and w0 of the closed arm at sigma and at -sigma, by their series where `small`.
-fn pair_ends(sigma: f64, small: bool, v: Values) -> Ends
-    ensures { result ≡ pair_ends binary64 sigma small v }
+fn pair_ends<T: Width>(sigma: T, small: bool, v: Values<T>) -> Ends<T>
+    ensures { as_ends T.float result ≡ pair_ends T.format (T.float sigma) small (as_values T.float v) }
 {
     ends_both(sigma, at_plus(v), at_minus(sigma, v), small)
 }
 
 // The closed arm at sigma and at -sigma, from the same circle functions t and from v0 and w0 of
 // both: delta and form b are even in sigma.
-fn closed_pair(sigma: f64, z: f64, delta: f64, h: Ends, t: SincABD, v: Values) -> ScaledPair
-    ensures { result ≡ closed_pair binary64 sigma z delta h t v }
+fn closed_pair<T: Width>(
+    sigma: T,
+    z: T,
+    delta: T,
+    h: Ends<T>,
+    t: SincABD<T>,
+    v: Values<T>,
+) -> ScaledPair<T>
+    ensures { as_scaled_pair T.float result ≡ closed_pair T.format (T.float sigma) (T.float z) (T.float delta) (as_ends T.float h) (as_sinc_abd T.float t) (as_values T.float v) }
 {
     let c = closed_both(
         sigma,
@@ -295,129 +239,127 @@ fn closed_pair(sigma: f64, z: f64, delta: f64, h: Ends, t: SincABD, v: Values) -
     ScaledPair {
         pos: Scaled {
             c: a,
-            scaled: 0.0 < sigma,
+            scaled: T::of(0.0) < sigma,
         },
         neg: Scaled {
             c: b,
-            scaled: 0.0 < -sigma,
+            scaled: T::of(0.0) < -sigma,
         },
     }
 }
 
 // Both signs by a series arm.
-fn pair_by_series(sigma: f64, z: f64, arm: u8) -> PairAnswer
-    ensures { pair_told result ≡ series_arms binary64 sigma z arm }
+fn pair_by_series<T: Width>(sigma: T, z: T, arm: u8) -> Result<ScaledPair<T>, Refusal>
+    ensures { told (as_scaled_pair T.float) result ≡ series_arms T.format (T.float sigma) (T.float z) arm }
 {
-    match series::pair::series_pair(sigma, z, terms(arm)) {
-        SeriesPairAnswer::Coeffs(p) => {
-            let a = p.pos;
-            let b = p.neg;
-            let pos = Scaled {
-                c: a,
-                scaled: false,
-            };
-            let neg = Scaled {
-                c: b,
-                scaled: false,
-            };
-            PairAnswer::Coeffs(ScaledPair { pos, neg })
-        }
-        SeriesPairAnswer::Refused(n) => PairAnswer::Refused(n),
-    }
+    let p = series::pair::series_pair(sigma, z, T::arm_terms(arm))?;
+    let a = p.pos;
+    let b = p.neg;
+    let pos = Scaled {
+        c: a,
+        scaled: false,
+    };
+    let neg = Scaled {
+        c: b,
+        scaled: false,
+    };
+    Ok(ScaledPair { pos, neg })
 }
 
-// What an arm answered at both signs, with the arm told: it is even in sigma.
-fn tell_pair(r: PairAnswer, arm: u8, ends: bool) -> ArmedPairAnswer
-    ensures { armed_pair_told result ≡ and_then (pair_told r) (λ p. answers (record { pos = record { s = p.pos; arm = arm; ends = ends }; neg = record { s = p.neg; arm = arm; ends = ends } })) }
+// Both signs with the arm told: it is even in sigma.
+fn tell_pair<T: Width>(p: ScaledPair<T>, arm: u8, ends: bool) -> ArmedPair<T>
+    ensures { as_armed_pair T.float result ≡ record { pos = record { s = as_scaled T.float p.pos; arm = arm; ends = ends }; neg = record { s = as_scaled T.float p.neg; arm = arm; ends = ends } } }
 {
-    match r {
-        PairAnswer::Coeffs(p) => {
-            let a = p.pos;
-            let b = p.neg;
-            let pos = Armed { s: a, arm, ends };
-            let neg = Armed { s: b, arm, ends };
-            ArmedPairAnswer::Coeffs(ArmedPair { pos, neg })
-        }
-        PairAnswer::Refused(n) => ArmedPairAnswer::Refused(n),
+    ArmedPair {
+        pos: Armed {
+            s: p.pos,
+            arm,
+            ends,
+        },
+        neg: Armed {
+            s: p.neg,
+            arm,
+            ends,
+        },
     }
 }
 
 // sim3_coeffs_armed at sigma and at -sigma, the latter on the mirrored values, each to the bit: the
 // arm, the circle functions, the exponential's values and the recurrence are shared.
-pub fn sim3_coeffs_armed_pair(sigma: f64, z: f64, v: Values) -> ArmedPairAnswer
-    ensures { armed_pair_told result ≡ armed_pair_answer binary64 sigma z v }
+pub fn sim3_coeffs_armed_pair<T: Width>(
+    sigma: T,
+    z: T,
+    v: Values<T>,
+) -> Result<ArmedPair<T>, Refusal>
+    ensures { told (as_armed_pair T.float) result ≡ armed_pair_answer T.format (T.float sigma) (T.float z) (as_values T.float v) }
 {
     let delta = sigma * sigma + z;
     let at = arm(delta);
     if at < CLOSED {
-        return tell_pair(pair_by_series(sigma, z, at), at, false);
+        return Ok(tell_pair(pair_by_series(sigma, z, at)?, at, false));
     }
     let ends = w0_small(sigma);
     let h = pair_ends(sigma, ends, v);
-    match circle::kernel::sinc_a_b_d(z, v.root, v.sin_half, v.cos_half, v.sin) {
-        SincABDAnswer::Coeffs(t) => {
-            let p = closed_pair(sigma, z, delta, h, t, v);
-            tell_pair(PairAnswer::Coeffs(p), at, ends)
-        }
-        SincABDAnswer::Refused(n) => ArmedPairAnswer::Refused(n),
-    }
+    let t = circle::kernel::sinc_a_b_d(z, v.root, v.sin_half, v.cos_half, v.sin)?;
+    let p = closed_pair(sigma, z, delta, h, t, v);
+    Ok(tell_pair(p, at, ends))
 }
 
 // sim3_coeffs_scaled at sigma and at -sigma, likewise: the armed pair without what it tells besides.
 // So a library has the pair's code once, and the closed arm's numbers are stored once: with callers
 // of its own, closed_pair would be a call, whose answer is copied.
-pub fn sim3_coeffs_scaled_pair(sigma: f64, z: f64, v: Values) -> PairAnswer
-    ensures { pair_told result ≡ pair_answer binary64 sigma z v }
+pub fn sim3_coeffs_scaled_pair<T: Width>(
+    sigma: T,
+    z: T,
+    v: Values<T>,
+) -> Result<ScaledPair<T>, Refusal>
+    ensures { told (as_scaled_pair T.float) result ≡ pair_answer T.format (T.float sigma) (T.float z) (as_values T.float v) }
 {
-    match sim3_coeffs_armed_pair(sigma, z, v) {
-        ArmedPairAnswer::Coeffs(p) => {
-            let pos = p.pos.s;
-            let neg = p.neg.s;
-            PairAnswer::Coeffs(ScaledPair { pos, neg })
-        }
-        ArmedPairAnswer::Refused(n) => PairAnswer::Refused(n),
-    }
+    let p = sim3_coeffs_armed_pair(sigma, z, v)?;
+    let pos = p.pos.s;
+    let neg = p.neg.s;
+    Ok(ScaledPair { pos, neg })
 }
 
 // ---- the same at z = |phi|^2, which is never below zero: nothing is refused, and the refusing arm
 // of each match is never taken.
 
 // sim3_coeffs_scaled at |phi|^2.
-pub fn sim3_coeffs_scaled_of(phi: Vec3, sigma: f64, v: Values) -> Scaled
-    ensures { result ≡ coeffs_scaled binary64 sigma (vec_norm_sq binary64 phi) v }
+pub fn sim3_coeffs_scaled_of<T: Width>(phi: Vec3<T>, sigma: T, v: Values<T>) -> Scaled<T>
+    ensures { as_scaled T.float result ≡ coeffs_scaled T.format (T.float sigma) (vec_norm_sq T.format (as_vec3 T.float phi)) (as_values T.float v) }
 {
     match sim3_coeffs_scaled(sigma, phi.norm_sq(), v) {
-        ScaledAnswer::Coeffs(s) => s,
-        ScaledAnswer::Refused(_) => unreachable!(),
+        Ok(s) => s,
+        Err(_) => unreachable!(),
     }
 }
 
 // sim3_coeffs at |phi|^2.
-pub fn sim3_coeffs_of(phi: Vec3, sigma: f64, v: Values) -> Sim3Coeffs
-    ensures { result ≡ coeffs_plain binary64 sigma (vec_norm_sq binary64 phi) v }
+pub fn sim3_coeffs_of<T: Width>(phi: Vec3<T>, sigma: T, v: Values<T>) -> Sim3Coeffs<T>
+    ensures { as_sim3_coeffs T.float result ≡ coeffs_plain T.format (T.float sigma) (vec_norm_sq T.format (as_vec3 T.float phi)) (as_values T.float v) }
 {
     match sim3_coeffs(sigma, phi.norm_sq(), v) {
-        CoeffsAnswer::Coeffs(c) => c,
-        CoeffsAnswer::Refused(_) => unreachable!(),
+        Ok(c) => c,
+        Err(_) => unreachable!(),
     }
 }
 
 // sim3_v at |phi|^2.
-pub fn sim3_v_of(phi: Vec3, sigma: f64, v: Values) -> Coeffs4
-    ensures { result ≡ coeffs_v binary64 sigma (vec_norm_sq binary64 phi) v }
+pub fn sim3_v_of<T: Width>(phi: Vec3<T>, sigma: T, v: Values<T>) -> Coeffs4<T>
+    ensures { as_coeffs4 T.float result ≡ coeffs_v T.format (T.float sigma) (vec_norm_sq T.format (as_vec3 T.float phi)) (as_values T.float v) }
 {
     match sim3_v(sigma, phi.norm_sq(), v) {
-        VAnswer::Coeffs(c) => c,
-        VAnswer::Refused(_) => unreachable!(),
+        Ok(c) => c,
+        Err(_) => unreachable!(),
     }
 }
 
 // sim3_coeffs_scaled_pair at |phi|^2.
-pub fn sim3_coeffs_scaled_pair_of(phi: Vec3, sigma: f64, v: Values) -> ScaledPair
-    ensures { result ≡ coeffs_pair binary64 sigma (vec_norm_sq binary64 phi) v }
+pub fn sim3_coeffs_scaled_pair_of<T: Width>(phi: Vec3<T>, sigma: T, v: Values<T>) -> ScaledPair<T>
+    ensures { as_scaled_pair T.float result ≡ coeffs_pair T.format (T.float sigma) (vec_norm_sq T.format (as_vec3 T.float phi)) (as_values T.float v) }
 {
     match sim3_coeffs_scaled_pair(sigma, phi.norm_sq(), v) {
-        PairAnswer::Coeffs(p) => p,
-        PairAnswer::Refused(_) => unreachable!(),
+        Ok(p) => p,
+        Err(_) => unreachable!(),
     }
 }

@@ -3,15 +3,15 @@ use mathlib.Core.Path.{◌≡◌, refl, ◌∙◌}
 use lib.Ieee.{Format}
 use Rattle.linalg.specs.Answer.{Answer, answers}
 use Rattle.linalg.specs.Vector.{vec_norm_sq}
-use Rattle.linalg.specs.declared.matrix.Mat3.{Mat3}
+use Rattle.linalg.specs.Floats.{Mat3}
 use Rattle.circle.proofs.Angle.{norm_not_below}
 use Rattle.coeffs.specs.Group.{coeffs_armed, coeffs_armed_pair}
 use Rattle.coeffs.specs.Entries.{armed_answer, beside_armed, armed_pair_answer}
-use Rattle.closed.specs.declared.values.Values.{Values}
-use Rattle.coeffs.specs.declared.sim3.ArmedPair.{ArmedPair}
-use Rattle.sim3.specs.declared.tangent.Sim3Tangent.{Sim3Tangent}
+use Rattle.closed.specs.Floats.{Values}
+use Rattle.coeffs.specs.Floats.{ArmedPair}
+use Rattle.sim3.specs.Floats.{Sim3Tangent}
 use Rattle.sides.specs.Pair.{block_pair, block_pair_scaled}
-use Rattle.sides.specs.declared.pair.BlockPair.{BlockPair}
+use Rattle.sides.specs.Floats.{BlockPair}
 use Rattle.sides.proofs.Flags.{pair_by_flags}
 use Rattle.demands.specs.Flags.{FlagsScale}
 

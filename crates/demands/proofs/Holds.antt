@@ -5,17 +5,17 @@ use lib.Ieee.{Float, Format, neg, lt}
 use Rattle.ieee.specs.Numbers.{f0}
 use Rattle.linalg.specs.Answer.{answers, refuses}
 use Rattle.linalg.specs.Matrix.{mat_transpose}
-use Rattle.linalg.specs.declared.matrix.Mat3.{Mat3}
+use Rattle.linalg.specs.Floats.{Mat3}
 use Rattle.so3.specs.Quat.{quat_conjugate}
 use Rattle.so3.proofs.Even.{exp_conjugate}
 use Rattle.closed.specs.Values.{mirrored}
 use Rattle.coeffs.specs.Group.{coeffs_scaled}
 use Rattle.coeffs.specs.Entries.{scaled_answer, beside, pair_answer}
-use Rattle.closed.specs.declared.values.Values.{Values}
+use Rattle.closed.specs.Floats.{Values}
 use Rattle.sim3.specs.Tangent.{tangent_neg}
 use Rattle.sim3.specs.Exp.{pose_exp}
-use Rattle.sim3.specs.declared.sim3.Sim3.{Sim3}
-use Rattle.sim3.specs.declared.tangent.Sim3Tangent.{Sim3Tangent}
+use Rattle.sim3.specs.Floats.{Sim3}
+use Rattle.sim3.specs.Floats.{Sim3Tangent}
 use Rattle.sides.specs.Blocks.{jl_and_inverse}
 use Rattle.sides.specs.Pair.{block_pair}
 use Rattle.demands.specs.Demand3.{Signs, Demand3}

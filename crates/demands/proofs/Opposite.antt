@@ -12,8 +12,8 @@ use Rattle.ieee.proofs.Signed.{add_same, sub_same, neg-add, neg-sub}
 use Rattle.ieee.proofs.Product.{mul-same}
 use Rattle.linalg.specs.Vector.{sum3, vec_scale, vec_dot, vec_cross, vec_add, vec_sub, vec_neg}
 use Rattle.linalg.specs.Matrix.{row_mul, mat_scale, mat_add, mat_sub, mat_mul, mat_mul_vec, mat_hat, vec_hat_mul, mat_hat_mul}
-use Rattle.linalg.specs.declared.vector.Vec3.{Vec3}
-use Rattle.linalg.specs.declared.matrix.Mat3.{Mat3}
+use Rattle.linalg.specs.Floats.{Vec3}
+use Rattle.linalg.specs.Floats.{Mat3}
 use Rattle.sides.specs.Blocks.{mat_outer}
 use Rattle.demands.specs.Turned.{Opposite, OppositeVec, OppositeMat, OppositeIs}
 

@@ -7,21 +7,21 @@ use lib.Ieee.{Float, Format, mul, lt}
 use Rattle.ieee.specs.Numbers.{f2}
 use Rattle.linalg.specs.Vector.{vec_norm_sq, vec_cross}
 use Rattle.linalg.specs.Matrix.{mat_hat}
-use Rattle.linalg.specs.declared.vector.Vec3.{Vec3}
-use Rattle.linalg.specs.declared.matrix.Mat3.{Mat3}
+use Rattle.linalg.specs.Floats.{Vec3}
+use Rattle.linalg.specs.Floats.{Mat3}
 use Rattle.tables.specs.Tables.{b_row}
 use Rattle.circle.specs.Limits.{row_limit}
-use Rattle.series.specs.declared.sim3.Coeffs4.{Coeffs4}
-use Rattle.series.specs.declared.sim3.Sim3Coeffs.{Sim3Coeffs}
-use Rattle.closed.specs.declared.values.Values.{Values}
+use Rattle.series.specs.Floats.{Coeffs4}
+use Rattle.series.specs.Floats.{Sim3Coeffs}
+use Rattle.closed.specs.Floats.{Values}
 use Rattle.sim3.specs.Exp.{poly_apply, v_apply, pose_exp}
-use Rattle.sim3.specs.declared.tangent.Sim3Tangent.{Sim3Tangent}
+use Rattle.sim3.specs.Floats.{Sim3Tangent}
 use Rattle.sides.specs.Blocks.{combined, jl_q, jl_blocks, jac_jl, jl_and_inverse_from, jl_and_inverse}
 use Rattle.sides.specs.Side.{exp_and_jl}
 use Rattle.sides.specs.Pair.{block_pair}
 use Rattle.frames.specs.Pose.{framed_exp}
 use Rattle.demands.specs.Turned.{turned_round, OppositeVec, OppositeMat, TurnedSim3, TurnedBlock, ways_of, Turned, TurnedTheorem}
-use Rattle.demands.specs.declared.ways.BothWays.{BothWays}
+use Rattle.demands.specs.Floats.{BothWays}
 use Rattle.demands.proofs.Opposite.{neg-vec, vec-neg, vec-add, vec-scale, scale_by, dot_by, by_opposite, cross_by, hat_opposite, mat-add, mat-sub, mat-scale, mat_by, mat-times, hat_mul, outer}
 
 -- ---- the exponential

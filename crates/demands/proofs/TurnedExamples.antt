@@ -12,7 +12,7 @@ use Rattle.linalg.specs.Matrix.{mat_identity, mat_scale, mat_add, mat_sub, mat_m
 use Rattle.series.specs.Series.{series_first, series_next, series_level, level_terms, series_sum, series_sums, g_series, coeffs_delta, series_chi, series_coeffs, series_full, coeffs4}
 use Rattle.closed.specs.Arm.{coeffs_arm}
 use Rattle.coeffs.specs.Group.{coeffs_scaled, coeffs_unscale, coeffs_plain, coeffs_v}
-use Rattle.closed.specs.declared.values.Values.{Values}
+use Rattle.closed.specs.Floats.{Values}
 use Rattle.sim3.specs.Tangent.{tangent_zero}
 use Rattle.sim3.specs.Exp.{poly_apply, v_apply, pose_exp}
 use Rattle.sides.specs.Blocks.{mat_outer, jl_q, jl_blocks, poly_matrix, jac_jl}

@@ -7,21 +7,21 @@ use Rattle.std.specs.Float.Ieee.{neg, lt}
 use Rattle.ieee.specs.Numbers.{f0}
 use Rattle.linalg.specs.Answer.{Answer, answers, refuses}
 use Rattle.linalg.specs.Matrix.{mat_transpose}
-use Rattle.linalg.specs.declared.matrix.Mat3.{Mat3}
+use Rattle.linalg.specs.Floats.{Mat3}
 use Rattle.so3.specs.Quat.{quat_conjugate}
 use Rattle.closed.specs.Values.{mirrored}
 use Rattle.coeffs.specs.Group.{coeffs_scaled}
 use Rattle.coeffs.specs.Entries.{beside}
-use Rattle.closed.specs.declared.values.Values.{Values}
-use Rattle.coeffs.specs.declared.sim3.Scaled.{Scaled}
-use Rattle.coeffs.specs.declared.sim3.ScaledPair.{ScaledPair}
+use Rattle.closed.specs.Floats.{Values}
+use Rattle.coeffs.specs.Floats.{Scaled}
+use Rattle.coeffs.specs.Floats.{ScaledPair}
 use Rattle.sim3.specs.Tangent.{tangent_neg}
 use Rattle.sim3.specs.Exp.{pose_exp}
-use Rattle.sim3.specs.declared.sim3.Sim3.{Sim3}
-use Rattle.sim3.specs.declared.tangent.Sim3Tangent.{Sim3Tangent}
+use Rattle.sim3.specs.Floats.{Sim3}
+use Rattle.sim3.specs.Floats.{Sim3Tangent}
 use Rattle.sides.specs.Blocks.{jl_and_inverse}
-use Rattle.sides.specs.declared.blocks.JacAndInverse.{JacAndInverse}
-use Rattle.sides.specs.declared.pair.BlockPair.{BlockPair}
+use Rattle.sides.specs.Floats.{JacAndInverse}
+use Rattle.sides.specs.Floats.{BlockPair}
 
 -- what the eight calls answer: the pair of coefficients and each sign's, the pair of blocks and each sign's, the exponential of the tangent and of its negative
 pub record Signs : Type 0 where

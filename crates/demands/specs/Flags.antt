@@ -3,12 +3,12 @@
 use Rattle.std.specs.Prelude.{◌≡◌}
 use Rattle.std.specs.Float.{Format}
 use Rattle.linalg.specs.Answer.{Answer, answers}
-use Rattle.linalg.specs.declared.matrix.Mat3.{Mat3}
-use Rattle.closed.specs.declared.values.Values.{Values}
-use Rattle.coeffs.specs.declared.sim3.ArmedPair.{ArmedPair}
-use Rattle.sim3.specs.declared.tangent.Sim3Tangent.{Sim3Tangent}
+use Rattle.linalg.specs.Floats.{Mat3}
+use Rattle.closed.specs.Floats.{Values}
+use Rattle.coeffs.specs.Floats.{ArmedPair}
+use Rattle.sim3.specs.Floats.{Sim3Tangent}
 use Rattle.sides.specs.Pair.{block_pair_scaled}
-use Rattle.sides.specs.declared.pair.BlockPair.{BlockPair}
+use Rattle.sides.specs.Floats.{BlockPair}
 
 -- told is what the armed pair answers at the tangent's σ and z = |φ|², on values of its own; block is the block pair of the tangent on the values v
 pub record FlagsScale (f : Format) (tau : Sim3Tangent) (v : Values) (jl jlInv : Mat3) (told : Answer ArmedPair) (block : BlockPair) : Type 0 where

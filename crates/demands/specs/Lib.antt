@@ -1,3 +1,4 @@
+pub mod Floats
 pub mod Demand3
 pub mod Told
 pub mod Flags

@@ -1,17 +1,21 @@
 -- What the struct of the eight calls says.
-use Rattle.coeffs.specs.Entries.{scaled_told, pair_told}
+use Rattle.std.specs.Prelude.{Float}
+use Rattle.linalg.specs.Answer.{told}
+use Rattle.coeffs.specs.Floats.{as_scaled, as_scaled_pair}
+use Rattle.sides.specs.Floats.{as_block_pair, as_jac_and_inverse}
+use Rattle.sim3.specs.Floats.{as_sim3}
 use Rattle.demands.specs.Demand3.{Signs}
 use Rattle.demands.specs.declared.BothSigns.{BothSigns}
 
-abbrev pub signs_told : BothSigns → Signs
-signs_told r =
+abbrev pub signs_told : {T : Type 0} → (T → Float) → BothSigns T → Signs
+signs_told h r =
     record {
-      pair = pair_told r.pair;
-      plus = scaled_told r.plus;
-      minus = scaled_told r.minus;
-      block = r.block;
-      left = r.left;
-      right = r.right;
-      exp = r.exp;
-      exp_neg = r.exp_neg;
+      pair = told (as_scaled_pair h) r.pair;
+      plus = told (as_scaled h) r.plus;
+      minus = told (as_scaled h) r.minus;
+      block = as_block_pair h r.block;
+      left = as_jac_and_inverse h r.left;
+      right = as_jac_and_inverse h r.right;
+      exp = as_sim3 h r.exp;
+      exp_neg = as_sim3 h r.exp_neg;
     }

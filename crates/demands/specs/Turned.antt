@@ -6,19 +6,19 @@ use Rattle.std.specs.Float.Ieee.{neg}
 use Rattle.ieee.specs.Numbers.{f0}
 use Rattle.ieee.specs.Signs.{Same}
 use Rattle.linalg.specs.Vector.{vec_neg}
-use Rattle.linalg.specs.declared.vector.Vec3.{Vec3}
-use Rattle.linalg.specs.declared.matrix.Mat3.{Mat3}
-use Rattle.closed.specs.declared.values.Values.{Values}
+use Rattle.linalg.specs.Floats.{Vec3}
+use Rattle.linalg.specs.Floats.{Mat3}
+use Rattle.closed.specs.Floats.{Values}
 use Rattle.sim3.specs.Tangent.{tangent}
-use Rattle.sim3.specs.declared.sim3.Sim3.{Sim3}
-use Rattle.sim3.specs.declared.tangent.Sim3Tangent.{Sim3Tangent}
-use Rattle.jacobian.specs.declared.jac.Sim3Jac.{Sim3Jac}
+use Rattle.sim3.specs.Floats.{Sim3}
+use Rattle.sim3.specs.Floats.{Sim3Tangent}
+use Rattle.jacobian.specs.Floats.{Sim3Jac}
 use Rattle.sides.specs.Blocks.{jac_jl, jl_and_inverse}
 use Rattle.sides.specs.Side.{exp_and_jl}
 use Rattle.sides.specs.Pair.{block_pair}
 use Rattle.frames.specs.Pose.{framed_exp}
-use Rattle.frames.specs.declared.Pose.{Pose}
-use Rattle.demands.specs.declared.ways.BothWays.{BothWays}
+use Rattle.frames.specs.Floats.{Pose}
+use Rattle.demands.specs.Floats.{BothWays}
 
 -- the tangent with all of ρ negated
 unfoldable pub turned_round : Sim3Tangent → Sim3Tangent

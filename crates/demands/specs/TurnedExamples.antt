@@ -5,11 +5,11 @@ use Rattle.std.specs.Float.Ieee.{to_bits, neg}
 use Rattle.ieee.specs.Numbers.{f0, f1, f2, f3}
 use Rattle.linalg.specs.Vector.{vec}
 use Rattle.linalg.specs.Matrix.{mat_identity}
-use Rattle.linalg.specs.declared.vector.Vec3.{Vec3}
-use Rattle.closed.specs.declared.values.Values.{Values}
+use Rattle.linalg.specs.Floats.{Vec3}
+use Rattle.closed.specs.Floats.{Values}
 use Rattle.sim3.specs.Tangent.{tangent, tangent_zero}
 use Rattle.sim3.specs.Exp.{pose_exp}
-use Rattle.sim3.specs.declared.tangent.Sim3Tangent.{Sim3Tangent}
+use Rattle.sim3.specs.Floats.{Sim3Tangent}
 use Rattle.sides.specs.Blocks.{jac_jl}
 use Rattle.demands.specs.Turned.{turned_round}
 

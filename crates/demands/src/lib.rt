@@ -5,15 +5,21 @@
 // tangent with its translation turned round: module ways.
 #![tactic(auto)]
 
-ghost use Rattle.std.specs.Float.{binary64};
-ghost use Rattle.coeffs.specs.Entries.{armed_pair_told};
 ghost use Rattle.demands.specs.Demand3.{Demand3};
 ghost use Rattle.demands.specs.Flags.{FlagsScale};
 ghost use Rattle.demands.specs.Told.{signs_told};
+ghost use Rattle.linalg.specs.Answer.{told};
+ghost use Rattle.sim3.specs.Floats.{as_sim3_tangent};
+ghost use Rattle.coeffs.specs.Floats.{as_armed_pair};
+ghost use Rattle.sides.specs.Floats.{as_block_pair};
+ghost use Rattle.closed.specs.Floats.{as_values};
+ghost use Rattle.linalg.specs.Floats.{as_mat3};
 
 use closed::values::Values;
-use coeffs::sim3::{ArmedPairAnswer, PairAnswer, ScaledAnswer};
+use coeffs::sim3::{ArmedPair, Scaled, ScaledPair};
+use coeffs::width::Width;
 use linalg::matrix::Mat3;
+use linalg::refusal::Refusal;
 use sides::blocks::JacAndInverse;
 use sides::pair::BlockPair;
 use sim3::sim3::Sim3;
@@ -24,21 +30,27 @@ pub mod ways; // both ways along rho
 // What the eight calls return: the pair of coefficients, and those of each sign apart; the pair of
 // blocks, and those of each sign apart; the exponential of the tangent and of its negative.
 #[derive(Clone, Copy)]
-pub struct BothSigns {
-    pub pair: PairAnswer,
-    pub plus: ScaledAnswer,
-    pub minus: ScaledAnswer,
-    pub block: BlockPair,
-    pub left: JacAndInverse,
-    pub right: JacAndInverse,
-    pub exp: Sim3,
-    pub exp_neg: Sim3,
+pub struct BothSigns<T> {
+    pub pair: Result<ScaledPair<T>, Refusal>,
+    pub plus: Result<Scaled<T>, Refusal>,
+    pub minus: Result<Scaled<T>, Refusal>,
+    pub block: BlockPair<T>,
+    pub left: JacAndInverse<T>,
+    pub right: JacAndInverse<T>,
+    pub exp: Sim3<T>,
+    pub exp_neg: Sim3<T>,
 }
 
 // The paired functions on tau and z, and the one-sign functions on each sign: on the negative with
 // the mirrored values and the transposed matrices.
-pub fn both_signs(tau: Sim3Tangent, z: f64, v: Values, jl: Mat3, jl_inv: Mat3) -> BothSigns
-    ensures { Demand3 binary64 tau z v jl jl_inv (signs_told result) }
+pub fn both_signs<T: Width>(
+    tau: Sim3Tangent<T>,
+    z: T,
+    v: Values<T>,
+    jl: Mat3<T>,
+    jl_inv: Mat3<T>,
+) -> BothSigns<T>
+    ensures { Demand3 T.format (as_sim3_tangent T.float tau) (T.float z) (as_values T.float v) (as_mat3 T.float jl) (as_mat3 T.float jl_inv) (signs_told T.float result) }
 {
     let sigma = tau.sigma;
     let back = tau.neg();
@@ -67,15 +79,21 @@ pub fn both_signs(tau: Sim3Tangent, z: f64, v: Values, jl: Mat3, jl_inv: Mat3) -
 
 // What the two calls return: the coefficients with their arms and flags, and the pair of blocks.
 #[derive(Clone, Copy)]
-pub struct Flagged {
-    pub armed: ArmedPairAnswer,
-    pub block: BlockPair,
+pub struct Flagged<T> {
+    pub armed: Result<ArmedPair<T>, Refusal>,
+    pub block: BlockPair<T>,
 }
 
 // The armed pair at tau's sigma and |phi|^2 on the values v, and the block pair of tau on any other values
 // w.
-pub fn same_flags(tau: Sim3Tangent, v: Values, w: Values, jl: Mat3, jl_inv: Mat3) -> Flagged
-    ensures { FlagsScale binary64 tau w jl jl_inv (armed_pair_told result.armed) result.block }
+pub fn same_flags<T: Width>(
+    tau: Sim3Tangent<T>,
+    v: Values<T>,
+    w: Values<T>,
+    jl: Mat3<T>,
+    jl_inv: Mat3<T>,
+) -> Flagged<T>
+    ensures { FlagsScale T.format (as_sim3_tangent T.float tau) (as_values T.float w) (as_mat3 T.float jl) (as_mat3 T.float jl_inv) (told (as_armed_pair T.float) result.armed) (as_block_pair T.float result.block) }
 {
     let phi = tau.phi;
     let armed = coeffs::sim3::sim3_coeffs_armed_pair(tau.sigma, phi.norm_sq(), v);

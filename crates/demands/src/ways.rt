@@ -1,10 +1,14 @@
 // Turning the translation round: with all of rho negated, the exponential's t and the blocks b and f of
 // the left Jacobian are negated, and all else of both has the same bits.
 ghost use Rattle.std.specs.Prelude.{◌≡◌};
-ghost use Rattle.std.specs.Float.{binary64};
 ghost use Rattle.demands.specs.Turned.{turned_round, ways_of, Turned};
+ghost use Rattle.sim3.specs.Floats.{as_sim3_tangent};
+ghost use Rattle.demands.specs.Floats.{as_both_ways};
+ghost use Rattle.closed.specs.Floats.{as_values};
+ghost use Rattle.linalg.specs.Floats.{as_mat3};
 
 use closed::values::Values;
+use coeffs::width::Width;
 use frames::Pose;
 use jacobian::jac::Sim3Jac;
 use linalg::matrix::Mat3;
@@ -14,8 +18,8 @@ use sides::side::ExpAndJl;
 use sim3::tangent::Sim3Tangent;
 
 // The tangent with all of rho negated.
-pub fn turned_round(tau: Sim3Tangent) -> Sim3Tangent
-    ensures { result ≡ turned_round tau }
+pub fn turned_round<T: Width>(tau: Sim3Tangent<T>) -> Sim3Tangent<T>
+    ensures { as_sim3_tangent T.float result ≡ turned_round (as_sim3_tangent T.float tau) }
 {
     let phi = tau.phi;
     let rho = tau.rho;
@@ -30,30 +34,30 @@ pub fn turned_round(tau: Sim3Tangent) -> Sim3Tangent
 // evaluation, the left Jacobian with its inverse, and the block pair; each of the tangent, and of the
 // tangent turned round.
 #[derive(Clone, Copy)]
-pub struct BothWays {
-    pub exp: Pose,
-    pub exp_turned: Pose,
-    pub left: Sim3Jac,
-    pub left_turned: Sim3Jac,
-    pub together: ExpAndJl,
-    pub together_turned: ExpAndJl,
-    pub inverted: JacAndInverse,
-    pub inverted_turned: JacAndInverse,
-    pub pair: BlockPair,
-    pub pair_turned: BlockPair,
+pub struct BothWays<T> {
+    pub exp: Pose<T>,
+    pub exp_turned: Pose<T>,
+    pub left: Sim3Jac<T>,
+    pub left_turned: Sim3Jac<T>,
+    pub together: ExpAndJl<T>,
+    pub together_turned: ExpAndJl<T>,
+    pub inverted: JacAndInverse<T>,
+    pub inverted_turned: JacAndInverse<T>,
+    pub pair: BlockPair<T>,
+    pub pair_turned: BlockPair<T>,
 }
 
 // Both ways along rho, with the same values, matrices and frames: none of them depends on rho.
-pub fn both_ways(
-    tau: Sim3Tangent,
-    v: Values,
-    jl: Mat3,
-    jl_inv: Mat3,
+pub fn both_ways<T: Width>(
+    tau: Sim3Tangent<T>,
+    v: Values<T>,
+    jl: Mat3<T>,
+    jl_inv: Mat3<T>,
     from: u16,
     to: u16,
-) -> BothWays
-    ensures value { result ≡ ways_of binary64 tau v jl jl_inv from to }
-    ensures turned { Turned result }
+) -> BothWays<T>
+    ensures value { as_both_ways T.float result ≡ ways_of T.format (as_sim3_tangent T.float tau) (as_values T.float v) (as_mat3 T.float jl) (as_mat3 T.float jl_inv) from to }
+    ensures turned { Turned (as_both_ways T.float result) }
 {
     let back = turned_round(tau);
     let exp = Pose::exp(tau, v, from, to);

@@ -3,16 +3,15 @@ use mathlib.Core.Path.{◌≡◌, refl, sym, subst}
 use mathlib.Core.Bool.{Bool, true, false}
 use lib.Ieee.{Float, Format, lt}
 use Rattle.ieee.specs.Numbers.{f0}
-use Rattle.linalg.specs.Answer.{Answer, answers, refuses}
-use Rattle.linalg.specs.declared.vector.Vec3.{Vec3}
-use Rattle.closed.specs.declared.values.Values.{Values}
-use Rattle.coeffs.specs.Group.{coeffs_scaled}
+use Rattle.linalg.specs.Answer.{Answer}
+use Rattle.linalg.specs.Floats.{Vec3}
+use Rattle.closed.specs.Floats.{Values}
 use Rattle.coeffs.specs.Entries.{scaled_answer}
-use Rattle.coeffs.specs.declared.sim3.Scaled.{Scaled}
+use Rattle.coeffs.specs.Floats.{Scaled}
 use Rattle.sim3.specs.Pose.{pose_act, pose_mul, pose_inverse, pose_renormalized}
 use Rattle.sim3.specs.Exp.{pose_exp}
-use Rattle.sim3.specs.declared.sim3.Sim3.{Sim3}
-use Rattle.sim3.specs.declared.tangent.Sim3Tangent.{Sim3Tangent}
+use Rattle.sim3.specs.Floats.{Sim3}
+use Rattle.sim3.specs.Floats.{Sim3Tangent}
 use Rattle.accuracy.specs.Action.{ActionAccurate}
 use Rattle.accuracy.specs.Exponential.{ExponentialAccurate}
 use Rattle.accuracy.proofs.Action.{act_accurate}

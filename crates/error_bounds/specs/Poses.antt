@@ -5,8 +5,8 @@ use Rattle.std.specs.Float.Ieee.{add, lt, neg}
 use Rattle.ieee.specs.Numbers.{f0}
 use Rattle.linalg.specs.Answer.{Answer, answers, refuses}
 use Rattle.so3.specs.Quat.{quat_conjugate}
-use Rattle.coeffs.specs.declared.sim3.Scaled.{Scaled}
-use Rattle.sim3.specs.declared.sim3.Sim3.{Sim3}
+use Rattle.coeffs.specs.Floats.{Scaled}
+use Rattle.sim3.specs.Floats.{Sim3}
 use Rattle.accuracy.specs.Action.{ActionAccurate}
 use Rattle.accuracy.specs.Quaternions.{ProductAccurate, RenormalizedAccurate, InverseAccurate}
 use Rattle.accuracy.specs.Series.{CoefficientsAccurate}

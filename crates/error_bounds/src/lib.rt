@@ -4,56 +4,60 @@
 // in crate running_accuracy.
 #![tactic(auto)]
 
-ghost use Rattle.std.specs.Float.{binary64};
 ghost use Rattle.accuracy.specs.Action.{ActionAccurate};
 ghost use Rattle.accuracy.specs.Exponential.{ExponentialAccurate};
-ghost use Rattle.coeffs.specs.Entries.{scaled_told};
 ghost use Rattle.error_bounds.specs.Poses.{MulAccurate, InversePoseAccurate, RenormalizedPoseAccurate, CoefficientsAnswered};
+ghost use Rattle.linalg.specs.Answer.{told};
+ghost use Rattle.sim3.specs.Floats.{as_sim3, as_sim3_tangent};
+ghost use Rattle.coeffs.specs.Floats.{as_scaled};
+ghost use Rattle.linalg.specs.Floats.{as_vec3};
 
 use closed::values::Values;
-use coeffs::sim3::ScaledAnswer;
+use coeffs::sim3::Scaled;
+use coeffs::width::Width;
+use linalg::refusal::Refusal;
 use linalg::vector::Vec3;
 use sim3::sim3::Sim3;
 use sim3::tangent::Sim3Tangent;
 
 // s R p + t, up being e^sigma of x.
-pub fn act(x: Sim3, up: f64, p: Vec3) -> Vec3
-    ensures { ActionAccurate binary64 x up p result }
+pub fn act<T: Width>(x: Sim3<T>, up: T, p: Vec3<T>) -> Vec3<T>
+    ensures { ActionAccurate T.format (as_sim3 T.float x) (T.float up) (as_vec3 T.float p) (as_vec3 T.float result) }
 {
     x.act(up, p)
 }
 
 // X Y, up being e^sigma of x.
-pub fn mul(x: Sim3, y: Sim3, up: f64) -> Sim3
-    ensures { MulAccurate binary64 x y up result }
+pub fn mul<T: Width>(x: Sim3<T>, y: Sim3<T>, up: T) -> Sim3<T>
+    ensures { MulAccurate T.format (as_sim3 T.float x) (as_sim3 T.float y) (T.float up) (as_sim3 T.float result) }
 {
     x.mul(y, up)
 }
 
 // X^-1, down being e^-sigma of x.
-pub fn inverse(x: Sim3, down: f64) -> Sim3
-    ensures { InversePoseAccurate binary64 x down result }
+pub fn inverse<T: Width>(x: Sim3<T>, down: T) -> Sim3<T>
+    ensures { InversePoseAccurate T.format (as_sim3 T.float x) (T.float down) (as_sim3 T.float result) }
 {
     x.inverse(down)
 }
 
 // x with the Newton step of its quaternion.
-pub fn renormalized(x: Sim3) -> Sim3
-    ensures { RenormalizedPoseAccurate binary64 x result }
+pub fn renormalized<T: Width>(x: Sim3<T>) -> Sim3<T>
+    ensures { RenormalizedPoseAccurate T.format (as_sim3 T.float x) (as_sim3 T.float result) }
 {
     x.renormalized()
 }
 
 // Exp(tau).
-pub fn exp(tau: Sim3Tangent, v: Values) -> Sim3
-    ensures { ExponentialAccurate binary64 tau result }
+pub fn exp<T: Width>(tau: Sim3Tangent<T>, v: Values<T>) -> Sim3<T>
+    ensures { ExponentialAccurate T.format (as_sim3_tangent T.float tau) (as_sim3 T.float result) }
 {
     Sim3::exp(tau, v)
 }
 
 // The coefficients at sigma and z, or refusal 1.
-pub fn coefficients(sigma: f64, z: f64, v: Values) -> ScaledAnswer
-    ensures { CoefficientsAnswered binary64 sigma z (scaled_told result) }
+pub fn coefficients<T: Width>(sigma: T, z: T, v: Values<T>) -> Result<Scaled<T>, Refusal>
+    ensures { CoefficientsAnswered T.format (T.float sigma) (T.float z) (told (as_scaled T.float) result) }
 {
     coeffs::sim3::sim3_coeffs_scaled(sigma, z, v)
 }

@@ -6,7 +6,7 @@ use lib.Ieee.{Float, Format, mul, of_bits}
 use Rattle.ieee.specs.Finite.{is_finite, ZeroIf}
 use Rattle.ieee.proofs.Finite.{zero-starts, zero-times, zero-joins}
 use Rattle.linalg.specs.Vector.{vec_numbers}
-use Rattle.sim3.specs.declared.sim3.Sim3.{Sim3}
+use Rattle.sim3.specs.Floats.{Sim3}
 use Rattle.layout.specs.Layout.{quat_numbers, pose_numbers}
 use Rattle.wire.specs.Wire.{all_finite, numbers}
 use Rattle.wire.proofs.Bytes.{finite-append}

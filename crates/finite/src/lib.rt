@@ -14,7 +14,7 @@ ghost use Rattle.wire.specs.Wire.{all_finite, numbers};
 use sim3::sim3::Sim3;
 
 // A product that is a zero, or NaN.
-fn pose_zero(x: Sim3) -> f64
+fn pose_zero(x: Sim3<f64>) -> f64
     ensures { ZeroIf (all_finite (numbers (pose_numbers x))) result }
 {
     let a = 0.0 * x.q.w * x.q.y;
@@ -25,7 +25,7 @@ fn pose_zero(x: Sim3) -> f64
 }
 
 // A NaN does not equal itself.
-pub fn pose(x: Sim3) -> bool
+pub fn pose(x: Sim3<f64>) -> bool
     ensures { result ≡ all_finite (numbers (pose_numbers x)) }
 {
     let z = pose_zero(x);

@@ -1,12 +1,12 @@
 -- (Exp τ, J_l(τ)) with the frames of the pose. It starts from no pose, so both are given; the Jacobian reads none.
 use Rattle.std.specs.Prelude.{ℕ}
 use Rattle.std.specs.Float.{Format}
-use Rattle.linalg.specs.declared.matrix.Mat3.{Mat3}
-use Rattle.closed.specs.declared.values.Values.{Values}
-use Rattle.sim3.specs.declared.tangent.Sim3Tangent.{Sim3Tangent}
+use Rattle.linalg.specs.Floats.{Mat3}
+use Rattle.closed.specs.Floats.{Values}
+use Rattle.sim3.specs.Floats.{Sim3Tangent}
 use Rattle.sides.specs.Blocks.{jac_jl}
 use Rattle.frames.specs.Pose.{framed_exp}
-use Rattle.framed_jacobian.specs.declared.PoseAndJl.{PoseAndJl}
+use Rattle.framed_jacobian.specs.Floats.{PoseAndJl}
 
 unfoldable pub framed_exp_and_jl : Format → Sim3Tangent → Values → Mat3 → ℕ → ℕ → PoseAndJl
 framed_exp_and_jl f tau v jl from to = record { x = framed_exp f tau v from to; jl = jac_jl f tau v jl }

@@ -3,24 +3,36 @@
 #![tactic(auto)]
 
 ghost use Rattle.std.specs.Prelude.{◌≡◌};
-ghost use Rattle.std.specs.Float.{binary64};
 ghost use Rattle.framed_jacobian.specs.ExpAndJl.{framed_exp_and_jl};
+ghost use Rattle.sim3.specs.Floats.{as_sim3_tangent};
+ghost use Rattle.linalg.specs.Floats.{as_mat3};
+ghost use Rattle.framed_jacobian.specs.Floats.{as_pose_and_jl};
+ghost use Rattle.closed.specs.Floats.{as_values};
 
 use closed::values::Values;
+use coeffs::width::Width;
 use frames::Pose;
 use jacobian::jac::Sim3Jac;
 use linalg::matrix::Mat3;
 use sim3::tangent::Sim3Tangent;
 
 #[derive(Clone, Copy)]
-pub struct PoseAndJl {
-    pub x: Pose,
-    pub jl: Sim3Jac,
+pub struct PoseAndJl<T> {
+    pub x: Pose<T>,
+    pub jl: Sim3Jac<T>,
 }
 
 // (Exp tau, J_l(tau)) from one evaluation of the coefficients, with the values of tau and J_l(phi).
-pub fn exp_and_jl(tau: Sim3Tangent, v: Values, jl_phi: Mat3, from: u16, to: u16) -> PoseAndJl
-    ensures { result ≡ framed_exp_and_jl binary64 tau v jl_phi from to }
+pub fn exp_and_jl<T: Width>(
+    tau: Sim3Tangent<T>,
+    v: Values<T>,
+    jl_phi: Mat3<T>,
+    from: u16,
+    to: u16,
+) -> PoseAndJl<T>
+    ensures { as_pose_and_jl T.float result
+        ≡ framed_exp_and_jl T.format (as_sim3_tangent T.float tau) (as_values T.float v) (as_mat3 T.float jl_phi) from
+        to }
 {
     let both = sides::side::exp_and_jl(tau, v, jl_phi);
     let sim3 = both.x;

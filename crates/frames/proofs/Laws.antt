@@ -15,7 +15,7 @@ use Rattle.sim3.specs.Exp.{pose_rplus, pose_lplus}
 use Rattle.frames.specs.Pose.{framed_identity, framed_exp, framed_inverse, framed_renormalized, framed_rplus, framed_lplus}
 use Rattle.frames.specs.Joins.{meets, framed_mul, framed_mul_inv, framed_inv_mul}
 use Rattle.frames.specs.Laws.{frames_of, frames_told, ProductLaws, FramesLaws}
-use Rattle.frames.specs.declared.Pose.{Pose}
+use Rattle.frames.specs.Floats.{Pose}
 
 -- ---- one test
 told : (t : Bool) (x : Pose) → frames_told (cond t (answers x) (refuses 9)) ≡ cond t (answers (frames_of x)) (refuses 9)

@@ -4,14 +4,7 @@ use Rattle.std.specs.Float.{Format}
 use Rattle.linalg.specs.Answer.{Answer, answers, refuses}
 use Rattle.sim3.specs.Pose.{pose_mul, pose_mul_inv, pose_inv_mul}
 use Rattle.frames.specs.Pose.{framed}
-use Rattle.frames.specs.declared.Pose.{Pose}
-use Rattle.frames.specs.declared.PoseAnswer.{PoseAnswer}
-use Rattle.frames.specs.declared.PoseAnswer.TheVariants as PoseAnswer
-
--- what each case of an answer says
-unfoldable pub pose_told : PoseAnswer → Answer Pose
-pose_told (PoseAnswer.Pose x) = answers x
-pose_told (PoseAnswer.Refused n) = refuses n
+use Rattle.frames.specs.Floats.{Pose}
 
 -- x, where the frames a and b are one and the same
 abbrev pub meets : ℕ → ℕ → Pose → Answer Pose

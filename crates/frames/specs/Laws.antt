@@ -2,12 +2,12 @@
 use Rattle.std.specs.Prelude.{◌≡◌, ℕ, Float}
 use Rattle.std.specs.Float.{Format}
 use Rattle.linalg.specs.Answer.{Answer, answers, refuses, and_then}
-use Rattle.closed.specs.declared.values.Values.{Values}
+use Rattle.closed.specs.Floats.{Values}
 use Rattle.sim3.specs.Pose.{pose_mul}
-use Rattle.sim3.specs.declared.tangent.Sim3Tangent.{Sim3Tangent}
+use Rattle.sim3.specs.Floats.{Sim3Tangent}
 use Rattle.frames.specs.Pose.{framed, framed_identity, framed_exp, framed_inverse, framed_renormalized, framed_rplus, framed_lplus}
 use Rattle.frames.specs.Joins.{framed_mul, framed_mul_inv, framed_inv_mul}
-use Rattle.frames.specs.declared.Pose.{Pose}
+use Rattle.frames.specs.Floats.{Pose}
 
 -- from and to
 abbrev pub frames_of : Pose → ℕ × ℕ

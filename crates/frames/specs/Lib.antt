@@ -1,3 +1,4 @@
+pub mod Floats
 pub mod Pose
 pub mod Joins
 pub mod Laws

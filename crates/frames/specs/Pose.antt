@@ -2,12 +2,12 @@
 -- What starts from a pose keeps its frames, and the inverse exchanges them; what starts from none is given both.
 use Rattle.std.specs.Prelude.{ℕ, Float}
 use Rattle.std.specs.Float.{Format}
-use Rattle.closed.specs.declared.values.Values.{Values}
+use Rattle.closed.specs.Floats.{Values}
 use Rattle.sim3.specs.Pose.{pose_identity, pose_inverse, pose_renormalized}
 use Rattle.sim3.specs.Exp.{pose_exp, pose_rplus, pose_lplus}
-use Rattle.sim3.specs.declared.sim3.Sim3.{Sim3}
-use Rattle.sim3.specs.declared.tangent.Sim3Tangent.{Sim3Tangent}
-use Rattle.frames.specs.declared.Pose.{Pose}
+use Rattle.sim3.specs.Floats.{Sim3}
+use Rattle.sim3.specs.Floats.{Sim3Tangent}
+use Rattle.frames.specs.Floats.{Pose}
 
 abbrev pub framed : Sim3 → ℕ → ℕ → Pose
 framed x from to = record { sim3 = x; from = from; to = to }

@@ -2,14 +2,14 @@
 use Rattle.std.specs.Prelude.{ℕ, cond, List, eqb, get_or, length, Float}
 use Rattle.std.specs.Float.{nan}
 use Rattle.linalg.specs.Answer.{Answer, answers, refuses, and_then}
-use Rattle.linalg.specs.declared.vector.Vec3.{Vec3}
-use Rattle.linalg.specs.declared.matrix.Mat3.{Mat3}
-use Rattle.closed.specs.declared.values.Values.{Values}
-use Rattle.sim3.specs.declared.sim3.Sim3.{Sim3}
-use Rattle.sim3.specs.declared.tangent.Sim3Tangent.{Sim3Tangent}
+use Rattle.linalg.specs.Floats.{Vec3}
+use Rattle.linalg.specs.Floats.{Mat3}
+use Rattle.closed.specs.Floats.{Values}
+use Rattle.sim3.specs.Floats.{Sim3}
+use Rattle.sim3.specs.Floats.{Sim3Tangent}
 use Rattle.frames.specs.Pose.{framed}
-use Rattle.frames.specs.declared.Pose.{Pose}
-use Rattle.jacobian.specs.declared.jac.Sim3Jac.{Sim3Jac}
+use Rattle.frames.specs.Floats.{Pose}
+use Rattle.jacobian.specs.Floats.{Sim3Jac}
 use Rattle.layout.specs.Layout.{vec_count, mat_count, pose_count, tangent_count, values_count, block_count, vec_in, mat_in, pose_in, tangent_in, values_in, block_in}
 use Rattle.from_lists.specs.declared.VecRead.{VecRead}
 use Rattle.from_lists.specs.declared.VecRead.TheVariants as vecs

@@ -25,19 +25,19 @@ pub const FRAMES: usize = 2;
 
 #[derive(Clone, Copy)]
 pub enum VecRead {
-    Got(Vec3),
+    Got(Vec3<f64>),
     Wrong,
 }
 
 #[derive(Clone, Copy)]
 pub enum MatRead {
-    Got(Mat3),
+    Got(Mat3<f64>),
     Wrong,
 }
 
 #[derive(Clone, Copy)]
 pub enum PoseRead {
-    Got(Sim3),
+    Got(Sim3<f64>),
     Wrong,
 }
 
@@ -56,29 +56,29 @@ pub enum FramesRead {
 
 #[derive(Clone, Copy)]
 pub enum FramedRead {
-    Got(Pose),
+    Got(Pose<f64>),
     Wrong,
 }
 
 #[derive(Clone, Copy)]
 pub enum TangentRead {
-    Got(Sim3Tangent),
+    Got(Sim3Tangent<f64>),
     Wrong,
 }
 
 #[derive(Clone, Copy)]
 pub enum ValuesRead {
-    Got(Values),
+    Got(Values<f64>),
     Wrong,
 }
 
 #[derive(Clone, Copy)]
 pub enum BlockRead {
-    Got(Sim3Jac),
+    Got(Sim3Jac<f64>),
     Wrong,
 }
 
-fn vec_in(l: &[f64], at: usize) -> Vec3
+fn vec_in(l: &[f64], at: usize) -> Vec3<f64>
     requires { at + 3 ≤ length l.now }
     ensures { result ≡ vec_in (number_in l.now) at }
 {
@@ -89,7 +89,7 @@ fn vec_in(l: &[f64], at: usize) -> Vec3
     }
 }
 
-fn mat_in(l: &[f64], at: usize) -> Mat3
+fn mat_in(l: &[f64], at: usize) -> Mat3<f64>
     requires { at + 9 ≤ length l.now }
     ensures { result ≡ mat_in (number_in l.now) at }
 {
@@ -119,7 +119,7 @@ pub fn mat_from(l: &[f64]) -> MatRead
 }
 
 // Quaternion w x y z, t, sigma.
-fn pose_in(l: &[f64], at: usize) -> Sim3
+fn pose_in(l: &[f64], at: usize) -> Sim3<f64>
     requires { at + 8 ≤ length l.now }
     ensures { result ≡ pose_in (number_in l.now) at }
 {

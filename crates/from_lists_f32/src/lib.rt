@@ -1,4 +1,4 @@
-// Written by tools/widths from crates/from_lists/src/lib.rt: edit that one. Digest 1873714709c56164.
+// Written by tools/widths from crates/from_lists/src/lib.rt: edit that one. Digest 1da50fc5cde1e836.
 // The things that stand in the numbers of a list that a C function is lent; Wrong where the list has
 // another length. Matrices go column by column.
 #![tactic(auto)]
@@ -7,18 +7,16 @@ ghost use Rattle.std.specs.Prelude.{◌≡◌, ◌+◌, ◌≤◌, length};
 ghost use Rattle.layout.specs.Layout.{vec_in, mat_in, pose_in};
 ghost use Rattle.from_lists.specs.Lists.{number_in, vec_from, mat_from, pose_from, tangent_from, values_from, block_from, pose_lists, frames_from, framed_from};
 ghost use Rattle.from_lists_f32.specs.Told.{vec_read_told, mat_read_told, pose_read_told, frames_read_told, framed_read_told, tangent_read_told, values_read_told, block_read_told};
-ghost use Rattle.linalg_f32.specs.As.{as_mat3, as_vec3};
-ghost use Rattle.sim3_f32.specs.As.{as_sim3};
 
-use closed_f32::values::Values;
-use frames_f32::Pose;
-use jacobian_f32::jac::Sim3Jac;
+use closed::values::Values;
+use frames::Pose;
+use jacobian::jac::Sim3Jac;
 use layout::{BLOCK, MAT, POSE, TANGENT, VALUES, VEC};
-use linalg_f32::matrix::Mat3;
-use linalg_f32::vector::Vec3;
-use sim3_f32::sim3_f32::Sim3;
-use sim3_f32::tangent::Sim3Tangent;
-use so3_f32::quat::Quat;
+use linalg::matrix::Mat3;
+use linalg::vector::Vec3;
+use sim3::sim3::Sim3;
+use sim3::tangent::Sim3Tangent;
+use so3::quat::Quat;
 
 // A list has not the length that is due. No refusal of the engine has this number or one near it.
 pub const LIST_LENGTH: u32 = 100;
@@ -28,19 +26,19 @@ pub const FRAMES: usize = 2;
 
 #[derive(Clone, Copy)]
 pub enum VecRead {
-    Got(Vec3),
+    Got(Vec3<f32>),
     Wrong,
 }
 
 #[derive(Clone, Copy)]
 pub enum MatRead {
-    Got(Mat3),
+    Got(Mat3<f32>),
     Wrong,
 }
 
 #[derive(Clone, Copy)]
 pub enum PoseRead {
-    Got(Sim3),
+    Got(Sim3<f32>),
     Wrong,
 }
 
@@ -59,31 +57,31 @@ pub enum FramesRead {
 
 #[derive(Clone, Copy)]
 pub enum FramedRead {
-    Got(Pose),
+    Got(Pose<f32>),
     Wrong,
 }
 
 #[derive(Clone, Copy)]
 pub enum TangentRead {
-    Got(Sim3Tangent),
+    Got(Sim3Tangent<f32>),
     Wrong,
 }
 
 #[derive(Clone, Copy)]
 pub enum ValuesRead {
-    Got(Values),
+    Got(Values<f32>),
     Wrong,
 }
 
 #[derive(Clone, Copy)]
 pub enum BlockRead {
-    Got(Sim3Jac),
+    Got(Sim3Jac<f32>),
     Wrong,
 }
 
-fn vec_in(l: &[f32], at: usize) -> Vec3
+fn vec_in(l: &[f32], at: usize) -> Vec3<f32>
     requires { at + 3 ≤ length l.now }
-    ensures { as_vec3 result ≡ vec_in (number_in l.now) at }
+    ensures { result ≡ vec_in (number_in l.now) at }
 {
     Vec3 {
         x: l[at],
@@ -92,9 +90,9 @@ fn vec_in(l: &[f32], at: usize) -> Vec3
     }
 }
 
-fn mat_in(l: &[f32], at: usize) -> Mat3
+fn mat_in(l: &[f32], at: usize) -> Mat3<f32>
     requires { at + 9 ≤ length l.now }
-    ensures { as_mat3 result ≡ mat_in (number_in l.now) at }
+    ensures { result ≡ mat_in (number_in l.now) at }
 {
     Mat3 {
         c0: vec_in(l, at),
@@ -122,9 +120,9 @@ pub fn mat_from(l: &[f32]) -> MatRead
 }
 
 // Quaternion w x y z, t, sigma.
-fn pose_in(l: &[f32], at: usize) -> Sim3
+fn pose_in(l: &[f32], at: usize) -> Sim3<f32>
     requires { at + 8 ≤ length l.now }
-    ensures { as_sim3 result ≡ pose_in (number_in l.now) at }
+    ensures { result ≡ pose_in (number_in l.now) at }
 {
     let q = Quat {
         w: l[at],

@@ -4,3 +4,5 @@ pub mod Signs
 pub mod Finite
 pub mod Table
 pub mod Infix
+pub mod Compare
+pub mod Held

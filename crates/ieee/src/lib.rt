@@ -1,34 +1,204 @@
-// IEEE 754 doubles: bit patterns both ways on every input, and a select. `specs` has the notions of
-// a value up to the sign of a zero, of a value that is not -0, and of a table that follows a rule;
-// `proofs` has the laws of the operations, over any format, that the crates above cite.
+// IEEE 754 numbers, of either width: the arithmetic that every crate above is written in, bit
+// patterns both ways on every input, and a select. `specs` has the notions of a value up to the sign
+// of a zero, of a value that is not -0, and of a table that follows a rule; `proofs` has the laws of
+// the operations, over any format, that the crates above cite.
 #![tactic(auto)]
 
-ghost use Rattle.std.specs.Prelude.{◌≡◌, cond};
+ghost use Rattle.std.specs.Prelude.{◌≡◌, ◌≤◌, ℕ, Float, cond, refl};
 ghost use Rattle.std.specs.Float.Ieee.{of_bits, to_bits};
-ghost use Rattle.std.specs.Float.{binary64};
+ghost use Rattle.std.specs.Float.Ieee as Ieee;
+ghost use Rattle.std.specs.Float.{Format, binary32, binary64};
+ghost use Rattle.std.specs.Mem.{type_size};
+ghost use Rattle.std.specs.Ordering.{partial_lt, partial_le};
+ghost use Rattle.std.proofs.Common.{rules};
+ghost use Rattle.ieee.specs.Held.{HeldFits};
+ghost use Rattle.ieee.specs.Compare.{partial_lt-is, partial_le-is};
 
-// The double with the 64 bits `n`. Every NaN pattern reads as NaN; which NaN is left open.
-pub fn from_bits(n: u64) -> f64
-    ensures { result ≡ of_bits binary64 n }
-{
-    if 0x7ff0_0000_0000_0000 < n % 0x8000_0000_0000_0000 {
-        return 0.0 / 0.0;
-    }
-    f64::from_bits(n)
+use std::ops::{Add, Div, Mul, Neg, Sub};
+
+// A number of IEEE 754: `f64` or `f32`. Every operation rounds once, to the type's own format.
+pub trait Real: Copy
+    + PartialOrd
+    + Neg<Output = Self>
+    + Add<Self, Output = Self>
+    + Sub<Self, Output = Self>
+    + Mul<Self, Output = Self>
+    + Div<Self, Output = Self> {
+    // A bit pattern: `u64` or `u32`.
+    type Bits: Copy;
+
+    // `binary64` or `binary32`.
+    ghost format: { Format };
+
+    // The number as the definitions see it, which are the same for every format.
+    ghost float: { Self → Float };
+
+    ghost bits: { Self.Bits → ℕ };
+
+    // The number `x`, where both formats hold it: every number of the narrower one.
+    fn of(x: f32) -> Self
+        ensures { float result ≡ x };
+
+    // The number with this pattern. Every NaN pattern reads as NaN; which NaN is left open.
+    fn from_pattern(pattern: Self::Bits) -> Self
+        ensures { float result ≡ of_bits format (bits pattern) };
+
+    // The number's pattern; one and the same for every NaN.
+    fn pattern(self) -> Self::Bits
+        ensures { bits result ≡ to_bits format (float self) };
+
+    // A number takes at most 8 bytes, so an array of a few dozen fits in memory.
+    ghost size_law: { type_size Self.row ≤ 8 };
+
+    // A number that a program holds is one of the format.
+    ghost fits_law: { HeldFits Self.row format float };
+
+    // The operators are those of the format.
+    ghost can_neg_law: { (a : Self) → Self.can_neg a };
+
+    ghost neg_law: { (a r : Self) → Self.neg_gives a r → float r ≡ Ieee.neg (float a) };
+
+    ghost can_add_law: { (a b : Self) → Self.can_add a b };
+
+    ghost add_law: { (a b r : Self) → Self.add_gives a b r → float r ≡ Ieee.add format (float a) (float b) };
+
+    ghost can_sub_law: { (a b : Self) → Self.can_sub a b };
+
+    ghost sub_law: { (a b r : Self) → Self.sub_gives a b r → float r ≡ Ieee.sub format (float a) (float b) };
+
+    ghost can_mul_law: { (a b : Self) → Self.can_mul a b };
+
+    ghost mul_law: { (a b r : Self) → Self.mul_gives a b r → float r ≡ Ieee.mul format (float a) (float b) };
+
+    ghost can_div_law: { (a b : Self) → Self.can_div a b };
+
+    ghost div_law: { (a b r : Self) → Self.div_gives a b r → float r ≡ Ieee.div format (float a) (float b) };
+
+    ghost eq_law: { (a b : Self) → Self.eq a b ≡ Ieee.eq (float a) (float b) };
+
+    ghost lt_law: { (a b : Self) → partial_lt Self.partial_cmp a b ≡ Ieee.lt (float a) (float b) };
+
+    ghost le_law: { (a b : Self) → partial_le Self.partial_cmp a b ≡ Ieee.le (float a) (float b) };
 }
 
-// The 64 bits of `x`; 7ff8000000000000 for every NaN.
-pub fn to_bits(x: f64) -> u64
-    ensures { result ≡ to_bits binary64 x }
-{
-    if x != x {
-        return 0x7ff8_0000_0000_0000;
+impl Real for f64 {
+    type Bits = u64;
+
+    ghost format = { binary64 };
+
+    ghost float = { λ x. x };
+
+    ghost bits = { λ n. n };
+
+    fn of(x: f32) -> f64 {
+        f64::from(x)
     }
-    f64::to_bits(x)
+
+    fn from_pattern(pattern: u64) -> f64 {
+        if 0x7ff0_0000_0000_0000 < pattern % 0x8000_0000_0000_0000 {
+            return 0.0 / 0.0;
+        }
+        f64::from_bits(pattern)
+    }
+
+    fn pattern(self) -> u64 {
+        if self != self {
+            return 0x7ff8_0000_0000_0000;
+        }
+        f64::to_bits(self)
+    }
+
+    ghost size_law = { Prim.search rules };
+
+    ghost fits_law = { λ x h. Prim.search rules };
+
+    ghost can_neg_law = { λ a. tt };
+
+    ghost neg_law = { λ a r e. e };
+
+    ghost can_add_law = { λ a b. tt };
+
+    ghost add_law = { λ a b r e. e };
+
+    ghost can_sub_law = { λ a b. tt };
+
+    ghost sub_law = { λ a b r e. e };
+
+    ghost can_mul_law = { λ a b. tt };
+
+    ghost mul_law = { λ a b r e. e };
+
+    ghost can_div_law = { λ a b. tt };
+
+    ghost div_law = { λ a b r e. e };
+
+    ghost eq_law = { λ a b. refl };
+
+    ghost lt_law = { partial_lt-is };
+
+    ghost le_law = { partial_le-is };
+}
+
+impl Real for f32 {
+    type Bits = u32;
+
+    ghost format = { binary32 };
+
+    ghost float = { λ x. x };
+
+    ghost bits = { λ n. n };
+
+    fn of(x: f32) -> f32 {
+        x
+    }
+
+    fn from_pattern(pattern: u32) -> f32 {
+        if 0x7f80_0000 < pattern % 0x8000_0000 {
+            return 0.0 / 0.0;
+        }
+        f32::from_bits(pattern)
+    }
+
+    fn pattern(self) -> u32 {
+        if self != self {
+            return 0x7fc0_0000;
+        }
+        f32::to_bits(self)
+    }
+
+    ghost size_law = { Prim.search rules };
+
+    ghost fits_law = { λ x h. Prim.search rules };
+
+    ghost can_neg_law = { λ a. tt };
+
+    ghost neg_law = { λ a r e. e };
+
+    ghost can_add_law = { λ a b. tt };
+
+    ghost add_law = { λ a b r e. e };
+
+    ghost can_sub_law = { λ a b. tt };
+
+    ghost sub_law = { λ a b r e. e };
+
+    ghost can_mul_law = { λ a b. tt };
+
+    ghost mul_law = { λ a b r e. e };
+
+    ghost can_div_law = { λ a b. tt };
+
+    ghost div_law = { λ a b r e. e };
+
+    ghost eq_law = { λ a b. refl };
+
+    ghost lt_law = { partial_lt-is };
+
+    ghost le_law = { partial_le-is };
 }
 
 // `a` where `c` holds, `b` elsewhere: the Rust's `select`.
-pub fn pick(c: bool, a: f64, b: f64) -> f64
+pub fn pick<T: Copy>(c: bool, a: T, b: T) -> T
     ensures { result ≡ cond c a b }
 {
     if c { a } else { b }

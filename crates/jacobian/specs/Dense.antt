@@ -1,14 +1,14 @@
 -- 7x7 matrices, flat and column by column: a block Jacobian written out, and J Σ Jᵀ.
-use Rattle.std.specs.Prelude.{List, [], ◌∷◌, ◌++◌, ℕ, ◌+◌, ◌*◌, get_or, Float}
+use Rattle.std.specs.Prelude.{List, ◌++◌, ℕ, ◌+◌, get_or, Float}
 use Rattle.std.specs.Float.{nan, Format}
 use Rattle.ieee.specs.Numbers.{f0}
 use Rattle.linalg.specs.Vector.{vec}
-use Rattle.linalg.specs.declared.vector.Vec3.{Vec3}
+use Rattle.linalg.specs.Floats.{Vec3}
 use Rattle.sim3.specs.Tangent.{tangent, tangent_to_dense}
-use Rattle.sim3.specs.declared.tangent.Sim3Tangent.{Sim3Tangent}
+use Rattle.sim3.specs.Floats.{Sim3Tangent}
 use Rattle.jacobian.specs.Jac.{jac_apply}
-use Rattle.jacobian.specs.declared.jac.Sim3Jac.{Sim3Jac}
-use Rattle.jacobian.specs.declared.dense.Seven.{Seven}
+use Rattle.jacobian.specs.Floats.{Sim3Jac}
+use Rattle.jacobian.specs.Floats.{Seven}
 
 -- seven columns of seven numbers, each held as a tangent
 abbrev pub seven : Sim3Tangent → Sim3Tangent → Sim3Tangent → Sim3Tangent → Sim3Tangent → Sim3Tangent → Sim3Tangent → Seven

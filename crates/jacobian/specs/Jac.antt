@@ -7,24 +7,17 @@ use Rattle.ieee.specs.Infix.{operations}
 use Rattle.linalg.specs.Answer.{Answer, answers, refuses}
 use Rattle.linalg.specs.Vector.{vec, vec_dot, vec_neg, vec_operations}
 use Rattle.linalg.specs.Matrix.{mat, mat_transpose, mat_identity, mat_neg, mat_inverse_adj, mat_operations}
-use Rattle.linalg.specs.declared.vector.Vec3.{Vec3}
-use Rattle.linalg.specs.declared.matrix.Mat3.{Mat3}
+use Rattle.linalg.specs.Floats.{Vec3}
+use Rattle.linalg.specs.Floats.{Mat3}
 use Rattle.sim3.specs.Tangent.{tangent}
-use Rattle.sim3.specs.declared.tangent.Sim3Tangent.{Sim3Tangent}
-use Rattle.jacobian.specs.declared.jac.Sim3Jac.{Sim3Jac}
-use Rattle.jacobian.specs.declared.jac.JacAnswer.{JacAnswer}
-use Rattle.jacobian.specs.declared.jac.JacAnswer.TheVariants as answer
+use Rattle.sim3.specs.Floats.{Sim3Tangent}
+use Rattle.jacobian.specs.Floats.{Sim3Jac}
 
 abbrev pub blocks : Mat3 → Mat3 → Mat3 → Vec3 → Float → Sim3Jac
 blocks a b c f e = record { a = a; b = b; c = c; f = f; e = e }
 
 unfoldable pub jac_identity : Sim3Jac
 jac_identity = blocks mat_identity (mat (vec f0 f0 f0) (vec f0 f0 f0) (vec f0 f0 f0)) mat_identity (vec f0 f0 f0) f1
-
--- what each case of the inverse's answer says
-unfoldable pub jac_told : JacAnswer → Answer Sim3Jac
-jac_told (answer.Block j) = answers j
-jac_told (answer.Refused n) = refuses n
 
 unfoldable pub jac_neg : Sim3Jac → Sim3Jac
 jac_neg j = blocks (mat_neg j.a) (mat_neg j.b) (mat_neg j.c) (vec_neg j.f) (neg j.e)

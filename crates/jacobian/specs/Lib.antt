@@ -1,3 +1,4 @@
+pub mod Floats
 pub mod Jac
 pub mod Dense
 pub mod Private

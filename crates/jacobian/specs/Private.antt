@@ -1,8 +1,8 @@
 -- What the private function `rows_of` computes; no public contract cites it.
 use Rattle.linalg.specs.Vector.{vec}
-use Rattle.linalg.specs.declared.vector.Vec3.{Vec3}
+use Rattle.linalg.specs.Floats.{Vec3}
 use Rattle.sim3.specs.Tangent.{tangent}
-use Rattle.jacobian.specs.declared.dense.Rows.{Rows}
+use Rattle.jacobian.specs.Floats.{Rows}
 
 unfoldable pub seven_rows : Vec3 → Vec3 → Vec3 → Vec3 → Vec3 → Vec3 → Vec3 → Rows
 seven_rows a b c d e g h =

@@ -1,31 +1,35 @@
 // 7x7 matrices as 49 numbers, column by column.
-ghost use Rattle.std.specs.Prelude.{◌≡◌, ◌+◌, ◌≤◌, length};
-ghost use Rattle.std.specs.Float.{binary64};
+ghost use Rattle.std.specs.Prelude.{◌≡◌, ◌+◌, ◌≤◌, length, map};
 ghost use Rattle.std.proofs.lemmas.List.Edits.{sets};
 ghost use Rattle.linalg.specs.Vector.{vec};
 ghost use Rattle.sim3.specs.Tangent.{tangent, tangent_to_dense};
 ghost use Rattle.jacobian.specs.Private.{seven_rows};
 ghost use Rattle.jacobian.specs.Dense.{column_at, seven_of, seven_flat, seven_transpose, seven_apply, jac_sandwich, jac_dense};
+ghost use Rattle.jacobian.specs.Floats.{as_rows, as_seven, as_sim3_jac};
+ghost use Rattle.sim3.specs.Floats.{as_sim3_tangent};
+ghost use Rattle.linalg.specs.Floats.{as_vec3};
 
 use crate::jac::Sim3Jac;
+use ieee::Real;
 use linalg::vector::Vec3;
 use sim3::tangent::Sim3Tangent;
 
 // Seven columns of seven numbers, each held as a tangent.
 #[derive(Clone, Copy)]
-pub struct Seven {
-    pub c0: Sim3Tangent,
-    pub c1: Sim3Tangent,
-    pub c2: Sim3Tangent,
-    pub c3: Sim3Tangent,
-    pub c4: Sim3Tangent,
-    pub c5: Sim3Tangent,
-    pub c6: Sim3Tangent,
+pub struct Seven<T> {
+    pub c0: Sim3Tangent<T>,
+    pub c1: Sim3Tangent<T>,
+    pub c2: Sim3Tangent<T>,
+    pub c3: Sim3Tangent<T>,
+    pub c4: Sim3Tangent<T>,
+    pub c5: Sim3Tangent<T>,
+    pub c6: Sim3Tangent<T>,
 }
 
 // The seven numbers from one, as a tangent.
-fn seven_numbers(a: f64, b: f64, c: f64, d: f64, e: f64, f: f64, g: f64) -> Sim3Tangent
-    ensures { result ≡ tangent (vec a b c) (vec d e f) g }
+fn seven_numbers<T: Real>(a: T, b: T, c: T, d: T, e: T, f: T, g: T) -> Sim3Tangent<T>
+    ensures { as_sim3_tangent T.float result
+        ≡ tangent (vec (T.float a) (T.float b) (T.float c)) (vec (T.float d) (T.float e) (T.float f)) (T.float g) }
 {
     Sim3Tangent {
         phi: Vec3 { x: a, y: b, z: c },
@@ -35,9 +39,9 @@ fn seven_numbers(a: f64, b: f64, c: f64, d: f64, e: f64, f: f64, g: f64) -> Sim3
 }
 
 // The seven numbers from place i on.
-fn column_at(m: &[f64; 49], i: usize) -> Sim3Tangent
+fn column_at<T: Real>(m: &[T; 49], i: usize) -> Sim3Tangent<T>
     requires { i ≤ 42 }
-    ensures { result ≡ column_at m.now i }
+    ensures { as_sim3_tangent T.float result ≡ column_at (map T.float m.now) i }
 {
     let phi = Vec3 {
         x: m[i],
@@ -57,8 +61,8 @@ fn column_at(m: &[f64; 49], i: usize) -> Sim3Tangent
 }
 
 // The columns of a flat matrix.
-fn columns(m: [f64; 49]) -> Seven
-    ensures { result ≡ seven_of m }
+fn columns<T: Real>(m: [T; 49]) -> Seven<T>
+    ensures { as_seven T.float result ≡ seven_of (map T.float m) }
 {
     Seven {
         c0: column_at(&m, 0),
@@ -72,9 +76,9 @@ fn columns(m: [f64; 49]) -> Seven
 }
 
 // A column's seven numbers, stored from a place on.
-fn put_column(out: &mut [f64], at: usize, t: Sim3Tangent)
+fn put_column<T: Real>(out: &mut [T], at: usize, t: Sim3Tangent<T>)
     requires { at + 7 ≤ length out.old }
-    ensures { out.new ≡ sets out.old at (tangent_to_dense t) }
+    ensures { map T.float out.new ≡ sets (map T.float out.old) at (tangent_to_dense (as_sim3_tangent T.float t)) }
 {
     let phi = t.phi;
     let rho = t.rho;
@@ -88,10 +92,10 @@ fn put_column(out: &mut [f64], at: usize, t: Sim3Tangent)
 }
 
 // The flat matrix of the columns.
-fn flat(m: Seven) -> [f64; 49]
-    ensures { result ≡ seven_flat m }
+fn flat<T: Real>(m: Seven<T>) -> [T; 49]
+    ensures { map T.float result ≡ seven_flat (as_seven T.float m) }
 {
-    let mut out = [0.0; 49];
+    let mut out = [T::of(0.0); 49];
     put_column(&mut out, 0, m.c0);
     put_column(&mut out, 7, m.c1);
     put_column(&mut out, 14, m.c2);
@@ -104,14 +108,24 @@ fn flat(m: Seven) -> [f64; 49]
 
 // The numbers x, y and z of seven vectors, in a row each.
 #[derive(Clone, Copy)]
-pub struct Rows {
-    pub x: Sim3Tangent,
-    pub y: Sim3Tangent,
-    pub z: Sim3Tangent,
+pub struct Rows<T> {
+    pub x: Sim3Tangent<T>,
+    pub y: Sim3Tangent<T>,
+    pub z: Sim3Tangent<T>,
 }
 
-fn rows_of(a: Vec3, b: Vec3, c: Vec3, d: Vec3, e: Vec3, f: Vec3, g: Vec3) -> Rows
-    ensures { result ≡ seven_rows a b c d e f g }
+fn rows_of<T: Real>(
+    a: Vec3<T>,
+    b: Vec3<T>,
+    c: Vec3<T>,
+    d: Vec3<T>,
+    e: Vec3<T>,
+    f: Vec3<T>,
+    g: Vec3<T>,
+) -> Rows<T>
+    ensures { as_rows T.float result
+        ≡ seven_rows (as_vec3 T.float a) (as_vec3 T.float b) (as_vec3 T.float c) (as_vec3 T.float d) (as_vec3 T.float e)
+        (as_vec3 T.float f) (as_vec3 T.float g) }
 {
     Rows {
         x: seven_numbers(a.x, b.x, c.x, d.x, e.x, f.x, g.x),
@@ -121,8 +135,8 @@ fn rows_of(a: Vec3, b: Vec3, c: Vec3, d: Vec3, e: Vec3, f: Vec3, g: Vec3) -> Row
 }
 
 // Rows for columns.
-fn transpose(m: Seven) -> Seven
-    ensures { result ≡ seven_transpose m }
+fn transpose<T: Real>(m: Seven<T>) -> Seven<T>
+    ensures { as_seven T.float result ≡ seven_transpose (as_seven T.float m) }
 {
     let a = m.c0;
     let b = m.c1;
@@ -153,15 +167,15 @@ fn transpose(m: Seven) -> Seven
     }
 }
 
-fn column(phi: Vec3, rho: Vec3, sigma: f64) -> Sim3Tangent
-    ensures { result ≡ tangent phi rho sigma }
+fn column<T: Real>(phi: Vec3<T>, rho: Vec3<T>, sigma: T) -> Sim3Tangent<T>
+    ensures { as_sim3_tangent T.float result ≡ tangent (as_vec3 T.float phi) (as_vec3 T.float rho) (T.float sigma) }
 {
     Sim3Tangent { phi, rho, sigma }
 }
 
 // J applied to each column.
-fn apply_each(j: Sim3Jac, m: Seven) -> Seven
-    ensures { result ≡ seven_apply binary64 j m }
+fn apply_each<T: Real>(j: Sim3Jac<T>, m: Seven<T>) -> Seven<T>
+    ensures { as_seven T.float result ≡ seven_apply T.format (as_sim3_jac T.float j) (as_seven T.float m) }
 {
     Seven {
         c0: j.apply(m.c0),
@@ -175,32 +189,32 @@ fn apply_each(j: Sim3Jac, m: Seven) -> Seven
 }
 
 // J as 49 numbers, column by column.
-pub fn write_dense(j: Sim3Jac) -> [f64; 49]
-    ensures { result ≡ jac_dense j }
+pub fn write_dense<T: Real>(j: Sim3Jac<T>) -> [T; 49]
+    ensures { map T.float result ≡ jac_dense (as_sim3_jac T.float j) }
 {
     let a = j.a;
     let b = j.b;
     let c = j.c;
     let f = j.f;
     let none = Vec3 {
-        x: 0.0,
-        y: 0.0,
-        z: 0.0,
+        x: T::of(0.0),
+        y: T::of(0.0),
+        z: T::of(0.0),
     };
     flat(Seven {
-        c0: column(a.c0, b.c0, 0.0),
-        c1: column(a.c1, b.c1, 0.0),
-        c2: column(a.c2, b.c2, 0.0),
-        c3: column(none, c.c0, 0.0),
-        c4: column(none, c.c1, 0.0),
-        c5: column(none, c.c2, 0.0),
+        c0: column(a.c0, b.c0, T::of(0.0)),
+        c1: column(a.c1, b.c1, T::of(0.0)),
+        c2: column(a.c2, b.c2, T::of(0.0)),
+        c3: column(none, c.c0, T::of(0.0)),
+        c4: column(none, c.c1, T::of(0.0)),
+        c5: column(none, c.c2, T::of(0.0)),
         c6: column(none, f, j.e),
     })
 }
 
 // J cov J^T: M = J cov by columns, then row r of the result is J applied to row r of M.
-pub fn sandwich(j: Sim3Jac, cov: [f64; 49]) -> [f64; 49]
-    ensures { result ≡ jac_sandwich binary64 j cov }
+pub fn sandwich<T: Real>(j: Sim3Jac<T>, cov: [T; 49]) -> [T; 49]
+    ensures { map T.float result ≡ jac_sandwich T.format (as_sim3_jac T.float j) (map T.float cov) }
 {
     let m = apply_each(j, columns(cov));
     let rows = apply_each(j, transpose(m));

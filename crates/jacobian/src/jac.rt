@@ -1,55 +1,53 @@
 // A Sim(3) Jacobian: the matrix with the rows (a, 0, 0), (b, c, f), (0, 0, e).
 ghost use Rattle.std.specs.Prelude.{◌≡◌};
-ghost use Rattle.std.specs.Float.{binary64};
 ghost use Rattle.ieee.specs.Numbers.{f0};
-ghost use Rattle.jacobian.specs.Jac.{jac_identity, jac_mul, jac_told, jac_inverse_answer, jac_neg, jac_add, jac_scale, jac_apply, jac_apply_transpose};
+ghost use Rattle.jacobian.specs.Jac.{jac_identity, jac_mul, jac_inverse_answer, jac_neg, jac_add, jac_scale, jac_apply, jac_apply_transpose};
+ghost use Rattle.linalg.specs.Answer.{told};
+ghost use Rattle.sim3.specs.Floats.{as_sim3_tangent};
+ghost use Rattle.linalg.specs.Floats.{as_vec3};
+ghost use Rattle.jacobian.specs.Floats.{as_sim3_jac};
 
+use ieee::Real;
 use linalg::matrix::Mat3;
+use linalg::refusal::Refusal;
 use linalg::vector::Vec3;
 use sim3::tangent::Sim3Tangent;
 
 #[derive(Clone, Copy)]
-pub struct Sim3Jac {
-    pub a: Mat3,
-    pub b: Mat3,
-    pub c: Mat3,
-    pub f: Vec3,
-    pub e: f64,
+pub struct Sim3Jac<T> {
+    pub a: Mat3<T>,
+    pub b: Mat3<T>,
+    pub c: Mat3<T>,
+    pub f: Vec3<T>,
+    pub e: T,
 }
 
-// The inverse, or refusal 2 where e is a zero.
-#[derive(Clone, Copy)]
-pub enum JacAnswer {
-    Block(Sim3Jac),
-    Refused(u8),
-}
-
-fn none() -> Vec3
-    ensures { result ≡ record { x = f0; y = f0; z = f0 } }
+fn none<T: Real>() -> Vec3<T>
+    ensures { as_vec3 T.float result ≡ record { x = f0; y = f0; z = f0 } }
 {
     Vec3 {
-        x: 0.0,
-        y: 0.0,
-        z: 0.0,
+        x: T::of(0.0),
+        y: T::of(0.0),
+        z: T::of(0.0),
     }
 }
 
-impl Sim3Jac {
-    pub fn identity() -> Sim3Jac
-        ensures { result ≡ jac_identity }
+impl<T: Real> Sim3Jac<T> {
+    pub fn identity() -> Sim3Jac<T>
+        ensures { as_sim3_jac T.float result ≡ jac_identity }
     {
         Sim3Jac {
             a: Mat3::identity(),
             b: Mat3::from_cols(none(), none(), none()),
             c: Mat3::identity(),
             f: none(),
-            e: 1.0,
+            e: T::of(1.0),
         }
     }
 
     // (A A', B A' + C B', C C', C f' + f e', e e').
-    pub fn mul(self, o: Sim3Jac) -> Sim3Jac
-        ensures { result ≡ jac_mul binary64 self o }
+    pub fn mul(self, o: Sim3Jac<T>) -> Sim3Jac<T>
+        ensures { as_sim3_jac T.float result ≡ jac_mul T.format (as_sim3_jac T.float self) (as_sim3_jac T.float o) }
     {
         let c = self.c;
         let f = self.f;
@@ -65,17 +63,17 @@ impl Sim3Jac {
     // (A^-1, -C^-1 B A^-1, C^-1, -C^-1 f / e, 1 / e), by the adjugates of A and C; refusal 2 where e
     // is a zero. A zero determinant is divided by. PERF (D122): C^-1 is formed first and before the test
     // of e, since the compiler then packs the products better.
-    pub fn inverse(self) -> JacAnswer
-        ensures { jac_told result ≡ jac_inverse_answer binary64 self }
+    pub fn inverse(self) -> Result<Sim3Jac<T>, Refusal>
+        ensures { told (as_sim3_jac T.float) result ≡ jac_inverse_answer T.format (as_sim3_jac T.float self) }
     {
         let e = self.e;
         let ci = self.c.inverse_adj().inv;
-        if (e <= 0.0) & (0.0 <= e) {
-            return JacAnswer::Refused(2);
+        if (e <= T::of(0.0)) & (T::of(0.0) <= e) {
+            return Err(Refusal::ZeroScale);
         }
         let ai = self.a.inverse_adj().inv;
-        let ei = 1.0 / e;
-        JacAnswer::Block(Sim3Jac {
+        let ei = T::of(1.0) / e;
+        Ok(Sim3Jac {
             a: ai,
             b: ci.mul(self.b).mul(ai).neg(),
             c: ci,
@@ -85,8 +83,8 @@ impl Sim3Jac {
     }
 
     // Flips every sign bit.
-    pub fn neg(self) -> Sim3Jac
-        ensures { result ≡ jac_neg self }
+    pub fn neg(self) -> Sim3Jac<T>
+        ensures { as_sim3_jac T.float result ≡ jac_neg (as_sim3_jac T.float self) }
     {
         Sim3Jac {
             a: self.a.neg(),
@@ -97,8 +95,8 @@ impl Sim3Jac {
         }
     }
 
-    pub fn add(self, o: Sim3Jac) -> Sim3Jac
-        ensures { result ≡ jac_add binary64 self o }
+    pub fn add(self, o: Sim3Jac<T>) -> Sim3Jac<T>
+        ensures { as_sim3_jac T.float result ≡ jac_add T.format (as_sim3_jac T.float self) (as_sim3_jac T.float o) }
     {
         Sim3Jac {
             a: self.a.add(o.a),
@@ -109,8 +107,8 @@ impl Sim3Jac {
         }
     }
 
-    pub fn scale(self, k: f64) -> Sim3Jac
-        ensures { result ≡ jac_scale binary64 self k }
+    pub fn scale(self, k: T) -> Sim3Jac<T>
+        ensures { as_sim3_jac T.float result ≡ jac_scale T.format (as_sim3_jac T.float self) (T.float k) }
     {
         Sim3Jac {
             a: self.a.scale(k),
@@ -122,8 +120,9 @@ impl Sim3Jac {
     }
 
     // (A phi, (B phi + C rho) + f sigma, e sigma).
-    pub fn apply(self, t: Sim3Tangent) -> Sim3Tangent
-        ensures { result ≡ jac_apply binary64 self t }
+    pub fn apply(self, t: Sim3Tangent<T>) -> Sim3Tangent<T>
+        ensures { as_sim3_tangent T.float result
+            ≡ jac_apply T.format (as_sim3_jac T.float self) (as_sim3_tangent T.float t) }
     {
         let phi = t.phi;
         let rho = t.rho;
@@ -139,8 +138,9 @@ impl Sim3Jac {
     }
 
     // (A^T phi + B^T rho, C^T rho, f . rho + e sigma).
-    pub fn apply_transpose(self, t: Sim3Tangent) -> Sim3Tangent
-        ensures { result ≡ jac_apply_transpose binary64 self t }
+    pub fn apply_transpose(self, t: Sim3Tangent<T>) -> Sim3Tangent<T>
+        ensures { as_sim3_tangent T.float result
+            ≡ jac_apply_transpose T.format (as_sim3_jac T.float self) (as_sim3_tangent T.float t) }
     {
         let phi = t.phi;
         let rho = t.rho;

@@ -10,7 +10,7 @@ use lib.Ieee.{Float, Format, binary64}
 use Rattle.linalg.specs.Answer.{Answer, answers, refuses}
 use Rattle.frames.specs.Pose.{framed_renormalized}
 use Rattle.frames.specs.Joins.{framed_mul}
-use Rattle.frames.specs.declared.Pose.{Pose}
+use Rattle.frames.specs.Floats.{Pose}
 use Rattle.running.specs.Running.{Joint, one_more, due, stands, produced_of, product_on, join_on, join_of, every_of}
 use Rattle.running.specs.declared.Start.{Start}
 use Rattle.running.specs.declared.Running.{Running}

@@ -5,7 +5,7 @@ use native.Mathlib.Omega.{arith}
 use lib.ListN.{length, length-append}
 use lib.Ieee.{binary64}
 use Rattle.linalg.specs.Answer.{Answer, answers, refuses}
-use Rattle.frames.specs.declared.Pose.{Pose}
+use Rattle.frames.specs.Floats.{Pose}
 use Rattle.wire.specs.Wire.{word_bytes, item_bytes, items_bytes}
 use Rattle.outcome.specs.Outcome.{longest, mark_bytes, reply_of}
 use Rattle.outcome.proofs.Record.{mark_length, no_length}

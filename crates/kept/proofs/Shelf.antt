@@ -9,7 +9,7 @@ use lib.ListN.{length, take, drop, set}
 use lib.Seq.{sets}
 use lib.Ieee.{binary64}
 use Rattle.linalg.specs.Answer.{answers, refuses}
-use Rattle.frames.specs.declared.Pose.{Pose}
+use Rattle.frames.specs.Floats.{Pose}
 use Rattle.layout.specs.Layout.{pose_numbers}
 use Rattle.wire.specs.Wire.{word_at, word_bytes, item_bytes, items_bytes, all_finite, numbers}
 use Rattle.outcome.specs.declared.Kind.TheVariants as kind

@@ -3,7 +3,7 @@ use Rattle.std.specs.Prelude.{ℕ, ◌+◌, List, [], ◌∷◌, drop}
 use Rattle.std.proofs.lemmas.List.Edits.{sets}
 use Rattle.std.specs.Float.{binary64}
 use Rattle.linalg.specs.Answer.{Answer, answers, refuses, and_then}
-use Rattle.frames.specs.declared.Pose.{Pose}
+use Rattle.frames.specs.Floats.{Pose}
 use Rattle.running.specs.Running.{Joint, join_of, every_of}
 use Rattle.running.specs.declared.Running.{Running}
 use Rattle.wire.specs.Wire.{word, width, word_at, word_bytes, number_at}

@@ -14,7 +14,7 @@ ghost use Rattle.kept.specs.Chain.{ch_size, rn_size, ch_of, ch_reply, rn_reply, 
 
 use crate::bytes::{FRAMED, framed_at, number_at, put_framed, put_short, short_at};
 use crate::{MEMORY, RUNNING};
-use frames::{Pose, PoseAnswer};
+use frames::Pose;
 use outcome::{Kind, LONGEST, Step};
 use running::{Running, Start};
 
@@ -45,7 +45,7 @@ fn running_at(mem: &[u8]) -> Running
 }
 
 // The running pose x, n, and the count k.
-fn put_posed(mem: &mut [u8], x: Pose, n: u16, k: u16)
+fn put_posed(mem: &mut [u8], x: Pose<f64>, n: u16, k: u16)
     requires { length mem.old ≡ running_size }
     ensures mem_after { mem.new ≡ sets mem.old 0 (posed_bytes x n k) }
     ensures mem_after_2 { running_of mem.new ≡ record { pose = Start.Posed x; every = n; since = k } }
@@ -58,7 +58,7 @@ fn put_posed(mem: &mut [u8], x: Pose, n: u16, k: u16)
 
 // ---- CH
 // The mark and the running pose.
-fn tell(out: &mut [u8], x: Pose) -> Step
+fn tell(out: &mut [u8], x: Pose<f64>) -> Step
     requires { longest ≤ length out.old }
     ensures result_value { step_told result ≡ took_of ch_size (ch_reply (answers x)) }
     ensures out_after { out.new ≡ sets out.old 0 (ch_reply (answers x)).bytes }
@@ -101,11 +101,11 @@ fn join(b: &[u8], mem: &mut [u8], out: &mut [u8]) -> Step
     let next = j.running;
     let told = j.answer;
     match told {
-        PoseAnswer::Pose(p) => {
+        Ok(p) => {
             put_posed(mem, p, next.every, next.since);
             tell(out, p)
         }
-        PoseAnswer::Refused(number) => refuse(out, number),
+        Err(refusal) => refuse(out, refusal.number()),
     }
 }
 

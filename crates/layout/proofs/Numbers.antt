@@ -2,17 +2,17 @@
 use mathlib.Core.Path.{◌≡◌, refl}
 use lib.ListN.{length, length-append}
 use Rattle.linalg.specs.Vector.{vec_numbers}
-use Rattle.linalg.specs.declared.vector.Vec3.{Vec3}
-use Rattle.linalg.specs.declared.matrix.Mat3.{Mat3}
-use Rattle.series.specs.declared.sim3.Sim3Coeffs.{Sim3Coeffs}
-use Rattle.coeffs.specs.declared.sim3.Scaled.{Scaled}
-use Rattle.coeffs.specs.declared.sim3.ScaledPair.{ScaledPair}
-use Rattle.so3.specs.declared.quat.Quat.{Quat}
-use Rattle.sim3.specs.declared.sim3.Sim3.{Sim3}
-use Rattle.jacobian.specs.declared.jac.Sim3Jac.{Sim3Jac}
-use Rattle.sides.specs.declared.pair.BlockPair.{BlockPair}
-use Rattle.sides.specs.declared.side.ActJacobians.{ActJacobians}
-use Rattle.sides.specs.declared.side.TwoJacobians.{TwoJacobians}
+use Rattle.linalg.specs.Floats.{Vec3}
+use Rattle.linalg.specs.Floats.{Mat3}
+use Rattle.series.specs.Floats.{Sim3Coeffs}
+use Rattle.coeffs.specs.Floats.{Scaled}
+use Rattle.coeffs.specs.Floats.{ScaledPair}
+use Rattle.so3.specs.Floats.{Quat}
+use Rattle.sim3.specs.Floats.{Sim3}
+use Rattle.jacobian.specs.Floats.{Sim3Jac}
+use Rattle.sides.specs.Floats.{BlockPair}
+use Rattle.sides.specs.Floats.{ActJacobians}
+use Rattle.sides.specs.Floats.{TwoJacobians}
 use Rattle.layout.specs.Layout.{vec_count, mat_count, pose_count, block_count, block_pair_count, scaled_pair_count, two_count, act_count}
 use Rattle.layout.specs.Layout.{mat_numbers, quat_numbers, pose_numbers, block_numbers, block_pair_numbers, coeffs_numbers, scaled_numbers, scaled_pair_numbers, two_numbers, act_numbers}
 

@@ -4,24 +4,24 @@ use Rattle.std.specs.Prelude.{ℕ, ◌+◌, ◌*◌, cond, List, [], ◌∷◌, 
 use Rattle.ieee.specs.Numbers.{f0, f1}
 use Rattle.linalg.specs.Vector.{vec, vec_numbers}
 use Rattle.linalg.specs.Matrix.{mat}
-use Rattle.linalg.specs.declared.vector.Vec3.{Vec3}
-use Rattle.linalg.specs.declared.matrix.Mat3.{Mat3}
-use Rattle.series.specs.declared.sim3.Sim3Coeffs.{Sim3Coeffs}
-use Rattle.closed.specs.declared.values.Values.{Values}
-use Rattle.coeffs.specs.declared.sim3.Scaled.{Scaled}
-use Rattle.coeffs.specs.declared.sim3.ScaledPair.{ScaledPair}
-use Rattle.coeffs.specs.declared.sim3.ArmedPair.{ArmedPair}
+use Rattle.linalg.specs.Floats.{Vec3}
+use Rattle.linalg.specs.Floats.{Mat3}
+use Rattle.series.specs.Floats.{Sim3Coeffs}
+use Rattle.closed.specs.Floats.{Values}
+use Rattle.coeffs.specs.Floats.{Scaled}
+use Rattle.coeffs.specs.Floats.{ScaledPair}
+use Rattle.coeffs.specs.Floats.{ArmedPair}
 use Rattle.so3.specs.Quat.{quat}
-use Rattle.so3.specs.declared.quat.Quat.{Quat}
+use Rattle.so3.specs.Floats.{Quat}
 use Rattle.sim3.specs.Pose.{pose}
 use Rattle.sim3.specs.Tangent.{tangent}
-use Rattle.sim3.specs.declared.sim3.Sim3.{Sim3}
-use Rattle.sim3.specs.declared.tangent.Sim3Tangent.{Sim3Tangent}
+use Rattle.sim3.specs.Floats.{Sim3}
+use Rattle.sim3.specs.Floats.{Sim3Tangent}
 use Rattle.jacobian.specs.Jac.{blocks}
-use Rattle.jacobian.specs.declared.jac.Sim3Jac.{Sim3Jac}
-use Rattle.sides.specs.declared.pair.BlockPair.{BlockPair}
-use Rattle.sides.specs.declared.side.ActJacobians.{ActJacobians}
-use Rattle.sides.specs.declared.side.TwoJacobians.{TwoJacobians}
+use Rattle.jacobian.specs.Floats.{Sim3Jac}
+use Rattle.sides.specs.Floats.{BlockPair}
+use Rattle.sides.specs.Floats.{ActJacobians}
+use Rattle.sides.specs.Floats.{TwoJacobians}
 
 -- ---- how many numbers each has
 abbrev pub vec_count : ℕ

@@ -3,7 +3,7 @@ use mathlib.Core.Path.{◌≡◌}
 use lib.Ieee.{Format, add}
 use Rattle.ieee.proofs.Sign.{mul-neg-neg}
 use Rattle.linalg.specs.Vector.{vec_dot, vec_norm_sq, vec_neg}
-use Rattle.linalg.specs.declared.vector.Vec3.{Vec3}
+use Rattle.linalg.specs.Floats.{Vec3}
 
 pub norm_sq_even : (f : Format) (v : Vec3) → vec_norm_sq f (vec_neg v) ≡ vec_norm_sq f v
 unfolding vec_norm_sq vec_dot vec_neg

@@ -1,7 +1,9 @@
 -- What an entry that can refuse answers: the numbers, or the number of a refusal in the scope's table.
-use Rattle.std.specs.Prelude.{ℕ, cond, Float}
+use Rattle.std.specs.Prelude.{ℕ, cond, Float, Result, Ok, Err}
 use Rattle.std.specs.Float.Ieee.{lt}
 use Rattle.ieee.specs.Numbers.{f0}
+use Rattle.linalg.specs.declared.refusal.Refusal.{Refusal}
+use Rattle.linalg.specs.declared.refusal.Refusal.TheVariants as refusal
 
 pub data Answer (A : Type 0) : Type 0 where
   answers : A → Answer A
@@ -15,3 +17,27 @@ and_then (refuses n) k = refuses n
 -- refusal 1 where a squared angle z is below zero, which -0 and NaN are not
 abbrev pub unless_below_zero : {A : Type 0} → Float → Answer A → Answer A
 unless_below_zero z a = cond (lt z f0) (refuses 1) a
+
+-- ---- what the code answers
+abbrev pub number : Refusal → ℕ
+number refusal.NegativeAngle = 1
+number refusal.ZeroScale = 2
+number refusal.NoSuchEntry = 3
+number refusal.TooManyTerms = 4
+number refusal.BadLength = 5
+number refusal.UnknownMark = 6
+number refusal.CutInput = 7
+number refusal.NotFinite = 8
+number refusal.FramesDiffer = 9
+number refusal.SameTake = 10
+number refusal.NoRoom = 11
+number refusal.NeverKept = 12
+
+-- what a result says; h reads the numbers of the code as those of the definitions
+abbrev pub told : {A B : Type 0} → (A → B) → Result A Refusal → Answer B
+told h (Ok a) = answers (h a)
+told h (Err r) = refuses (number r)
+
+-- the same where the numbers are floats already
+abbrev pub answer : {A : Type 0} → Result A Refusal → Answer A
+answer r = told (λ a. a) r

@@ -1,3 +1,4 @@
+pub mod Floats
 pub mod Answer
 pub mod Vector
 pub mod Matrix

@@ -7,28 +7,9 @@ use Rattle.ieee.specs.Numbers.{f0, f1}
 use Rattle.ieee.specs.Infix.{operations}
 use Rattle.linalg.specs.Answer.{Answer, answers, refuses, and_then}
 use Rattle.linalg.specs.Vector.{vec, sum3, vec_dot, vec_neg, vec_over, vec_operations}
-use Rattle.linalg.specs.declared.vector.Vec3.{Vec3}
-use Rattle.linalg.specs.declared.matrix.Mat3.{Mat3}
-use Rattle.linalg.specs.declared.matrix.Inverse.{Inverse}
-use Rattle.linalg.specs.declared.matrix.Entry.{Entry}
-use Rattle.linalg.specs.declared.matrix.Entry.TheVariants as entry
-use Rattle.linalg.specs.declared.matrix.VecAnswer.{VecAnswer}
-use Rattle.linalg.specs.declared.matrix.VecAnswer.TheVariants as vector
-use Rattle.linalg.specs.declared.matrix.MatAnswer.{MatAnswer}
-use Rattle.linalg.specs.declared.matrix.MatAnswer.TheVariants as matrix
-
--- ---- what each case of an answer says
-unfoldable pub entry_told : Entry → Answer Float
-entry_told (entry.Number x) = answers x
-entry_told (entry.Refused n) = refuses n
-
-unfoldable pub vec_told : VecAnswer → Answer Vec3
-vec_told (vector.Vector v) = answers v
-vec_told (vector.Refused n) = refuses n
-
-unfoldable pub mat_told : MatAnswer → Answer Mat3
-mat_told (matrix.Matrix m) = answers m
-mat_told (matrix.Refused n) = refuses n
+use Rattle.linalg.specs.Floats.{Vec3}
+use Rattle.linalg.specs.Floats.{Mat3}
+use Rattle.linalg.specs.Floats.{Inverse}
 
 -- ---- made from columns and from rows
 abbrev pub mat : Vec3 → Vec3 → Vec3 → Mat3

@@ -3,7 +3,7 @@ use Rattle.std.specs.Prelude.{List, [], ◌∷◌, Float}
 use Rattle.std.specs.Float.{Format}
 use Rattle.std.specs.Float.Ieee.{neg}
 use Rattle.ieee.specs.Infix.{operations}
-use Rattle.linalg.specs.declared.vector.Vec3.{Vec3}
+use Rattle.linalg.specs.Floats.{Vec3}
 
 abbrev pub vec : Float → Float → Float → Vec3
 vec x y z = record { x = x; y = y; z = z }

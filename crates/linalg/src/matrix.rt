@@ -1,61 +1,43 @@
 // A 3x3 matrix of three columns. Every entry of a product is a sum in index order from its first
 // term.
 ghost use Rattle.std.specs.Prelude.{◌≡◌};
-ghost use Rattle.std.specs.Float.{binary64};
-ghost use Rattle.linalg.specs.Matrix.{entry_told, vec_told, mat_told, mat_of_rows, mat_get, mat_set, mat_col, mat_row, mat_transpose, mat_scale, mat_identity, mat_inverse_adj, mat_add, mat_sub, mat_neg, mat_mul, mat_mul_vec, mat_hat, mat_mul_hat, mat_hat_mul, vec_component, vec_put, vec_hat_mul};
+ghost use Rattle.linalg.specs.Answer.{told};
+ghost use Rattle.linalg.specs.Matrix.{mat_of_rows, mat_get, mat_set, mat_col, mat_row, mat_transpose, mat_scale, mat_identity, mat_inverse_adj, mat_add, mat_sub, mat_neg, mat_mul, mat_mul_vec, mat_hat, mat_mul_hat, mat_hat_mul, vec_component, vec_put, vec_hat_mul};
+ghost use Rattle.linalg.specs.Floats.{as_inverse, as_mat3, as_vec3};
 
+use crate::refusal::Refusal;
 use crate::vector::Vec3;
+use ieee::Real;
 
 #[derive(Clone, Copy)]
-pub struct Mat3 {
-    pub c0: Vec3,
-    pub c1: Vec3,
-    pub c2: Vec3,
+pub struct Mat3<T> {
+    pub c0: Vec3<T>,
+    pub c1: Vec3<T>,
+    pub c2: Vec3<T>,
 }
 
 // The adjugate over the determinant, and the determinant.
 #[derive(Clone, Copy)]
-pub struct Inverse {
-    pub inv: Mat3,
-    pub det: f64,
+pub struct Inverse<T> {
+    pub inv: Mat3<T>,
+    pub det: T,
 }
 
-// An entry of a matrix, or refusal 3.
-#[derive(Clone, Copy)]
-pub enum Entry {
-    Number(f64),
-    Refused(u8),
-}
-
-// A row or a column, or refusal 3.
-#[derive(Clone, Copy)]
-pub enum VecAnswer {
-    Vector(Vec3),
-    Refused(u8),
-}
-
-// A matrix, or refusal 3.
-#[derive(Clone, Copy)]
-pub enum MatAnswer {
-    Matrix(Mat3),
-    Refused(u8),
-}
-
-// Component i of v; refusal 3 for i above 2.
-fn component(v: Vec3, i: usize) -> Entry
-    ensures { entry_told result ≡ vec_component v i }
+// Component i of v; refused for i above 2.
+fn component<T: Real>(v: Vec3<T>, i: usize) -> Result<T, Refusal>
+    ensures { told T.float result ≡ vec_component (as_vec3 T.float v) i }
 {
     match i {
-        0 => Entry::Number(v.x),
-        1 => Entry::Number(v.y),
-        2 => Entry::Number(v.z),
-        _ => Entry::Refused(3),
+        0 => Ok(v.x),
+        1 => Ok(v.y),
+        2 => Ok(v.z),
+        _ => Err(Refusal::NoSuchEntry),
     }
 }
 
 // v with component i replaced by x where `on`.
-fn put(v: Vec3, on: bool, i: usize, x: f64) -> Vec3
-    ensures { result ≡ vec_put v on i x }
+fn put<T: Real>(v: Vec3<T>, on: bool, i: usize, x: T) -> Vec3<T>
+    ensures { as_vec3 T.float result ≡ vec_put (as_vec3 T.float v) on i (T.float x) }
 {
     Vec3 {
         x: ieee::pick(on & (i == 0), x, v.x),
@@ -64,17 +46,17 @@ fn put(v: Vec3, on: bool, i: usize, x: f64) -> Vec3
     }
 }
 
-impl Mat3 {
+impl<T: Real> Mat3<T> {
     // The matrix with these columns.
-    pub fn from_cols(c0: Vec3, c1: Vec3, c2: Vec3) -> Mat3
-        ensures { result ≡ record { c0 = c0; c1 = c1; c2 = c2 } }
+    pub fn from_cols(c0: Vec3<T>, c1: Vec3<T>, c2: Vec3<T>) -> Mat3<T>
+        ensures { as_mat3 T.float result ≡ record { c0 = (as_vec3 T.float c0); c1 = (as_vec3 T.float c1); c2 = (as_vec3 T.float c2) } }
     {
         Mat3 { c0, c1, c2 }
     }
 
     // The matrix with these rows.
-    pub fn from_rows(r0: Vec3, r1: Vec3, r2: Vec3) -> Mat3
-        ensures { result ≡ mat_of_rows r0 r1 r2 }
+    pub fn from_rows(r0: Vec3<T>, r1: Vec3<T>, r2: Vec3<T>) -> Mat3<T>
+        ensures { as_mat3 T.float result ≡ mat_of_rows (as_vec3 T.float r0) (as_vec3 T.float r1) (as_vec3 T.float r2) }
     {
         Mat3 {
             c0: Vec3 {
@@ -95,73 +77,55 @@ impl Mat3 {
         }
     }
 
-    // Entry (r, c); refusal 3 for r or c above 2.
-    pub fn get(self, r: usize, c: usize) -> Entry
-        ensures { entry_told result ≡ mat_get self r c }
+    // Entry (r, c); refused for r or c above 2.
+    pub fn get(self, r: usize, c: usize) -> Result<T, Refusal>
+        ensures { told T.float result ≡ mat_get (as_mat3 T.float self) r c }
     {
-        match c {
-            0 => component(self.c0, r),
-            1 => component(self.c1, r),
-            2 => component(self.c2, r),
-            _ => Entry::Refused(3),
-        }
+        component(self.col(c)?, r)
     }
 
-    // The matrix with entry (r, c) set to v; refusal 3 for r or c above 2.
-    pub fn set(self, r: usize, c: usize, v: f64) -> MatAnswer
-        ensures { mat_told result ≡ mat_set self r c v }
+    // The matrix with entry (r, c) set to v; refused for r or c above 2.
+    pub fn set(self, r: usize, c: usize, v: T) -> Result<Mat3<T>, Refusal>
+        ensures { told (as_mat3 T.float) result ≡ mat_set (as_mat3 T.float self) r c (T.float v) }
     {
-        let Entry::Number(_) = self.get(r, c) else {
-            return MatAnswer::Refused(3);
+        let Ok(_) = self.get(r, c) else {
+            return Err(Refusal::NoSuchEntry);
         };
-        MatAnswer::Matrix(Mat3 {
+        Ok(Mat3 {
             c0: put(self.c0, c == 0, r, v),
             c1: put(self.c1, c == 1, r, v),
             c2: put(self.c2, c == 2, r, v),
         })
     }
 
-    // Column c; refusal 3 for c above 2.
-    pub fn col(self, c: usize) -> VecAnswer
-        ensures { vec_told result ≡ mat_col self c }
+    // Column c; refused for c above 2.
+    pub fn col(self, c: usize) -> Result<Vec3<T>, Refusal>
+        ensures { told (as_vec3 T.float) result ≡ mat_col (as_mat3 T.float self) c }
     {
-        let Entry::Number(x) = self.get(0, c) else {
-            return VecAnswer::Refused(3);
-        };
-        let Entry::Number(y) = self.get(1, c) else {
-            return VecAnswer::Refused(3);
-        };
-        let Entry::Number(z) = self.get(2, c) else {
-            return VecAnswer::Refused(3);
-        };
-        VecAnswer::Vector(Vec3 { x, y, z })
+        match c {
+            0 => Ok(self.c0),
+            1 => Ok(self.c1),
+            2 => Ok(self.c2),
+            _ => Err(Refusal::NoSuchEntry),
+        }
     }
 
-    // Row r; refusal 3 for r above 2.
-    pub fn row(self, r: usize) -> VecAnswer
-        ensures { vec_told result ≡ mat_row self r }
+    // Row r; refused for r above 2.
+    pub fn row(self, r: usize) -> Result<Vec3<T>, Refusal>
+        ensures { told (as_vec3 T.float) result ≡ mat_row (as_mat3 T.float self) r }
     {
-        let Entry::Number(x) = self.get(r, 0) else {
-            return VecAnswer::Refused(3);
-        };
-        let Entry::Number(y) = self.get(r, 1) else {
-            return VecAnswer::Refused(3);
-        };
-        let Entry::Number(z) = self.get(r, 2) else {
-            return VecAnswer::Refused(3);
-        };
-        VecAnswer::Vector(Vec3 { x, y, z })
+        self.transpose().col(r)
     }
 
-    pub fn transpose(self) -> Mat3
-        ensures { result ≡ mat_transpose self }
+    pub fn transpose(self) -> Mat3<T>
+        ensures { as_mat3 T.float result ≡ mat_transpose (as_mat3 T.float self) }
     {
         Mat3::from_rows(self.c0, self.c1, self.c2)
     }
 
     // s * self, entrywise.
-    pub fn scale(self, s: f64) -> Mat3
-        ensures { result ≡ mat_scale binary64 self s }
+    pub fn scale(self, s: T) -> Mat3<T>
+        ensures { as_mat3 T.float result ≡ mat_scale T.format (as_mat3 T.float self) (T.float s) }
     {
         Mat3 {
             c0: self.c0.scale(s),
@@ -171,32 +135,32 @@ impl Mat3 {
     }
 
     // +1 on the diagonal, +0 elsewhere.
-    pub fn identity() -> Mat3
-        ensures { result ≡ mat_identity }
+    pub fn identity() -> Mat3<T>
+        ensures { as_mat3 T.float result ≡ mat_identity }
     {
         Mat3 {
             c0: Vec3 {
-                x: 1.0,
-                y: 0.0,
-                z: 0.0,
+                x: T::of(1.0),
+                y: T::of(0.0),
+                z: T::of(0.0),
             },
             c1: Vec3 {
-                x: 0.0,
-                y: 1.0,
-                z: 0.0,
+                x: T::of(0.0),
+                y: T::of(1.0),
+                z: T::of(0.0),
             },
             c2: Vec3 {
-                x: 0.0,
-                y: 0.0,
-                z: 1.0,
+                x: T::of(0.0),
+                y: T::of(0.0),
+                z: T::of(1.0),
             },
         }
     }
 
     // (adj(self) / det, det): det = c0 . (c1 x c2), and the rows of adj are c1 x c2, c2 x c0,
     // c0 x c1. Each entry is one division by det, a zero det included.
-    pub fn inverse_adj(self) -> Inverse
-        ensures { result ≡ mat_inverse_adj binary64 self }
+    pub fn inverse_adj(self) -> Inverse<T>
+        ensures { as_inverse T.float result ≡ mat_inverse_adj T.format (as_mat3 T.float self) }
     {
         let r0 = self.c1.cross(self.c2);
         let r1 = self.c2.cross(self.c0);
@@ -208,8 +172,8 @@ impl Mat3 {
         }
     }
 
-    pub fn add(self, o: Mat3) -> Mat3
-        ensures { result ≡ mat_add binary64 self o }
+    pub fn add(self, o: Mat3<T>) -> Mat3<T>
+        ensures { as_mat3 T.float result ≡ mat_add T.format (as_mat3 T.float self) (as_mat3 T.float o) }
     {
         Mat3 {
             c0: self.c0.add(o.c0),
@@ -218,8 +182,8 @@ impl Mat3 {
         }
     }
 
-    pub fn sub(self, o: Mat3) -> Mat3
-        ensures { result ≡ mat_sub binary64 self o }
+    pub fn sub(self, o: Mat3<T>) -> Mat3<T>
+        ensures { as_mat3 T.float result ≡ mat_sub T.format (as_mat3 T.float self) (as_mat3 T.float o) }
     {
         Mat3 {
             c0: self.c0.sub(o.c0),
@@ -229,8 +193,8 @@ impl Mat3 {
     }
 
     // Flips every sign bit.
-    pub fn neg(self) -> Mat3
-        ensures { result ≡ mat_neg self }
+    pub fn neg(self) -> Mat3<T>
+        ensures { as_mat3 T.float result ≡ mat_neg (as_mat3 T.float self) }
     {
         Mat3 {
             c0: self.c0.neg(),
@@ -240,8 +204,8 @@ impl Mat3 {
     }
 
     // self * v.
-    pub fn mul_vec(self, v: Vec3) -> Vec3
-        ensures { result ≡ mat_mul_vec binary64 self v }
+    pub fn mul_vec(self, v: Vec3<T>) -> Vec3<T>
+        ensures { as_vec3 T.float result ≡ mat_mul_vec T.format (as_mat3 T.float self) (as_vec3 T.float v) }
     {
         let a = self.c0;
         let b = self.c1;
@@ -254,8 +218,8 @@ impl Mat3 {
     }
 
     // self * o.
-    pub fn mul(self, o: Mat3) -> Mat3
-        ensures { result ≡ mat_mul binary64 self o }
+    pub fn mul(self, o: Mat3<T>) -> Mat3<T>
+        ensures { as_mat3 T.float result ≡ mat_mul T.format (as_mat3 T.float self) (as_mat3 T.float o) }
     {
         Mat3 {
             c0: self.mul_vec(o.c0),
@@ -266,31 +230,31 @@ impl Mat3 {
 }
 
 // The matrix of v x _: rows (0, -z, y), (z, 0, -x), (-y, x, 0), its zeros +0.
-pub fn hat(v: Vec3) -> Mat3
-    ensures { result ≡ mat_hat v }
+pub fn hat<T: Real>(v: Vec3<T>) -> Mat3<T>
+    ensures { as_mat3 T.float result ≡ mat_hat (as_vec3 T.float v) }
 {
     Mat3 {
         c0: Vec3 {
-            x: 0.0,
+            x: T::of(0.0),
             y: v.z,
             z: -v.y,
         },
         c1: Vec3 {
             x: -v.z,
-            y: 0.0,
+            y: T::of(0.0),
             z: v.x,
         },
         c2: Vec3 {
             x: v.y,
             y: -v.x,
-            z: 0.0,
+            z: T::of(0.0),
         },
     }
 }
 
 // a * hat(v), the zeros of hat skipped.
-pub fn mul_hat(a: Mat3, v: Vec3) -> Mat3
-    ensures { result ≡ mat_mul_hat binary64 a v }
+pub fn mul_hat<T: Real>(a: Mat3<T>, v: Vec3<T>) -> Mat3<T>
+    ensures { as_mat3 T.float result ≡ mat_mul_hat T.format (as_mat3 T.float a) (as_vec3 T.float v) }
 {
     let p = a.c0;
     let q = a.c1;
@@ -306,8 +270,8 @@ pub fn mul_hat(a: Mat3, v: Vec3) -> Mat3
 }
 
 // Column b of hat(v) * b, the zeros of hat skipped.
-fn hat_col(v: Vec3, b: Vec3) -> Vec3
-    ensures { result ≡ vec_hat_mul binary64 v b }
+fn hat_col<T: Real>(v: Vec3<T>, b: Vec3<T>) -> Vec3<T>
+    ensures { as_vec3 T.float result ≡ vec_hat_mul T.format (as_vec3 T.float v) (as_vec3 T.float b) }
 {
     Vec3 {
         x: -v.z * b.y + v.y * b.z,
@@ -317,8 +281,8 @@ fn hat_col(v: Vec3, b: Vec3) -> Vec3
 }
 
 // hat(v) * b, the zeros of hat skipped.
-pub fn hat_mul(v: Vec3, b: Mat3) -> Mat3
-    ensures { result ≡ mat_hat_mul binary64 v b }
+pub fn hat_mul<T: Real>(v: Vec3<T>, b: Mat3<T>) -> Mat3<T>
+    ensures { as_mat3 T.float result ≡ mat_hat_mul T.format (as_vec3 T.float v) (as_mat3 T.float b) }
 {
     Mat3 {
         c0: hat_col(v, b.c0),

@@ -1,19 +1,21 @@
 // A vector of three doubles. Every sum runs left to right from its first term.
 ghost use Rattle.std.specs.Prelude.{◌≡◌};
-ghost use Rattle.std.specs.Float.{binary64};
 ghost use Rattle.linalg.specs.Vector.{vec_scale, vec_dot, vec_norm_sq, vec_cross, vec_add, vec_sub, vec_neg, vec_over};
+ghost use Rattle.linalg.specs.Floats.{as_vec3};
+
+use ieee::Real;
 
 #[derive(Clone, Copy)]
-pub struct Vec3 {
-    pub x: f64,
-    pub y: f64,
-    pub z: f64,
+pub struct Vec3<T> {
+    pub x: T,
+    pub y: T,
+    pub z: T,
 }
 
-impl Vec3 {
+impl<T: Real> Vec3<T> {
     // s * self, componentwise.
-    pub fn scale(self, s: f64) -> Vec3
-        ensures { result ≡ vec_scale binary64 self s }
+    pub fn scale(self, s: T) -> Vec3<T>
+        ensures { as_vec3 T.float result ≡ vec_scale T.format (as_vec3 T.float self) (T.float s) }
     {
         Vec3 {
             x: self.x * s,
@@ -23,22 +25,22 @@ impl Vec3 {
     }
 
     // The sum of self_i o_i, in index order.
-    pub fn dot(self, o: Vec3) -> f64
-        ensures { result ≡ vec_dot binary64 self o }
+    pub fn dot(self, o: Vec3<T>) -> T
+        ensures { T.float result ≡ vec_dot T.format (as_vec3 T.float self) (as_vec3 T.float o) }
     {
         self.x * o.x + self.y * o.y + self.z * o.z
     }
 
     // self . self.
-    pub fn norm_sq(self) -> f64
-        ensures { result ≡ vec_norm_sq binary64 self }
+    pub fn norm_sq(self) -> T
+        ensures { T.float result ≡ vec_norm_sq T.format (as_vec3 T.float self) }
     {
         self.dot(self)
     }
 
     // self x o: (a1 b2 - a2 b1, a2 b0 - a0 b2, a0 b1 - a1 b0), right-handed.
-    pub fn cross(self, o: Vec3) -> Vec3
-        ensures { result ≡ vec_cross binary64 self o }
+    pub fn cross(self, o: Vec3<T>) -> Vec3<T>
+        ensures { as_vec3 T.float result ≡ vec_cross T.format (as_vec3 T.float self) (as_vec3 T.float o) }
     {
         Vec3 {
             x: self.y * o.z - self.z * o.y,
@@ -47,8 +49,8 @@ impl Vec3 {
         }
     }
 
-    pub fn add(self, o: Vec3) -> Vec3
-        ensures { result ≡ vec_add binary64 self o }
+    pub fn add(self, o: Vec3<T>) -> Vec3<T>
+        ensures { as_vec3 T.float result ≡ vec_add T.format (as_vec3 T.float self) (as_vec3 T.float o) }
     {
         Vec3 {
             x: self.x + o.x,
@@ -57,8 +59,8 @@ impl Vec3 {
         }
     }
 
-    pub fn sub(self, o: Vec3) -> Vec3
-        ensures { result ≡ vec_sub binary64 self o }
+    pub fn sub(self, o: Vec3<T>) -> Vec3<T>
+        ensures { as_vec3 T.float result ≡ vec_sub T.format (as_vec3 T.float self) (as_vec3 T.float o) }
     {
         Vec3 {
             x: self.x - o.x,
@@ -68,8 +70,8 @@ impl Vec3 {
     }
 
     // Flips every sign bit.
-    pub fn neg(self) -> Vec3
-        ensures { result ≡ vec_neg self }
+    pub fn neg(self) -> Vec3<T>
+        ensures { as_vec3 T.float result ≡ vec_neg (as_vec3 T.float self) }
     {
         Vec3 {
             x: -self.x,
@@ -79,8 +81,8 @@ impl Vec3 {
     }
 
     // Each component divided by s, zero included.
-    pub fn over(self, s: f64) -> Vec3
-        ensures { result ≡ vec_over binary64 self s }
+    pub fn over(self, s: T) -> Vec3<T>
+        ensures { as_vec3 T.float result ≡ vec_over T.format (as_vec3 T.float self) (T.float s) }
     {
         Vec3 {
             x: self.x / s,

@@ -9,7 +9,7 @@ use native.Mathlib.Omega.{arith}
 use lib.ListN.{length, take, drop}
 use lib.Dec.{eqb, ltb}
 use lib.Ieee.{Float, binary64}
-use Rattle.frames.specs.declared.Pose.{Pose}
+use Rattle.frames.specs.Floats.{Pose}
 use Rattle.wire.specs.Wire.{word_of, word_at}
 use Rattle.running.specs.History.{Event, join, renew, after, Small}
 use Rattle.running.specs.declared.Running.{Running}

@@ -2,7 +2,7 @@
 -- proofs/Answered.antt, of any whole records of bytes.
 use Rattle.std.specs.Prelude.{ℕ, ◌<◌, ◌≡◌, List, [], ◌∷◌, ◌++◌}
 use Rattle.std.specs.Float.{binary64}
-use Rattle.frames.specs.declared.Pose.{Pose}
+use Rattle.frames.specs.Floats.{Pose}
 use Rattle.running.specs.declared.Start.{Start}
 use Rattle.running.specs.declared.Start.TheVariants.{Unset, Posed}
 use Rattle.wire.specs.Wire.{word_at, word_bytes, items_bytes}

@@ -1,6 +1,6 @@
 -- How near another arm is, by its plain definition: the least number n ≥ 1 of neighbouring values that z must move, down or up, for the arm to change. Neighbouring values have
 -- neighbouring bit patterns: the finite values from +0 up have those below `patterns f`, in the order of the values. `arm` is the arm at a pattern, `end` is how many patterns there are.
-use Rattle.std.specs.Prelude.{Bool, cond, not, ◌&&◌, ℕ, zero, suc, ◌+◌, ◌-◌, leb, ltb, eqb, Float}
+use Rattle.std.specs.Prelude.{Option, Some, None, Bool, cond, not, ◌&&◌, ℕ, zero, suc, ◌+◌, ◌-◌, leb, ltb, eqb, Float}
 use Rattle.std.specs.Float.{Format}
 use Rattle.std.specs.Float.Ieee.{of_bits, to_bits}
 use Rattle.ieee.specs.Finite.{is_finite}
@@ -12,8 +12,6 @@ use Rattle.closed.specs.Arm.{coeffs_arm}
 use Rattle.nearest.specs.declared.Direction.{Direction}
 use Rattle.nearest.specs.declared.Direction.TheVariants as toward
 use Rattle.nearest.specs.declared.Step.{Step}
-use Rattle.nearest.specs.declared.NearestAnswer.{NearestAnswer}
-use Rattle.nearest.specs.declared.NearestAnswer.TheVariants as nearest
 
 pub data Way : Type 0 where
   down : Way
@@ -32,10 +30,10 @@ way_told toward.Up = up
 unfoldable pub step_told : Step → Near
 step_told s = step s.count (way_told s.direction) s.arm
 
-unfoldable pub nearest_told : NearestAnswer → Answer Near
-nearest_told (nearest.Found s) = answers (step_told s)
-nearest_told nearest.OneArm = answers none
-nearest_told (nearest.Refused n) = refuses n
+-- h reads the steps of the code
+abbrev pub near_told : {A : Type 0} → (A → Near) → Option A → Near
+near_told h (Some s) = h s
+near_told h None = none
 
 -- ---- steps
 abbrev pub other : Way → Way

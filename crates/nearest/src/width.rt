@@ -8,6 +8,8 @@ ghost use Rattle.ieee.specs.Numbers.{f0};
 ghost use Rattle.ieee.specs.Patterns.{patterns};
 ghost use Rattle.ieee.specs.Signs.{plain};
 
+use ieee::Real;
+
 // The pattern of +infinity: those of the finite values from +0 up are the numbers below it.
 pub(crate) const END: u64 = 0x7ff0_0000_0000_0000;
 
@@ -16,7 +18,7 @@ pub(crate) fn pattern(z: f64) -> u64
     requires { (lt z f0 ≡ false) × (is_finite z ≡ true) }
     ensures { (result ≡ to_bits binary64 (plain z)) × (result < patterns binary64) }
 {
-    ieee::to_bits(z + 0.0)
+    (z + 0.0).pattern()
 }
 
 // The value with the pattern p.
@@ -24,5 +26,5 @@ pub(crate) fn value(p: u64) -> f64
     requires { p < patterns binary64 }
     ensures { result ≡ of_bits binary64 p }
 {
-    ieee::from_bits(p)
+    f64::from_pattern(p)
 }

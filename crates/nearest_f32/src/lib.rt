@@ -1,4 +1,4 @@
-// Written by tools/widths from crates/nearest/src/lib.rt: edit that one. Digest cd77b0dafdb076f6.
+// Written by tools/widths from crates/nearest/src/lib.rt: edit that one. Digest b176aeb1f1d60603.
 // How near another arm of the coefficients is: the fewest neighbouring values that z must move, down
 // or up, for the arm at (sigma, z) to change. Neighbouring values have neighbouring bit patterns, and
 // the arm does not fall as z grows; so the two ends of z's arm are found by halving the patterns.
@@ -8,12 +8,13 @@ ghost use Rattle.std.specs.Prelude.{◌≡◌, ◌&&◌, ◌+◌, ◌-◌, ◌<�
 ghost use Rattle.std.specs.Float.{binary32};
 ghost use Rattle.ieee.specs.Finite.{is_finite};
 ghost use Rattle.ieee.specs.Patterns.{patterns};
-ghost use Rattle.linalg.specs.Answer.{answers};
-ghost use Rattle.nearest.specs.Nearest.{step, down, up, nearest_from, first_told, arm_at, nearest_of};
-ghost use Rattle.nearest_f32.specs.Told.{nearest_told};
+ghost use Rattle.linalg.specs.Answer.{answers, told};
+ghost use Rattle.nearest.specs.Nearest.{step, down, up, near_told, nearest_from, first_told, arm_at, nearest_of};
+ghost use Rattle.nearest_f32.specs.Told.{step_told};
 ghost use Rattle.nearest.specs.Private.{Parts};
 
 use crate::width::{END, pattern, value};
+use linalg::refusal::Refusal;
 
 mod width; // what the width of the numbers decides
 
@@ -31,21 +32,12 @@ pub struct Step {
     pub arm: u8,
 }
 
-// `OneArm`: every permitted z has the same arm. Refusal 1 for z < 0, then 8 where sigma or z is a NaN
-// or an infinity.
-#[derive(Clone, Copy)]
-pub enum NearestAnswer {
-    Found(Step),
-    OneArm,
-    Refused(u8),
-}
-
 // The arm at sigma and the value with the pattern p.
 fn arm_at(sigma: f32, p: u64) -> u8
     requires { p < patterns binary32 }
     ensures { (result ≡ arm_at binary32 sigma p) × (1 ≤ result) }
 {
-    closed_f32::limits::arm(sigma * sigma + value(p))
+    closed::limits::arm(sigma * sigma + value(p))
 }
 
 // The first pattern with an arm above a, or END where there is none: each turn halves what is left.
@@ -66,40 +58,40 @@ fn edge(sigma: f32, a: u8) -> u64
 }
 
 // Up from the pattern p to `high`, the first with a higher arm.
-fn upward(sigma: f32, p: u64, high: u64) -> NearestAnswer
+fn upward(sigma: f32, p: u64, high: u64) -> Result<Option<Step>, Refusal>
     requires { (p < high) × (high < patterns binary32) }
-    ensures { nearest_told result ≡ answers (step (high - p) up (arm_at binary32 sigma high)) }
+    ensures { told (near_told step_told) result ≡ answers (step (high - p) up (arm_at binary32 sigma high)) }
 {
-    NearestAnswer::Found(Step {
+    Ok(Some(Step {
         count: high - p,
         direction: Direction::Up,
         arm: arm_at(sigma, high),
-    })
+    }))
 }
 
 // Down from the pattern p to the last before `low`, from which on it has p's arm.
-fn downward(sigma: f32, p: u64, low: u64) -> NearestAnswer
+fn downward(sigma: f32, p: u64, low: u64) -> Result<Option<Step>, Refusal>
     requires { (0 < low) × (low ≤ p) × (p < patterns binary32) }
-    ensures { nearest_told result ≡ answers (step (p - low + 1) down (arm_at binary32 sigma (low - 1))) }
+    ensures { told (near_told step_told) result ≡ answers (step (p - low + 1) down (arm_at binary32 sigma (low - 1))) }
 {
-    NearestAnswer::Found(Step {
+    Ok(Some(Step {
         count: p - low + 1,
         direction: Direction::Down,
         arm: arm_at(sigma, low - 1),
-    })
+    }))
 }
 
 // The nearest other arm from the pattern p, whose arm has the patterns from `low` up to `high`.
-fn nearest_from(sigma: f32, p: u64) -> NearestAnswer
+fn nearest_from(sigma: f32, p: u64) -> Result<Option<Step>, Refusal>
     requires { p < patterns binary32 }
-    ensures { nearest_told result ≡ answers (nearest_from (arm_at binary32 sigma) (patterns binary32) first_told p) }
+    ensures { told (near_told step_told) result ≡ answers (nearest_from (arm_at binary32 sigma) (patterns binary32) first_told p) }
 {
     let a = arm_at(sigma, p);
     let low = edge(sigma, a - 1);
     let high = edge(sigma, a);
     if low == 0 {
         if high == END {
-            return NearestAnswer::OneArm;
+            return Ok(None);
         }
         return upward(sigma, p, high);
     }
@@ -122,15 +114,16 @@ fn both_finite(x: f32, y: f32) -> bool
 }
 
 // How many neighbouring values z must move for the arm at (sigma, z) to change; where both directions
-// need the same count, up is given.
-pub fn nearest_arm(sigma: f32, z: f32) -> NearestAnswer
-    ensures { nearest_told result ≡ nearest_of binary32 first_told sigma z }
+// need the same count, up is given. None where every permitted z has the same arm. Refusal 1 for z < 0,
+// then 8 where sigma or z is a NaN or an infinity.
+pub fn nearest_arm(sigma: f32, z: f32) -> Result<Option<Step>, Refusal>
+    ensures { told (near_told step_told) result ≡ nearest_of binary32 first_told sigma z }
 {
     if z < 0.0 {
-        return NearestAnswer::Refused(1);
+        return Err(Refusal::NegativeAngle);
     }
     if !both_finite(sigma, z) {
-        return NearestAnswer::Refused(8);
+        return Err(Refusal::NotFinite);
     }
     nearest_from(sigma, pattern(z))
 }

@@ -8,6 +8,8 @@ ghost use Rattle.ieee.specs.Numbers.{f0};
 ghost use Rattle.ieee.specs.Patterns.{patterns};
 ghost use Rattle.ieee.specs.Signs.{plain};
 
+use ieee::Real;
+
 // The pattern of +infinity: those of the finite values from +0 up are the numbers below it.
 pub(crate) const END: u64 = 0x7f80_0000;
 
@@ -16,7 +18,7 @@ pub(crate) fn pattern(z: f32) -> u64
     requires { (lt z f0 ≡ false) × (is_finite z ≡ true) }
     ensures { (result ≡ to_bits binary32 (plain z)) × (result < patterns binary32) }
 {
-    ieee_f32::to_bits(z + 0.0) as u64
+    (z + 0.0).pattern() as u64
 }
 
 // The value with the pattern p.
@@ -24,5 +26,5 @@ pub(crate) fn value(p: u64) -> f32
     requires { p < patterns binary32 }
     ensures { result ≡ of_bits binary32 p }
 {
-    ieee_f32::from_bits(p as u32)
+    f32::from_pattern(p as u32)
 }

@@ -5,11 +5,11 @@ use lib.Ieee.{nan, inf, binary64, of_bits, to_bits, add, sub, mul}
 use Rattle.ieee.specs.Numbers.{f0, f1, f2, f3}
 use Rattle.linalg.specs.Vector.{vec, vec_scale, vec_cross, vec_add}
 use Rattle.linalg.specs.Matrix.{mat_scale, mat_mul_vec}
-use Rattle.linalg.specs.declared.vector.Vec3.{Vec3}
+use Rattle.linalg.specs.Floats.{Vec3}
 use Rattle.so3.specs.Quat.{quat, quat_identity, quat_to_matrix}
 use Rattle.so3.specs.So3.{so3_act}
 use Rattle.sim3.specs.Pose.{pose, pose_identity, pose_act}
-use Rattle.sim3.specs.declared.sim3.Sim3.{Sim3}
+use Rattle.sim3.specs.Floats.{Sim3}
 use Rattle.point_lists.specs.Points.{mat_act, pose_act_many}
 
 -- 1: q = (0.8, 0.6, 0, 0), no translation, up = 1, p = (1, 2, 3): the action's third number, and that of the list by the matrix

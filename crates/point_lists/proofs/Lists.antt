@@ -12,7 +12,7 @@ use lib.Ieee.{Float, nan}
 use lib.Ieee.Fits.{and_l, and_r}
 use borrow.Author.Rules.{part_to_end}
 use Rattle.linalg.specs.Vector.{vec_numbers}
-use Rattle.linalg.specs.declared.vector.Vec3.{Vec3}
+use Rattle.linalg.specs.Floats.{Vec3}
 use Rattle.point_lists.specs.Points.{point_at, points_moved, points_accepted}
 use Rattle.point_lists.specs.Private.{put_point}
 

@@ -4,13 +4,11 @@ use Rattle.std.specs.Float.{nan, Format}
 use Rattle.linalg.specs.Answer.{Answer, answers, refuses}
 use Rattle.linalg.specs.Vector.{vec, vec_numbers, vec_add}
 use Rattle.linalg.specs.Matrix.{mat_scale, mat_mul_vec}
-use Rattle.linalg.specs.declared.vector.Vec3.{Vec3}
-use Rattle.linalg.specs.declared.matrix.Mat3.{Mat3}
+use Rattle.linalg.specs.Floats.{Vec3}
+use Rattle.linalg.specs.Floats.{Mat3}
 use Rattle.so3.specs.Quat.{quat_to_matrix}
 use Rattle.sim3.specs.Pose.{pose_act}
-use Rattle.sim3.specs.declared.sim3.Sim3.{Sim3}
-use Rattle.point_lists.specs.declared.Listed.{Listed}
-use Rattle.point_lists.specs.declared.Listed.TheVariants as listed
+use Rattle.sim3.specs.Floats.{Sim3}
 
 -- triple i of a list
 unfoldable pub point_at : List Float → ℕ → Vec3
@@ -25,11 +23,7 @@ points_moved g l (suc n) = points_moved g l n ++ vec_numbers (g (point_at l n))
 abbrev pub points_accepted : ℕ → ℕ → Bool
 points_accepted n k = eqb (n % 3) 0 && leb n 65535 && eqb k n
 
--- what each case of an answer says, what is answered, and what the output then holds: a refusal leaves it as it was
-unfoldable pub list_told : Listed → Answer (Unit {0})
-list_told listed.Written = answers tt
-list_told (listed.Refused n) = refuses n
-
+-- what is answered, and what the output then holds: a refusal leaves it as it was
 unfoldable pub points_answer : List Float → List Float → Answer (Unit {0})
 points_answer l out = cond (points_accepted (length l) (length out)) (answers tt) (refuses 5)
 

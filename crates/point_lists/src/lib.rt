@@ -5,25 +5,20 @@
 
 ghost use Rattle.std.specs.Prelude.{◌≡◌, ◌+◌, ◌*◌, ◌≤◌, ◌++◌, length, drop};
 ghost use Rattle.std.specs.Float.{binary64};
-ghost use Rattle.point_lists.specs.Points.{point_at, points_moved, points_accepted, list_told, points_answer, points_out, mat_act, pose_act_many, pose_act_each};
+ghost use Rattle.linalg.specs.Answer.{answer};
+ghost use Rattle.point_lists.specs.Points.{point_at, points_moved, points_accepted, points_answer, points_out, mat_act, pose_act_many, pose_act_each};
 ghost use Rattle.sim3.specs.Pose.{pose_act};
 ghost use Rattle.point_lists.specs.Private.{put_point};
 
 use crate::many::many;
 use linalg::matrix::Mat3;
+use linalg::refusal::Refusal;
 use linalg::vector::Vec3;
 use sim3::sim3::Sim3;
 
 mod many; // every point by a matrix
 
-// Every point moved, or refusal 5 and nothing written.
-#[derive(Clone, Copy)]
-pub enum Listed {
-    Written,
-    Refused(u8),
-}
-
-pub(crate) fn point_at(pts: &[f64], i: usize) -> Vec3
+pub(crate) fn point_at(pts: &[f64], i: usize) -> Vec3<f64>
     requires { i * 3 + 3 ≤ length pts.now }
     ensures { result ≡ point_at pts.now i }
 {
@@ -33,7 +28,7 @@ pub(crate) fn point_at(pts: &[f64], i: usize) -> Vec3
     Vec3 { x, y, z }
 }
 
-pub(crate) fn put_point(out: &mut [f64], at: usize, p: Vec3)
+pub(crate) fn put_point(out: &mut [f64], at: usize, p: Vec3<f64>)
     requires { at + 3 ≤ length out.old }
     ensures { out.new ≡ put_point out.old at p }
 {
@@ -43,7 +38,7 @@ pub(crate) fn put_point(out: &mut [f64], at: usize, p: Vec3)
 }
 
 // m p + t.
-fn mat_act(m: Mat3, t: Vec3, p: Vec3) -> Vec3
+fn mat_act(m: Mat3<f64>, t: Vec3<f64>, p: Vec3<f64>) -> Vec3<f64>
     ensures { result ≡ mat_act binary64 m t p }
 {
     m.mul_vec(p).add(t)
@@ -52,7 +47,7 @@ fn mat_act(m: Mat3, t: Vec3, p: Vec3) -> Vec3
 // The first e points, moved into their places. PERF (D122): it reads from what is left of pts, so that
 // the compiler loads two points as three vectors, where an index into the whole list makes it load
 // number by number.
-pub(crate) fn leading(m: Mat3, t: Vec3, pts: &[f64], out: &mut [f64], e: usize)
+pub(crate) fn leading(m: Mat3<f64>, t: Vec3<f64>, pts: &[f64], out: &mut [f64], e: usize)
     requires { (e * 3 ≤ length pts.now) × (length out.old ≡ length pts.now) }
     ensures { out.new ≡ points_moved (mat_act binary64 m t) pts.now e ++ drop (e * 3) out.old }
 {
@@ -67,7 +62,7 @@ pub(crate) fn leading(m: Mat3, t: Vec3, pts: &[f64], out: &mut [f64], e: usize)
 }
 
 // The last point, where e is one less than n: after it e points are left to move.
-pub(crate) fn last(m: Mat3, t: Vec3, pts: &[f64], out: &mut [f64], e: usize, n: usize)
+pub(crate) fn last(m: Mat3<f64>, t: Vec3<f64>, pts: &[f64], out: &mut [f64], e: usize, n: usize)
     requires { (e ≤ n) × (n ≤ e + 1) × (n * 3 ≡ length pts.now) × (n * 3 ≡ length out.old) }
     ensures { points_moved (mat_act binary64 m t) pts.now e ++ drop (e * 3) out.new ≡ points_moved (mat_act binary64 m t) pts.now n }
 {
@@ -78,7 +73,7 @@ pub(crate) fn last(m: Mat3, t: Vec3, pts: &[f64], out: &mut [f64], e: usize, n: 
 }
 
 // Reads from what is left of pts, as leading does.
-fn each(x: Sim3, up: f64, pts: &[f64], out: &mut [f64], n: usize)
+fn each(x: Sim3<f64>, up: f64, pts: &[f64], out: &mut [f64], n: usize)
     requires { (n * 3 ≡ length pts.now) × (n * 3 ≡ length out.old) }
     ensures { out.new ≡ points_moved (pose_act binary64 x up) pts.now n }
 {
@@ -105,9 +100,10 @@ fn accepted(n: usize, k: usize) -> bool
     k == n
 }
 
-// out = s R p + t for every triple p of pts, by the matrix s R; up is e^sigma of x.
-pub fn act_many(x: Sim3, up: f64, pts: &[f64], out: &mut [f64]) -> Listed
-    ensures result_value { list_told result ≡ points_answer pts.now out.old }
+// out = s R p + t for every triple p of pts, by the matrix s R; up is e^sigma of x. Refusal 5 for lists
+// that are not accepted, and nothing written.
+pub fn act_many(x: Sim3<f64>, up: f64, pts: &[f64], out: &mut [f64]) -> Result<(), Refusal>
+    ensures result_value { answer result ≡ points_answer pts.now out.old }
     ensures out_after { out.new ≡ points_out (pose_act_many binary64 x up) pts.now out.old }
 {
     let n = pts.len();
@@ -115,20 +111,21 @@ pub fn act_many(x: Sim3, up: f64, pts: &[f64], out: &mut [f64]) -> Listed
         let q = x.q;
         let m = q.to_matrix().scale(up);
         many(m, x.t, pts, out, n / 3);
-        return Listed::Written;
+        return Ok(());
     }
-    Listed::Refused(5)
+    Err(Refusal::BadLength)
 }
 
-// out = X p for every triple p of pts, each as Sim3::act has it; up is e^sigma of x.
-pub fn act_each(x: Sim3, up: f64, pts: &[f64], out: &mut [f64]) -> Listed
-    ensures result_value { list_told result ≡ points_answer pts.now out.old }
+// out = X p for every triple p of pts, each as Sim3::act has it; up is e^sigma of x. Refused as by
+// act_many.
+pub fn act_each(x: Sim3<f64>, up: f64, pts: &[f64], out: &mut [f64]) -> Result<(), Refusal>
+    ensures result_value { answer result ≡ points_answer pts.now out.old }
     ensures out_after { out.new ≡ points_out (pose_act_each binary64 x up) pts.now out.old }
 {
     let n = pts.len();
     if accepted(n, out.len()) {
         each(x, up, pts, out, n / 3);
-        return Listed::Written;
+        return Ok(());
     }
-    Listed::Refused(5)
+    Err(Refusal::BadLength)
 }

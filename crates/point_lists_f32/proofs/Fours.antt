@@ -11,8 +11,8 @@ use borrow.Author.Rules.{part_to_end}
 use Rattle.ieee.proofs.Sign.{neg-neg, mul-neg_l}
 use Rattle.linalg.specs.Vector.{vec, vec_neg, vec_numbers}
 use Rattle.linalg.specs.Matrix.{mat}
-use Rattle.linalg.specs.declared.vector.Vec3.{Vec3}
-use Rattle.linalg.specs.declared.matrix.Mat3.{Mat3}
+use Rattle.linalg.specs.Floats.{Vec3}
+use Rattle.linalg.specs.Floats.{Mat3}
 use Rattle.point_lists.specs.Points.{point_at, points_moved}
 use Rattle.point_lists.specs.Private.{put_point}
 use Rattle.point_lists.proofs.Lists.{moved_length, moved_more}

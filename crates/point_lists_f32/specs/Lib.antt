@@ -1,3 +1,2 @@
--- Written by tools/widths from crates/point_lists: edit that one. Digest 6f567eadc5bf81ef.
-pub mod Told
+-- Written by tools/widths from crates/point_lists: edit that one. Digest 0ad885955fd3b0b2.
 pub mod Private

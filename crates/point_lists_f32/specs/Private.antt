@@ -2,8 +2,8 @@
 use Rattle.std.specs.Prelude.{ℕ, ◌+◌, ◌*◌, List, Float}
 use Rattle.linalg.specs.Vector.{vec_neg}
 use Rattle.linalg.specs.Matrix.{mat}
-use Rattle.linalg.specs.declared.vector.Vec3.{Vec3}
-use Rattle.linalg.specs.declared.matrix.Mat3.{Mat3}
+use Rattle.linalg.specs.Floats.{Vec3}
+use Rattle.linalg.specs.Floats.{Mat3}
 use Rattle.point_lists.specs.Points.{point_at}
 use Rattle.point_lists.specs.Private.{put_point}
 

@@ -1,4 +1,4 @@
-// Written by tools/widths from crates/point_lists/src/lib.rt: edit that one. Digest 113062ff5d471f09.
+// Written by tools/widths from crates/point_lists/src/lib.rt: edit that one. Digest a6c06dc631a53d51.
 // The action of a pose on a list of points, three numbers each, into another list. Two entries:
 // act_many has the bits of the Rust's act_many, which forms the matrix s R once; act_each moves each
 // point as Sim3::act and the mark AC do. The two differ in the last bits.
@@ -6,30 +6,22 @@
 
 ghost use Rattle.std.specs.Prelude.{◌≡◌, ◌+◌, ◌*◌, ◌≤◌, ◌++◌, length, drop};
 ghost use Rattle.std.specs.Float.{binary32};
+ghost use Rattle.linalg.specs.Answer.{answer};
 ghost use Rattle.point_lists.specs.Points.{point_at, points_moved, points_accepted, points_answer, points_out, mat_act, pose_act_many, pose_act_each};
-ghost use Rattle.point_lists_f32.specs.Told.{list_told};
 ghost use Rattle.sim3.specs.Pose.{pose_act};
 ghost use Rattle.point_lists.specs.Private.{put_point};
-ghost use Rattle.linalg_f32.specs.As.{as_mat3, as_vec3};
-ghost use Rattle.sim3_f32.specs.As.{as_sim3};
 
 use crate::many::many;
-use linalg_f32::matrix::Mat3;
-use linalg_f32::vector::Vec3;
-use sim3_f32::sim3_f32::Sim3;
+use linalg::matrix::Mat3;
+use linalg::refusal::Refusal;
+use linalg::vector::Vec3;
+use sim3::sim3::Sim3;
 
 mod many; // every point by a matrix
 
-// Every point moved, or refusal 5 and nothing written.
-#[derive(Clone, Copy)]
-pub enum Listed {
-    Written,
-    Refused(u8),
-}
-
-pub(crate) fn point_at(pts: &[f32], i: usize) -> Vec3
+pub(crate) fn point_at(pts: &[f32], i: usize) -> Vec3<f32>
     requires { i * 3 + 3 ≤ length pts.now }
-    ensures { as_vec3 result ≡ point_at pts.now i }
+    ensures { result ≡ point_at pts.now i }
 {
     let x = pts[i * 3];
     let y = pts[i * 3 + 1];
@@ -37,9 +29,9 @@ pub(crate) fn point_at(pts: &[f32], i: usize) -> Vec3
     Vec3 { x, y, z }
 }
 
-pub(crate) fn put_point(out: &mut [f32], at: usize, p: Vec3)
+pub(crate) fn put_point(out: &mut [f32], at: usize, p: Vec3<f32>)
     requires { at + 3 ≤ length out.old }
-    ensures { out.new ≡ put_point out.old at (as_vec3 p) }
+    ensures { out.new ≡ put_point out.old at p }
 {
     out[at] = p.x;
     out[at + 1] = p.y;
@@ -47,8 +39,8 @@ pub(crate) fn put_point(out: &mut [f32], at: usize, p: Vec3)
 }
 
 // m p + t.
-fn mat_act(m: Mat3, t: Vec3, p: Vec3) -> Vec3
-    ensures { as_vec3 result ≡ mat_act binary32 (as_mat3 m) (as_vec3 t) (as_vec3 p) }
+fn mat_act(m: Mat3<f32>, t: Vec3<f32>, p: Vec3<f32>) -> Vec3<f32>
+    ensures { result ≡ mat_act binary32 m t p }
 {
     m.mul_vec(p).add(t)
 }
@@ -56,9 +48,9 @@ fn mat_act(m: Mat3, t: Vec3, p: Vec3) -> Vec3
 // The first e points, moved into their places. PERF (D122): it reads from what is left of pts, so that
 // the compiler loads two points as three vectors, where an index into the whole list makes it load
 // number by number.
-pub(crate) fn leading(m: Mat3, t: Vec3, pts: &[f32], out: &mut [f32], e: usize)
+pub(crate) fn leading(m: Mat3<f32>, t: Vec3<f32>, pts: &[f32], out: &mut [f32], e: usize)
     requires { (e * 3 ≤ length pts.now) × (length out.old ≡ length pts.now) }
-    ensures { out.new ≡ points_moved (mat_act binary32 (as_mat3 m) (as_vec3 t)) pts.now e ++ drop (e * 3) out.old }
+    ensures { out.new ≡ points_moved (mat_act binary32 m t) pts.now e ++ drop (e * 3) out.old }
 {
     let mut rest = pts;
     let mut i = 0;
@@ -71,9 +63,9 @@ pub(crate) fn leading(m: Mat3, t: Vec3, pts: &[f32], out: &mut [f32], e: usize)
 }
 
 // The last point, where e is one less than n: after it e points are left to move.
-pub(crate) fn last(m: Mat3, t: Vec3, pts: &[f32], out: &mut [f32], e: usize, n: usize)
+pub(crate) fn last(m: Mat3<f32>, t: Vec3<f32>, pts: &[f32], out: &mut [f32], e: usize, n: usize)
     requires { (e ≤ n) × (n ≤ e + 1) × (n * 3 ≡ length pts.now) × (n * 3 ≡ length out.old) }
-    ensures { points_moved (mat_act binary32 (as_mat3 m) (as_vec3 t)) pts.now e ++ drop (e * 3) out.new ≡ points_moved (mat_act binary32 (as_mat3 m) (as_vec3 t)) pts.now n }
+    ensures { points_moved (mat_act binary32 m t) pts.now e ++ drop (e * 3) out.new ≡ points_moved (mat_act binary32 m t) pts.now n }
 {
     if e == n {
         return;
@@ -82,9 +74,9 @@ pub(crate) fn last(m: Mat3, t: Vec3, pts: &[f32], out: &mut [f32], e: usize, n: 
 }
 
 // Reads from what is left of pts, as leading does.
-fn each(x: Sim3, up: f32, pts: &[f32], out: &mut [f32], n: usize)
+fn each(x: Sim3<f32>, up: f32, pts: &[f32], out: &mut [f32], n: usize)
     requires { (n * 3 ≡ length pts.now) × (n * 3 ≡ length out.old) }
-    ensures { out.new ≡ points_moved (pose_act binary32 (as_sim3 x) up) pts.now n }
+    ensures { out.new ≡ points_moved (pose_act binary32 x up) pts.now n }
 {
     let mut rest = pts;
     let mut i = 0;
@@ -109,30 +101,32 @@ fn accepted(n: usize, k: usize) -> bool
     k == n
 }
 
-// out = s R p + t for every triple p of pts, by the matrix s R; up is e^sigma of x.
-pub fn act_many(x: Sim3, up: f32, pts: &[f32], out: &mut [f32]) -> Listed
-    ensures result_value { list_told result ≡ points_answer pts.now out.old }
-    ensures out_after { out.new ≡ points_out (pose_act_many binary32 (as_sim3 x) up) pts.now out.old }
+// out = s R p + t for every triple p of pts, by the matrix s R; up is e^sigma of x. Refusal 5 for lists
+// that are not accepted, and nothing written.
+pub fn act_many(x: Sim3<f32>, up: f32, pts: &[f32], out: &mut [f32]) -> Result<(), Refusal>
+    ensures result_value { answer result ≡ points_answer pts.now out.old }
+    ensures out_after { out.new ≡ points_out (pose_act_many binary32 x up) pts.now out.old }
 {
     let n = pts.len();
     if accepted(n, out.len()) {
         let q = x.q;
         let m = q.to_matrix().scale(up);
         many(m, x.t, pts, out, n / 3);
-        return Listed::Written;
+        return Ok(());
     }
-    Listed::Refused(5)
+    Err(Refusal::BadLength)
 }
 
-// out = X p for every triple p of pts, each as Sim3::act has it; up is e^sigma of x.
-pub fn act_each(x: Sim3, up: f32, pts: &[f32], out: &mut [f32]) -> Listed
-    ensures result_value { list_told result ≡ points_answer pts.now out.old }
-    ensures out_after { out.new ≡ points_out (pose_act_each binary32 (as_sim3 x) up) pts.now out.old }
+// out = X p for every triple p of pts, each as Sim3::act has it; up is e^sigma of x. Refused as by
+// act_many.
+pub fn act_each(x: Sim3<f32>, up: f32, pts: &[f32], out: &mut [f32]) -> Result<(), Refusal>
+    ensures result_value { answer result ≡ points_answer pts.now out.old }
+    ensures out_after { out.new ≡ points_out (pose_act_each binary32 x up) pts.now out.old }
 {
     let n = pts.len();
     if accepted(n, out.len()) {
         each(x, up, pts, out, n / 3);
-        return Listed::Written;
+        return Ok(());
     }
-    Listed::Refused(5)
+    Err(Refusal::BadLength)
 }

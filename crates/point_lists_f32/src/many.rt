@@ -4,16 +4,15 @@ ghost use Rattle.std.specs.Prelude.{◌≡◌, ◌++◌, ◌+◌, ◌*◌, ◌%�
 ghost use Rattle.std.specs.Float.{binary32};
 ghost use Rattle.point_lists.specs.Points.{points_moved, mat_act};
 ghost use Rattle.point_lists_f32.specs.Private.{mat_turned, put_two, put_four};
-ghost use Rattle.linalg_f32.specs.As.{as_mat3, as_vec3};
 
 use crate::{last, leading, point_at, put_point};
-use linalg_f32::matrix::Mat3;
-use linalg_f32::vector::Vec3;
+use linalg::matrix::Mat3;
+use linalg::vector::Vec3;
 
 // Short lists, as at f64: the last point of an odd count first, then the others.
-fn short(m: Mat3, t: Vec3, pts: &[f32], out: &mut [f32], n: usize)
+fn short(m: Mat3<f32>, t: Vec3<f32>, pts: &[f32], out: &mut [f32], n: usize)
     requires { (n * 3 ≡ length pts.now) × (n * 3 ≡ length out.old) }
-    ensures { out.new ≡ points_moved (mat_act binary32 (as_mat3 m) (as_vec3 t)) pts.now n }
+    ensures { out.new ≡ points_moved (mat_act binary32 m t) pts.now n }
 {
     let e = n - n % 2;
     last(m, t, pts, out, e, n);
@@ -23,8 +22,8 @@ fn short(m: Mat3, t: Vec3, pts: &[f32], out: &mut [f32], n: usize)
 // ---- long lists: four points a turn.
 
 // m with its last two columns turned round.
-fn turned(m: Mat3) -> Mat3
-    ensures { as_mat3 result ≡ mat_turned (as_mat3 m) }
+fn turned(m: Mat3<f32>) -> Mat3<f32>
+    ensures { result ≡ mat_turned m }
 {
     let a = m.c0;
     let b = m.c1;
@@ -39,8 +38,8 @@ fn turned(m: Mat3) -> Mat3
 // mat_act by a turned matrix, the same bits. PERF (D122): products that are subtracted cannot change
 // places, so the compiler puts x of four numbers of the output together, y and z, and stores them as
 // they are.
-fn less_act(m: Mat3, t: Vec3, p: Vec3) -> Vec3
-    ensures { as_vec3 result ≡ mat_act binary32 (mat_turned (as_mat3 m)) (as_vec3 t) (as_vec3 p) }
+fn less_act(m: Mat3<f32>, t: Vec3<f32>, p: Vec3<f32>) -> Vec3<f32>
+    ensures { result ≡ mat_act binary32 (mat_turned m) t p }
 {
     let a = m.c0;
     let b = m.c1;
@@ -53,18 +52,18 @@ fn less_act(m: Mat3, t: Vec3, p: Vec3) -> Vec3
 }
 
 // Two points, and four, from a place on.
-fn put_two(out: &mut [f32], at: usize, a: Vec3, b: Vec3)
+fn put_two(out: &mut [f32], at: usize, a: Vec3<f32>, b: Vec3<f32>)
     requires { at + 6 ≤ length out.old }
-    ensures { out.new ≡ put_two out.old at (as_vec3 a) (as_vec3 b) }
+    ensures { out.new ≡ put_two out.old at a b }
 {
     let next = at + 3;
     put_point(out, at, a);
     put_point(out, next, b);
 }
 
-fn put_four(out: &mut [f32], at: usize, a: Vec3, b: Vec3, c: Vec3, d: Vec3)
+fn put_four(out: &mut [f32], at: usize, a: Vec3<f32>, b: Vec3<f32>, c: Vec3<f32>, d: Vec3<f32>)
     requires { at + 12 ≤ length out.old }
-    ensures { out.new ≡ put_two (put_two out.old at (as_vec3 a) (as_vec3 b)) (at + 6) (as_vec3 c) (as_vec3 d) }
+    ensures { out.new ≡ put_two (put_two out.old at a b) (at + 6) c d }
 {
     let next = at + 6;
     put_two(out, at, a, b);
@@ -72,9 +71,9 @@ fn put_four(out: &mut [f32], at: usize, a: Vec3, b: Vec3, c: Vec3, d: Vec3)
 }
 
 // The four points from i on: all are read before one is stored.
-fn four(m: Mat3, t: Vec3, pts: &[f32], out: &mut [f32], i: usize)
+fn four(m: Mat3<f32>, t: Vec3<f32>, pts: &[f32], out: &mut [f32], i: usize)
     requires { (i * 3 + 12 ≤ length pts.now) × (length out.old ≡ length pts.now) }
-    ensures { out.new ≡ put_four (mat_act binary32 (mat_turned (as_mat3 m)) (as_vec3 t)) pts.now out.old i }
+    ensures { out.new ≡ put_four (mat_act binary32 (mat_turned m) t) pts.now out.old i }
 {
     let at = i * 3;
     let p = point_at(pts, i);
@@ -90,9 +89,9 @@ fn four(m: Mat3, t: Vec3, pts: &[f32], out: &mut [f32], i: usize)
 
 // The first e points by fours, moved into their places. Two callers, so that it is compiled by
 // itself and reads the matrix from memory: what it is made from does not change the loop then.
-fn fours(m: Mat3, t: Vec3, pts: &[f32], out: &mut [f32], e: usize)
+fn fours(m: Mat3<f32>, t: Vec3<f32>, pts: &[f32], out: &mut [f32], e: usize)
     requires { (e % 4 ≡ 0) × (e * 3 ≤ length pts.now) × (length out.old ≡ length pts.now) }
-    ensures { out.new ≡ points_moved (mat_act binary32 (mat_turned (as_mat3 m)) (as_vec3 t)) pts.now e ++ drop (e * 3) out.old }
+    ensures { out.new ≡ points_moved (mat_act binary32 (mat_turned m) t) pts.now e ++ drop (e * 3) out.old }
 {
     let mut i = 0;
     while i < e {
@@ -102,9 +101,9 @@ fn fours(m: Mat3, t: Vec3, pts: &[f32], out: &mut [f32], e: usize)
 }
 
 // The last four first, where the count is no multiple of four, and then the fours from the first on.
-fn long(m: Mat3, t: Vec3, pts: &[f32], out: &mut [f32], n: usize)
+fn long(m: Mat3<f32>, t: Vec3<f32>, pts: &[f32], out: &mut [f32], n: usize)
     requires { (4 ≤ n) × (n * 3 ≡ length pts.now) × (n * 3 ≡ length out.old) }
-    ensures { out.new ≡ points_moved (mat_act binary32 (as_mat3 m) (as_vec3 t)) pts.now n }
+    ensures { out.new ≡ points_moved (mat_act binary32 m t) pts.now n }
 {
     let k = turned(m);
     let e = n - n % 4;
@@ -118,9 +117,9 @@ fn long(m: Mat3, t: Vec3, pts: &[f32], out: &mut [f32], n: usize)
 }
 
 // From 64 points on the loop of fours is worth its two calls.
-pub(crate) fn many(m: Mat3, t: Vec3, pts: &[f32], out: &mut [f32], n: usize)
+pub(crate) fn many(m: Mat3<f32>, t: Vec3<f32>, pts: &[f32], out: &mut [f32], n: usize)
     requires { (n * 3 ≡ length pts.now) × (n * 3 ≡ length out.old) }
-    ensures { out.new ≡ points_moved (mat_act binary32 (as_mat3 m) (as_vec3 t)) pts.now n }
+    ensures { out.new ≡ points_moved (mat_act binary32 m t) pts.now n }
 {
     if n < 64 {
         short(m, t, pts, out, n);

@@ -10,7 +10,7 @@ use Rattle.linalg.proofs.Answers.{never, answers-is}
 use Rattle.coeffs.specs.Entries.{pair_answer}
 use Rattle.closed.specs.Limits.{coeffs_delta}
 use Rattle.closed.specs.Arm.{coeffs_arm, arm_ends}
-use Rattle.coeffs.specs.declared.sim3.ScaledPair.{ScaledPair}
+use Rattle.coeffs.specs.Floats.{ScaledPair}
 use Rattle.coeffs.proofs.Even.{told_both, armed-pair-told}
 use Rattle.layout.specs.Layout.{values_in, scaled_pair_numbers}
 use Rattle.wire.specs.Wire.{Item, number_at}

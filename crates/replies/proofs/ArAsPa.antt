@@ -6,11 +6,11 @@ use lib.Ieee.{Float, Format}
 use Rattle.linalg.specs.Answer.{Answer, answers, and_then}
 use Rattle.linalg.specs.Vector.{vec_norm_sq}
 use Rattle.circle.proofs.Angle.{norm_not_below}
-use Rattle.closed.specs.declared.values.Values.{Values}
+use Rattle.closed.specs.Floats.{Values}
 use Rattle.coeffs.specs.Group.{coeffs_armed, coeffs_armed_pair}
 use Rattle.coeffs.specs.Entries.{armed_answer, beside_armed, armed_pair_answer}
-use Rattle.coeffs.specs.declared.sim3.ArmedPair.{ArmedPair}
-use Rattle.sim3.specs.declared.tangent.Sim3Tangent.{Sim3Tangent}
+use Rattle.coeffs.specs.Floats.{ArmedPair}
+use Rattle.sim3.specs.Floats.{Sim3Tangent}
 use Rattle.sides.proofs.Flags.{pair_by_flags}
 use Rattle.layout.specs.Layout.{tangent_in, values_in, mat_in, block_pair_numbers, coeffs_numbers, scaled_numbers, scaled_pair_numbers}
 use Rattle.wire.specs.Wire.{number_at, numbers}

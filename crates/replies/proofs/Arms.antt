@@ -8,8 +8,8 @@ use lib.ListN.{length, take, drop, length-append}
 use lib.Seq.{sets, length-sets}
 use lib.Ieee.{Format}
 use mir.Val.{bool_byte}
-use Rattle.coeffs.specs.declared.sim3.Armed.{Armed}
-use Rattle.coeffs.specs.declared.sim3.ArmedPair.{ArmedPair}
+use Rattle.coeffs.specs.Floats.{Armed}
+use Rattle.coeffs.specs.Floats.{ArmedPair}
 use Rattle.layout.specs.Layout.{scaled_pair_numbers, armed_scaled}
 use Rattle.layout.proofs.Numbers.{scaled-pair-count}
 use Rattle.layout.proofs.Runs.{run_behind, sets-part}

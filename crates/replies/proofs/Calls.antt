@@ -12,14 +12,14 @@ use Rattle.ieee.specs.Numbers.{f0}
 use Rattle.linalg.specs.Answer.{Answer, answers, refuses, and_then}
 use Rattle.linalg.specs.Vector.{vec_numbers}
 use Rattle.coeffs.specs.Entries.{scaled_answer, beside, pair_answer, armed_answer, beside_armed, armed_pair_answer}
-use Rattle.coeffs.specs.declared.sim3.Scaled.{Scaled}
-use Rattle.coeffs.specs.declared.sim3.ScaledPair.{ScaledPair}
-use Rattle.coeffs.specs.declared.sim3.Armed.{Armed}
-use Rattle.coeffs.specs.declared.sim3.ArmedPair.{ArmedPair}
+use Rattle.coeffs.specs.Floats.{Scaled}
+use Rattle.coeffs.specs.Floats.{ScaledPair}
+use Rattle.coeffs.specs.Floats.{Armed}
+use Rattle.coeffs.specs.Floats.{ArmedPair}
 use Rattle.sim3.specs.Pose.{pose_act}
 use Rattle.frames.specs.Pose.{framed_exp, framed_inverse}
 use Rattle.frames.specs.Joins.{framed_mul}
-use Rattle.frames.specs.declared.Pose.{Pose}
+use Rattle.frames.specs.Floats.{Pose}
 use Rattle.jacobian.specs.Jac.{jac_inverse, jac_inverse_answer}
 use Rattle.sides.specs.Pair.{block_pair}
 use Rattle.layout.specs.Layout.{pose_count, scaled_pair_count, vec_in, quat_in, mat_in, pose_in, tangent_in, values_in, block_in, block_numbers, block_pair_numbers, scaled_pair_numbers}

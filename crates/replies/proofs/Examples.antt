@@ -11,7 +11,7 @@ use Rattle.closed.specs.Limits.{coeffs_delta}
 use Rattle.closed.specs.Arm.{coeffs_arm, arm_ends}
 use Rattle.coeffs.specs.Group.{coeffs_armed}
 use Rattle.coeffs.specs.Entries.{beside, scaled_answer, pair_answer, beside_armed, armed_answer, armed_pair_answer}
-use Rattle.closed.specs.declared.values.Values.{Values}
+use Rattle.closed.specs.Floats.{Values}
 use Rattle.so3.specs.So3.{so3_act}
 use Rattle.so3.specs.Quat.{quat_mul}
 use Rattle.sim3.specs.Pose.{pose_act, pose_mul}

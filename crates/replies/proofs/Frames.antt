@@ -7,7 +7,7 @@ use lib.ListN.{length, take, drop, length-append, length-drop}
 use lib.Seq.{sets, take_all}
 use lib.Ieee.{Format}
 use Rattle.linalg.specs.Vector.{vec_numbers}
-use Rattle.frames.specs.declared.Pose.{Pose}
+use Rattle.frames.specs.Floats.{Pose}
 use Rattle.layout.specs.Layout.{pose_count, quat_numbers, pose_numbers}
 use Rattle.layout.proofs.Numbers.{pose-count}
 use Rattle.layout.proofs.Runs.{run_behind}

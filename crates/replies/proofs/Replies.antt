@@ -9,10 +9,10 @@ use lib.Seq.{sets, length-sets, length-take-le}
 use lib.Ieee.{Float, Format, binary32, binary64}
 use Rattle.linalg.specs.Answer.{Answer, answers, refuses, and_then}
 use Rattle.coeffs.specs.Entries.{pair_answer, armed_pair_answer}
-use Rattle.coeffs.specs.declared.sim3.ArmedPair.{ArmedPair}
+use Rattle.coeffs.specs.Floats.{ArmedPair}
 use Rattle.jacobian.specs.Jac.{jac_inverse_answer}
 use Rattle.frames.specs.Joins.{framed_mul}
-use Rattle.frames.specs.declared.Pose.{Pose}
+use Rattle.frames.specs.Floats.{Pose}
 use Rattle.layout.specs.Layout.{block_pair_count, block_in, values_in, block_numbers, scaled_pair_numbers}
 use Rattle.layout.proofs.Numbers.{vec-count, block-count, block-pair-count, scaled-pair-count}
 use Rattle.wire.specs.Wire.{Item, width, number_at, numbers_bytes, items_bytes, all_finite, numbers}

@@ -10,8 +10,8 @@ use lib.ListN.{length, take, drop, get_or, length-append, length-drop}
 use lib.Seq.{sets, length-sets, length-take-le}
 use lib.Ieee.{Float, Format, binary32, binary64}
 use Rattle.linalg.specs.Answer.{Answer, answers, refuses, and_then}
-use Rattle.coeffs.specs.declared.sim3.ArmedPair.{ArmedPair}
-use Rattle.frames.specs.declared.Pose.{Pose}
+use Rattle.coeffs.specs.Floats.{ArmedPair}
+use Rattle.frames.specs.Floats.{Pose}
 use Rattle.layout.specs.Layout.{pose_count, scaled_pair_count, scaled_pair_numbers, armed_scaled}
 use Rattle.layout.proofs.Runs.{sets-part, run_behind}
 use Rattle.from_lists.specs.Lists.{PoseLists, pose_lists, frames_count}

@@ -8,13 +8,6 @@ use Rattle.ieee.specs.Numbers.{f0}
 use Rattle.ieee.specs.Patterns.{units_of}
 use Rattle.linalg.specs.Answer.{Answer, answers, refuses}
 use Rattle.root.specs.declared.RootParts.{RootParts}
-use Rattle.root.specs.declared.RootAnswer.{RootAnswer}
-use Rattle.root.specs.declared.RootAnswer.TheVariants.{Parts, Refused}
-
--- what each case of an answer says
-unfoldable pub root_told : RootAnswer → Answer RootParts
-root_told (Parts p) = answers p
-root_told (Refused n) = refuses n
 
 -- the largest r with r × r ≤ m, for an m below 4 ^ k: twice the root of m / 4, or one more
 unfoldable pub whole_root : ℕ → ℕ → ℕ

@@ -8,8 +8,12 @@
 ghost use Rattle.std.specs.Prelude.{◌≡◌, ◌+◌, ◌*◌, ◌^◌, ◌<◌, ◌≤◌};
 ghost use Rattle.std.specs.Float.{binary64};
 ghost use Rattle.ieee.specs.Patterns.{patterns, pattern_units};
-ghost use Rattle.root.specs.Root.{root_told, root_of, root_parts, nearer as nearer_of};
+ghost use Rattle.linalg.specs.Answer.{answer};
+ghost use Rattle.root.specs.Root.{root_of, root_parts, nearer as nearer_of};
 ghost use Rattle.root.specs.Private.{ScaledTo};
+
+use ieee::Real;
+use linalg::refusal::Refusal;
 
 const HIDDEN: u64 = 0x10_0000_0000_0000; // 2^52: the weight of a pattern's exponent field
 
@@ -29,13 +33,6 @@ pub struct RootParts {
     pub remainder: u64,
     pub exponent: i64,
     pub nearest: f64,
-}
-
-// The root with what is left, or refusal 1 for z < 0, or 8 for a NaN or +infinity.
-#[derive(Clone, Copy)]
-pub enum RootAnswer {
-    Parts(RootParts),
-    Refused(u8),
 }
 
 // A whole root and its remainder.
@@ -165,7 +162,7 @@ fn positive(b: u64) -> RootParts
     let j = y / 2;
     let p = whole_root(c * (1 + y % 2));
     let v = nearer(p.root, p.remainder);
-    let nearest = ieee::from_bits((j + 485) * HIDDEN + v);
+    let nearest = f64::from_pattern((j + 485) * HIDDEN + v);
     RootParts {
         root: p.root,
         remainder: p.remainder,
@@ -174,24 +171,24 @@ fn positive(b: u64) -> RootParts
     }
 }
 
-// The square root of z with what is left.
-pub fn root(z: f64) -> RootAnswer
-    ensures { root_told result ≡ root_of z }
+// The square root of z with what is left, or refusal 1 for z < 0, or 8 for a NaN or +infinity.
+pub fn root(z: f64) -> Result<RootParts, Refusal>
+    ensures { answer result ≡ root_of z }
 {
     if z < 0.0 {
-        return RootAnswer::Refused(1);
+        return Err(Refusal::NegativeAngle);
     }
     if z == 0.0 {
-        return RootAnswer::Parts(RootParts {
+        return Ok(RootParts {
             root: 0,
             remainder: 0,
             exponent: 0,
             nearest: z,
         });
     }
-    let b = ieee::to_bits(z);
+    let b = z.pattern();
     if b >= INFINITY {
-        return RootAnswer::Refused(8);
+        return Err(Refusal::NotFinite);
     }
-    RootAnswer::Parts(positive(b))
+    Ok(positive(b))
 }

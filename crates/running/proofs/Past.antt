@@ -9,7 +9,7 @@ use lib.Dec.{ltb, eqb}
 use lib.Ieee.{Float, Format}
 use Rattle.frames.specs.Pose.{framed_renormalized}
 use Rattle.frames.specs.Joins.{framed_mul}
-use Rattle.frames.specs.declared.Pose.{Pose}
+use Rattle.frames.specs.Floats.{Pose}
 use Rattle.running.specs.declared.Start.{Start}
 use Rattle.running.specs.declared.Start.TheVariants.{Unset, Posed}
 use Rattle.running.specs.declared.Running.{Running}

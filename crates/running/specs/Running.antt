@@ -3,8 +3,9 @@ use Rattle.std.specs.Prelude.{ℕ, ◌+◌, Bool, cond, ◌&&◌, List, map, ltb
 use Rattle.std.specs.Float.{Format}
 use Rattle.linalg.specs.Answer.{Answer, answers, refuses}
 use Rattle.frames.specs.Pose.{framed_renormalized}
-use Rattle.frames.specs.Joins.{pose_told, framed_mul}
-use Rattle.frames.specs.declared.Pose.{Pose}
+use Rattle.frames.specs.Joins.{framed_mul}
+use Rattle.linalg.specs.Answer.{answer}
+use Rattle.frames.specs.Floats.{Pose}
 use Rattle.running.specs.declared.Start.{Start}
 use Rattle.running.specs.declared.Start.TheVariants.{Unset, Posed}
 use Rattle.running.specs.declared.Running.{Running}
@@ -28,7 +29,7 @@ pub record Joint : Type 0 where
   pub answer : Answer Pose
 
 abbrev pub joint_told : Joined → Joint
-joint_told j = record { running = j.running; answer = pose_told j.answer }
+joint_told j = record { running = j.running; answer = answer j.answer }
 
 abbrev pub stands : Pose → ℕ → ℕ → Joint
 stands p n k = record { running = record { pose = Posed p; every = n; since = k }; answer = answers p }

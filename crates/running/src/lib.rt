@@ -5,17 +5,19 @@
 
 ghost use Rattle.std.specs.Prelude.{◌≡◌};
 ghost use Rattle.std.specs.Float.{binary64};
-ghost use Rattle.frames.specs.Joins.{pose_told, framed_mul};
+ghost use Rattle.frames.specs.Joins.{framed_mul};
+ghost use Rattle.linalg.specs.Answer.{answer};
 ghost use Rattle.running.specs.Running.{running_none, one_more, due, joint_told, stands, produced_of, join_of, every_of, all_renormalized};
 
-use frames::{Pose, PoseAnswer};
+use frames::Pose;
+use linalg::refusal::Refusal;
 use sim3::sim3::Sim3;
 
 // The running pose; none before the first pose comes.
 #[derive(Clone, Copy)]
 pub enum Start {
     Unset,
-    Posed(Pose),
+    Posed(Pose<f64>),
 }
 
 // The running pose; n, after every how many products it is renormalised, 0 for never; and how many
@@ -31,7 +33,7 @@ pub struct Running {
 #[derive(Clone, Copy)]
 pub struct Joined {
     pub running: Running,
-    pub answer: PoseAnswer,
+    pub answer: Result<Pose<f64>, Refusal>,
 }
 
 // One product more. No n is greater than 65535, so none can tell that many from more.
@@ -53,11 +55,11 @@ fn due(n: u16, k: u16) -> bool
 
 // P X as `Pose::mul` has it, by its parts. The job's MU has that function for itself: with one caller it
 // is inlined there.
-fn product(p: Pose, x: Pose, up: f64) -> PoseAnswer
-    ensures { pose_told result ≡ framed_mul binary64 p x up }
+fn product(p: Pose<f64>, x: Pose<f64>, up: f64) -> Result<Pose<f64>, Refusal>
+    ensures { answer result ≡ framed_mul binary64 p x up }
 {
     if p.from != x.to {
-        return PoseAnswer::Refused(9);
+        return Err(Refusal::FramesDiffer);
     }
     let a = p.sim3;
     let b = x.sim3;
@@ -68,7 +70,7 @@ fn product(p: Pose, x: Pose, up: f64) -> PoseAnswer
         t,
         sigma: a.sigma + b.sigma,
     };
-    PoseAnswer::Pose(Pose {
+    Ok(Pose {
         sim3,
         from: x.from,
         to: p.to,
@@ -76,7 +78,7 @@ fn product(p: Pose, x: Pose, up: f64) -> PoseAnswer
 }
 
 // The running pose p, which is answered too.
-fn stand(p: Pose, n: u16, k: u16) -> Joined
+fn stand(p: Pose<f64>, n: u16, k: u16) -> Joined
     ensures { joint_told result ≡ stands p n k }
 {
     Joined {
@@ -85,12 +87,12 @@ fn stand(p: Pose, n: u16, k: u16) -> Joined
             every: n,
             since: k,
         },
-        answer: PoseAnswer::Pose(p),
+        answer: Ok(p),
     }
 }
 
 // The product p, which is the kth since the last renormalisation.
-fn produced(p: Pose, n: u16, k: u16) -> Joined
+fn produced(p: Pose<f64>, n: u16, k: u16) -> Joined
     ensures { joint_told result ≡ produced_of binary64 p n k }
 {
     if due(n, k) {
@@ -113,17 +115,17 @@ impl Running {
 
     // The first pose is the running pose, and is no product; a further one is multiplied by it from the
     // left, up being e^sigma of the running pose. Where the frames do not meet (9) nothing changes.
-    pub fn join(self, x: Pose, up: f64) -> Joined
+    pub fn join(self, x: Pose<f64>, up: f64) -> Joined
         ensures { joint_told result ≡ join_of binary64 self x up }
     {
         let start = self.pose;
         match start {
             Start::Unset => stand(x, self.every, self.since),
             Start::Posed(p) => match product(p, x, up) {
-                PoseAnswer::Pose(y) => produced(y, self.every, one_more(self.since)),
-                PoseAnswer::Refused(number) => Joined {
+                Ok(y) => produced(y, self.every, one_more(self.since)),
+                Err(refusal) => Joined {
                     running: self,
-                    answer: PoseAnswer::Refused(number),
+                    answer: Err(refusal),
                 },
             },
         }
@@ -144,7 +146,7 @@ impl Running {
 }
 
 // `Pose::renormalized` on every pose of a list that is lent; nothing else is altered.
-pub fn renormalize_all(poses: &mut [Pose])
+pub fn renormalize_all(poses: &mut [Pose<f64>])
     ensures { poses.new ≡ all_renormalized binary64 poses.old }
 {
     let mut i = 0;

@@ -9,11 +9,11 @@ use lib.Ieee.{Float, Format, binary32, binary64, sub}
 use lib.Ieee.Fits.{and_l, and_r}
 use Rattle.ieee.specs.Numbers.{f0, f2}
 use Rattle.linalg.specs.Vector.{vec_scale, vec_cross, vec_add}
-use Rattle.linalg.specs.declared.vector.Vec3.{Vec3}
+use Rattle.linalg.specs.Floats.{Vec3}
 use Rattle.so3.specs.So3.{so3_act}
-use Rattle.so3.specs.declared.quat.Quat.{Quat}
+use Rattle.so3.specs.Floats.{Quat}
 use Rattle.sim3.specs.Pose.{pose_act, pose_mul}
-use Rattle.sim3.specs.declared.sim3.Sim3.{Sim3}
+use Rattle.sim3.specs.Floats.{Sim3}
 use Rattle.rounding.specs.Value.{Value, value_of, AtMost, AbsoluteError}
 use Rattle.rounding.specs.Tree.{Term, computed, exact, Bound, bound, no_overflow, ForwardError}
 use Rattle.rounding.specs.Leaves.{sizes, nth, no_bound}

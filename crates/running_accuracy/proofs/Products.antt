@@ -10,7 +10,7 @@ use lib.Ieee.{Float, nan, inf, fin, Format, up}
 use lib.Ieee.Fits.{and_i}
 use lib.ListN.{length}
 use Rattle.so3.specs.Quat.{quat_mul}
-use Rattle.so3.specs.declared.quat.Quat.{Quat}
+use Rattle.so3.specs.Floats.{Quat}
 use Rattle.rounding.specs.Value.{Value, opposite, plus, minus, times, value_of, AtMost, Near, AbsoluteError}
 use Rattle.rounding.specs.Tree.{upward, bound, no_overflow}
 use Rattle.rounding.specs.Leaves.{Bounded, sizes, error_at_most}

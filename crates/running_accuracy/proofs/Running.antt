@@ -9,12 +9,12 @@ use lib.Dec.{T, leb, ltb, eqb, leb→le, nleb→lt, ltb→lt, nltb→le}
 use lib.Ieee.{Float, Format}
 use lib.Ieee.Fits.{and_l, and_r, and_i}
 use Rattle.ieee.specs.Numbers.{f3, half}
-use Rattle.linalg.specs.declared.vector.Vec3.{Vec3}
+use Rattle.linalg.specs.Floats.{Vec3}
 use Rattle.so3.specs.Quat.{quat_mul, quat_renormalized}
-use Rattle.so3.specs.declared.quat.Quat.{Quat}
+use Rattle.so3.specs.Floats.{Quat}
 use Rattle.sim3.specs.Pose.{pose_act, pose_mul, pose_renormalized}
-use Rattle.sim3.specs.declared.sim3.Sim3.{Sim3}
-use Rattle.frames.specs.declared.Pose.{Pose}
+use Rattle.sim3.specs.Floats.{Sim3}
+use Rattle.frames.specs.Floats.{Pose}
 use Rattle.running.specs.Running.{due}
 use Rattle.running.specs.History.{ran, Small}
 use Rattle.running.proofs.Past.{history}

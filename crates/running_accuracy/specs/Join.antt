@@ -1,7 +1,7 @@
 -- What is proved of the running join when one pose more is joined, at doubles.
 use Rattle.std.specs.Prelude.{◌≡◌, List, [], ◌∷◌, ◌++◌, ℕ, Float}
 use Rattle.std.specs.Float.{binary64}
-use Rattle.frames.specs.declared.Pose.{Pose}
+use Rattle.frames.specs.Floats.{Pose}
 use Rattle.running.specs.Running.{running_none}
 use Rattle.running.specs.History.{after}
 use Rattle.running.specs.declared.Running.{Running}

@@ -2,7 +2,7 @@
 use Rattle.std.specs.Prelude.{ℕ, zero, suc, ◌+◌, ◌*◌, ◌^◌, ◌≤◌, ◌<◌, Bool, ◌&&◌, List, [], ◌∷◌, length, T, leb, Float}
 use Rattle.std.specs.Float.{Format, binary32, binary64}
 use Rattle.sim3.specs.Pose.{pose_mul}
-use Rattle.sim3.specs.declared.sim3.Sim3.{Sim3}
+use Rattle.sim3.specs.Floats.{Sim3}
 use Rattle.rounding.specs.Value.{Value, AtMost, AbsoluteError}
 use Rattle.rounding.specs.Tree.{Bound, bound, no_overflow}
 use Rattle.accuracy.specs.Box.{VecIn, VecError, QuatError, Three, exact_vec, Four, exact_quat}

@@ -1,7 +1,7 @@
 -- Products of quaternions in a row, from the left: computed, exact, and a bound of the difference as a function of their number.
 use Rattle.std.specs.Prelude.{ℕ, ◌+◌, ◌*◌}
 use Rattle.std.specs.Float.{Format}
-use Rattle.so3.specs.declared.quat.Quat.{Quat}
+use Rattle.so3.specs.Floats.{Quat}
 use Rattle.rounding.specs.Value.{Value, AtMost}
 use Rattle.rounding.specs.Arithmetic.{exactly}
 use Rattle.rounding.specs.Tree.{Bound, upward, bound}

@@ -1,9 +1,9 @@
 -- The running join with its renormalisations: exactly, and a bound of the difference after each product.
 use Rattle.std.specs.Prelude.{Bool, cond, ◌&&◌, List, [], ◌∷◌, ℕ, zero, suc, ◌+◌, ◌*◌, ◌^◌, ◌≤◌, ◌<◌, T, leb, ltb, eqb, Float}
 use Rattle.std.specs.Float.{Format, binary32, binary64}
-use Rattle.linalg.specs.declared.vector.Vec3.{Vec3}
+use Rattle.linalg.specs.Floats.{Vec3}
 use Rattle.sim3.specs.Pose.{pose_act}
-use Rattle.frames.specs.declared.Pose.{Pose}
+use Rattle.frames.specs.Floats.{Pose}
 use Rattle.running.specs.Running.{due, running_none}
 use Rattle.running.specs.History.{Event, join, renew, after}
 use Rattle.running.specs.declared.Start.{Start}

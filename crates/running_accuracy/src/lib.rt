@@ -10,7 +10,7 @@ use frames::Pose;
 use running::{Joined, Running};
 
 // One pose more to a running join, up being e^sigma of the running pose.
-pub fn join(r: Running, x: Pose, up: f64) -> Joined
+pub fn join(r: Running, x: Pose<f64>, up: f64) -> Joined
     ensures { JoinAccurate r x up result.running }
 {
     r.join(x, up)

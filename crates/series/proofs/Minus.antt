@@ -4,8 +4,8 @@ use lib.Ieee.{Float, Format}
 use Rattle.ieee.proofs.Sign.{neg-neg}
 use Rattle.series.specs.Series.{level_terms}
 use Rattle.series.specs.Private.{level_minus, turns_minus}
-use Rattle.series.specs.declared.recurrence.Level.{Level}
-use Rattle.series.specs.declared.recurrence.TurnsPair.{TurnsPair}
+use Rattle.series.specs.Floats.{Level}
+use Rattle.series.specs.Floats.{TurnsPair}
 
 pub level-twice : (l : Level) → level_minus (level_minus l) ≡ l
 unfolding level_minus

@@ -13,7 +13,7 @@ use Rattle.ieee.proofs.Signed.{order, add_same, sub_same, neg-add, neg-sub}
 use Rattle.ieee.proofs.Product.{mul-same}
 use Rattle.series.specs.Series.{series_first, series_next, series_level}
 use Rattle.series.specs.Private.{odd}
-use Rattle.series.specs.declared.recurrence.Level.{Level}
+use Rattle.series.specs.Floats.{Level}
 
 -- -x where b, else x
 abbrev pub turned : Bool → Float → Float

@@ -15,7 +15,7 @@ use Rattle.ieee.proofs.Clear.{add-is-same}
 use Rattle.tables.specs.Tables.{recip_fact}
 use Rattle.series.specs.Series.{series_level, level_terms, series_terms, series_sum, series_sums, coeffs_delta, series_chi, series_coeffs, series_full}
 use Rattle.series.specs.Private.{odd, gain_flip, sums_none, sums_gain, sums_gain_mirrored, tail_terms, sums_last_mirrored, pair_turn, pair_turns, pair_sums, pair_full}
-use Rattle.series.specs.declared.recurrence.Sums.{Sums}
+use Rattle.series.specs.Floats.{Sums}
 use Rattle.series.proofs.Mirror.{Turned, mul-turned_l, odd_suc, level_mirror}
 use Rattle.series.proofs.Sum.{sum_fits, sum_clear, sums_below, tail-is}
 use Rattle.series.proofs.Solo.{last_is}

@@ -1,24 +1,21 @@
 -- A pass over the reciprocals stopped after any number of entries holds the partial sums that each sign alone has then, and after the last entry Horner's sums. For
 -- every sigma, NaN and infinities included, every term count and every format. Assumes nothing.
 use mathlib.Core.Path.{◌≡◌, refl, ap, ◌∙◌}
-use Prim.Native.Nat.{ℕ, zero, suc, ◌+◌, ◌-◌, ◌≤◌, ◌<◌}
+use Prim.Native.Nat.{ℕ, zero, suc, ◌+◌, ◌-◌, ◌≤◌}
 use native.Mathlib.Omega.{arith}
 use native.Mathlib.Numerals.{add-one}
-use mathlib.Core.List.{List, ◌∷◌}
-use lib.ListN.{get_or}
 use lib.Dec.{T}
 use lib.Ieee.{Float, Format, neg, add, mul, fits}
-use lib.Ieee.Fits.{neg-fits, mul-fits}
+use lib.Ieee.Fits.{mul-fits}
 use Rattle.ieee.specs.Numbers.{f0}
-use Rattle.ieee.specs.Signs.{not_minus_zero}
 use Rattle.ieee.proofs.Clear.{add-is-same}
 use Rattle.ieee.proofs.Exact.{add-zero-same}
 use Rattle.ieee.proofs.Product.{mul-same}
 use Rattle.tables.specs.Tables.{recip_fact}
-use Rattle.series.specs.Series.{g_series, g_series_pair, w0_terms}
+use Rattle.series.specs.Series.{g_series, g_series_pair}
 use Rattle.series.specs.Pass.{g_stopped, both_stopped}
-use Rattle.series.specs.Private.{g_term, passed_from, passed}
-use Rattle.series.specs.declared.sim3.GPair.{GPair}
+use Rattle.series.specs.Private.{g_term}
+use Rattle.series.specs.Floats.{GPair}
 use Rattle.tables.proofs.Every.{recip_fits, recip_clear}
 
 -- ---- one entry more, as a loop counts
@@ -28,27 +25,24 @@ pub stopped_more :
 unfolding g_stopped
 stopped_more f sigma l terms n j e = rw (e, add-one n) refl
 
--- -sigma + 0 is -sigma up to the sign of a zero, which a sum with a reciprocal does not see
-minus_term :
-    (f : Format) (sigma r g : Float) → T (fits f sigma) → T (fits f r) → T (not_minus_zero r) →
-    add f r (mul f (add f (neg sigma) f0) g) ≡ add f r (mul f (neg sigma) g)
-minus_term f sigma r g s p c =
-    add-is-same f r r _ _ p p (mul-fits f _ _) (mul-fits f _ _) c c refl (mul-same f _ _ g g (add-zero-same f (neg sigma) (neg-fits f sigma s)) refl)
-
 -- and so at both signs at once
-both_more :
-    (f : Format) (sigma : Float) (l terms n j : ℕ) → T (fits f sigma) → j ≡ terms - (n + 1) + l →
-    g_term f sigma (add f (neg sigma) f0) (recip_fact f j) (both_stopped f sigma l terms n) ≡ both_stopped f sigma l terms (n + 1)
+pub both_more :
+    (f : Format) (sigma : Float) (l terms n j : ℕ) → j ≡ terms - (n + 1) + l →
+    g_term f sigma (neg sigma) (recip_fact f j) (both_stopped f sigma l terms n) ≡ both_stopped f sigma l terms (n + 1)
 unfolding g_term
-both_more f sigma l terms n j s e =
-    let other = minus_term f sigma (recip_fact f j) (g_stopped f (neg sigma) l terms n) s (recip_fits f j) (recip_clear f j) in
-    λ i. record { pos = stopped_more f sigma l terms n j e i; neg = (other ∙ stopped_more f (neg sigma) l terms n j e) i }
+both_more f sigma l terms n j e = λ i. record { pos = stopped_more f sigma l terms n j e i; neg = stopped_more f (neg sigma) l terms n j e i }
 
--- the entry j behind n others, which hold g
-pub both_further :
-    (f : Format) (sigma : Float) (l terms n j : ℕ) (g : GPair) → T (fits f sigma) → j ≡ terms - (n + 1) + l → g ≡ both_stopped f sigma l terms n →
-    g_term f sigma (add f (neg sigma) f0) (recip_fact f j) g ≡ both_stopped f sigma l terms (n + 1)
-both_further f sigma l terms n j g s e q = ap (g_term f sigma (add f (neg sigma) f0) (recip_fact f j)) q ∙ both_more f sigma l terms n j s e
+-- -sigma + 0 is -sigma up to the sign of a zero, which a sum with a reciprocal does not see
+pub minus_or_zero :
+    (f : Format) (sigma : Float) → T (fits f (neg sigma)) → (j : ℕ) (g : GPair) →
+    g_term f sigma (add f (neg sigma) f0) (recip_fact f j) g ≡ g_term f sigma (neg sigma) (recip_fact f j) g
+unfolding g_term
+minus_or_zero f sigma s j g =
+    let r = recip_fact f j in
+    let same = mul-same f _ _ g.neg g.neg (add-zero-same f (neg sigma) s) refl in
+    let p = recip_fits f j in
+    let c = recip_clear f j in
+    λ i. record { pos = add f r (mul f sigma g.pos); neg = add-is-same f r r _ _ p p (mul-fits f _ _) (mul-fits f _ _) c c refl same i }
 
 -- ---- the partial sum after n entries is Horner's sum of the last n terms, and the whole sum after all of them
 stopped_is : (f : Format) (sigma : Float) (l terms n : ℕ) → n ≤ terms → g_stopped f sigma l terms n ≡ g_series f sigma (terms - n + l) n
@@ -77,28 +71,3 @@ stopped_shared f sigma l m (suc n) h =
 
 pub both_shared : (f : Format) (sigma : Float) (l m n : ℕ) → n ≤ m → both_stopped f sigma l (m + 1) n ≡ both_stopped f sigma (l + 1) m n
 both_shared f sigma l m n h = λ i. record { pos = stopped_shared f sigma l m n h i; neg = stopped_shared f (neg sigma) l m n h i }
-
--- ---- the written-out pass of the closed arm: entry i of the list of its partial sums
-from_at :
-    (f : Format) (sigma : Float) (n k i : ℕ) (d : GPair) → i < k →
-    get_or (passed_from f sigma n k) i d ≡ both_stopped f sigma 1 (w0_terms f + 1) (n + i)
-unfolding passed_from
-from_at f sigma n zero i d h = absurd (omega arith)
-from_at f sigma n (suc k) zero d h =
-    let e : n ≡ n + 0 = omega arith in
-    ap (both_stopped f sigma 1 (w0_terms f + 1)) e
-from_at f sigma n (suc k) (suc i) d h =
-    let e : suc n + i ≡ n + suc i = omega arith in
-    from_at f sigma (suc n) k i d (omega arith) ∙ ap (both_stopped f sigma 1 (w0_terms f + 1)) e
-
--- with the empty sums in front, what stands at n is what each sign alone has after n entries
-pub pass_at :
-    (f : Format) (sigma : Float) (l : List GPair) (n : ℕ) (d : GPair) → l ≡ passed f sigma → n ≤ w0_terms f + 1 →
-    get_or (both_stopped f sigma 1 (w0_terms f + 1) 0 ∷ l) n d ≡ both_stopped f sigma 1 (w0_terms f + 1) n
-unfolding passed_from
-pass_at f sigma l n d e h =
-    let b : n < suc (w0_terms f + 1) = omega arith in
-    let z : 0 + n ≡ n = omega arith in
-    ap (λ (x : List GPair). get_or (both_stopped f sigma 1 (w0_terms f + 1) 0 ∷ x) n d) e
-    ∙ from_at f sigma 0 (suc (w0_terms f + 1)) n d b
-    ∙ ap (both_stopped f sigma 1 (w0_terms f + 1)) z

@@ -7,7 +7,7 @@ use lib.Ieee.{Float, Format, add, mul}
 use Rattle.tables.specs.Tables.{recip_fact}
 use Rattle.series.specs.Series.{series_first, series_next, series_level, level_terms, series_terms, series_sum, series_sums}
 use Rattle.series.specs.Private.{sums_none, sums_gain, tail_terms, sums_last, solo_turn, solo_turns, v_none, v_turn, v_turns}
-use Rattle.series.specs.declared.recurrence.TurnsV.{TurnsV}
+use Rattle.series.specs.Floats.{TurnsV}
 use Rattle.series.proofs.Sum.{sums_below, sum_more, tail-is}
 
 -- ---- a turn of each loop, at the code's j + 1

@@ -11,7 +11,7 @@ use Rattle.ieee.proofs.Clear.{add_clear}
 use Rattle.tables.specs.Tables.{recip_fact}
 use Rattle.series.specs.Series.{series_next, series_level, level_terms, series_terms, series_sum}
 use Rattle.series.specs.Private.{tail_terms}
-use Rattle.series.specs.declared.recurrence.Sums.{Sums}
+use Rattle.series.specs.Floats.{Sums}
 
 pub sum_fits : (f : Format) (t : ℕ → Float) (n : ℕ) → T (fits f (series_sum f t n))
 unfolding series_sum

@@ -1,12 +1,12 @@
 -- Which reciprocals the series ask for. Within the accepted term counts each is in the table, and with one term more there is one that is not.
-use Rattle.std.specs.Prelude.{◌≡◌, ℕ, ◌+◌, ◌≤◌, ◌<◌}
+use Rattle.std.specs.Prelude.{Some, None, ◌≡◌, ℕ, ◌+◌, ◌≤◌, ◌<◌}
 use Rattle.std.specs.Float.{Format}
-use Rattle.tables.specs.Tables.{recip_fact, number, none, recip_table}
+use Rattle.tables.specs.Tables.{recip_fact, recip_table}
 use Rattle.series.specs.Series.{series_most, series_v_most}
 
 -- the table has 1 / n!
 abbrev pub Has : Format → ℕ → Type 0
-Has f n = recip_table f n ≡ number (recip_fact f n)
+Has f n = recip_table f n ≡ Some (recip_fact f n)
 
 -- v alone at k terms: Horner's v₀ over i < k, v₁ over the levels j < k + 1, v₂ over those below k + 2
 pub record VAsks (f : Format) (k : ℕ) : Type 0 where
@@ -26,6 +26,6 @@ pub record FullAsks (f : Format) (k : ℕ) : Type 0 where
 -- what `asked` proves: the limits are those that the table sets
 pub record AskedTheorem : Type 0 where
   pub full : (f : Format) (k : ℕ) → k ≤ series_most → FullAsks f k
-  pub full_past : (f : Format) (k : ℕ) → series_most < k → recip_table f (k + 4) ≡ none
+  pub full_past : (f : Format) (k : ℕ) → series_most < k → recip_table f (k + 4) ≡ None
   pub alone : (f : Format) (k : ℕ) → k ≤ series_v_most → VAsks f k
-  pub alone_past : (f : Format) (k : ℕ) → series_v_most < k → recip_table f (k + 2) ≡ none
+  pub alone_past : (f : Format) (k : ℕ) → series_v_most < k → recip_table f (k + 2) ≡ None

@@ -1,3 +1,4 @@
+pub mod Floats
 pub mod Series
 pub mod Pass
 pub mod Asked

@@ -9,11 +9,9 @@ use Rattle.ieee.specs.Infix.{operations}
 use Rattle.linalg.specs.Answer.{Answer, answers, refuses}
 use Rattle.tables.specs.Tables.{recip_fact}
 use Rattle.series.specs.Series.{w0_terms, series_most}
-use Rattle.series.specs.declared.sim3.GPair.{GPair}
-use Rattle.series.specs.declared.sim3.Horner.{Horner}
-use Rattle.series.specs.declared.stopped.Stopped.{Stopped}
-use Rattle.series.specs.declared.stopped.StoppedAnswer.{StoppedAnswer}
-use Rattle.series.specs.declared.stopped.StoppedAnswer.TheVariants as stopped
+use Rattle.series.specs.Floats.{GPair}
+use Rattle.series.specs.Floats.{Horner}
+use Rattle.series.specs.Floats.{Stopped}
 
 module _ (f : Format) where
   infixl 60 ◌⊕◌
@@ -49,8 +47,3 @@ pass_stopped f sigma k stop =
     (ltb series_most k)
     (refuses 4)
     (answers (record { series = series; series_alone = series; closed = closed; closed_alone = closed }))
-
--- what each case of the answer says
-unfoldable pub stopped_told : StoppedAnswer → Answer Stopped
-stopped_told (stopped.Sums s) = answers s
-stopped_told (stopped.Refused n) = refuses n

@@ -1,22 +1,20 @@
 -- What the private functions of the series compute; only private contracts cite it.
-use Rattle.std.specs.Prelude.{ℕ, zero, suc, ◌+◌, ◌%◌, Bool, not, cond, List, [], ◌∷◌, eqb, Float}
+use Rattle.std.specs.Prelude.{ℕ, zero, suc, ◌+◌, ◌%◌, Bool, not, cond, eqb, Float}
 use Rattle.std.specs.Float.{Format}
 use Rattle.std.specs.Float.Ieee.{neg}
 use Rattle.ieee.specs.Numbers.{f0, f1}
 use Rattle.ieee.specs.Infix.{operations}
 use Rattle.tables.specs.Tables.{recip_fact}
-use Rattle.series.specs.Series.{series_first, series_next, level_terms, g_series, w0_terms, series_coeffs}
-use Rattle.series.specs.Pass.{both_stopped}
-use Rattle.series.specs.declared.recurrence.Level.{Level}
-use Rattle.series.specs.declared.recurrence.Sums.{Sums}
-use Rattle.series.specs.declared.recurrence.Tail.{Tail}
-use Rattle.series.specs.declared.recurrence.Turns.{Turns}
-use Rattle.series.specs.declared.recurrence.TurnsV.{TurnsV}
-use Rattle.series.specs.declared.recurrence.TurnsPair.{TurnsPair}
-use Rattle.series.specs.declared.recurrence.SumsPair.{SumsPair}
-use Rattle.series.specs.declared.sim3.CoeffsPair.{CoeffsPair}
-use Rattle.series.specs.declared.sim3.GPair.{GPair}
-use Rattle.series.specs.declared.small.Pass.{Pass}
+use Rattle.series.specs.Series.{series_first, series_next, level_terms, g_series, series_coeffs}
+use Rattle.series.specs.Floats.{Level}
+use Rattle.series.specs.Floats.{Sums}
+use Rattle.series.specs.Floats.{Tail}
+use Rattle.series.specs.Floats.{Turns}
+use Rattle.series.specs.Floats.{TurnsV}
+use Rattle.series.specs.Floats.{TurnsPair}
+use Rattle.series.specs.Floats.{SumsPair}
+use Rattle.series.specs.Floats.{CoeffsPair}
+use Rattle.series.specs.Floats.{GPair}
 
 -- the sums of one sign before the first term, and v alone before the first level
 unfoldable pub sums_none : Sums
@@ -159,19 +157,3 @@ pair_full f sigma z k =
       pos = series_coeffs f sigma z (g_series f sigma 1 k) (g_series f sigma 2 k) (pair_sums f sigma z k).pos;
       neg = series_coeffs f sigma z (g_series f (neg sigma) 1 k) (g_series f (neg sigma) 2 k) (pair_sums f sigma z k).neg;
     }
-
--- ---- the pass of the closed arm's sums at small sigma: the partial sums after n entries, and after each of the k - 1
--- that follow
-unfoldable pub passed_from : Format → Float → ℕ → ℕ → List GPair
-passed_from f sigma n zero = []
-passed_from f sigma n (suc k) = both_stopped f sigma 1 (w0_terms f + 1) n ∷ passed_from f sigma (suc n) k
-
--- after each entry, from the first to the last
-abbrev pub passed : Format → Float → List GPair
-passed f sigma = passed_from f sigma 1 (w0_terms f + 1)
-
--- what the code's struct holds
-abbrev pub pass_told : Pass → List GPair
-pass_told p =
-    p.after1 ∷ p.after2 ∷ p.after3 ∷ p.after4 ∷ p.after5 ∷ p.after6 ∷ p.after7 ∷ p.after8
-    ∷ p.after9 ∷ p.after10 ∷ p.after11 ∷ p.after12 ∷ p.after13 ∷ p.after14 ∷ p.after15 ∷ p.after16 ∷ []

@@ -7,18 +7,12 @@ use Rattle.ieee.specs.Numbers.{f0, f1}
 use Rattle.ieee.specs.Infix.{operations}
 use Rattle.linalg.specs.Answer.{Answer, answers, refuses, and_then, unless_below_zero}
 use Rattle.tables.specs.Tables.{recip_fact}
-use Rattle.series.specs.declared.recurrence.Level.{Level}
-use Rattle.series.specs.declared.recurrence.Sums.{Sums}
-use Rattle.series.specs.declared.sim3.Sim3Coeffs.{Sim3Coeffs}
-use Rattle.series.specs.declared.sim3.Coeffs4.{Coeffs4}
-use Rattle.series.specs.declared.sim3.CoeffsPair.{CoeffsPair}
-use Rattle.series.specs.declared.sim3.GPair.{GPair}
-use Rattle.series.specs.declared.sim3.SeriesAnswer.{SeriesAnswer}
-use Rattle.series.specs.declared.sim3.SeriesAnswer.TheVariants as full
-use Rattle.series.specs.declared.sim3.SeriesVAnswer.{SeriesVAnswer}
-use Rattle.series.specs.declared.sim3.SeriesVAnswer.TheVariants as v
-use Rattle.series.specs.declared.sim3.SeriesPairAnswer.{SeriesPairAnswer}
-use Rattle.series.specs.declared.sim3.SeriesPairAnswer.TheVariants as pair
+use Rattle.series.specs.Floats.{Level}
+use Rattle.series.specs.Floats.{Sums}
+use Rattle.series.specs.Floats.{Sim3Coeffs}
+use Rattle.series.specs.Floats.{Coeffs4}
+use Rattle.series.specs.Floats.{CoeffsPair}
+use Rattle.series.specs.Floats.{GPair}
 
 -- ---- level 0 of the recurrence: level j has p = σʲ, ξ, ζ and the z-derivatives ξ', ζ'
 unfoldable pub series_first : Level
@@ -28,6 +22,11 @@ series_first = record { p = f1; xi = f0; zeta = f0; dxi = f0; dzeta = f0 }
 abbrev pub w0_terms : Format → ℕ
 w0_terms binary32 = 8
 w0_terms binary64 = 15
+
+-- the fewest terms that an arm of the coefficients takes
+abbrev pub fewest_terms : Format → ℕ
+fewest_terms binary32 = 4
+fewest_terms binary64 = 6
 
 -- v alone: the full one's v and χΔ
 unfoldable pub coeffs4 : Sim3Coeffs → Coeffs4
@@ -136,16 +135,3 @@ series_v_answer f sigma z k = series_guard series_v_most z k (series_v f sigma z
 unfoldable pub series_pair_answer : Format → Float → Float → ℕ → Answer CoeffsPair
 series_pair_answer f sigma z k =
     and_then (series_answer f sigma z k) (λ p. and_then (series_answer f (neg sigma) z k) (λ n. answers (record { pos = p; neg = n })))
-
--- ---- what each case of an answer says
-unfoldable pub series_told : SeriesAnswer → Answer Sim3Coeffs
-series_told (full.Coeffs c) = answers c
-series_told (full.Refused n) = refuses n
-
-unfoldable pub series_v_told : SeriesVAnswer → Answer Coeffs4
-series_v_told (v.Coeffs c) = answers c
-series_v_told (v.Refused n) = refuses n
-
-unfoldable pub series_pair_told : SeriesPairAnswer → Answer CoeffsPair
-series_pair_told (pair.Coeffs c) = answers c
-series_pair_told (pair.Refused n) = refuses n

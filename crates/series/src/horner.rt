@@ -1,47 +1,52 @@
 // Horner's sums of the series, at one sign and at both, and stopped after some entries of the table.
 ghost use Rattle.std.specs.Prelude.{◌≡◌, ◌≤◌};
-ghost use Rattle.std.specs.Float.{binary64};
 ghost use Rattle.series.specs.Series.{g_series};
 ghost use Rattle.series.specs.Pass.{g_stopped, both_stopped, entries_read};
 ghost use Rattle.series.specs.Private.{g_term};
+ghost use Rattle.series.specs.Floats.{as_g_pair, as_horner};
 
 use crate::reciprocal::recip;
 use crate::sim3::{GPair, Horner};
+use tables::Tables;
 
 // The sum of sigma^i/(i + l)! over i < terms, by Horner from the last term.
-pub fn g_series(sigma: f64, l: usize, terms: usize) -> f64
+pub fn g_series<T: Tables>(sigma: T, l: usize, terms: usize) -> T
     requires { (l ≤ 2) × (terms ≤ 30) }
-    ensures { result ≡ g_series binary64 sigma l terms }
+    ensures { T.float result ≡ g_series T.format (T.float sigma) l terms }
 {
     g_stopped(sigma, l, terms, terms)
 }
 
 // That sum, stopped after n entries.
-pub fn g_stopped(sigma: f64, l: usize, terms: usize, n: usize) -> f64
+pub fn g_stopped<T: Tables>(sigma: T, l: usize, terms: usize, n: usize) -> T
     requires { (l ≤ 2) × (terms ≤ 30) × (n ≤ terms) }
-    ensures { result ≡ g_stopped binary64 sigma l terms n }
+    ensures { T.float result ≡ g_stopped T.format (T.float sigma) l terms n }
 {
-    let mut acc = 0.0;
+    let mut acc = T::of(0.0);
     for i in 0..n {
-        acc = recip(terms - 1 - i + l) + sigma * acc;
+        acc = recip::<T>(terms - 1 - i + l) + sigma * acc;
     }
     acc
 }
 
 // The sums over i < k of sigma^i/(i + 1)! and of sigma^i/(i + 2)! at both signs in one pass over the
 // reciprocals, stopped after n entries: it holds the partial sums that each sign alone has then.
-pub fn horner_stopped(sigma: f64, k: usize, n: usize) -> Horner
+pub fn horner_stopped<T: Tables>(sigma: T, k: usize, n: usize) -> Horner<T>
     requires { (n ≤ k) × (k ≤ 30) }
-    ensures { result ≡ record { v0 = both_stopped binary64 sigma 1 k n; w0 = both_stopped binary64 sigma 2 k n } }
+    ensures { as_horner T.float result
+        ≡ record {
+          v0 = both_stopped T.format (T.float sigma) 1 k n;
+          w0 = both_stopped T.format (T.float sigma) 2 k n;
+        } }
 {
     let minus = -sigma;
-    let mut v = 0.0;
-    let mut v_neg = 0.0;
-    let mut w = 0.0;
-    let mut w_neg = 0.0;
+    let mut v = T::of(0.0);
+    let mut v_neg = T::of(0.0);
+    let mut w = T::of(0.0);
+    let mut w_neg = T::of(0.0);
     for i in 0..n {
-        let r1 = recip(k - i);
-        let r2 = recip(k - i + 1);
+        let r1: T = recip(k - i);
+        let r2: T = recip(k - i + 1);
         v = r1 + sigma * v;
         v_neg = r1 + minus * v_neg;
         w = r2 + sigma * w;
@@ -64,8 +69,9 @@ pub fn entries_read(stop: usize, terms: usize) -> usize
 }
 
 // One more term in front, with the reciprocal r.
-pub fn g_term(sigma: f64, minus: f64, r: f64, g: GPair) -> GPair
-    ensures { result ≡ g_term binary64 sigma minus r g }
+pub fn g_term<T: Tables>(sigma: T, minus: T, r: T, g: GPair<T>) -> GPair<T>
+    ensures { as_g_pair T.float result
+        ≡ g_term T.format (T.float sigma) (T.float minus) (T.float r) (as_g_pair T.float g) }
 {
     GPair {
         pos: r + sigma * g.pos,

@@ -5,8 +5,8 @@
 pub mod sim3; // the coefficients and their series at one sign of sigma: coeffs/sim3.rs
 pub mod pair; // the series at both signs: the pair of coeffs/sim3.rs
 pub mod stopped; // one pass over the reciprocals, stopped after any number of entries
+pub mod terms; // the term counts of each width
 pub mod small; // v0 and w0 of the closed arm at small sigma
-mod shortest; // the shortest series, for v alone
 mod horner; // Horner's sums
 mod reciprocal; // the reciprocals that the series read
 mod recurrence; // the levels, their terms and the sums, for both

@@ -2,34 +2,43 @@
 // those at sigma with the sign of their parity, up to the sign of a zero, which no sum keeps: so
 // where a sum at sigma adds a term, the one at -sigma adds or subtracts it.
 ghost use Rattle.std.specs.Prelude.{◌≡◌, true, false, ◌+◌, ◌%◌, ◌≤◌};
-ghost use Rattle.std.specs.Float.{binary64};
 ghost use Rattle.std.specs.Float.Ieee.{neg};
-ghost use Rattle.series.specs.Series.{series_next, g_series_pair, series_full, series_pair_told, series_pair_answer};
-ghost use Rattle.series.specs.Private.{sums_gain_mirrored, sums_last_mirrored, level_minus, turns_minus, pair_turn, pair_turns, pair_sums};
+ghost use Rattle.series.specs.Series.{series_next, g_series_pair, series_full, series_pair_answer};
+ghost use Rattle.series.specs.Private.{sums_gain_mirrored, sums_last_mirrored, level_minus, turns_minus};
+ghost use Rattle.series.specs.Private.{pair_turn, pair_turns, pair_sums};
+ghost use Rattle.linalg.specs.Answer.{told};
+ghost use Rattle.series.specs.Floats.{as_coeffs_pair, as_horner, as_level, as_sums, as_sums_pair, as_tail};
+ghost use Rattle.series.specs.Floats.{as_turns_pair};
 
 use crate::horner::horner_stopped;
 use crate::reciprocal::recip;
 use crate::recurrence;
 use crate::recurrence::{Level, Sums, SumsPair, Tail, TurnsPair};
-use crate::sim3::{CoeffsPair, Horner, SeriesPairAnswer};
+use crate::sim3::{CoeffsPair, Horner};
+use linalg::refusal::Refusal;
+use tables::Tables;
 
 // The series at k terms, at sigma and at -sigma; refusal 1 for z below zero, then 4 for k above 28.
-pub fn series_pair(sigma: f64, z: f64, k: usize) -> SeriesPairAnswer
-    ensures { series_pair_told result ≡ series_pair_answer binary64 sigma z k }
+pub fn series_pair<T: Tables>(sigma: T, z: T, k: usize) -> Result<CoeffsPair<T>, Refusal>
+    ensures { told (as_coeffs_pair T.float) result ≡ series_pair_answer T.format (T.float sigma) (T.float z) k }
 {
-    if z < 0.0 {
-        return SeriesPairAnswer::Refused(1);
+    if z < T::of(0.0) {
+        return Err(Refusal::NegativeAngle);
     }
     if 28 < k {
-        return SeriesPairAnswer::Refused(4);
+        return Err(Refusal::TooManyTerms);
     }
-    SeriesPairAnswer::Coeffs(series_pair_at(sigma, z, k))
+    Ok(series_pair_at(sigma, z, k))
 }
 
 // `series_pair` for a k that is not refused.
-fn series_pair_at(sigma: f64, z: f64, k: usize) -> CoeffsPair
+fn series_pair_at<T: Tables>(sigma: T, z: T, k: usize) -> CoeffsPair<T>
     requires { k ≤ 28 }
-    ensures { result ≡ record { pos = series_full binary64 sigma z k; neg = series_full binary64 (neg sigma) z k } }
+    ensures { as_coeffs_pair T.float result
+        ≡ record {
+          pos = series_full T.format (T.float sigma) (T.float z) k;
+          neg = series_full T.format (neg (T.float sigma)) (T.float z) k;
+        } }
 {
     let h = horner_at(sigma, k);
     let v0 = h.v0;
@@ -42,9 +51,9 @@ fn series_pair_at(sigma: f64, z: f64, k: usize) -> CoeffsPair
 }
 
 // The six sums at each sign, each to its own last level.
-fn sums_pair_at(sigma: f64, z: f64, k: usize) -> SumsPair
+fn sums_pair_at<T: Tables>(sigma: T, z: T, k: usize) -> SumsPair<T>
     requires { k ≤ 28 }
-    ensures { result ≡ pair_sums binary64 sigma z k }
+    ensures { as_sums_pair T.float result ≡ pair_sums T.format (T.float sigma) (T.float z) k }
 {
     let s = turns_at(sigma, z, k);
     let t = recurrence::tail_terms(sigma, z, s.level, recip(k + 2), recip(k + 3), recip(k + 4));
@@ -55,9 +64,9 @@ fn sums_pair_at(sigma: f64, z: f64, k: usize) -> SumsPair
 }
 
 // The levels to k, which give a term to every sum: an even one by itself where k is even.
-fn turns_at(sigma: f64, z: f64, k: usize) -> TurnsPair
+fn turns_at<T: Tables>(sigma: T, z: T, k: usize) -> TurnsPair<T>
     requires { k ≤ 28 }
-    ensures { result ≡ pair_turns binary64 sigma z (k + 1) }
+    ensures { as_turns_pair T.float result ≡ pair_turns T.format (T.float sigma) (T.float z) (k + 1) }
 {
     if k % 2 == 0 {
         let s = turns_below(sigma, z, k);
@@ -69,9 +78,9 @@ fn turns_at(sigma: f64, z: f64, k: usize) -> TurnsPair
 // The levels below n, which is even: an even and an odd one at each turn. PERF (D122): this is called
 // from two places, so that it is compiled as a function of its own, which stores its answer: it is from
 // these stores that the compiler sees which numbers of a turn to compute in twos.
-fn turns_below(sigma: f64, z: f64, n: usize) -> TurnsPair
+fn turns_below<T: Tables>(sigma: T, z: T, n: usize) -> TurnsPair<T>
     requires { (n ≤ 28) × (n % 2 ≡ 0) }
-    ensures { result ≡ pair_turns binary64 sigma z n }
+    ensures { as_turns_pair T.float result ≡ pair_turns T.format (T.float sigma) (T.float z) n }
 {
     let mut s = turns_minus(TurnsPair {
         level: recurrence::first(),
@@ -87,8 +96,8 @@ fn turns_below(sigma: f64, z: f64, n: usize) -> TurnsPair
 }
 
 // The same with the level's -p for its p, or p for -p.
-fn turns_minus(s: TurnsPair) -> TurnsPair
-    ensures { result ≡ turns_minus s }
+fn turns_minus<T: Tables>(s: TurnsPair<T>) -> TurnsPair<T>
+    ensures { as_turns_pair T.float result ≡ turns_minus (as_turns_pair T.float s) }
 {
     let l = s.level;
     let pos = s.pos;
@@ -107,8 +116,9 @@ fn turns_minus(s: TurnsPair) -> TurnsPair
 }
 
 // The level after l, where both hold -p for p: x - (-p) is x + p, and xi and dxi are formed alike.
-fn next_minus(sigma: f64, z: f64, l: Level) -> Level
-    ensures { result ≡ level_minus (series_next binary64 sigma z (level_minus l)) }
+fn next_minus<T: Tables>(sigma: T, z: T, l: Level<T>) -> Level<T>
+    ensures { as_level T.float result
+        ≡ level_minus (series_next T.format (T.float sigma) (T.float z) (level_minus (as_level T.float l))) }
 {
     Level {
         xi: (sigma * l.xi - l.p) - z * l.zeta,
@@ -120,8 +130,9 @@ fn next_minus(sigma: f64, z: f64, l: Level) -> Level
 }
 
 // One even level, with r1 = 1/(j + 1)! and r2 = 1/(j + 2)!.
-fn even_turn(sigma: f64, z: f64, r1: f64, r2: f64, s: TurnsPair) -> TurnsPair
-    ensures { result ≡ pair_turn binary64 sigma z r1 r2 false s }
+fn even_turn<T: Tables>(sigma: T, z: T, r1: T, r2: T, s: TurnsPair<T>) -> TurnsPair<T>
+    ensures { as_turns_pair T.float result
+        ≡ pair_turn T.format (T.float sigma) (T.float z) (T.float r1) (T.float r2) false (as_turns_pair T.float s) }
 {
     let t = recurrence::terms(s.level, r1, r2);
     TurnsPair {
@@ -132,8 +143,12 @@ fn even_turn(sigma: f64, z: f64, r1: f64, r2: f64, s: TurnsPair) -> TurnsPair
 }
 
 // An even level and the odd one after it, with r3 = 1/(j + 3)!, where the levels hold -p for p.
-fn two_turns(sigma: f64, z: f64, r1: f64, r2: f64, r3: f64, s: TurnsPair) -> TurnsPair
-    ensures { result ≡ turns_minus (pair_turn binary64 sigma z r2 r3 true (pair_turn binary64 sigma z r1 r2 false (turns_minus s))) }
+fn two_turns<T: Tables>(sigma: T, z: T, r1: T, r2: T, r3: T, s: TurnsPair<T>) -> TurnsPair<T>
+    ensures { as_turns_pair T.float result
+        ≡ turns_minus
+        (pair_turn T.format (T.float sigma) (T.float z) (T.float r2) (T.float r3) true
+        (pair_turn T.format (T.float sigma) (T.float z) (T.float r1) (T.float r2) false
+        (turns_minus (as_turns_pair T.float s)))) }
 {
     let l = next_minus(sigma, z, s.level);
     let t = recurrence::terms(s.level, r1, r2);
@@ -146,8 +161,8 @@ fn two_turns(sigma: f64, z: f64, r1: f64, r2: f64, r3: f64, s: TurnsPair) -> Tur
 }
 
 // The sums at -sigma with the terms t of an even level at sigma: those of v1, w1 and dv1 are odd.
-fn gain_even(s: Sums, t: Sums) -> Sums
-    ensures { result ≡ sums_gain_mirrored binary64 false s t }
+fn gain_even<T: Tables>(s: Sums<T>, t: Sums<T>) -> Sums<T>
+    ensures { as_sums T.float result ≡ sums_gain_mirrored T.format false (as_sums T.float s) (as_sums T.float t) }
 {
     Sums {
         v1: s.v1 - t.v1,
@@ -160,8 +175,8 @@ fn gain_even(s: Sums, t: Sums) -> Sums
 }
 
 // The sums at -sigma with the terms t of an odd level at sigma: those of v2, w2 and dv2 are odd.
-fn gain_odd(s: Sums, t: Sums) -> Sums
-    ensures { result ≡ sums_gain_mirrored binary64 true s t }
+fn gain_odd<T: Tables>(s: Sums<T>, t: Sums<T>) -> Sums<T>
+    ensures { as_sums T.float result ≡ sums_gain_mirrored T.format true (as_sums T.float s) (as_sums T.float t) }
 {
     Sums {
         v1: s.v1 + t.v1,
@@ -174,8 +189,8 @@ fn gain_odd(s: Sums, t: Sums) -> Sums
 }
 
 // The sums at -sigma with the terms after level k; `odd`: level k + 1 is odd.
-fn last_mirrored(odd: bool, s: Sums, t: Tail) -> Sums
-    ensures { result ≡ sums_last_mirrored binary64 odd s t }
+fn last_mirrored<T: Tables>(odd: bool, s: Sums<T>, t: Tail<T>) -> Sums<T>
+    ensures { as_sums T.float result ≡ sums_last_mirrored T.format odd (as_sums T.float s) (as_tail T.float t) }
 {
     if odd {
         Sums {
@@ -200,9 +215,13 @@ fn last_mirrored(odd: bool, s: Sums, t: Tail) -> Sums
 
 // The sums over i < k of sigma^i/(i + 1)! and of sigma^i/(i + 2)!, by Horner from the last term, at
 // both signs in one pass over the reciprocals.
-fn horner_at(sigma: f64, k: usize) -> Horner
+fn horner_at<T: Tables>(sigma: T, k: usize) -> Horner<T>
     requires { k ≤ 28 }
-    ensures { result ≡ record { v0 = g_series_pair binary64 sigma 1 k; w0 = g_series_pair binary64 sigma 2 k } }
+    ensures { as_horner T.float result
+        ≡ record {
+          v0 = g_series_pair T.format (T.float sigma) 1 k;
+          w0 = g_series_pair T.format (T.float sigma) 2 k;
+        } }
 {
     horner_stopped(sigma, k, k)
 }

@@ -1,27 +1,26 @@
 // The reciprocals that the series read: none of them is past the end of the table.
 ghost use Rattle.std.specs.Prelude.{◌≡◌, ◌≤◌};
-ghost use Rattle.std.specs.Float.{binary64};
 ghost use Rattle.tables.specs.Tables.{recip_fact};
 
-use tables::double::{Recip, recip_fact};
+use tables::Tables;
 
 // 1/n!, for an index that the table has.
-pub fn table_entry(n: usize) -> f64
+pub fn table_entry<T: Tables>(n: usize) -> T
     requires { n ≤ 32 }
-    ensures { result ≡ recip_fact binary64 n }
+    ensures { T.float result ≡ recip_fact T.format n }
 {
-    match recip_fact(n) {
-        Recip::Number(r) => r,
-        Recip::None => unreachable!(),
+    match T::recip_fact(n) {
+        Some(r) => r,
+        None => unreachable!(),
     }
 }
 
 // PERF (D123): 1/n! for an index that a loop counts. The compiler follows the range of an argument over
-// all calls of a function, and gives up after ten that widen it: this one is not called with the fixed
-// indices of `small` and `shortest`, so its index is seen to be in the table and the loops test nothing.
-pub fn recip(n: usize) -> f64
+// all calls of a function, and gives up after ten that widen it: this one is not called with the
+// indices of `small`, so its index is seen to be in the table and the loops test nothing.
+pub fn recip<T: Tables>(n: usize) -> T
     requires { n ≤ 32 }
-    ensures { result ≡ recip_fact binary64 n }
+    ensures { T.float result ≡ recip_fact T.format n }
 {
     table_entry(n)
 }

@@ -1,93 +1,94 @@
 // The recurrence of the total-degree series: its levels, the terms that a level gives, and the six
 // sums of them, for one sign.
 ghost use Rattle.std.specs.Prelude.{◌≡◌};
-ghost use Rattle.std.specs.Float.{binary64};
 ghost use Rattle.series.specs.Series.{series_first, series_next, level_terms, series_chi, series_coeffs};
 ghost use Rattle.series.specs.Private.{sums_none, sums_gain, tail_terms, sums_last, v_none, v_turn};
+ghost use Rattle.series.specs.Floats.{as_level, as_sim3_coeffs, as_sums, as_tail, as_turns_v};
 
 use crate::sim3::Sim3Coeffs;
+use tables::Tables;
 
 // Level j: p = sigma^j, xi and zeta, and the z-derivatives of these two.
 #[derive(Clone, Copy)]
-pub struct Level {
-    pub xi: f64,
-    pub dxi: f64,
-    pub zeta: f64,
-    pub dzeta: f64,
-    pub p: f64,
+pub struct Level<T> {
+    pub xi: T,
+    pub dxi: T,
+    pub zeta: T,
+    pub dzeta: T,
+    pub p: T,
 }
 
 // The six sums over the levels, or the six terms that one level gives them.
 #[derive(Clone, Copy)]
-pub struct Sums {
-    pub v1: f64,
-    pub dv1: f64,
-    pub v2: f64,
-    pub dv2: f64,
-    pub w1: f64,
-    pub w2: f64,
+pub struct Sums<T> {
+    pub v1: T,
+    pub dv1: T,
+    pub v2: T,
+    pub dv2: T,
+    pub w1: T,
+    pub w2: T,
 }
 
 // The terms that the sums take after level k: one for v2 and for w2, two for dv1, three for dv2.
 #[derive(Clone, Copy)]
-pub struct Tail {
-    pub v2: f64,
-    pub w2: f64,
-    pub dv1: f64,
-    pub dv1_next: f64,
-    pub dv2: f64,
-    pub dv2_next: f64,
-    pub dv2_last: f64,
+pub struct Tail<T> {
+    pub v2: T,
+    pub w2: T,
+    pub dv1: T,
+    pub dv1_next: T,
+    pub dv2: T,
+    pub dv2_next: T,
+    pub dv2_last: T,
 }
 
 // A loop for one sign after some levels: the next level, and the sums so far.
 #[derive(Clone, Copy)]
-pub struct Turns {
-    pub level: Level,
-    pub sums: Sums,
+pub struct Turns<T> {
+    pub level: Level<T>,
+    pub sums: Sums<T>,
 }
 
 // A loop for v alone: what v reads of the next level, and its two sums.
 #[derive(Clone, Copy)]
-pub struct TurnsV {
-    pub p: f64,
-    pub xi: f64,
-    pub zeta: f64,
-    pub v1: f64,
-    pub v2: f64,
+pub struct TurnsV<T> {
+    pub p: T,
+    pub xi: T,
+    pub zeta: T,
+    pub v1: T,
+    pub v2: T,
 }
 
 // The loop for both signs: the next level at sigma, and the sums at sigma and at -sigma.
 #[derive(Clone, Copy)]
-pub struct TurnsPair {
-    pub level: Level,
-    pub pos: Sums,
-    pub neg: Sums,
+pub struct TurnsPair<T> {
+    pub level: Level<T>,
+    pub pos: Sums<T>,
+    pub neg: Sums<T>,
 }
 
 // The sums at sigma and at -sigma.
 #[derive(Clone, Copy)]
-pub struct SumsPair {
-    pub pos: Sums,
-    pub neg: Sums,
+pub struct SumsPair<T> {
+    pub pos: Sums<T>,
+    pub neg: Sums<T>,
 }
 
 // Level 0.
-pub fn first() -> Level
-    ensures { result ≡ series_first }
+pub fn first<T: Tables>() -> Level<T>
+    ensures { as_level T.float result ≡ series_first }
 {
     Level {
-        p: 1.0,
-        xi: 0.0,
-        zeta: 0.0,
-        dxi: 0.0,
-        dzeta: 0.0,
+        p: T::of(1.0),
+        xi: T::of(0.0),
+        zeta: T::of(0.0),
+        dxi: T::of(0.0),
+        dzeta: T::of(0.0),
     }
 }
 
 // Level j + 1 from level j, every part from the old ones.
-pub fn next(sigma: f64, z: f64, l: Level) -> Level
-    ensures { result ≡ series_next binary64 sigma z l }
+pub fn next<T: Tables>(sigma: T, z: T, l: Level<T>) -> Level<T>
+    ensures { as_level T.float result ≡ series_next T.format (T.float sigma) (T.float z) (as_level T.float l) }
 {
     Level {
         p: l.p * sigma,
@@ -99,8 +100,8 @@ pub fn next(sigma: f64, z: f64, l: Level) -> Level
 }
 
 // The terms of level j, with r1 = 1/(j + 1)! and r2 = 1/(j + 2)!.
-pub fn terms(l: Level, r1: f64, r2: f64) -> Sums
-    ensures { result ≡ level_terms binary64 l r1 r2 }
+pub fn terms<T: Tables>(l: Level<T>, r1: T, r2: T) -> Sums<T>
+    ensures { as_sums T.float result ≡ level_terms T.format (as_level T.float l) (T.float r1) (T.float r2) }
 {
     Sums {
         v1: l.xi * r1,
@@ -113,22 +114,22 @@ pub fn terms(l: Level, r1: f64, r2: f64) -> Sums
 }
 
 // The sums before their first terms.
-pub fn none() -> Sums
-    ensures { result ≡ sums_none }
+pub fn none<T: Tables>() -> Sums<T>
+    ensures { as_sums T.float result ≡ sums_none }
 {
     Sums {
-        v1: 0.0,
-        v2: 0.0,
-        w1: 0.0,
-        w2: 0.0,
-        dv1: 0.0,
-        dv2: 0.0,
+        v1: T::of(0.0),
+        v2: T::of(0.0),
+        w1: T::of(0.0),
+        w2: T::of(0.0),
+        dv1: T::of(0.0),
+        dv2: T::of(0.0),
     }
 }
 
 // The sums with the terms t of a level.
-pub fn gain(s: Sums, t: Sums) -> Sums
-    ensures { result ≡ sums_gain binary64 s t }
+pub fn gain<T: Tables>(s: Sums<T>, t: Sums<T>) -> Sums<T>
+    ensures { as_sums T.float result ≡ sums_gain T.format (as_sums T.float s) (as_sums T.float t) }
 {
     Sums {
         v1: s.v1 + t.v1,
@@ -142,8 +143,10 @@ pub fn gain(s: Sums, t: Sums) -> Sums
 
 // What the levels k + 1, k + 2 and k + 3 give, with l level k + 1 and r2, r3, r4 the reciprocals of
 // (k + 2)!, (k + 3)!, (k + 4)!.
-pub fn tail_terms(sigma: f64, z: f64, l: Level, r2: f64, r3: f64, r4: f64) -> Tail
-    ensures { result ≡ tail_terms binary64 sigma z l r2 r3 r4 }
+pub fn tail_terms<T: Tables>(sigma: T, z: T, l: Level<T>, r2: T, r3: T, r4: T) -> Tail<T>
+    ensures { as_tail T.float result
+        ≡ tail_terms T.format (T.float sigma) (T.float z) (as_level T.float l)
+        (T.float r2) (T.float r3) (T.float r4) }
 {
     let m = next(sigma, z, l);
     let n = next(sigma, z, m);
@@ -159,8 +162,8 @@ pub fn tail_terms(sigma: f64, z: f64, l: Level, r2: f64, r3: f64, r4: f64) -> Ta
 }
 
 // The sums with the terms after level k.
-pub fn last(s: Sums, t: Tail) -> Sums
-    ensures { result ≡ sums_last binary64 s t }
+pub fn last<T: Tables>(s: Sums<T>, t: Tail<T>) -> Sums<T>
+    ensures { as_sums T.float result ≡ sums_last T.format (as_sums T.float s) (as_tail T.float t) }
 {
     Sums {
         v1: s.v1,
@@ -173,15 +176,16 @@ pub fn last(s: Sums, t: Tail) -> Sums
 }
 
 // (v0 - z v2)(sigma^2 + z).
-pub fn chi_delta(sigma: f64, z: f64, v0: f64, v2: f64) -> f64
-    ensures { result ≡ series_chi binary64 sigma z v0 v2 }
+pub fn chi_delta<T: Tables>(sigma: T, z: T, v0: T, v2: T) -> T
+    ensures { T.float result ≡ series_chi T.format (T.float sigma) (T.float z) (T.float v0) (T.float v2) }
 {
     (v0 - z * v2) * (sigma * sigma + z)
 }
 
 // The coefficients from the Horner sums v0 and w0 and the six sums.
-pub fn coeffs(sigma: f64, z: f64, v0: f64, w0: f64, s: Sums) -> Sim3Coeffs
-    ensures { result ≡ series_coeffs binary64 sigma z v0 w0 s }
+pub fn coeffs<T: Tables>(sigma: T, z: T, v0: T, w0: T, s: Sums<T>) -> Sim3Coeffs<T>
+    ensures { as_sim3_coeffs T.float result
+        ≡ series_coeffs T.format (T.float sigma) (T.float z) (T.float v0) (T.float w0) (as_sums T.float s) }
 {
     Sim3Coeffs {
         v0,
@@ -197,21 +201,22 @@ pub fn coeffs(sigma: f64, z: f64, v0: f64, w0: f64, s: Sums) -> Sim3Coeffs
 }
 
 // The loop for v alone before its first level.
-pub fn none_v() -> TurnsV
-    ensures { result ≡ v_none }
+pub fn none_v<T: Tables>() -> TurnsV<T>
+    ensures { as_turns_v T.float result ≡ v_none }
 {
     TurnsV {
-        p: 1.0,
-        xi: 0.0,
-        zeta: 0.0,
-        v1: 0.0,
-        v2: 0.0,
+        p: T::of(1.0),
+        xi: T::of(0.0),
+        zeta: T::of(0.0),
+        v1: T::of(0.0),
+        v2: T::of(0.0),
     }
 }
 
 // One level for v alone, with r1 = 1/(j + 1)!.
-pub fn turn_v(sigma: f64, z: f64, r1: f64, s: TurnsV) -> TurnsV
-    ensures { result ≡ v_turn binary64 sigma z r1 s }
+pub fn turn_v<T: Tables>(sigma: T, z: T, r1: T, s: TurnsV<T>) -> TurnsV<T>
+    ensures { as_turns_v T.float result
+        ≡ v_turn T.format (T.float sigma) (T.float z) (T.float r1) (as_turns_v T.float s) }
 {
     TurnsV {
         p: s.p * sigma,

@@ -2,111 +2,94 @@
 // the one for v alone, which has the full one's bits. k is the number of terms of v0 and w0; the
 // other sums run to the level that gives every coefficient the same total degree.
 ghost use Rattle.std.specs.Prelude.{◌≡◌, ◌+◌, ◌≤◌};
-ghost use Rattle.std.specs.Float.{binary64};
-ghost use Rattle.series.specs.Series.{series_sums, series_full, series_v, series_told, series_v_told, series_answer, series_v_answer};
+ghost use Rattle.series.specs.Series.{series_sums, series_full, series_v, series_answer, series_v_answer};
 ghost use Rattle.series.specs.Private.{solo_turn, solo_turns, v_turns};
+ghost use Rattle.linalg.specs.Answer.{told};
+ghost use Rattle.series.specs.Floats.{as_coeffs4, as_sim3_coeffs, as_sums, as_turns, as_turns_v};
 
 use crate::horner::g_series;
 use crate::reciprocal::recip;
+use crate::recurrence;
 use crate::recurrence::{Sums, Turns, TurnsV, none_v, turn_v};
-use crate::{recurrence, shortest};
+use crate::terms::Terms;
+use linalg::refusal::Refusal;
+use tables::Tables;
 
 // v0, v1, v2 of V, w0, w1, w2 of Gamma_2(M), the z-derivatives of v1 and v2, and chi times delta,
 // where chi = v0 - z v2 and delta = sigma^2 + z.
 #[derive(Clone, Copy)]
-pub struct Sim3Coeffs {
-    pub v0: f64,
-    pub v1: f64,
-    pub v2: f64,
-    pub w0: f64,
-    pub w1: f64,
-    pub w2: f64,
-    pub dv1: f64,
-    pub dv2: f64,
-    pub chi_delta: f64,
+pub struct Sim3Coeffs<T> {
+    pub v0: T,
+    pub v1: T,
+    pub v2: T,
+    pub w0: T,
+    pub w1: T,
+    pub w2: T,
+    pub dv1: T,
+    pub dv2: T,
+    pub chi_delta: T,
 }
 
 // v alone, with chi times delta.
 #[derive(Clone, Copy)]
-pub struct Coeffs4 {
-    pub v0: f64,
-    pub v1: f64,
-    pub v2: f64,
-    pub chi_delta: f64,
+pub struct Coeffs4<T> {
+    pub v0: T,
+    pub v1: T,
+    pub v2: T,
+    pub chi_delta: T,
 }
 
 // The coefficients at sigma and at -sigma.
 #[derive(Clone, Copy)]
-pub struct CoeffsPair {
-    pub pos: Sim3Coeffs,
-    pub neg: Sim3Coeffs,
+pub struct CoeffsPair<T> {
+    pub pos: Sim3Coeffs<T>,
+    pub neg: Sim3Coeffs<T>,
 }
 
 // A Horner sum at sigma and at -sigma.
 #[derive(Clone, Copy)]
-pub struct GPair {
-    pub pos: f64,
-    pub neg: f64,
+pub struct GPair<T> {
+    pub pos: T,
+    pub neg: T,
 }
 
 // v0 and w0, each at sigma and at -sigma.
 #[derive(Clone, Copy)]
-pub struct Horner {
-    pub v0: GPair,
-    pub w0: GPair,
-}
-
-// The coefficients, or refusal 1 or 4.
-#[derive(Clone, Copy)]
-pub enum SeriesAnswer {
-    Coeffs(Sim3Coeffs),
-    Refused(u8),
-}
-
-// v alone, or refusal 1 or 4.
-#[derive(Clone, Copy)]
-pub enum SeriesVAnswer {
-    Coeffs(Coeffs4),
-    Refused(u8),
-}
-
-// The coefficients at both signs, or refusal 1 or 4.
-#[derive(Clone, Copy)]
-pub enum SeriesPairAnswer {
-    Coeffs(CoeffsPair),
-    Refused(u8),
+pub struct Horner<T> {
+    pub v0: GPair<T>,
+    pub w0: GPair<T>,
 }
 
 // The series at k terms; refusal 1 for z below zero, then 4 for k above 28.
-pub fn series(sigma: f64, z: f64, k: usize) -> SeriesAnswer
-    ensures { series_told result ≡ series_answer binary64 sigma z k }
+pub fn series<T: Tables>(sigma: T, z: T, k: usize) -> Result<Sim3Coeffs<T>, Refusal>
+    ensures { told (as_sim3_coeffs T.float) result ≡ series_answer T.format (T.float sigma) (T.float z) k }
 {
-    if z < 0.0 {
-        return SeriesAnswer::Refused(1);
+    if z < T::of(0.0) {
+        return Err(Refusal::NegativeAngle);
     }
     if 28 < k {
-        return SeriesAnswer::Refused(4);
+        return Err(Refusal::TooManyTerms);
     }
-    SeriesAnswer::Coeffs(series_at(sigma, z, k))
+    Ok(series_at(sigma, z, k))
 }
 
 // The series for v alone; refusal 1 for z below zero, then 4 for k above 30.
-pub fn series_v(sigma: f64, z: f64, k: usize) -> SeriesVAnswer
-    ensures { series_v_told result ≡ series_v_answer binary64 sigma z k }
+pub fn series_v<T: Terms>(sigma: T, z: T, k: usize) -> Result<Coeffs4<T>, Refusal>
+    ensures { told (as_coeffs4 T.float) result ≡ series_v_answer T.format (T.float sigma) (T.float z) k }
 {
-    if z < 0.0 {
-        return SeriesVAnswer::Refused(1);
+    if z < T::of(0.0) {
+        return Err(Refusal::NegativeAngle);
     }
     if 30 < k {
-        return SeriesVAnswer::Refused(4);
+        return Err(Refusal::TooManyTerms);
     }
-    SeriesVAnswer::Coeffs(series_v_at(sigma, z, k))
+    Ok(series_v_at(sigma, z, k))
 }
 
 // `series` for a k that is not refused.
-fn series_at(sigma: f64, z: f64, k: usize) -> Sim3Coeffs
+fn series_at<T: Tables>(sigma: T, z: T, k: usize) -> Sim3Coeffs<T>
     requires { k ≤ 28 }
-    ensures { result ≡ series_full binary64 sigma z k }
+    ensures { as_sim3_coeffs T.float result ≡ series_full T.format (T.float sigma) (T.float z) k }
 {
     let v0 = g_series(sigma, 1, k);
     let w0 = g_series(sigma, 2, k);
@@ -115,9 +98,9 @@ fn series_at(sigma: f64, z: f64, k: usize) -> Sim3Coeffs
 }
 
 // The six sums, each to its own last level.
-fn sums_at(sigma: f64, z: f64, k: usize) -> Sums
+fn sums_at<T: Tables>(sigma: T, z: T, k: usize) -> Sums<T>
     requires { k ≤ 28 }
-    ensures { result ≡ series_sums binary64 sigma z k }
+    ensures { as_sums T.float result ≡ series_sums T.format (T.float sigma) (T.float z) k }
 {
     let s = turns_at(sigma, z, k);
     let t = recurrence::tail_terms(sigma, z, s.level, recip(k + 2), recip(k + 3), recip(k + 4));
@@ -125,9 +108,9 @@ fn sums_at(sigma: f64, z: f64, k: usize) -> Sums
 }
 
 // The levels to k, which give a term to every sum.
-fn turns_at(sigma: f64, z: f64, k: usize) -> Turns
+fn turns_at<T: Tables>(sigma: T, z: T, k: usize) -> Turns<T>
     requires { k ≤ 28 }
-    ensures { result ≡ solo_turns binary64 sigma z (k + 1) }
+    ensures { as_turns T.float result ≡ solo_turns T.format (T.float sigma) (T.float z) (k + 1) }
 {
     let mut s = Turns {
         level: recurrence::first(),
@@ -140,8 +123,9 @@ fn turns_at(sigma: f64, z: f64, k: usize) -> Turns
 }
 
 // One level, with r1 = 1/(j + 1)! and r2 = 1/(j + 2)!.
-fn turn(sigma: f64, z: f64, r1: f64, r2: f64, s: Turns) -> Turns
-    ensures { result ≡ solo_turn binary64 sigma z r1 r2 s }
+fn turn<T: Tables>(sigma: T, z: T, r1: T, r2: T, s: Turns<T>) -> Turns<T>
+    ensures { as_turns T.float result
+        ≡ solo_turn T.format (T.float sigma) (T.float z) (T.float r1) (T.float r2) (as_turns T.float s) }
 {
     let t = recurrence::terms(s.level, r1, r2);
     Turns {
@@ -151,9 +135,9 @@ fn turn(sigma: f64, z: f64, r1: f64, r2: f64, s: Turns) -> Turns
 }
 
 // `series_v` for a k that is not refused. v2 takes one level more than v1.
-fn series_v_at(sigma: f64, z: f64, k: usize) -> Coeffs4
+fn series_v_at<T: Terms>(sigma: T, z: T, k: usize) -> Coeffs4<T>
     requires { k ≤ 30 }
-    ensures { result ≡ series_v binary64 sigma z k }
+    ensures { as_coeffs4 T.float result ≡ series_v T.format (T.float sigma) (T.float z) k }
 {
     let s = turns_v_at(sigma, z, k);
     let v0 = g_series(sigma, 1, k);
@@ -166,14 +150,23 @@ fn series_v_at(sigma: f64, z: f64, k: usize) -> Coeffs4
     }
 }
 
-// The levels to k, for v alone.
-fn turns_v_at(sigma: f64, z: f64, k: usize) -> TurnsV
+// The levels to k, for v alone. PERF (D122): the fewest levels that an arm takes are a constant, so
+// that the compiler writes their turns out: a loop costs them a fourth of their time.
+fn turns_v_at<T: Terms>(sigma: T, z: T, k: usize) -> TurnsV<T>
     requires { k ≤ 30 }
-    ensures { result ≡ v_turns binary64 sigma z (k + 1) }
+    ensures { as_turns_v T.float result ≡ v_turns T.format (T.float sigma) (T.float z) (k + 1) }
 {
-    if k == shortest::TERMS {
-        return shortest::turns_v(sigma, z);
+    if k == T::fewest_terms() {
+        return turns_v(sigma, z, T::fewest_terms());
     }
+    turns_v(sigma, z, k)
+}
+
+// The loop of `turns_v_at`.
+fn turns_v<T: Tables>(sigma: T, z: T, k: usize) -> TurnsV<T>
+    requires { k ≤ 30 }
+    ensures { as_turns_v T.float result ≡ v_turns T.format (T.float sigma) (T.float z) (k + 1) }
+{
     let mut s = none_v();
     for j in 0..k + 1 {
         s = turn_v(sigma, z, recip(j + 1), s);

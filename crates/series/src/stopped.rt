@@ -1,43 +1,39 @@
 // One pass over the reciprocals, stopped: what it holds after any number of entries, beside what the sums
 // of each sign alone hold then. No other function calls this: its contract says that they are the same.
 ghost use Rattle.std.specs.Prelude.{◌≡◌, ◌≤◌};
-ghost use Rattle.std.specs.Float.{binary64};
-ghost use Rattle.series.specs.Pass.{horner_stopped, pass_stopped, stopped_told};
+ghost use Rattle.series.specs.Pass.{horner_stopped, pass_stopped};
+ghost use Rattle.linalg.specs.Answer.{told};
+ghost use Rattle.series.specs.Floats.{as_horner, as_stopped};
 
 use crate::horner::{entries_read, g_stopped, horner_stopped};
 use crate::sim3::{GPair, Horner};
 use crate::small;
+use crate::terms::Terms;
+use linalg::refusal::Refusal;
 
 // v0 and w0 of the series arm and of the closed arm at small sigma, from the pass and from each sign
 // alone.
 #[derive(Clone, Copy)]
-pub struct Stopped {
-    pub series: Horner,
-    pub series_alone: Horner,
-    pub closed: Horner,
-    pub closed_alone: Horner,
-}
-
-// The partial sums, or refusal 4.
-#[derive(Clone, Copy)]
-pub enum StoppedAnswer {
-    Sums(Stopped),
-    Refused(u8),
+pub struct Stopped<T> {
+    pub series: Horner<T>,
+    pub series_alone: Horner<T>,
+    pub closed: Horner<T>,
+    pub closed_alone: Horner<T>,
 }
 
 // The passes at k terms, and at those of the closed arm, stopped after `stop` entries: a stop behind the
 // last entry is the last. Refusal 4 for k above 28.
-pub fn pass_stopped(sigma: f64, k: usize, stop: usize) -> StoppedAnswer
-    ensures { stopped_told result ≡ pass_stopped binary64 sigma k stop }
+pub fn pass_stopped<T: Terms>(sigma: T, k: usize, stop: usize) -> Result<Stopped<T>, Refusal>
+    ensures { told (as_stopped T.float) result ≡ pass_stopped T.format (T.float sigma) k stop }
 {
     if 28 < k {
-        return StoppedAnswer::Refused(4);
+        return Err(Refusal::TooManyTerms);
     }
     let series = series_at(sigma, k, stop);
     let series_alone = alone(sigma, k, k, stop);
     let closed = small::horner_small_stopped(sigma, stop);
-    let closed_alone = alone(sigma, small::V0_TERMS, small::W0_TERMS, stop);
-    StoppedAnswer::Sums(Stopped {
+    let closed_alone = alone(sigma, T::w0_terms() + 1, T::w0_terms(), stop);
+    Ok(Stopped {
         series,
         series_alone,
         closed,
@@ -46,17 +42,17 @@ pub fn pass_stopped(sigma: f64, k: usize, stop: usize) -> StoppedAnswer
 }
 
 // The pass of the series arm.
-fn series_at(sigma: f64, k: usize, stop: usize) -> Horner
+fn series_at<T: Terms>(sigma: T, k: usize, stop: usize) -> Horner<T>
     requires { k ≤ 28 }
-    ensures { result ≡ horner_stopped binary64 sigma k k stop }
+    ensures { as_horner T.float result ≡ horner_stopped T.format (T.float sigma) k k stop }
 {
     horner_stopped(sigma, k, entries_read(stop, k))
 }
 
 // The four sums of v0 and w0 by the code of one sign.
-fn alone(sigma: f64, v_terms: usize, w_terms: usize, stop: usize) -> Horner
+fn alone<T: Terms>(sigma: T, v_terms: usize, w_terms: usize, stop: usize) -> Horner<T>
     requires { (v_terms ≤ 30) × (w_terms ≤ 30) }
-    ensures { result ≡ horner_stopped binary64 sigma v_terms w_terms stop }
+    ensures { as_horner T.float result ≡ horner_stopped T.format (T.float sigma) v_terms w_terms stop }
 {
     let minus = -sigma;
     let v = entries_read(stop, v_terms);

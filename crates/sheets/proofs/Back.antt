@@ -13,7 +13,7 @@ use lib.Ieee.{Float, nan, inf, fin, is_nan, binary64, of_bits, to_bits}
 use lib.Ieee.Bits.{to_bits-of_bits}
 use Rattle.linalg.specs.Answer.{answers}
 use Rattle.linalg.specs.Vector.{vec_numbers}
-use Rattle.frames.specs.declared.Pose.{Pose}
+use Rattle.frames.specs.Floats.{Pose}
 use Rattle.layout.specs.Layout.{vec_in, quat_in, pose_in, quat_numbers, pose_numbers}
 use Rattle.wire.specs.Wire.{word, word_of, word_at, word_bytes, number_of, number_at, number_bytes, numbers_bytes, item_bytes, items_bytes, numbers}
 use Rattle.wire.proofs.Bytes.{items_append, items_numbers}

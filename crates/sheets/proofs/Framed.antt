@@ -12,7 +12,7 @@ use Rattle.linalg.specs.Vector.{vec, vec_numbers}
 use Rattle.so3.specs.Quat.{quat}
 use Rattle.sim3.specs.Pose.{pose}
 use Rattle.frames.specs.Pose.{framed}
-use Rattle.frames.specs.declared.Pose.{Pose}
+use Rattle.frames.specs.Floats.{Pose}
 use Rattle.layout.specs.Layout.{vec_in, quat_in, pose_in, quat_numbers, pose_numbers}
 use Rattle.layout.proofs.Runs.{sets_split}
 use Rattle.wire.specs.Wire.{word, word_of, word_at, word_bytes, number_of, number_at, number_bytes, item_bytes, items_bytes, numbers}

@@ -34,7 +34,7 @@ pub(crate) fn short_at(b: &[u8], at: usize) -> u16
     wire::short_from_le_bytes([b[at], b[at + 1]])
 }
 
-pub(crate) fn framed_at(b: &[u8], at: usize) -> Pose
+pub(crate) fn framed_at(b: &[u8], at: usize) -> Pose<f64>
     requires { at + framed_width binary64 ≤ length b.now }
     ensures { result ≡ framed_in binary64 (drop at b.now) }
 {
@@ -82,7 +82,7 @@ pub(crate) fn put_short(out: &mut [u8], at: usize, n: u16)
     out[at + 1] = d[1];
 }
 
-pub(crate) fn put_framed(out: &mut [u8], at: usize, x: Pose)
+pub(crate) fn put_framed(out: &mut [u8], at: usize, x: Pose<f64>)
     requires { at + framed_width binary64 ≤ length out.old }
     ensures { out.new ≡ sets out.old at (items_bytes binary64 (framed_items x)) }
 {

@@ -37,7 +37,7 @@ pub const STORE: usize = TAIL + 2;
 #[derive(Clone, Copy)]
 pub struct Shot {
     pub take: u16,
-    pub pose: Pose,
+    pub pose: Pose<f64>,
 }
 
 // What became of a shot: the first of its sheet; kept instead of the take named; not kept, being older

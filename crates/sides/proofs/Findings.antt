@@ -4,11 +4,11 @@ use lib.Ieee.{binary64, neg, add, sub, mul, lt, le}
 use Rattle.ieee.specs.Numbers.{f0, f1, half}
 use Rattle.linalg.specs.Answer.{refuses}
 use Rattle.linalg.specs.Matrix.{vec_component, mat_col, mat_get}
-use Rattle.linalg.specs.declared.vector.Vec3.{Vec3}
-use Rattle.linalg.specs.declared.matrix.Mat3.{Mat3}
+use Rattle.linalg.specs.Floats.{Vec3}
+use Rattle.linalg.specs.Floats.{Mat3}
 use Rattle.series.specs.Series.{series_first, series_next, series_level, series_answer, series_v_answer}
 use Rattle.coeffs.specs.Entries.{scaled_answer}
-use Rattle.closed.specs.declared.values.Values.{Values}
+use Rattle.closed.specs.Floats.{Values}
 use Rattle.jacobian.specs.Jac.{blocks, jac_inverse_answer}
 
 -- 2: at σ = 1 and at σ = -1 level 1 has ζ = +0

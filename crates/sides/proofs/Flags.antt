@@ -2,14 +2,14 @@
 use mathlib.Core.Path.{◌≡◌}
 use lib.Ieee.{Format, neg}
 use Rattle.linalg.specs.Vector.{vec_norm_sq}
-use Rattle.linalg.specs.declared.matrix.Mat3.{Mat3}
+use Rattle.linalg.specs.Floats.{Mat3}
 use Rattle.linalg.proofs.Even.{norm_sq_even}
 use Rattle.closed.specs.Values.{mirrored}
-use Rattle.closed.specs.declared.values.Values.{Values}
+use Rattle.closed.specs.Floats.{Values}
 use Rattle.coeffs.specs.Group.{coeffs_scaled}
 use Rattle.coeffs.proofs.Arms.{flag_same}
 use Rattle.sim3.specs.Tangent.{tangent_neg}
-use Rattle.sim3.specs.declared.tangent.Sim3Tangent.{Sim3Tangent}
+use Rattle.sim3.specs.Floats.{Sim3Tangent}
 use Rattle.sides.specs.Blocks.{jl_and_inverse}
 use Rattle.sides.specs.Pair.{block_pair, block_pair_scaled}
 

@@ -1,23 +1,23 @@
 -- The left Jacobian of the exponential and its inverse, for one sign, as `jl_blocks_with` and `jl_and_inverse_from` round
 -- them. The rotation Jacobian of φ and its inverse are handed in.
-use Rattle.std.specs.Prelude.{Bool, cond, Float}
+use Rattle.std.specs.Prelude.{cond, Float}
 use Rattle.std.specs.Float.{Format}
 use Rattle.std.specs.Float.Ieee.{neg}
 use Rattle.ieee.specs.Numbers.{f1, f2}
 use Rattle.ieee.specs.Infix.{operations}
 use Rattle.linalg.specs.Vector.{vec_norm_sq, vec_neg, vec_operations}
 use Rattle.linalg.specs.Matrix.{mat, mat_identity, mat_neg, mat_hat, mat_mul_hat, mat_hat_mul, mat_operations}
-use Rattle.linalg.specs.declared.vector.Vec3.{Vec3}
-use Rattle.linalg.specs.declared.matrix.Mat3.{Mat3}
-use Rattle.series.specs.declared.sim3.Sim3Coeffs.{Sim3Coeffs}
+use Rattle.linalg.specs.Floats.{Vec3}
+use Rattle.linalg.specs.Floats.{Mat3}
+use Rattle.series.specs.Floats.{Sim3Coeffs}
 use Rattle.coeffs.specs.Group.{coeffs_scaled, coeffs_unscale, coeffs_plain}
-use Rattle.closed.specs.declared.values.Values.{Values}
-use Rattle.coeffs.specs.declared.sim3.Scaled.{Scaled}
-use Rattle.sim3.specs.declared.tangent.Sim3Tangent.{Sim3Tangent}
+use Rattle.closed.specs.Floats.{Values}
+use Rattle.coeffs.specs.Floats.{Scaled}
+use Rattle.sim3.specs.Floats.{Sim3Tangent}
 use Rattle.jacobian.specs.Jac.{blocks}
-use Rattle.jacobian.specs.declared.jac.Sim3Jac.{Sim3Jac}
-use Rattle.sides.specs.declared.blocks.Three.{Three}
-use Rattle.sides.specs.declared.blocks.JacAndInverse.{JacAndInverse}
+use Rattle.jacobian.specs.Floats.{Sim3Jac}
+use Rattle.sides.specs.Floats.{Three}
+use Rattle.sides.specs.Floats.{JacAndInverse}
 
 abbrev pub three_v : Sim3Coeffs → Three
 three_v c = record { x0 = c.v0; x1 = c.v1; x2 = c.v2 }

@@ -6,15 +6,15 @@ use Rattle.std.specs.Float.Ieee.{of_bits, to_bits, is_nan, neg, le}
 use Rattle.ieee.specs.Numbers.{f0, f1, f2, f3}
 use Rattle.linalg.specs.Answer.{Answer, answers, refuses}
 use Rattle.linalg.specs.Vector.{vec}
-use Rattle.linalg.specs.declared.vector.Vec3.{Vec3}
+use Rattle.linalg.specs.Floats.{Vec3}
 use Rattle.series.specs.Series.{series_full, series_answer, series_v_answer, series_pair_answer}
-use Rattle.series.specs.declared.sim3.Sim3Coeffs.{Sim3Coeffs}
+use Rattle.series.specs.Floats.{Sim3Coeffs}
 use Rattle.closed.specs.Limits.{coeffs_delta, form_b_below}
 use Rattle.closed.specs.Arm.{coeffs_arm, arm_terms}
 use Rattle.coeffs.specs.Group.{coeffs_scaled}
-use Rattle.closed.specs.declared.values.Values.{Values}
+use Rattle.closed.specs.Floats.{Values}
 use Rattle.so3.specs.Quat.{quat, quat_renormalized}
-use Rattle.so3.specs.declared.quat.Quat.{Quat}
+use Rattle.so3.specs.Floats.{Quat}
 use Rattle.sim3.specs.Tangent.{tangent}
 use Rattle.sim3.specs.Exp.{pose_exp}
 

@@ -1,3 +1,4 @@
+pub mod Floats
 pub mod Blocks
 pub mod Side
 pub mod Pair

@@ -5,15 +5,15 @@ use Rattle.std.specs.Float.{Format}
 use Rattle.std.specs.Float.Ieee.{neg}
 use Rattle.linalg.specs.Vector.{vec_norm_sq, vec_neg}
 use Rattle.linalg.specs.Matrix.{mat_transpose}
-use Rattle.linalg.specs.declared.matrix.Mat3.{Mat3}
+use Rattle.linalg.specs.Floats.{Mat3}
 use Rattle.closed.specs.Values.{mirrored}
-use Rattle.closed.specs.declared.values.Values.{Values}
+use Rattle.closed.specs.Floats.{Values}
 use Rattle.coeffs.specs.Group.{coeffs_scaled}
-use Rattle.coeffs.specs.declared.sim3.Scaled.{Scaled}
+use Rattle.coeffs.specs.Floats.{Scaled}
 use Rattle.sim3.specs.Tangent.{tangent_neg}
-use Rattle.sim3.specs.declared.tangent.Sim3Tangent.{Sim3Tangent}
+use Rattle.sim3.specs.Floats.{Sim3Tangent}
 use Rattle.sides.specs.Blocks.{jl_and_inverse_from, jl_and_inverse}
-use Rattle.sides.specs.declared.pair.BlockPair.{BlockPair}
+use Rattle.sides.specs.Floats.{BlockPair}
 
 unfoldable pub block_pair : Format → Sim3Tangent → Values → Mat3 → Mat3 → BlockPair
 block_pair f tau v jl jlInv =

@@ -5,21 +5,21 @@ use Rattle.std.specs.Float.{Format}
 use Rattle.ieee.specs.Numbers.{f0, f1}
 use Rattle.linalg.specs.Vector.{vec_neg}
 use Rattle.linalg.specs.Matrix.{mat_identity, mat_neg, mat_hat, mat_mul_hat, mat_hat_mul, mat_operations}
-use Rattle.linalg.specs.declared.vector.Vec3.{Vec3}
-use Rattle.linalg.specs.declared.matrix.Mat3.{Mat3}
+use Rattle.linalg.specs.Floats.{Vec3}
+use Rattle.linalg.specs.Floats.{Mat3}
 use Rattle.so3.specs.Quat.{quat_to_matrix}
-use Rattle.closed.specs.declared.values.Values.{Values}
+use Rattle.closed.specs.Floats.{Values}
 use Rattle.sim3.specs.Tangent.{tangent_neg}
 use Rattle.sim3.specs.Pose.{pose_inverse, pose_act}
 use Rattle.sim3.specs.Exp.{pose_exp}
-use Rattle.sim3.specs.declared.sim3.Sim3.{Sim3}
-use Rattle.sim3.specs.declared.tangent.Sim3Tangent.{Sim3Tangent}
+use Rattle.sim3.specs.Floats.{Sim3}
+use Rattle.sim3.specs.Floats.{Sim3Tangent}
 use Rattle.jacobian.specs.Jac.{blocks, jac_identity, jac_neg}
 use Rattle.sides.specs.Blocks.{jac_jl, jl_and_inverse}
-use Rattle.jacobian.specs.declared.jac.Sim3Jac.{Sim3Jac}
-use Rattle.sides.specs.declared.side.ActJacobians.{ActJacobians}
-use Rattle.sides.specs.declared.side.TwoJacobians.{TwoJacobians}
-use Rattle.sides.specs.declared.side.ExpAndJl.{ExpAndJl}
+use Rattle.jacobian.specs.Floats.{Sim3Jac}
+use Rattle.sides.specs.Floats.{ActJacobians}
+use Rattle.sides.specs.Floats.{TwoJacobians}
+use Rattle.sides.specs.Floats.{ExpAndJl}
 
 module _ (f : Format) where
   infixl 60 ◌⊞ᵐ◌

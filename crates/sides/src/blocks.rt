@@ -1,11 +1,17 @@
 // J_l of the exponential and its inverse by blocks, from the coefficients at (sigma, |phi|^2), the
 // rotation Jacobian of phi and its inverse.
 ghost use Rattle.std.specs.Prelude.{◌≡◌};
-ghost use Rattle.std.specs.Float.{binary64};
 ghost use Rattle.linalg.specs.Vector.{vec_norm_sq};
 ghost use Rattle.sides.specs.Blocks.{mat_outer, poly_matrix, inv_coeffs, combined, jl_q, jl_blocks, jl_and_inverse_from};
+ghost use Rattle.linalg.specs.Floats.{as_mat3, as_vec3};
+ghost use Rattle.series.specs.Floats.{as_sim3_coeffs};
+ghost use Rattle.jacobian.specs.Floats.{as_sim3_jac};
+ghost use Rattle.coeffs.specs.Floats.{as_scaled};
+ghost use Rattle.sides.specs.Floats.{as_jac_and_inverse, as_three};
 
 use coeffs::sim3::Scaled;
+use coeffs::width::Width;
+use ieee::Real;
 use jacobian::jac::Sim3Jac;
 use linalg::matrix::{Mat3, hat, hat_mul, mul_hat};
 use linalg::vector::Vec3;
@@ -13,21 +19,21 @@ use series::sim3::Sim3Coeffs;
 
 // The coefficients of I, W and W^2.
 #[derive(Clone, Copy)]
-pub struct Three {
-    pub x0: f64,
-    pub x1: f64,
-    pub x2: f64,
+pub struct Three<T> {
+    pub x0: T,
+    pub x1: T,
+    pub x2: T,
 }
 
 #[derive(Clone, Copy)]
-pub struct JacAndInverse {
-    pub j: Sim3Jac,
-    pub inv: Sim3Jac,
+pub struct JacAndInverse<T> {
+    pub j: Sim3Jac<T>,
+    pub inv: Sim3Jac<T>,
 }
 
 // u v^T.
-fn outer(u: Vec3, v: Vec3) -> Mat3
-    ensures { result ≡ mat_outer binary64 u v }
+fn outer<T: Real>(u: Vec3<T>, v: Vec3<T>) -> Mat3<T>
+    ensures { as_mat3 T.float result ≡ mat_outer T.format (as_vec3 T.float u) (as_vec3 T.float v) }
 {
     Mat3 {
         c0: u.scale(v.x),
@@ -37,8 +43,8 @@ fn outer(u: Vec3, v: Vec3) -> Mat3
 }
 
 // x0 I + x1 W + x2 W^2, W = hat(phi), as a matrix.
-fn poly(phi: Vec3, x: Three) -> Mat3
-    ensures { result ≡ poly_matrix binary64 phi x }
+fn poly<T: Real>(phi: Vec3<T>, x: Three<T>) -> Mat3<T>
+    ensures { as_mat3 T.float result ≡ poly_matrix T.format (as_vec3 T.float phi) (as_three T.float x) }
 {
     let w = hat(phi);
     let a = Mat3::identity().scale(x.x0);
@@ -48,8 +54,8 @@ fn poly(phi: Vec3, x: Three) -> Mat3
 }
 
 // The coefficients of V^-1 from those of V: chi = v0 - z v2, lambda = chi^2 + z v1^2.
-fn inv_coeffs(v: Three, z: f64) -> Three
-    ensures { result ≡ inv_coeffs binary64 v z }
+fn inv_coeffs<T: Real>(v: Three<T>, z: T) -> Three<T>
+    ensures { as_three T.float result ≡ inv_coeffs T.format (as_three T.float v) (T.float z) }
 {
     let v0 = v.x0;
     let v1 = v.x1;
@@ -57,37 +63,49 @@ fn inv_coeffs(v: Three, z: f64) -> Three
     let chi = v0 - z * v2;
     let lambda = chi * chi + z * (v1 * v1);
     Three {
-        x0: 1.0 / v0,
+        x0: T::of(1.0) / v0,
         x1: -(v1 / lambda),
         x2: (v1 * v1 - v2 * chi) / (v0 * lambda),
     }
 }
 
 // rho x0 + mu x1 + nu x2.
-fn combine(rho: Vec3, mu: Vec3, nu: Vec3, x0: f64, x1: f64, x2: f64) -> Vec3
-    ensures { result ≡ combined binary64 rho mu nu x0 x1 x2 }
+fn combine<T: Real>(rho: Vec3<T>, mu: Vec3<T>, nu: Vec3<T>, x0: T, x1: T, x2: T) -> Vec3<T>
+    ensures { as_vec3 T.float result
+        ≡ combined T.format (as_vec3 T.float rho) (as_vec3 T.float mu) (as_vec3 T.float nu) (T.float x0) (T.float x1)
+        (T.float x2) }
 {
     rho.scale(x0).add(mu.scale(x1)).add(nu.scale(x2))
 }
 
 // The block b of J_l: Q = hat(V rho) J_l(phi) + 2 (dv1 mu + dv2 nu) phi^T - v1 Xi + v2 (Xi W - 2 W Xi).
-fn q_block(phi: Vec3, rho: Vec3, c: Sim3Coeffs, jl: Mat3) -> Mat3
-    ensures { result ≡ jl_q binary64 phi rho c jl }
+fn q_block<T: Real>(phi: Vec3<T>, rho: Vec3<T>, c: Sim3Coeffs<T>, jl: Mat3<T>) -> Mat3<T>
+    ensures { as_mat3 T.float result
+        ≡ jl_q T.format (as_vec3 T.float phi) (as_vec3 T.float rho) (as_sim3_coeffs T.float c) (as_mat3 T.float jl) }
 {
     let w = hat(phi);
     let xi = hat(rho);
     let mu = phi.cross(rho);
     let nu = phi.cross(mu);
     let y = combine(rho, mu, nu, c.v0, c.v1, c.v2);
-    let dy = mu.scale(2.0 * c.dv1).add(nu.scale(2.0 * c.dv2));
+    let dy = mu
+        .scale(T::of(2.0) * c.dv1)
+        .add(nu.scale(T::of(2.0) * c.dv2));
     let head = hat_mul(y, jl).add(outer(dy, phi)).sub(xi.scale(c.v1));
-    let tail = xi.mul(w).sub(w.mul(xi).scale(2.0)).scale(c.v2);
+    let tail = xi.mul(w).sub(w.mul(xi).scale(T::of(2.0))).scale(c.v2);
     head.add(tail)
 }
 
 // J_l(tau) from the unscaled coefficients and J_l(phi).
-pub fn jl_blocks_with(phi: Vec3, rho: Vec3, c: Sim3Coeffs, jl: Mat3) -> Sim3Jac
-    ensures { result ≡ jl_blocks binary64 phi rho c jl }
+pub fn jl_blocks_with<T: Real>(
+    phi: Vec3<T>,
+    rho: Vec3<T>,
+    c: Sim3Coeffs<T>,
+    jl: Mat3<T>,
+) -> Sim3Jac<T>
+    ensures { as_sim3_jac T.float result
+        ≡ jl_blocks T.format (as_vec3 T.float phi) (as_vec3 T.float rho) (as_sim3_coeffs T.float c)
+        (as_mat3 T.float jl) }
 {
     let mu = phi.cross(rho);
     let nu = phi.cross(mu);
@@ -103,23 +121,25 @@ pub fn jl_blocks_with(phi: Vec3, rho: Vec3, c: Sim3Coeffs, jl: Mat3) -> Sim3Jac
         b,
         c: poly(phi, v),
         f: gamma.neg(),
-        e: 1.0,
+        e: T::of(1.0),
     }
 }
 
 // J_l(tau) and its inverse from the coefficients as their arm forms them at z: c of the inverse from
 // the scaled v, e^-sigma applied last; b and f from the unscaled block.
-pub(crate) fn jl_and_inverse_at(
-    phi: Vec3,
-    rho: Vec3,
-    z: f64,
-    s: Scaled,
-    jl: Mat3,
-    jl_inv: Mat3,
-    up: f64,
-    down: f64,
-) -> JacAndInverse
-    ensures { result ≡ jl_and_inverse_from binary64 phi rho z s jl jl_inv up down }
+pub(crate) fn jl_and_inverse_at<T: Width>(
+    phi: Vec3<T>,
+    rho: Vec3<T>,
+    z: T,
+    s: Scaled<T>,
+    jl: Mat3<T>,
+    jl_inv: Mat3<T>,
+    up: T,
+    down: T,
+) -> JacAndInverse<T>
+    ensures { as_jac_and_inverse T.float result
+        ≡ jl_and_inverse_from T.format (as_vec3 T.float phi) (as_vec3 T.float rho) (T.float z) (as_scaled T.float s)
+        (as_mat3 T.float jl) (as_mat3 T.float jl_inv) (T.float up) (T.float down) }
 {
     let c = s.c;
     let j = jl_blocks_with(phi, rho, coeffs::sim3::unscale(c, up, s.scaled), jl);
@@ -128,7 +148,7 @@ pub(crate) fn jl_and_inverse_at(
         x1: c.v1,
         x2: c.v2,
     };
-    let inv_scale = ieee::pick(s.scaled, down, 1.0);
+    let inv_scale = ieee::pick(s.scaled, down, T::of(1.0));
     let ci = poly(phi, inv_coeffs(v, z)).scale(inv_scale);
     let b = ci.mul(j.b).mul(jl_inv).neg();
     let f = ci.mul_vec(j.f).neg();
@@ -137,22 +157,25 @@ pub(crate) fn jl_and_inverse_at(
         b,
         c: ci,
         f,
-        e: 1.0,
+        e: T::of(1.0),
     };
     JacAndInverse { j, inv }
 }
 
 // The same at z = |phi|^2.
-pub fn jl_and_inverse_from(
-    phi: Vec3,
-    rho: Vec3,
-    s: Scaled,
-    jl: Mat3,
-    jl_inv: Mat3,
-    up: f64,
-    down: f64,
-) -> JacAndInverse
-    ensures { result ≡ jl_and_inverse_from binary64 phi rho (vec_norm_sq binary64 phi) s jl jl_inv up down }
+pub fn jl_and_inverse_from<T: Width>(
+    phi: Vec3<T>,
+    rho: Vec3<T>,
+    s: Scaled<T>,
+    jl: Mat3<T>,
+    jl_inv: Mat3<T>,
+    up: T,
+    down: T,
+) -> JacAndInverse<T>
+    ensures { as_jac_and_inverse T.float result
+        ≡ jl_and_inverse_from T.format (as_vec3 T.float phi) (as_vec3 T.float rho)
+        (vec_norm_sq T.format (as_vec3 T.float phi)) (as_scaled T.float s) (as_mat3 T.float jl) (as_mat3 T.float jl_inv)
+        (T.float up) (T.float down) }
 {
     jl_and_inverse_at(phi, rho, phi.norm_sq(), s, jl, jl_inv, up, down)
 }

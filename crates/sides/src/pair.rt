@@ -1,22 +1,26 @@
 // The blocks of both sides from one paired evaluation of the coefficients.
 ghost use Rattle.std.specs.Prelude.{◌≡◌};
-ghost use Rattle.std.specs.Float.{binary64};
 ghost use Rattle.sides.specs.Pair.{block_pair};
+ghost use Rattle.closed.specs.Floats.{as_values};
+ghost use Rattle.linalg.specs.Floats.{as_mat3};
+ghost use Rattle.sim3.specs.Floats.{as_sim3_tangent};
+ghost use Rattle.sides.specs.Floats.{as_block_pair};
 
 use crate::blocks::jl_and_inverse_at;
 use closed::values::Values;
-use coeffs::sim3::{ArmedPairAnswer, sim3_coeffs_armed_pair};
+use coeffs::sim3::sim3_coeffs_armed_pair;
+use coeffs::width::Width;
 use jacobian::jac::Sim3Jac;
 use linalg::matrix::Mat3;
 use sim3::tangent::Sim3Tangent;
 
 // J_l, its inverse, J_r and its inverse.
 #[derive(Clone, Copy)]
-pub struct BlockPair {
-    pub left: Sim3Jac,
-    pub left_inv: Sim3Jac,
-    pub right: Sim3Jac,
-    pub right_inv: Sim3Jac,
+pub struct BlockPair<T> {
+    pub left: Sim3Jac<T>,
+    pub left_inv: Sim3Jac<T>,
+    pub right: Sim3Jac<T>,
+    pub right_inv: Sim3Jac<T>,
 }
 
 // The left block and inverse of tau, and those of -tau on the mirrored values and the transposed
@@ -24,13 +28,20 @@ pub struct BlockPair {
 // J_l(phi) and its inverse given. |phi|^2 is the same at -phi, and never below zero: nothing is
 // refused. The coefficients are read where the entry has put them, without a copy;
 // the entry is the one that tells the arms too, so that a program has the pair once.
-pub fn block_pair(tau: Sim3Tangent, v: Values, jl_phi: Mat3, jl_inv: Mat3) -> BlockPair
-    ensures { result ≡ block_pair binary64 tau v jl_phi jl_inv }
+pub fn block_pair<T: Width>(
+    tau: Sim3Tangent<T>,
+    v: Values<T>,
+    jl_phi: Mat3<T>,
+    jl_inv: Mat3<T>,
+) -> BlockPair<T>
+    ensures { as_block_pair T.float result
+        ≡ block_pair T.format (as_sim3_tangent T.float tau) (as_values T.float v) (as_mat3 T.float jl_phi)
+        (as_mat3 T.float jl_inv) }
 {
     let phi = tau.phi;
     let rho = tau.rho;
     let z = phi.norm_sq();
-    let ArmedPairAnswer::Coeffs(p) = sim3_coeffs_armed_pair(tau.sigma, z, v) else {
+    let Ok(p) = sim3_coeffs_armed_pair(tau.sigma, z, v) else {
         unreachable!();
     };
     let pos = p.pos.s;

@@ -1,12 +1,18 @@
 // The Jacobians of both sides: right, X Exp(tau), and left, Exp(tau) X. The two sides read different
 // handed-in values, so each has its own function.
 ghost use Rattle.std.specs.Prelude.{◌≡◌};
-ghost use Rattle.std.specs.Float.{binary64};
 ghost use Rattle.sides.specs.Blocks.{jac_jl, jl_and_inverse};
 ghost use Rattle.sides.specs.Side.{pose_adjoint, tangent_ad, jac_jr, jac_jl_inv, jac_jr_inv, exp_and_jl, lplus_jacobians, rplus_jacobians, act_jacobians_right, act_jacobians_left, pose_inverse_adjoint, compose_jacobians_right, compose_jacobians_left, inverse_jacobian_right, inverse_jacobian_left};
+ghost use Rattle.linalg.specs.Floats.{as_mat3, as_vec3};
+ghost use Rattle.jacobian.specs.Floats.{as_sim3_jac};
+ghost use Rattle.sides.specs.Floats.{as_act_jacobians, as_exp_and_jl, as_jac_and_inverse, as_two_jacobians};
+ghost use Rattle.sim3.specs.Floats.{as_sim3, as_sim3_tangent};
+ghost use Rattle.closed.specs.Floats.{as_values};
 
 use crate::blocks::{JacAndInverse, jl_and_inverse_from, jl_blocks_with};
 use closed::values::Values;
+use coeffs::width::Width;
+use ieee::Real;
 use jacobian::jac::Sim3Jac;
 use linalg::matrix::{Mat3, hat, hat_mul, mul_hat};
 use linalg::vector::Vec3;
@@ -16,29 +22,29 @@ use sim3::tangent::Sim3Tangent;
 
 // The Jacobian of the action by the tangent, three rows of (rot, trans, scale), and by the point.
 #[derive(Clone, Copy)]
-pub struct ActJacobians {
-    pub rot: Mat3,
-    pub trans: Mat3,
-    pub scale: Vec3,
-    pub point: Mat3,
+pub struct ActJacobians<T> {
+    pub rot: Mat3<T>,
+    pub trans: Mat3<T>,
+    pub scale: Vec3<T>,
+    pub point: Mat3<T>,
 }
 
 // The Jacobians by the first and by the second operand.
 #[derive(Clone, Copy)]
-pub struct TwoJacobians {
-    pub first: Sim3Jac,
-    pub second: Sim3Jac,
+pub struct TwoJacobians<T> {
+    pub first: Sim3Jac<T>,
+    pub second: Sim3Jac<T>,
 }
 
 #[derive(Clone, Copy)]
-pub struct ExpAndJl {
-    pub x: Sim3,
-    pub jl: Sim3Jac,
+pub struct ExpAndJl<T> {
+    pub x: Sim3<T>,
+    pub jl: Sim3Jac<T>,
 }
 
 // Ad_X = [R 0 0; hat(t) R, s R, -t; 0 0 1]; up is e^sigma of x.
-pub fn adjoint(x: Sim3, up: f64) -> Sim3Jac
-    ensures { result ≡ pose_adjoint binary64 x up }
+pub fn adjoint<T: Real>(x: Sim3<T>, up: T) -> Sim3Jac<T>
+    ensures { as_sim3_jac T.float result ≡ pose_adjoint T.format (as_sim3 T.float x) (T.float up) }
 {
     let q = x.q;
     let t = x.t;
@@ -48,13 +54,13 @@ pub fn adjoint(x: Sim3, up: f64) -> Sim3Jac
         b: hat_mul(t, r),
         c: r.scale(up),
         f: t.neg(),
-        e: 1.0,
+        e: T::of(1.0),
     }
 }
 
 // ad_tau = [W 0 0; Xi, W + sigma I, -rho; 0 0 0].
-pub fn ad(tau: Sim3Tangent) -> Sim3Jac
-    ensures { result ≡ tangent_ad binary64 tau }
+pub fn ad<T: Real>(tau: Sim3Tangent<T>) -> Sim3Jac<T>
+    ensures { as_sim3_jac T.float result ≡ tangent_ad T.format (as_sim3_tangent T.float tau) }
 {
     let rho = tau.rho;
     let w = hat(tau.phi);
@@ -64,13 +70,14 @@ pub fn ad(tau: Sim3Tangent) -> Sim3Jac
         b,
         c: w.add(Mat3::identity().scale(tau.sigma)),
         f: rho.neg(),
-        e: 0.0,
+        e: T::of(0.0),
     }
 }
 
 // J_l(tau), with the values of tau and J_l(phi).
-pub fn jl(tau: Sim3Tangent, v: Values, jl_phi: Mat3) -> Sim3Jac
-    ensures { result ≡ jac_jl binary64 tau v jl_phi }
+pub fn jl<T: Width>(tau: Sim3Tangent<T>, v: Values<T>, jl_phi: Mat3<T>) -> Sim3Jac<T>
+    ensures { as_sim3_jac T.float result
+        ≡ jac_jl T.format (as_sim3_tangent T.float tau) (as_values T.float v) (as_mat3 T.float jl_phi) }
 {
     let phi = tau.phi;
     let rho = tau.rho;
@@ -79,15 +86,23 @@ pub fn jl(tau: Sim3Tangent, v: Values, jl_phi: Mat3) -> Sim3Jac
 }
 
 // J_r(tau) = J_l(-tau), with the values of -tau and J_l(-phi).
-pub fn jr(tau: Sim3Tangent, v: Values, jl_phi: Mat3) -> Sim3Jac
-    ensures { result ≡ jac_jr binary64 tau v jl_phi }
+pub fn jr<T: Width>(tau: Sim3Tangent<T>, v: Values<T>, jl_phi: Mat3<T>) -> Sim3Jac<T>
+    ensures { as_sim3_jac T.float result
+        ≡ jac_jr T.format (as_sim3_tangent T.float tau) (as_values T.float v) (as_mat3 T.float jl_phi) }
 {
     jl(tau.neg(), v, jl_phi)
 }
 
 // J_l(tau) and its inverse, with the values of tau, J_l(phi) and its inverse.
-pub fn jl_and_inverse(tau: Sim3Tangent, v: Values, jl_phi: Mat3, jl_inv: Mat3) -> JacAndInverse
-    ensures { result ≡ jl_and_inverse binary64 tau v jl_phi jl_inv }
+pub fn jl_and_inverse<T: Width>(
+    tau: Sim3Tangent<T>,
+    v: Values<T>,
+    jl_phi: Mat3<T>,
+    jl_inv: Mat3<T>,
+) -> JacAndInverse<T>
+    ensures { as_jac_and_inverse T.float result
+        ≡ jl_and_inverse T.format (as_sim3_tangent T.float tau) (as_values T.float v) (as_mat3 T.float jl_phi)
+        (as_mat3 T.float jl_inv) }
 {
     let phi = tau.phi;
     let rho = tau.rho;
@@ -96,22 +111,37 @@ pub fn jl_and_inverse(tau: Sim3Tangent, v: Values, jl_phi: Mat3, jl_inv: Mat3) -
 }
 
 // J_l(tau)^-1 alone.
-pub fn jl_inv(tau: Sim3Tangent, v: Values, jl_phi: Mat3, jl_phi_inv: Mat3) -> Sim3Jac
-    ensures { result ≡ jac_jl_inv binary64 tau v jl_phi jl_phi_inv }
+pub fn jl_inv<T: Width>(
+    tau: Sim3Tangent<T>,
+    v: Values<T>,
+    jl_phi: Mat3<T>,
+    jl_phi_inv: Mat3<T>,
+) -> Sim3Jac<T>
+    ensures { as_sim3_jac T.float result
+        ≡ jac_jl_inv T.format (as_sim3_tangent T.float tau) (as_values T.float v) (as_mat3 T.float jl_phi)
+        (as_mat3 T.float jl_phi_inv) }
 {
     jl_and_inverse(tau, v, jl_phi, jl_phi_inv).inv
 }
 
 // J_r(tau)^-1 = J_l(-tau)^-1, with the values of -tau, J_l(-phi) and its inverse.
-pub fn jr_inv(tau: Sim3Tangent, v: Values, jl_phi: Mat3, jl_phi_inv: Mat3) -> Sim3Jac
-    ensures { result ≡ jac_jr_inv binary64 tau v jl_phi jl_phi_inv }
+pub fn jr_inv<T: Width>(
+    tau: Sim3Tangent<T>,
+    v: Values<T>,
+    jl_phi: Mat3<T>,
+    jl_phi_inv: Mat3<T>,
+) -> Sim3Jac<T>
+    ensures { as_sim3_jac T.float result
+        ≡ jac_jr_inv T.format (as_sim3_tangent T.float tau) (as_values T.float v) (as_mat3 T.float jl_phi)
+        (as_mat3 T.float jl_phi_inv) }
 {
     jl_inv(tau.neg(), v, jl_phi, jl_phi_inv)
 }
 
 // (Exp tau, J_l(tau)) from one evaluation of the coefficients.
-pub fn exp_and_jl(tau: Sim3Tangent, v: Values, jl_phi: Mat3) -> ExpAndJl
-    ensures { result ≡ exp_and_jl binary64 tau v jl_phi }
+pub fn exp_and_jl<T: Width>(tau: Sim3Tangent<T>, v: Values<T>, jl_phi: Mat3<T>) -> ExpAndJl<T>
+    ensures { as_exp_and_jl T.float result
+        ≡ exp_and_jl T.format (as_sim3_tangent T.float tau) (as_values T.float v) (as_mat3 T.float jl_phi) }
 {
     let phi = tau.phi;
     let rho = tau.rho;
@@ -134,8 +164,13 @@ pub fn exp_and_jl(tau: Sim3Tangent, v: Values, jl_phi: Mat3) -> ExpAndJl
 }
 
 // (Ad_Exp(tau), J_l(tau)), of Exp(tau) X by X and by tau.
-pub fn lplus_jacobians(tau: Sim3Tangent, v: Values, jl_phi: Mat3) -> TwoJacobians
-    ensures { result ≡ lplus_jacobians binary64 tau v jl_phi }
+pub fn lplus_jacobians<T: Width>(
+    tau: Sim3Tangent<T>,
+    v: Values<T>,
+    jl_phi: Mat3<T>,
+) -> TwoJacobians<T>
+    ensures { as_two_jacobians T.float result
+        ≡ lplus_jacobians T.format (as_sim3_tangent T.float tau) (as_values T.float v) (as_mat3 T.float jl_phi) }
 {
     let both = exp_and_jl(tau, v, jl_phi);
     let x = both.x;
@@ -147,15 +182,21 @@ pub fn lplus_jacobians(tau: Sim3Tangent, v: Values, jl_phi: Mat3) -> TwoJacobian
 }
 
 // (Ad_Exp(tau)^-1, J_r(tau)), of X Exp(tau) by X and by tau, with the values of -tau and J_l(-phi).
-pub fn rplus_jacobians(tau: Sim3Tangent, v: Values, jl_phi: Mat3) -> TwoJacobians
-    ensures { result ≡ rplus_jacobians binary64 tau v jl_phi }
+pub fn rplus_jacobians<T: Width>(
+    tau: Sim3Tangent<T>,
+    v: Values<T>,
+    jl_phi: Mat3<T>,
+) -> TwoJacobians<T>
+    ensures { as_two_jacobians T.float result
+        ≡ rplus_jacobians T.format (as_sim3_tangent T.float tau) (as_values T.float v) (as_mat3 T.float jl_phi) }
 {
     lplus_jacobians(tau.neg(), v, jl_phi)
 }
 
 // Right: ([-s R hat(p), s R, s R p], s R).
-pub fn act_jacobians_right(x: Sim3, up: f64, p: Vec3) -> ActJacobians
-    ensures { result ≡ act_jacobians_right binary64 x up p }
+pub fn act_jacobians_right<T: Real>(x: Sim3<T>, up: T, p: Vec3<T>) -> ActJacobians<T>
+    ensures { as_act_jacobians T.float result
+        ≡ act_jacobians_right T.format (as_sim3 T.float x) (T.float up) (as_vec3 T.float p) }
 {
     let q = x.q;
     let sr = q.to_matrix().scale(up);
@@ -168,8 +209,9 @@ pub fn act_jacobians_right(x: Sim3, up: f64, p: Vec3) -> ActJacobians
 }
 
 // Left: ([-hat(X p), I, X p], s R).
-pub fn act_jacobians_left(x: Sim3, up: f64, p: Vec3) -> ActJacobians
-    ensures { result ≡ act_jacobians_left binary64 x up p }
+pub fn act_jacobians_left<T: Real>(x: Sim3<T>, up: T, p: Vec3<T>) -> ActJacobians<T>
+    ensures { as_act_jacobians T.float result
+        ≡ act_jacobians_left T.format (as_sim3 T.float x) (T.float up) (as_vec3 T.float p) }
 {
     let q = x.q;
     let xp = x.act(up, p);
@@ -182,15 +224,15 @@ pub fn act_jacobians_left(x: Sim3, up: f64, p: Vec3) -> ActJacobians
 }
 
 // Ad of x^-1; down is e^-sigma of x.
-fn inverse_adjoint(x: Sim3, down: f64) -> Sim3Jac
-    ensures { result ≡ pose_inverse_adjoint binary64 x down }
+fn inverse_adjoint<T: Real>(x: Sim3<T>, down: T) -> Sim3Jac<T>
+    ensures { as_sim3_jac T.float result ≡ pose_inverse_adjoint T.format (as_sim3 T.float x) (T.float down) }
 {
     adjoint(x.inverse(down), down)
 }
 
 // Right: (Ad_Y^-1, I) of the product X Y; down is e^-sigma of Y.
-pub fn compose_jacobians_right(y: Sim3, down: f64) -> TwoJacobians
-    ensures { result ≡ compose_jacobians_right binary64 y down }
+pub fn compose_jacobians_right<T: Real>(y: Sim3<T>, down: T) -> TwoJacobians<T>
+    ensures { as_two_jacobians T.float result ≡ compose_jacobians_right T.format (as_sim3 T.float y) (T.float down) }
 {
     TwoJacobians {
         first: inverse_adjoint(y, down),
@@ -199,8 +241,8 @@ pub fn compose_jacobians_right(y: Sim3, down: f64) -> TwoJacobians
 }
 
 // Left: (I, Ad_X) of the product X Y; up is e^sigma of X.
-pub fn compose_jacobians_left(x: Sim3, up: f64) -> TwoJacobians
-    ensures { result ≡ compose_jacobians_left binary64 x up }
+pub fn compose_jacobians_left<T: Real>(x: Sim3<T>, up: T) -> TwoJacobians<T>
+    ensures { as_two_jacobians T.float result ≡ compose_jacobians_left T.format (as_sim3 T.float x) (T.float up) }
 {
     TwoJacobians {
         first: Sim3Jac::identity(),
@@ -209,15 +251,15 @@ pub fn compose_jacobians_left(x: Sim3, up: f64) -> TwoJacobians
 }
 
 // Right: -Ad_X; up is e^sigma of x.
-pub fn inverse_jacobian_right(x: Sim3, up: f64) -> Sim3Jac
-    ensures { result ≡ inverse_jacobian_right binary64 x up }
+pub fn inverse_jacobian_right<T: Real>(x: Sim3<T>, up: T) -> Sim3Jac<T>
+    ensures { as_sim3_jac T.float result ≡ inverse_jacobian_right T.format (as_sim3 T.float x) (T.float up) }
 {
     adjoint(x, up).neg()
 }
 
 // Left: -Ad_X^-1; down is e^-sigma of x.
-pub fn inverse_jacobian_left(x: Sim3, down: f64) -> Sim3Jac
-    ensures { result ≡ inverse_jacobian_left binary64 x down }
+pub fn inverse_jacobian_left<T: Real>(x: Sim3<T>, down: T) -> Sim3Jac<T>
+    ensures { as_sim3_jac T.float result ≡ inverse_jacobian_left T.format (as_sim3 T.float x) (T.float down) }
 {
     inverse_adjoint(x, down).neg()
 }

@@ -4,17 +4,17 @@ use Rattle.std.specs.Float.{Format}
 use Rattle.std.specs.Float.Ieee.{lt}
 use Rattle.ieee.specs.Infix.{operations}
 use Rattle.linalg.specs.Vector.{vec_dot, vec_norm_sq, vec_operations}
-use Rattle.linalg.specs.declared.vector.Vec3.{Vec3}
+use Rattle.linalg.specs.Floats.{Vec3}
 use Rattle.so3.specs.So3.{so3_exp}
 use Rattle.tables.specs.Tables.{b_row}
 use Rattle.circle.specs.Limits.{row_limit}
-use Rattle.series.specs.declared.sim3.Coeffs4.{Coeffs4}
+use Rattle.series.specs.Floats.{Coeffs4}
 use Rattle.closed.specs.Limits.{coeffs_delta}
 use Rattle.coeffs.specs.Group.{coeffs_v}
-use Rattle.closed.specs.declared.values.Values.{Values}
+use Rattle.closed.specs.Floats.{Values}
 use Rattle.sim3.specs.Pose.{pose, pose_mul}
-use Rattle.sim3.specs.declared.sim3.Sim3.{Sim3}
-use Rattle.sim3.specs.declared.tangent.Sim3Tangent.{Sim3Tangent}
+use Rattle.sim3.specs.Floats.{Sim3}
+use Rattle.sim3.specs.Floats.{Sim3Tangent}
 
 module _ (f : Format) where
   infixl 60 ◌⊞◌

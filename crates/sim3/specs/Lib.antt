@@ -1,3 +1,4 @@
+pub mod Floats
 pub mod Tangent
 pub mod Pose
 pub mod Exp

@@ -5,11 +5,11 @@ use Rattle.std.specs.Float.Ieee.{neg}
 use Rattle.ieee.specs.Numbers.{f0}
 use Rattle.ieee.specs.Infix.{operations}
 use Rattle.linalg.specs.Vector.{vec, vec_neg, vec_operations}
-use Rattle.linalg.specs.declared.vector.Vec3.{Vec3}
+use Rattle.linalg.specs.Floats.{Vec3}
 use Rattle.so3.specs.Quat.{quat_identity, quat_conjugate, quat_mul, quat_renormalized}
 use Rattle.so3.specs.So3.{so3_act}
-use Rattle.so3.specs.declared.quat.Quat.{Quat}
-use Rattle.sim3.specs.declared.sim3.Sim3.{Sim3}
+use Rattle.so3.specs.Floats.{Quat}
+use Rattle.sim3.specs.Floats.{Sim3}
 
 abbrev pub pose : Quat → Vec3 → Float → Sim3
 pose q t sigma = record { q = q; t = t; sigma = sigma }

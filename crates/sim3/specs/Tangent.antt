@@ -5,8 +5,8 @@ use Rattle.std.specs.Float.Ieee.{neg}
 use Rattle.ieee.specs.Numbers.{f0}
 use Rattle.ieee.specs.Infix.{operations}
 use Rattle.linalg.specs.Vector.{vec, vec_neg, vec_operations}
-use Rattle.linalg.specs.declared.vector.Vec3.{Vec3}
-use Rattle.sim3.specs.declared.tangent.Sim3Tangent.{Sim3Tangent}
+use Rattle.linalg.specs.Floats.{Vec3}
+use Rattle.sim3.specs.Floats.{Sim3Tangent}
 
 abbrev pub tangent : Vec3 → Vec3 → Float → Sim3Tangent
 tangent phi rho sigma = record { phi = phi; rho = rho; sigma = sigma }

@@ -2,5 +2,5 @@
 // Jacobians.
 #![tactic(auto)]
 
-pub mod tangent; // Sim3Tangent
+pub mod tangent; // Sim3Tangent<T>
 pub mod sim3; // Sim3: composition, inverse, action, exponential

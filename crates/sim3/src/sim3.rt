@@ -1,12 +1,18 @@
 // A pose of Sim(3), X p = e^sigma R p + t, by its numbers alone. Exponentials of log scales are handed
 // in.
 ghost use Rattle.std.specs.Prelude.{◌≡◌};
-ghost use Rattle.std.specs.Float.{binary64};
 ghost use Rattle.sim3.specs.Pose.{pose_identity, pose_inverse, pose_act, pose_mul, pose_mul_inv, pose_inv_mul, pose_renormalized};
 ghost use Rattle.sim3.specs.Exp.{poly_apply, v_apply, pose_exp, pose_rplus, pose_lplus};
+ghost use Rattle.closed.specs.Floats.{as_values};
+ghost use Rattle.sim3.specs.Floats.{as_sim3, as_sim3_tangent};
+ghost use Rattle.series.specs.Floats.{as_coeffs4};
+ghost use Rattle.so3.specs.Floats.{as_quat};
+ghost use Rattle.linalg.specs.Floats.{as_vec3};
 
 use crate::tangent::Sim3Tangent;
 use closed::values::Values;
+use coeffs::width::Width;
+use ieee::Real;
 use linalg::vector::Vec3;
 use series::sim3::Coeffs4;
 use so3::quat::Quat;
@@ -14,42 +20,42 @@ use so3::quat::Quat;
 // The numbers of a pose. A pose with the frames between which it maps is `frames::Pose`, and what gives
 // one is there, over the functions here.
 #[derive(Clone, Copy)]
-pub struct Sim3 {
-    pub q: Quat,
-    pub t: Vec3,
-    pub sigma: f64,
+pub struct Sim3<T> {
+    pub q: Quat<T>,
+    pub t: Vec3<T>,
+    pub sigma: T,
 }
 
-impl Sim3 {
+impl<T: Real> Sim3<T> {
     // (R, t, sigma).
-    pub fn from_parts(q: Quat, t: Vec3, sigma: f64) -> Sim3
-        ensures { result ≡ record { q = q; t = t; sigma = sigma } }
+    pub fn from_parts(q: Quat<T>, t: Vec3<T>, sigma: T) -> Sim3<T>
+        ensures { as_sim3 T.float result ≡ record { q = (as_quat T.float q); t = (as_vec3 T.float t); sigma = (T.float sigma) } }
     {
         Sim3 { q, t, sigma }
     }
 
-    pub fn rotation(self) -> Quat
-        ensures { result ≡ self.q }
+    pub fn rotation(self) -> Quat<T>
+        ensures { as_quat T.float result ≡ (as_sim3 T.float self).q }
     {
         self.q
     }
 
-    pub fn translation(self) -> Vec3
-        ensures { result ≡ self.t }
+    pub fn translation(self) -> Vec3<T>
+        ensures { as_vec3 T.float result ≡ (as_sim3 T.float self).t }
     {
         self.t
     }
 
     // sigma, the stored log scale.
-    pub fn log_scale(self) -> f64
-        ensures { result ≡ self.sigma }
+    pub fn log_scale(self) -> T
+        ensures { T.float result ≡ (as_sim3 T.float self).sigma }
     {
         self.sigma
     }
 
     // The quaternion's Newton step; t and sigma stay.
-    pub fn renormalized(self) -> Sim3
-        ensures { result ≡ pose_renormalized binary64 self }
+    pub fn renormalized(self) -> Sim3<T>
+        ensures { as_sim3 T.float result ≡ pose_renormalized T.format (as_sim3 T.float self) }
     {
         let q = self.q;
         let t = self.t;
@@ -61,8 +67,8 @@ impl Sim3 {
     }
 
     // self * other^-1; e is the exponential of the difference of the two log scales.
-    pub fn mul_inv(self, other: Sim3, e: f64) -> Sim3
-        ensures { result ≡ pose_mul_inv binary64 self other e }
+    pub fn mul_inv(self, other: Sim3<T>, e: T) -> Sim3<T>
+        ensures { as_sim3 T.float result ≡ pose_mul_inv T.format (as_sim3 T.float self) (as_sim3 T.float other) (T.float e) }
     {
         let p = self.q;
         let o = other.q;
@@ -76,8 +82,8 @@ impl Sim3 {
     }
 
     // other^-1 * self; down is e^-sigma of other.
-    pub fn inv_mul(self, other: Sim3, down: f64) -> Sim3
-        ensures { result ≡ pose_inv_mul binary64 self other down }
+    pub fn inv_mul(self, other: Sim3<T>, down: T) -> Sim3<T>
+        ensures { as_sim3 T.float result ≡ pose_inv_mul T.format (as_sim3 T.float self) (as_sim3 T.float other) (T.float down) }
     {
         let p = self.q;
         let o = other.q;
@@ -91,8 +97,8 @@ impl Sim3 {
     }
 
     // X p = s R p + t; up is e^sigma.
-    pub fn act(self, up: f64, p: Vec3) -> Vec3
-        ensures { result ≡ pose_act binary64 self up p }
+    pub fn act(self, up: T, p: Vec3<T>) -> Vec3<T>
+        ensures { as_vec3 T.float result ≡ pose_act T.format (as_sim3 T.float self) (T.float up) (as_vec3 T.float p) }
     {
         let rp = so3::so3::act(self.q, p);
         rp.scale(up).add(self.t)
@@ -101,8 +107,8 @@ impl Sim3 {
     // XY = (R_X R_Y, s_X R_X t_Y + t_X, sigma_X + sigma_Y); up is e^sigma of X. PERF (D111): the
     // operations of Quat::mul and of act are written out in an order in which the compiler keeps every
     // number in a register: p.x and p.z times q, then t, then the sums of the quaternion.
-    pub fn mul(self, o: Sim3, up: f64) -> Sim3
-        ensures { result ≡ pose_mul binary64 self o up }
+    pub fn mul(self, o: Sim3<T>, up: T) -> Sim3<T>
+        ensures { as_sim3 T.float result ≡ pose_mul T.format (as_sim3 T.float self) (as_sim3 T.float o) (T.float up) }
     {
         let p = self.q;
         let q = o.q;
@@ -122,10 +128,10 @@ impl Sim3 {
         let cx = p.y * uz - p.z * uy;
         let cy = p.z * ux - p.x * uz;
         let cz = p.x * uy - p.y * ux;
-        let d = 2.0 * p.w;
-        let tx = (v.x + ux * d + cx * 2.0) * up + s.x;
-        let ty = (v.y + uy * d + cy * 2.0) * up + s.y;
-        let tz = (v.z + uz * d + cz * 2.0) * up + s.z;
+        let d = T::of(2.0) * p.w;
+        let tx = (v.x + ux * d + cx * T::of(2.0)) * up + s.x;
+        let ty = (v.y + uy * d + cy * T::of(2.0)) * up + s.y;
+        let tz = (v.z + uz * d + cz * T::of(2.0)) * up + s.z;
         let y = p.w * q.y - xz + p.y * q.w + zx;
         let z = p.w * q.z + xy - p.y * q.x + zw;
         let w = p.w * q.w - xx - p.y * q.y - zz;
@@ -141,24 +147,24 @@ impl Sim3 {
         }
     }
 
-    pub fn identity() -> Sim3
-        ensures { result ≡ pose_identity }
+    pub fn identity() -> Sim3<T>
+        ensures { as_sim3 T.float result ≡ pose_identity }
     {
         Sim3 {
             q: Quat::identity(),
             t: Vec3 {
-                x: 0.0,
-                y: 0.0,
-                z: 0.0,
+                x: T::of(0.0),
+                y: T::of(0.0),
+                z: T::of(0.0),
             },
-            sigma: 0.0,
+            sigma: T::of(0.0),
         }
     }
 
     // X^-1 = (R^-1, -e^-sigma R^-1 t, -sigma); down is e^-sigma. The sign is taken to down, which is
     // there from the start: -(a b) and a (-b) are one number.
-    pub fn inverse(self, down: f64) -> Sim3
-        ensures { result ≡ pose_inverse binary64 self down }
+    pub fn inverse(self, down: T) -> Sim3<T>
+        ensures { as_sim3 T.float result ≡ pose_inverse T.format (as_sim3 T.float self) (T.float down) }
     {
         let p = self.q;
         let r = p.conjugate();
@@ -169,10 +175,12 @@ impl Sim3 {
             sigma: -self.sigma,
         }
     }
+}
 
+impl<T: Width> Sim3<T> {
     // Exp tau = (Exp phi, V rho, sigma).
-    pub fn exp(tau: Sim3Tangent, v: Values) -> Sim3
-        ensures { result ≡ pose_exp binary64 tau v }
+    pub fn exp(tau: Sim3Tangent<T>, v: Values<T>) -> Sim3<T>
+        ensures { as_sim3 T.float result ≡ pose_exp T.format (as_sim3_tangent T.float tau) (as_values T.float v) }
     {
         let phi = tau.phi;
         let rho = tau.rho;
@@ -186,23 +194,23 @@ impl Sim3 {
     }
 
     // X Exp(tau); up is e^sigma of X, v the values of tau.
-    pub fn rplus(self, up: f64, tau: Sim3Tangent, v: Values) -> Sim3
-        ensures { result ≡ pose_rplus binary64 self up tau v }
+    pub fn rplus(self, up: T, tau: Sim3Tangent<T>, v: Values<T>) -> Sim3<T>
+        ensures { as_sim3 T.float result ≡ pose_rplus T.format (as_sim3 T.float self) (T.float up) (as_sim3_tangent T.float tau) (as_values T.float v) }
     {
         self.mul(Sim3::exp(tau, v), up)
     }
 
     // Exp(tau) X, with the values of tau.
-    pub fn lplus(self, tau: Sim3Tangent, v: Values) -> Sim3
-        ensures { result ≡ pose_lplus binary64 self tau v }
+    pub fn lplus(self, tau: Sim3Tangent<T>, v: Values<T>) -> Sim3<T>
+        ensures { as_sim3 T.float result ≡ pose_lplus T.format (as_sim3 T.float self) (as_sim3_tangent T.float tau) (as_values T.float v) }
     {
         Sim3::exp(tau, v).mul(self, v.up)
     }
 }
 
 // x0 v + x1 (phi x v) + x2 (phi x (phi x v)).
-fn poly_apply(phi: Vec3, x0: f64, x1: f64, x2: f64, v: Vec3) -> Vec3
-    ensures { result ≡ poly_apply binary64 phi x0 x1 x2 v }
+fn poly_apply<T: Real>(phi: Vec3<T>, x0: T, x1: T, x2: T, v: Vec3<T>) -> Vec3<T>
+    ensures { as_vec3 T.float result ≡ poly_apply T.format (as_vec3 T.float phi) (T.float x0) (T.float x1) (T.float x2) (as_vec3 T.float v) }
 {
     let mu = phi.cross(v);
     v.scale(x0).add(mu.scale(x1)).add(phi.cross(mu).scale(x2))
@@ -210,8 +218,8 @@ fn poly_apply(phi: Vec3, x0: f64, x1: f64, x2: f64, v: Vec3) -> Vec3
 
 // V rho at z = |phi|^2: by chi_delta / delta where b is on its exact arm (z not below b's limit),
 // else by two cross products.
-pub fn v_apply(phi: Vec3, sigma: f64, c: Coeffs4, rho: Vec3) -> Vec3
-    ensures { result ≡ v_apply binary64 phi sigma c rho }
+pub fn v_apply<T: Width>(phi: Vec3<T>, sigma: T, c: Coeffs4<T>, rho: Vec3<T>) -> Vec3<T>
+    ensures { as_vec3 T.float result ≡ v_apply T.format (as_vec3 T.float phi) (T.float sigma) (as_coeffs4 T.float c) (as_vec3 T.float rho) }
 {
     let z = phi.norm_sq();
     if !circle::kernel::b_takes_exact_arm_of(phi) {
@@ -223,8 +231,8 @@ pub fn v_apply(phi: Vec3, sigma: f64, c: Coeffs4, rho: Vec3) -> Vec3
 }
 
 // `Sim3::renormalized` on a pose that is lent; nothing else is altered.
-pub fn renormalize(x: &mut Sim3)
-    ensures { x.new ≡ pose_renormalized binary64 x.old }
+pub fn renormalize<T: Real>(x: &mut Sim3<T>)
+    ensures { as_sim3 T.float x.new ≡ pose_renormalized T.format (as_sim3 T.float x.old) }
 {
     *x = (*x).renormalized();
 }

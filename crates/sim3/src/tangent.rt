@@ -1,38 +1,39 @@
 // A tangent of Sim(3): the rotation vector, the translation part and the log scale.
-ghost use Rattle.std.specs.Prelude.{◌≡◌};
-ghost use Rattle.std.specs.Float.{binary64};
+ghost use Rattle.std.specs.Prelude.{◌≡◌, map};
 ghost use Rattle.sim3.specs.Tangent.{tangent_zero, tangent_add, tangent_sub, tangent_neg, tangent_scale, tangent_dot_acc, tangent_to_dense, tangent_from_dense};
+ghost use Rattle.sim3.specs.Floats.{as_sim3_tangent};
 
+use ieee::Real;
 use linalg::vector::Vec3;
 
 #[derive(Clone, Copy)]
-pub struct Sim3Tangent {
-    pub phi: Vec3,
-    pub rho: Vec3,
-    pub sigma: f64,
+pub struct Sim3Tangent<T> {
+    pub phi: Vec3<T>,
+    pub rho: Vec3<T>,
+    pub sigma: T,
 }
 
-impl Sim3Tangent {
-    pub fn zero() -> Sim3Tangent
-        ensures { result ≡ tangent_zero }
+impl<T: Real> Sim3Tangent<T> {
+    pub fn zero() -> Sim3Tangent<T>
+        ensures { as_sim3_tangent T.float result ≡ tangent_zero }
     {
         Sim3Tangent {
             phi: Vec3 {
-                x: 0.0,
-                y: 0.0,
-                z: 0.0,
+                x: T::of(0.0),
+                y: T::of(0.0),
+                z: T::of(0.0),
             },
             rho: Vec3 {
-                x: 0.0,
-                y: 0.0,
-                z: 0.0,
+                x: T::of(0.0),
+                y: T::of(0.0),
+                z: T::of(0.0),
             },
-            sigma: 0.0,
+            sigma: T::of(0.0),
         }
     }
 
-    pub fn add(self, o: Sim3Tangent) -> Sim3Tangent
-        ensures { result ≡ tangent_add binary64 self o }
+    pub fn add(self, o: Sim3Tangent<T>) -> Sim3Tangent<T>
+        ensures { as_sim3_tangent T.float result ≡ tangent_add T.format (as_sim3_tangent T.float self) (as_sim3_tangent T.float o) }
     {
         Sim3Tangent {
             phi: self.phi.add(o.phi),
@@ -41,8 +42,8 @@ impl Sim3Tangent {
         }
     }
 
-    pub fn sub(self, o: Sim3Tangent) -> Sim3Tangent
-        ensures { result ≡ tangent_sub binary64 self o }
+    pub fn sub(self, o: Sim3Tangent<T>) -> Sim3Tangent<T>
+        ensures { as_sim3_tangent T.float result ≡ tangent_sub T.format (as_sim3_tangent T.float self) (as_sim3_tangent T.float o) }
     {
         Sim3Tangent {
             phi: self.phi.sub(o.phi),
@@ -52,8 +53,8 @@ impl Sim3Tangent {
     }
 
     // Flips every sign bit.
-    pub fn neg(self) -> Sim3Tangent
-        ensures { result ≡ tangent_neg self }
+    pub fn neg(self) -> Sim3Tangent<T>
+        ensures { as_sim3_tangent T.float result ≡ tangent_neg (as_sim3_tangent T.float self) }
     {
         Sim3Tangent {
             phi: self.phi.neg(),
@@ -63,8 +64,8 @@ impl Sim3Tangent {
     }
 
     // k * self, the factor first.
-    pub fn scale(self, k: f64) -> Sim3Tangent
-        ensures { result ≡ tangent_scale binary64 self k }
+    pub fn scale(self, k: T) -> Sim3Tangent<T>
+        ensures { as_sim3_tangent T.float result ≡ tangent_scale T.format (as_sim3_tangent T.float self) (T.float k) }
     {
         let a = self.phi;
         let b = self.rho;
@@ -84,8 +85,8 @@ impl Sim3Tangent {
     }
 
     // acc plus the seven products, one after another from the left.
-    pub fn dot_acc(self, o: Sim3Tangent, acc: f64) -> f64
-        ensures { result ≡ tangent_dot_acc binary64 self o acc }
+    pub fn dot_acc(self, o: Sim3Tangent<T>, acc: T) -> T
+        ensures { T.float result ≡ tangent_dot_acc T.format (as_sim3_tangent T.float self) (as_sim3_tangent T.float o) (T.float acc) }
     {
         let a = self.phi;
         let b = o.phi;
@@ -96,8 +97,8 @@ impl Sim3Tangent {
     }
 
     // The seven numbers phi, rho, sigma: the Rust's write_dense.
-    pub fn to_dense(self) -> [f64; 7]
-        ensures { result ≡ tangent_to_dense self }
+    pub fn to_dense(self) -> [T; 7]
+        ensures { map T.float result ≡ tangent_to_dense (as_sim3_tangent T.float self) }
     {
         let a = self.phi;
         let b = self.rho;
@@ -105,8 +106,8 @@ impl Sim3Tangent {
     }
 
     // The tangent of seven numbers: the Rust's read_dense.
-    pub fn from_dense(v: [f64; 7]) -> Sim3Tangent
-        ensures { result ≡ tangent_from_dense v }
+    pub fn from_dense(v: [T; 7]) -> Sim3Tangent<T>
+        ensures { as_sim3_tangent T.float result ≡ tangent_from_dense (map T.float v) }
     {
         Sim3Tangent {
             phi: Vec3 {

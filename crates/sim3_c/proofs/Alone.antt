@@ -5,7 +5,7 @@ use mathlib.Core.List.{List}
 use lib.ListN.{length}
 use lib.Ieee.{Float}
 use Rattle.linalg.specs.Answer.{refuses}
-use Rattle.linalg.specs.declared.vector.Vec3.{Vec3}
+use Rattle.linalg.specs.Floats.{Vec3}
 use Rattle.point_lists.specs.Points.{points_accepted, points_answer, points_out}
 use Rattle.to_lists.proofs.Fits.{alone}
 

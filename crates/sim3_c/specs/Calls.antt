@@ -3,7 +3,7 @@
 use Rattle.std.specs.Prelude.{ℕ, List, Float}
 use Rattle.std.specs.Float.{Format}
 use Rattle.linalg.specs.Answer.{Answer, answers, and_then}
-use Rattle.linalg.specs.declared.vector.Vec3.{Vec3}
+use Rattle.linalg.specs.Floats.{Vec3}
 use Rattle.coeffs.specs.Entries.{armed_answer, armed_pair_answer}
 use Rattle.point_lists.specs.Points.{points_answer, points_out, pose_act_many, pose_act_each}
 use Rattle.frames.specs.Joins.{framed_mul_inv, framed_inv_mul}

@@ -4,7 +4,7 @@ ghost use Rattle.std.specs.Float.{binary64};
 ghost use Rattle.to_lists.specs.Written.{status, written};
 ghost use Rattle.sim3_c.specs.Calls.{armed_call, armed_pair_call};
 
-use coeffs::sim3::{ArmedAnswer, ArmedPairAnswer, sim3_coeffs_armed_pair};
+use coeffs::sim3::sim3_coeffs_armed_pair;
 use from_lists::{LIST_LENGTH, ValuesRead, values_from};
 use to_lists::{put_armed, put_armed_pair};
 
@@ -17,8 +17,8 @@ pub fn sim3_coeffs_armed(sigma: f64, z: f64, values: &[f64], out: &mut [f64]) ->
         return LIST_LENGTH;
     };
     match coeffs::sim3::sim3_coeffs_armed(sigma, z, v) {
-        ArmedAnswer::Coeffs(a) => put_armed(out, a),
-        ArmedAnswer::Refused(n) => n as u32,
+        Ok(a) => put_armed(out, a),
+        Err(refusal) => refusal.number() as u32,
     }
 }
 
@@ -31,7 +31,7 @@ pub fn sim3_armed_pair(sigma: f64, z: f64, values: &[f64], out: &mut [f64]) -> u
         return LIST_LENGTH;
     };
     match sim3_coeffs_armed_pair(sigma, z, v) {
-        ArmedPairAnswer::Coeffs(p) => put_armed_pair(out, p),
-        ArmedPairAnswer::Refused(n) => n as u32,
+        Ok(p) => put_armed_pair(out, p),
+        Err(refusal) => refusal.number() as u32,
     }
 }

@@ -7,7 +7,7 @@ ghost use Rattle.to_lists.specs.Written.{status, written};
 ghost use Rattle.sim3_c.specs.Near.{way_number, near_call};
 
 use from_lists::LIST_LENGTH;
-use nearest::{Direction, NearestAnswer};
+use nearest::Direction;
 
 const NUMBERS: usize = 3;
 
@@ -28,7 +28,7 @@ pub fn sim3_nearest_arm(sigma: f64, z: f64, out: &mut [u64]) -> u32
     ensures out_after { out.new ≡ written (near_call binary64 sigma z out.old) out.old }
 {
     match nearest::nearest_arm(sigma, z) {
-        NearestAnswer::Found(s) => {
+        Ok(Some(s)) => {
             if out.len() != NUMBERS {
                 return LIST_LENGTH;
             }
@@ -41,7 +41,7 @@ pub fn sim3_nearest_arm(sigma: f64, z: f64, out: &mut [u64]) -> u32
             out[2] = arm;
             0
         }
-        NearestAnswer::OneArm => {
+        Ok(None) => {
             if out.len() != NUMBERS {
                 return LIST_LENGTH;
             }
@@ -50,6 +50,6 @@ pub fn sim3_nearest_arm(sigma: f64, z: f64, out: &mut [u64]) -> u32
             out[2] = 0;
             0
         }
-        NearestAnswer::Refused(n) => n as u32,
+        Err(refusal) => refusal.number() as u32,
     }
 }

@@ -6,7 +6,7 @@ ghost use Rattle.to_lists.specs.Written.{status, written};
 ghost use Rattle.sim3_c.specs.Calls.{act_many_call, act_each_call};
 
 use from_lists::{LIST_LENGTH, PoseRead, pose_from};
-use point_lists::{Listed, act_each, act_many};
+use point_lists::{act_each, act_many};
 
 // Every point by the matrix s R; up is e^sigma of X.
 pub fn sim3_act_many(x: &[f64], up: f64, pts: &[f64], out: &mut [f64]) -> u32
@@ -17,8 +17,8 @@ pub fn sim3_act_many(x: &[f64], up: f64, pts: &[f64], out: &mut [f64]) -> u32
         return LIST_LENGTH;
     };
     match act_many(a, up, pts, out) {
-        Listed::Written => 0,
-        Listed::Refused(n) => n as u32,
+        Ok(()) => 0,
+        Err(refusal) => refusal.number() as u32,
     }
 }
 
@@ -31,7 +31,7 @@ pub fn sim3_act_each(x: &[f64], up: f64, pts: &[f64], out: &mut [f64]) -> u32
         return LIST_LENGTH;
     };
     match act_each(a, up, pts, out) {
-        Listed::Written => 0,
-        Listed::Refused(n) => n as u32,
+        Ok(()) => 0,
+        Err(refusal) => refusal.number() as u32,
     }
 }

@@ -12,12 +12,12 @@ use Rattle.linalg.specs.Vector.{vec_numbers}
 use Rattle.linalg.proofs.Answers.{never, answers-is}
 use Rattle.frames.specs.Pose.{framed}
 use Rattle.frames.specs.Joins.{framed_mul}
-use Rattle.frames.specs.declared.Pose.{Pose}
+use Rattle.frames.specs.Floats.{Pose}
 use Rattle.running.specs.Running.{Joint, due, one_more, produced_of, product_on, join_on, join_of, every_of, running_none}
 use Rattle.running.specs.declared.Start.{Start}
 use Rattle.running.specs.declared.Start.TheVariants.{Unset, Posed}
 use Rattle.running.specs.declared.Running.{Running}
-use Rattle.sim3.specs.declared.sim3.Sim3.{Sim3}
+use Rattle.sim3.specs.Floats.{Sim3}
 use Rattle.layout.specs.Layout.{pose_count, vec_in, quat_in, pose_in, quat_numbers, pose_numbers}
 use Rattle.from_lists.specs.Lists.{wrong_length, sized, pose_from, PoseLists, framed_from}
 use Rattle.sim3_c_doubles.specs.Join.{RunLists, run_lists, state_count, start_in, running_from, run_fitting, joint_fitting, held_lists, zero_pose, start_call, push_call, every_call, HeldTheorem}

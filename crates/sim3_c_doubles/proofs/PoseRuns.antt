@@ -8,7 +8,7 @@ use lib.ListN.{get_or, length, take, drop, length-append, length-drop}
 use lib.Seq.{sets, sets-eq, take_at, drop_at, drop-length, drop-drop, get_or-take, get_or-drop, get_or-append-add, length-take-le}
 use lib.Ieee.{Float, Format, nan}
 use Rattle.sim3.specs.Pose.{pose_renormalized}
-use Rattle.sim3.specs.declared.sim3.Sim3.{Sim3}
+use Rattle.sim3.specs.Floats.{Sim3}
 use Rattle.layout.specs.Layout.{vec_in, quat_in, pose_in, pose_numbers}
 use Rattle.layout.proofs.Numbers.{pose-count}
 use Rattle.from_lists.specs.Lists.{number_in, pose_from}

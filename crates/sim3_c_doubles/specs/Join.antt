@@ -8,7 +8,7 @@ use Rattle.linalg.specs.Vector.{vec}
 use Rattle.so3.specs.Quat.{quat}
 use Rattle.sim3.specs.Pose.{pose, pose_renormalized}
 use Rattle.frames.specs.Pose.{framed}
-use Rattle.frames.specs.declared.Pose.{Pose}
+use Rattle.frames.specs.Floats.{Pose}
 use Rattle.running.specs.Running.{Joint, join_of, every_of, running_none}
 use Rattle.running.specs.declared.Start.{Start}
 use Rattle.running.specs.declared.Start.TheVariants.{Unset, Posed}

@@ -1,7 +1,7 @@
 -- The sheets between calls: bytes that the caller lends, as crate `sheets` has them. What a call answers and what the lists then hold is told as in Written.antt of crate `to_lists`.
 use Rattle.std.specs.Prelude.{ℕ, Bool, cond, ◌&&◌, List, [], ◌∷◌, eqb, length, Float}
 use Rattle.linalg.specs.Answer.{Answer, answers, refuses, and_then}
-use Rattle.frames.specs.declared.Pose.{Pose}
+use Rattle.frames.specs.Floats.{Pose}
 use Rattle.sheets.specs.Sheets.{Sheets, Shelved}
 use Rattle.sheets.specs.Store.{holds, sheets_of, Lent, lent, storeless, put_answer, put_sheets, put_bytes, fresh_bytes, get_answer}
 use Rattle.sheets.specs.declared.Shot.{Shot}

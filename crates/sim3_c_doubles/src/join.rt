@@ -9,7 +9,7 @@ ghost use Rattle.to_lists.specs.Written.{status, written};
 ghost use Rattle.sim3_c_doubles.specs.Join.{run_lists, start_in, running_from, running_read_told, run_fitting, joint_fitting, run_written, zero_pose};
 ghost use Rattle.sim3_c_doubles.specs.Join.{start_call, push_call, every_call, poses_renormalized, renormalize_all_call};
 
-use frames::{Pose, PoseAnswer};
+use frames::Pose;
 use from_lists::{FramedRead, LIST_LENGTH, PoseRead, framed_from, pose_from};
 use layout::POSE;
 use linalg::vector::Vec3;
@@ -26,7 +26,7 @@ pub enum RunningRead {
     Wrong,
 }
 
-fn start_in(x: Pose, started: u16) -> Start
+fn start_in(x: Pose<f64>, started: u16) -> Start
     ensures { result ≡ start_in x started }
 {
     if started == 1 {
@@ -58,7 +58,14 @@ fn running_from(pose: &[f64], state: &[u16]) -> RunningRead
 }
 
 // The pose x, n, the count k, and whether there is a pose; or LIST_LENGTH and nothing written.
-fn put_running(pose: &mut [f64], state: &mut [u16], x: Pose, n: u16, k: u16, started: u16) -> u32
+fn put_running(
+    pose: &mut [f64],
+    state: &mut [u16],
+    x: Pose<f64>,
+    n: u16,
+    k: u16,
+    started: u16,
+) -> u32
     ensures value { result ≡ status (run_fitting (run_lists pose.old state.old) x n k started) }
     ensures state_after { run_lists pose.new state.new
         ≡ run_written (λ o. run_fitting o x n k started) (run_lists pose.old state.old) }
@@ -85,15 +92,15 @@ fn put_joint(pose: &mut [f64], state: &mut [u16], j: Joined) -> u32
 {
     let answer = j.answer;
     match answer {
-        PoseAnswer::Pose(p) => {
+        Ok(p) => {
             let r = j.running;
             put_running(pose, state, p, r.every, r.since, 1)
         }
-        PoseAnswer::Refused(n) => n as u32,
+        Err(refusal) => refusal.number() as u32,
     }
 }
 
-fn zero_pose() -> Pose
+fn zero_pose() -> Pose<f64>
     ensures { result ≡ zero_pose }
 {
     let q = Quat {

@@ -5,7 +5,6 @@ ghost use Rattle.to_lists.specs.Written.{status};
 ghost use Rattle.sim3_c_doubles.specs.Root.{root_lists, root_call, root_written};
 
 use from_lists::LIST_LENGTH;
-use root::RootAnswer;
 
 const WHOLE: usize = 2;
 
@@ -20,7 +19,7 @@ pub fn sim3_root(z: f64, whole: &mut [u64], exponent: &mut [i64], nearest: &mut 
     ensures nearest_after { root_lists whole.new exponent.new nearest.new ≡ root_written z (root_lists whole.old exponent.old nearest.old) }
 {
     match root::root(z) {
-        RootAnswer::Parts(p) => {
+        Ok(p) => {
             if whole.len() != WHOLE {
                 return LIST_LENGTH;
             }
@@ -37,6 +36,6 @@ pub fn sim3_root(z: f64, whole: &mut [u64], exponent: &mut [i64], nearest: &mut 
             nearest[0] = p.nearest;
             0
         }
-        RootAnswer::Refused(n) => n as u32,
+        Err(refusal) => refusal.number() as u32,
     }
 }

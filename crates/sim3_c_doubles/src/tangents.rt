@@ -5,7 +5,7 @@ ghost use Rattle.to_lists.specs.Written.{status, written};
 ghost use Rattle.sim3_c_doubles.specs.Order.{order_number, compare_call, sort_call};
 
 use from_lists::LIST_LENGTH;
-use order::{Order, SortAnswer};
+use order::Order;
 
 const TANGENT: usize = 7;
 
@@ -57,7 +57,7 @@ pub fn sim3_sort_tangents(list: &mut [u64]) -> u32
     ensures list_after { list.new ≡ written (sort_call list.old) list.old }
 {
     match order::sort(list) {
-        SortAnswer::Written => 0,
-        SortAnswer::Refused(n) => n as u32,
+        Ok(()) => 0,
+        Err(refusal) => refusal.number() as u32,
     }
 }

@@ -6,7 +6,7 @@ use mathlib.Core.List.{List, []}
 use lib.ListN.{length, set}
 use lib.Seq.{sets}
 use mir.Val.{bool_byte}
-use Rattle.coeffs.specs.declared.sim3.ArmedPair.{ArmedPair}
+use Rattle.coeffs.specs.Floats.{ArmedPair}
 use Rattle.to_lists.proofs.Fits.{sets-all}
 use Rattle.sim3_c_entries.specs.Calls.{arm_bytes}
 

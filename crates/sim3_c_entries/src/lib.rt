@@ -10,17 +10,13 @@ ghost use Rattle.from_lists.specs.Lists.{pose_lists};
 ghost use Rattle.to_lists.specs.Written.{status, written, fitting, framed_written};
 ghost use Rattle.sim3_c_entries.specs.Calls.{exp_call, mul_call, inverse_call, scaled_pair_call, block_pair_call, block_inverse_call, act_call, arm_lists, arms_fitting, arms_call};
 
-use coeffs::sim3::{
-    ArmedPair, ArmedPairAnswer, PairAnswer, ScaledPair, sim3_coeffs_armed_pair,
-    sim3_coeffs_scaled_pair,
-};
+use coeffs::sim3::{ArmedPair, ScaledPair, sim3_coeffs_armed_pair, sim3_coeffs_scaled_pair};
 use frames::Pose;
 use from_lists::{
     BlockRead, FramedRead, FramesRead, LIST_LENGTH, MatRead, PoseRead, TangentRead, ValuesRead,
     VecRead, block_from, framed_from, frames_from, mat_from, pose_from, tangent_from, values_from,
     vec_from,
 };
-use jacobian::jac::JacAnswer;
 use layout::{SCALED_PAIR, VEC};
 use linalg::vector::Vec3;
 use sides::pair::block_pair;
@@ -109,8 +105,8 @@ pub fn sim3_scaled_pair(sigma: f64, z: f64, values: &[f64], out: &mut [f64]) -> 
         return LIST_LENGTH;
     };
     match sim3_coeffs_scaled_pair(sigma, z, v) {
-        PairAnswer::Coeffs(p) => put_scaled_pair(out, p),
-        PairAnswer::Refused(n) => n as u32,
+        Ok(p) => put_scaled_pair(out, p),
+        Err(refusal) => refusal.number() as u32,
     }
 }
 
@@ -150,13 +146,13 @@ pub fn sim3_block_inverse(j: &[f64], out: &mut [f64]) -> u32
         return LIST_LENGTH;
     };
     match b.inverse() {
-        JacAnswer::Block(i) => put_block(out, i),
-        JacAnswer::Refused(n) => n as u32,
+        Ok(i) => put_block(out, i),
+        Err(zero_scale) => zero_scale.number() as u32,
     }
 }
 
 // A point to a list.
-fn put_point(out: &mut [f64], p: Vec3) -> u32
+fn put_point(out: &mut [f64], p: Vec3<f64>) -> u32
     ensures value { result ≡ status (fitting out.old (vec_numbers p)) }
     ensures out_after { out.new ≡ written (fitting out.old (vec_numbers p)) out.old }
 {
@@ -185,7 +181,7 @@ pub fn act_point(x: &[f64], up: f64, p: &[f64], out: &mut [f64]) -> u32
 
 // The arms of both signs as bytes, each with 1 or 0 for whether v0 and w0 of the closed arm come from series of their
 // own, and the scaled pair to a list; both or none.
-fn put_arms(arms: &mut [u8], out: &mut [f64], p: ArmedPair) -> u32
+fn put_arms(arms: &mut [u8], out: &mut [f64], p: ArmedPair<f64>) -> u32
     ensures value { result ≡ status (arms_fitting (arm_lists arms.old out.old) p) }
     ensures out_after { arm_lists arms.new out.new ≡ written (arms_fitting (arm_lists arms.old out.old) p) (arm_lists arms.old out.old) }
 {
@@ -214,7 +210,7 @@ pub fn armed_pair(sigma: f64, z: f64, values: &[f64], arms: &mut [u8], out: &mut
         return LIST_LENGTH;
     };
     match sim3_coeffs_armed_pair(sigma, z, v) {
-        ArmedPairAnswer::Coeffs(p) => put_arms(arms, out, p),
-        ArmedPairAnswer::Refused(n) => n as u32,
+        Ok(p) => put_arms(arms, out, p),
+        Err(refusal) => refusal.number() as u32,
     }
 }

@@ -1,4 +1,4 @@
-// Written by tools/widths from crates/sim3_c_entries/src/lib.rt: edit that one. Digest 85234937b6c95715.
+// Written by tools/widths from crates/sim3_c_entries/src/lib.rt: edit that one. Digest 844a75f5f512e73a.
 // The C functions that answer records of the job too: each is what a C caller has, and what the entry of a mark asks.
 // And two functions on lists that a mark has and C callers do not. Each returns 0, or the number of a refusal, where
 // the lists that it is lent to write to stay as they were. include/sim3.h has the order of every number.
@@ -10,23 +10,17 @@ ghost use Rattle.linalg.specs.Vector.{vec_numbers};
 ghost use Rattle.from_lists.specs.Lists.{pose_lists};
 ghost use Rattle.to_lists.specs.Written.{status, written, fitting, framed_written};
 ghost use Rattle.sim3_c_entries.specs.Calls.{exp_call, mul_call, inverse_call, scaled_pair_call, block_pair_call, block_inverse_call, act_call, arm_lists, arms_fitting, arms_call};
-ghost use Rattle.linalg_f32.specs.As.{as_vec3};
-ghost use Rattle.coeffs_f32.specs.As.{as_armed_pair};
 
-use coeffs_f32::sim3::{
-    ArmedPair, ArmedPairAnswer, PairAnswer, ScaledPair, sim3_coeffs_armed_pair,
-    sim3_coeffs_scaled_pair,
-};
-use frames_f32::Pose;
+use coeffs::sim3::{ArmedPair, ScaledPair, sim3_coeffs_armed_pair, sim3_coeffs_scaled_pair};
+use frames::Pose;
 use from_lists_f32::{
     BlockRead, FramedRead, FramesRead, LIST_LENGTH, MatRead, PoseRead, TangentRead, ValuesRead,
     VecRead, block_from, framed_from, frames_from, mat_from, pose_from, tangent_from, values_from,
     vec_from,
 };
-use jacobian_f32::jac::JacAnswer;
 use layout::{SCALED_PAIR, VEC};
-use linalg_f32::vector::Vec3;
-use sides_f32::pair::block_pair;
+use linalg::vector::Vec3;
+use sides::pair::block_pair;
 use to_lists_f32::{put_block, put_block_pair, put_framed, put_joined, put_scaled_pair};
 
 // How many bytes the arms of both signs have.
@@ -112,8 +106,8 @@ pub fn sim3_scaled_pair_f32(sigma: f32, z: f32, values: &[f32], out: &mut [f32])
         return LIST_LENGTH;
     };
     match sim3_coeffs_scaled_pair(sigma, z, v) {
-        PairAnswer::Coeffs(p) => put_scaled_pair(out, p),
-        PairAnswer::Refused(n) => n as u32,
+        Ok(p) => put_scaled_pair(out, p),
+        Err(refusal) => refusal.number() as u32,
     }
 }
 
@@ -153,15 +147,15 @@ pub fn sim3_block_inverse_f32(j: &[f32], out: &mut [f32]) -> u32
         return LIST_LENGTH;
     };
     match b.inverse() {
-        JacAnswer::Block(i) => put_block(out, i),
-        JacAnswer::Refused(n) => n as u32,
+        Ok(i) => put_block(out, i),
+        Err(zero_scale) => zero_scale.number() as u32,
     }
 }
 
 // A point to a list.
-fn put_point(out: &mut [f32], p: Vec3) -> u32
-    ensures value { result ≡ status (fitting out.old (vec_numbers (as_vec3 p))) }
-    ensures out_after { out.new ≡ written (fitting out.old (vec_numbers (as_vec3 p))) out.old }
+fn put_point(out: &mut [f32], p: Vec3<f32>) -> u32
+    ensures value { result ≡ status (fitting out.old (vec_numbers p)) }
+    ensures out_after { out.new ≡ written (fitting out.old (vec_numbers p)) out.old }
 {
     if out.len() != VEC {
         return LIST_LENGTH;
@@ -188,9 +182,9 @@ pub fn act_point(x: &[f32], up: f32, p: &[f32], out: &mut [f32]) -> u32
 
 // The arms of both signs as bytes, each with 1 or 0 for whether v0 and w0 of the closed arm come from series of their
 // own, and the scaled pair to a list; both or none.
-fn put_arms(arms: &mut [u8], out: &mut [f32], p: ArmedPair) -> u32
-    ensures value { result ≡ status (arms_fitting (arm_lists arms.old out.old) (as_armed_pair p)) }
-    ensures out_after { arm_lists arms.new out.new ≡ written (arms_fitting (arm_lists arms.old out.old) (as_armed_pair p)) (arm_lists arms.old out.old) }
+fn put_arms(arms: &mut [u8], out: &mut [f32], p: ArmedPair<f32>) -> u32
+    ensures value { result ≡ status (arms_fitting (arm_lists arms.old out.old) p) }
+    ensures out_after { arm_lists arms.new out.new ≡ written (arms_fitting (arm_lists arms.old out.old) p) (arm_lists arms.old out.old) }
 {
     if arms.len() != ARMS {
         return LIST_LENGTH;
@@ -217,7 +211,7 @@ pub fn armed_pair(sigma: f32, z: f32, values: &[f32], arms: &mut [u8], out: &mut
         return LIST_LENGTH;
     };
     match sim3_coeffs_armed_pair(sigma, z, v) {
-        ArmedPairAnswer::Coeffs(p) => put_arms(arms, out, p),
-        ArmedPairAnswer::Refused(n) => n as u32,
+        Ok(p) => put_arms(arms, out, p),
+        Err(refusal) => refusal.number() as u32,
     }
 }

@@ -1,11 +1,11 @@
-// Written by tools/widths from crates/sim3_c/src/arms.rt: edit that one. Digest 38f7ac3b21582929.
+// Written by tools/widths from crates/sim3_c/src/arms.rt: edit that one. Digest 1fbfd92aa4952937.
 // The coefficients with the arms that formed them: at sigma, and at both signs.
 ghost use Rattle.std.specs.Prelude.{◌≡◌};
 ghost use Rattle.std.specs.Float.{binary32};
 ghost use Rattle.to_lists.specs.Written.{status, written};
 ghost use Rattle.sim3_c.specs.Calls.{armed_call, armed_pair_call};
 
-use coeffs_f32::sim3::{ArmedAnswer, ArmedPairAnswer, sim3_coeffs_armed_pair};
+use coeffs::sim3::sim3_coeffs_armed_pair;
 use from_lists_f32::{LIST_LENGTH, ValuesRead, values_from};
 use to_lists_f32::{put_armed, put_armed_pair};
 
@@ -17,9 +17,9 @@ pub fn sim3_coeffs_armed_f32(sigma: f32, z: f32, values: &[f32], out: &mut [f32]
     let ValuesRead::Got(v) = values_from(values) else {
         return LIST_LENGTH;
     };
-    match coeffs_f32::sim3::sim3_coeffs_armed(sigma, z, v) {
-        ArmedAnswer::Coeffs(a) => put_armed(out, a),
-        ArmedAnswer::Refused(n) => n as u32,
+    match coeffs::sim3::sim3_coeffs_armed(sigma, z, v) {
+        Ok(a) => put_armed(out, a),
+        Err(refusal) => refusal.number() as u32,
     }
 }
 
@@ -32,7 +32,7 @@ pub fn sim3_armed_pair_f32(sigma: f32, z: f32, values: &[f32], out: &mut [f32]) 
         return LIST_LENGTH;
     };
     match sim3_coeffs_armed_pair(sigma, z, v) {
-        ArmedPairAnswer::Coeffs(p) => put_armed_pair(out, p),
-        ArmedPairAnswer::Refused(n) => n as u32,
+        Ok(p) => put_armed_pair(out, p),
+        Err(refusal) => refusal.number() as u32,
     }
 }

@@ -1,4 +1,4 @@
-// Written by tools/widths from crates/sim3_c/src/jacobians.rt: edit that one. Digest 1c573a2bd93fec61.
+// Written by tools/widths from crates/sim3_c/src/jacobians.rt: edit that one. Digest ed62b612f6e23385.
 // Jacobian blocks, as a, b, c, f, e: the matrix with the rows (a, 0, 0), (b, c, f), (0, 0, e). Right is
 // X Exp(tau), left Exp(tau) X.
 ghost use Rattle.std.specs.Prelude.{◌≡◌};
@@ -8,7 +8,7 @@ ghost use Rattle.sim3_c.specs.Calls.{adjoint_call, act_jacobians_right_call, act
 ghost use Rattle.sim3_c.specs.Calls.{compose_jacobians_right_call, compose_jacobians_left_call, inverse_jacobian_right_call, inverse_jacobian_left_call};
 
 use from_lists_f32::{LIST_LENGTH, PoseRead, VecRead, pose_from, vec_from};
-use sides_f32::side::{
+use sides::side::{
     act_jacobians_left, act_jacobians_right, adjoint, compose_jacobians_left,
     compose_jacobians_right, inverse_jacobian_left, inverse_jacobian_right,
 };

@@ -1,4 +1,4 @@
-// Written by tools/widths from crates/sim3_c/src/near.rt: edit that one. Digest 6b54209d73d805b0.
+// Written by tools/widths from crates/sim3_c/src/near.rt: edit that one. Digest 3de104e28a8403dd.
 // How near another arm is, to a list of whole numbers: the count, which can be as large as a pattern
 // and so no single, the direction, and the arm there.
 ghost use Rattle.std.specs.Prelude.{◌≡◌};
@@ -8,7 +8,7 @@ ghost use Rattle.to_lists.specs.Written.{status, written};
 ghost use Rattle.sim3_c.specs.Near.{way_number, near_call};
 
 use from_lists_f32::LIST_LENGTH;
-use nearest_f32::{Direction, NearestAnswer};
+use nearest_f32::Direction;
 
 const NUMBERS: usize = 3;
 
@@ -29,7 +29,7 @@ pub fn sim3_nearest_arm_f32(sigma: f32, z: f32, out: &mut [u64]) -> u32
     ensures out_after { out.new ≡ written (near_call binary32 sigma z out.old) out.old }
 {
     match nearest_f32::nearest_arm(sigma, z) {
-        NearestAnswer::Found(s) => {
+        Ok(Some(s)) => {
             if out.len() != NUMBERS {
                 return LIST_LENGTH;
             }
@@ -42,7 +42,7 @@ pub fn sim3_nearest_arm_f32(sigma: f32, z: f32, out: &mut [u64]) -> u32
             out[2] = arm;
             0
         }
-        NearestAnswer::OneArm => {
+        Ok(None) => {
             if out.len() != NUMBERS {
                 return LIST_LENGTH;
             }
@@ -51,6 +51,6 @@ pub fn sim3_nearest_arm_f32(sigma: f32, z: f32, out: &mut [u64]) -> u32
             out[2] = 0;
             0
         }
-        NearestAnswer::Refused(n) => n as u32,
+        Err(refusal) => refusal.number() as u32,
     }
 }

@@ -1,4 +1,4 @@
-// Written by tools/widths from crates/sim3_c/src/points.rt: edit that one. Digest 259c3f57069a604b.
+// Written by tools/widths from crates/sim3_c/src/points.rt: edit that one. Digest 6210ea50c6b6d55e.
 // The action of a pose on a list of points, three numbers each: with the bits of the Rust's act_many,
 // and each point by itself, as the job moves one.
 ghost use Rattle.std.specs.Prelude.{◌≡◌};
@@ -7,7 +7,7 @@ ghost use Rattle.to_lists.specs.Written.{status, written};
 ghost use Rattle.sim3_c.specs.Calls.{act_many_call, act_each_call};
 
 use from_lists_f32::{LIST_LENGTH, PoseRead, pose_from};
-use point_lists_f32::{Listed, act_each, act_many};
+use point_lists_f32::{act_each, act_many};
 
 // Every point by the matrix s R; up is e^sigma of X.
 pub fn sim3_act_many_f32(x: &[f32], up: f32, pts: &[f32], out: &mut [f32]) -> u32
@@ -18,8 +18,8 @@ pub fn sim3_act_many_f32(x: &[f32], up: f32, pts: &[f32], out: &mut [f32]) -> u3
         return LIST_LENGTH;
     };
     match act_many(a, up, pts, out) {
-        Listed::Written => 0,
-        Listed::Refused(n) => n as u32,
+        Ok(()) => 0,
+        Err(refusal) => refusal.number() as u32,
     }
 }
 
@@ -32,7 +32,7 @@ pub fn sim3_act_each_f32(x: &[f32], up: f32, pts: &[f32], out: &mut [f32]) -> u3
         return LIST_LENGTH;
     };
     match act_each(a, up, pts, out) {
-        Listed::Written => 0,
-        Listed::Refused(n) => n as u32,
+        Ok(()) => 0,
+        Err(refusal) => refusal.number() as u32,
     }
 }

@@ -2,6 +2,7 @@
 // into it (LD_PRELOAD) can set another rounding or flushing.
 ghost use Rattle.std.specs.Prelude.{◌≡◌, true};
 
+use ieee::Real;
 use std::io::Read;
 
 // Zero, which no compiler can know: a read from standard input is lent the list that it stands in, of
@@ -21,8 +22,8 @@ pub fn computes_as_proved(rt: &HostRuntime) -> bool
     ensures { result ≡ true }
 {
     let hidden = zero(rt);
-    let first = ieee::from_bits(0x4013_0000_0000_0000 + hidden);
-    let second = ieee::from_bits(1 + hidden);
-    let third = ieee::from_bits(0x7fe0_0000_0000_0001 + hidden);
+    let first = f64::from_pattern(0x4013_0000_0000_0000 + hidden);
+    let second = f64::from_pattern(1 + hidden);
+    let third = f64::from_pattern(0x7fe0_0000_0000_0001 + hidden);
     environment::product_is_due(first, second, third)
 }

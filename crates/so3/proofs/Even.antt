@@ -3,7 +3,7 @@ use mathlib.Core.Path.{◌≡◌, ◌∙◌}
 use lib.Ieee.{Float, Format, neg, mul}
 use Rattle.ieee.proofs.Sign.{mul-neg_r}
 use Rattle.linalg.specs.Vector.{vec_norm_sq, vec_neg}
-use Rattle.linalg.specs.declared.vector.Vec3.{Vec3}
+use Rattle.linalg.specs.Floats.{Vec3}
 pub use Rattle.linalg.proofs.Even.{norm_sq_even}
 use Rattle.circle.specs.Kernel.{circle_exp}
 use Rattle.so3.specs.Quat.{quat, quat_conjugate}

@@ -1,2 +1,3 @@
+pub mod Floats
 pub mod Quat
 pub mod So3

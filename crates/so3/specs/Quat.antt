@@ -6,8 +6,8 @@ use Rattle.ieee.specs.Numbers.{f0, f1, f2, f3, half}
 use Rattle.ieee.specs.Infix.{operations}
 use Rattle.linalg.specs.Vector.{vec}
 use Rattle.linalg.specs.Matrix.{mat}
-use Rattle.linalg.specs.declared.matrix.Mat3.{Mat3}
-use Rattle.so3.specs.declared.quat.Quat.{Quat}
+use Rattle.linalg.specs.Floats.{Mat3}
+use Rattle.so3.specs.Floats.{Quat}
 
 abbrev pub quat : Float → Float → Float → Float → Quat
 quat w x y z = record { w = w; x = x; y = y; z = z }

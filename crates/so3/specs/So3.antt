@@ -4,10 +4,10 @@ use Rattle.std.specs.Float.{Format}
 use Rattle.ieee.specs.Numbers.{f2}
 use Rattle.ieee.specs.Infix.{operations}
 use Rattle.linalg.specs.Vector.{vec, vec_norm_sq, vec_operations}
-use Rattle.linalg.specs.declared.vector.Vec3.{Vec3}
+use Rattle.linalg.specs.Floats.{Vec3}
 use Rattle.circle.specs.Kernel.{circle_exp}
 use Rattle.so3.specs.Quat.{quat, quat_conjugate}
-use Rattle.so3.specs.declared.quat.Quat.{Quat}
+use Rattle.so3.specs.Floats.{Quat}
 
 module _ (f : Format) where
   infixl 60 ◌⊞◌

@@ -1,31 +1,33 @@
 // A quaternion w + x i + y j + z k of doubles (Hamilton: i² = j² = k² = ijk = -1), w first. A unit q
 // rotates v to q v q*. It is a value with no invariant: nothing below asks that q is unit.
-ghost use Rattle.std.specs.Prelude.{◌≡◌};
-ghost use Rattle.std.specs.Float.{binary64};
+ghost use Rattle.std.specs.Prelude.{◌≡◌, map};
 ghost use Rattle.so3.specs.Quat.{quat, quat_identity, quat_normalized, quat_of_xyzw, quat_to_xyzw, quat_of_jpl, quat_conjugate, quat_norm_sq, quat_to_matrix, quat_renormalized, quat_mul};
+ghost use Rattle.linalg.specs.Floats.{as_mat3};
+ghost use Rattle.so3.specs.Floats.{as_quat};
 
+use ieee::Real;
 use linalg::matrix::Mat3;
 use linalg::vector::Vec3;
 
 #[derive(Clone, Copy)]
-pub struct Quat {
-    pub w: f64,
-    pub x: f64,
-    pub y: f64,
-    pub z: f64,
+pub struct Quat<T> {
+    pub w: T,
+    pub x: T,
+    pub y: T,
+    pub z: T,
 }
 
-impl Quat {
+impl<T: Real> Quat<T> {
     // (w, x, y, z) as it is.
-    pub fn from_wxyz_unchecked(w: f64, x: f64, y: f64, z: f64) -> Quat
-        ensures { result ≡ quat w x y z }
+    pub fn from_wxyz_unchecked(w: T, x: T, y: T, z: T) -> Quat<T>
+        ensures { as_quat T.float result ≡ quat (T.float w) (T.float x) (T.float y) (T.float z) }
     {
         Quat { w, x, y, z }
     }
 
     // (w, x, y, z) / n, where n is the root of |q|² as the caller hands it in.
-    pub fn from_wxyz_normalized(w: f64, x: f64, y: f64, z: f64, n: f64) -> Quat
-        ensures { result ≡ quat_normalized binary64 w x y z n }
+    pub fn from_wxyz_normalized(w: T, x: T, y: T, z: T, n: T) -> Quat<T>
+        ensures { as_quat T.float result ≡ quat_normalized T.format (T.float w) (T.float x) (T.float y) (T.float z) (T.float n) }
     {
         Quat {
             w: w / n,
@@ -36,8 +38,8 @@ impl Quat {
     }
 
     // The quaternion of a list [x, y, z, w].
-    pub fn from_xyzw(a: [f64; 4]) -> Quat
-        ensures { result ≡ quat_of_xyzw a }
+    pub fn from_xyzw(a: [T; 4]) -> Quat<T>
+        ensures { as_quat T.float result ≡ quat_of_xyzw (map T.float a) }
     {
         Quat {
             w: a[3],
@@ -48,15 +50,15 @@ impl Quat {
     }
 
     // [x, y, z, w], the inverse of `from_xyzw`.
-    pub fn to_xyzw(self) -> [f64; 4]
-        ensures { result ≡ quat_to_xyzw self }
+    pub fn to_xyzw(self) -> [T; 4]
+        ensures { map T.float result ≡ quat_to_xyzw (as_quat T.float self) }
     {
         [self.x, self.y, self.z, self.w]
     }
 
     // The Hamilton quaternion (w, -x, -y, -z) of a JPL quaternion [x, y, z, w].
-    pub fn from_jpl(a: [f64; 4]) -> Quat
-        ensures { result ≡ quat_of_jpl a }
+    pub fn from_jpl(a: [T; 4]) -> Quat<T>
+        ensures { as_quat T.float result ≡ quat_of_jpl (map T.float a) }
     {
         Quat {
             w: a[3],
@@ -67,8 +69,8 @@ impl Quat {
     }
 
     // (w, -x, -y, -z); the inverse of a unit quaternion.
-    pub fn conjugate(self) -> Quat
-        ensures { result ≡ quat_conjugate self }
+    pub fn conjugate(self) -> Quat<T>
+        ensures { as_quat T.float result ≡ quat_conjugate (as_quat T.float self) }
     {
         Quat {
             w: self.w,
@@ -79,24 +81,24 @@ impl Quat {
     }
 
     // |q|² = w² + x² + y² + z², summed in that order.
-    pub fn norm_sq(self) -> f64
-        ensures { result ≡ quat_norm_sq binary64 self }
+    pub fn norm_sq(self) -> T
+        ensures { T.float result ≡ quat_norm_sq T.format (as_quat T.float self) }
     {
         self.w * self.w + self.x * self.x + self.y * self.y + self.z * self.z
     }
 
     // R(q) = (1 - 2|u|²) I + 2 u uᵀ + 2w hat(u), u = (x, y, z): the rotation of a unit q.
-    pub fn to_matrix(self) -> Mat3
-        ensures { result ≡ quat_to_matrix binary64 self }
+    pub fn to_matrix(self) -> Mat3<T>
+        ensures { as_mat3 T.float result ≡ quat_to_matrix T.format (as_quat T.float self) }
     {
         let w = self.w;
         let x = self.x;
         let y = self.y;
         let z = self.z;
-        let tw = 2.0 * w;
-        let tx = 2.0 * x;
-        let ty = 2.0 * y;
-        let tz = 2.0 * z;
+        let tw = T::of(2.0) * w;
+        let tx = T::of(2.0) * x;
+        let ty = T::of(2.0) * y;
+        let tz = T::of(2.0) * z;
         let xx = tx * x;
         let yy = ty * y;
         let zz = tz * z;
@@ -108,29 +110,29 @@ impl Quat {
         let wz = tw * z;
         Mat3 {
             c0: Vec3 {
-                x: 1.0 - (yy + zz),
+                x: T::of(1.0) - (yy + zz),
                 y: xy + wz,
                 z: xz - wy,
             },
             c1: Vec3 {
                 x: xy - wz,
-                y: 1.0 - (xx + zz),
+                y: T::of(1.0) - (xx + zz),
                 z: yz + wx,
             },
             c2: Vec3 {
                 x: xz + wy,
                 y: yz - wx,
-                z: 1.0 - (xx + yy),
+                z: T::of(1.0) - (xx + yy),
             },
         }
     }
 
     // One Newton step towards unit length, q (3 - |q|²) / 2. It is near unit only where |q|² is
     // near 1: it gives zero at |q|² = 3 and reverses q beyond.
-    pub fn renormalized(self) -> Quat
-        ensures { result ≡ quat_renormalized binary64 self }
+    pub fn renormalized(self) -> Quat<T>
+        ensures { as_quat T.float result ≡ quat_renormalized T.format (as_quat T.float self) }
     {
-        let k = (3.0 - self.norm_sq()) * 0.5;
+        let k = (T::of(3.0) - self.norm_sq()) * T::of(0.5);
         Quat {
             w: self.w * k,
             x: self.x * k,
@@ -140,8 +142,8 @@ impl Quat {
     }
 
     // The Hamilton product self * o; it does not normalise.
-    pub fn mul(self, o: Quat) -> Quat
-        ensures { result ≡ quat_mul binary64 self o }
+    pub fn mul(self, o: Quat<T>) -> Quat<T>
+        ensures { as_quat T.float result ≡ quat_mul T.format (as_quat T.float self) (as_quat T.float o) }
     {
         Quat {
             w: self.w * o.w - self.x * o.x - self.y * o.y - self.z * o.z,
@@ -152,21 +154,21 @@ impl Quat {
     }
 
     // The rotation that leaves every vector: (1, 0, 0, 0).
-    pub fn identity() -> Quat
-        ensures { result ≡ quat_identity }
+    pub fn identity() -> Quat<T>
+        ensures { as_quat T.float result ≡ quat_identity }
     {
         Quat {
-            w: 1.0,
-            x: 0.0,
-            y: 0.0,
-            z: 0.0,
+            w: T::of(1.0),
+            x: T::of(0.0),
+            y: T::of(0.0),
+            z: T::of(0.0),
         }
     }
 }
 
 // `Quat::renormalized` on a quaternion that is lent; nothing else is altered.
-pub fn renormalize(q: &mut Quat)
-    ensures { q.new ≡ quat_renormalized binary64 q.old }
+pub fn renormalize<T: Real>(q: &mut Quat<T>)
+    ensures { as_quat T.float q.new ≡ quat_renormalized T.format (as_quat T.float q.old) }
 {
     *q = (*q).renormalized();
 }

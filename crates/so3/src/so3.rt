@@ -1,25 +1,28 @@
 // The rotation group on unit quaternions. A rotation is its `Quat`: product, matrix and
 // renormalisation are that type's, and the hat products are linalg's.
 ghost use Rattle.std.specs.Prelude.{◌≡◌};
-ghost use Rattle.std.specs.Float.{binary64};
 ghost use Rattle.linalg.specs.Vector.{vec_norm_sq};
 ghost use Rattle.so3.specs.Quat.{quat_conjugate};
 ghost use Rattle.so3.specs.So3.{so3_act, so3_inv_act, so3_exp};
+ghost use Rattle.linalg.specs.Floats.{as_vec3};
+ghost use Rattle.so3.specs.Floats.{as_quat};
 
 use crate::quat::Quat;
+use circle::generated::Limits;
 use circle::kernel::exp_coeffs_of;
+use ieee::Real;
 use linalg::vector::Vec3;
 
 // |v|² = (x² + y²) + z²: the squared angle of a rotation vector.
-pub fn norm_sq(v: Vec3) -> f64
-    ensures { result ≡ vec_norm_sq binary64 v }
+pub fn norm_sq<T: Real>(v: Vec3<T>) -> T
+    ensures { T.float result ≡ vec_norm_sq T.format (as_vec3 T.float v) }
 {
     (v.x * v.x + v.y * v.y) + v.z * v.z
 }
 
 // R v by the quaternion sandwich: v + 2w (u x v) + 2 u x (u x v), u = (x, y, z), in that order.
-pub fn act(q: Quat, v: Vec3) -> Vec3
-    ensures { result ≡ so3_act binary64 q v }
+pub fn act<T: Real>(q: Quat<T>, v: Vec3<T>) -> Vec3<T>
+    ensures { as_vec3 T.float result ≡ so3_act T.format (as_quat T.float q) (as_vec3 T.float v) }
 {
     let u = Vec3 {
         x: q.x,
@@ -27,27 +30,28 @@ pub fn act(q: Quat, v: Vec3) -> Vec3
         z: q.z,
     };
     let uv = u.cross(v);
-    v.add(uv.scale(2.0 * q.w)).add(u.cross(uv).scale(2.0))
+    v.add(uv.scale(T::of(2.0) * q.w))
+        .add(u.cross(uv).scale(T::of(2.0)))
 }
 
 // R⁻¹ v: the action of the conjugate.
-pub fn inv_act(q: Quat, v: Vec3) -> Vec3
-    ensures { result ≡ so3_inv_act binary64 q v }
+pub fn inv_act<T: Real>(q: Quat<T>, v: Vec3<T>) -> Vec3<T>
+    ensures { as_vec3 T.float result ≡ so3_inv_act T.format (as_quat T.float q) (as_vec3 T.float v) }
 {
     act(inverse(q), v)
 }
 
 // The conjugate, the inverse of a unit quaternion.
-pub fn inverse(q: Quat) -> Quat
-    ensures { result ≡ quat_conjugate q }
+pub fn inverse<T: Real>(q: Quat<T>) -> Quat<T>
+    ensures { as_quat T.float result ≡ quat_conjugate (as_quat T.float q) }
 {
     q.conjugate()
 }
 
 // Exp(phi) = (cos(θ/2), k phi), k = sin(θ/2) / θ: root, sin_half and cos_half are θ = |phi| and the
 // sine and cosine of its half as the caller hands them in.
-pub fn exp(phi: Vec3, root: f64, sin_half: f64, cos_half: f64) -> Quat
-    ensures { result ≡ so3_exp binary64 phi root sin_half cos_half }
+pub fn exp<T: Limits>(phi: Vec3<T>, root: T, sin_half: T, cos_half: T) -> Quat<T>
+    ensures { as_quat T.float result ≡ so3_exp T.format (as_vec3 T.float phi) (T.float root) (T.float sin_half) (T.float cos_half) }
 {
     let c = exp_coeffs_of(phi, root, sin_half, cos_half);
     Quat {

@@ -1,19 +1,20 @@
 -- One computed test: at each width, in each row, every entry is the exact rational of the row's rule, rounded once. What follows for the constants of the code. Assumes nothing.
 use mathlib.Core.Path.{◌≡◌, refl, sym, ap, ◌∙◌, subst}
-use mathlib.Core.Bool.{Bool, true, false, ◌&&◌}
+use mathlib.Core.Bool.{Bool, true, ◌&&◌}
 use mathlib.Core.List.{List, [], ◌∷◌}
+use Rattle.std.specs.Prelude.{Some, None}
 use Prim.Native.Nat.{ℕ, zero, suc, ◌+◌, ◌≤◌, ◌<◌, zero-le}
 use native.Mathlib.Omega.{arith}
 use lib.Dec.{T, ltb, eqb, eqb→eq}
 use lib.ListN.{length, get_or}
 use borrow.Author.Tests.{ltb-true, lt-ltb, le-ltb}
-use lib.Ieee.{Float, Format, binary32, binary64, round, of_bits, to_bits, fits}
+use lib.Ieee.{Format, binary32, binary64, round, of_bits, to_bits, fits}
 use lib.Ieee.Fits.{and_l, and_r, round-fits}
 use Rattle.ieee.specs.Signs.{not_minus_zero}
 use Rattle.ieee.specs.Table.{factorial, Rational, rounded, entries}
 use Rattle.ieee.proofs.Table.{floats, right, floats_are, entry_at}
 use Rattle.ieee.proofs.Clear.{round_clear_false}
-use Rattle.tables.specs.Tables.{Row, cos_half_row, k_row, a_row, b_row, d_row, row_rule, row_table, recip_rule, Table, circle_table, recip_row, table_rule, table_length, recip_fact, Recip, number, none, recip_table}
+use Rattle.tables.specs.Tables.{Row, cos_half_row, k_row, a_row, b_row, d_row, row_rule, row_table, recip_rule, Table, circle_table, recip_row, table_rule, table_length, recip_fact, recip_table}
 use Rattle.tables.specs.Patterns.{patterns}
 use Rattle.tables.specs.Every.{EveryEntry}
 
@@ -89,14 +90,14 @@ unfolding row_table
 table_is f row = floats_are f (row_rule row) 0 (patterns f (circle_table row)) (table-right f (circle_table row)) ∙ ap (entries f (row_rule row) 0) (table-length f (circle_table row))
 
 -- ---- the reciprocals, entry by entry: at the index that equals k
-pub recip_is : (f : Format) (n k : ℕ) → n ≡ k → ltb k 33 ≡ true → number (of_bits f (get_or (patterns f recip_row) k 0)) ≡ recip_table f n
+pub recip_is : (f : Format) (n k : ℕ) → n ≡ k → ltb k 33 ≡ true → Some (of_bits f (get_or (patterns f recip_row) k 0)) ≡ recip_table f n
 unfolding recip_table recip_fact
 recip_is f n k e h =
     let m : ltb n 33 ≡ true = ap (λ (i : ℕ). ltb i 33) e ∙ h in
     let l : k < 33 = ltb-true k 33 h in
-    rw m (ap number (entry_at f recip_rule 0 (patterns f recip_row) (table-right f recip_row) n k (rw (table-length f recip_row) (omega arith)) (omega arith)))
+    rw m (ap Some (entry_at f recip_rule 0 (patterns f recip_row) (table-right f recip_row) n k (rw (table-length f recip_row) (omega arith)) (omega arith)))
 
-pub recip_past : (f : Format) (n : ℕ) → 32 < n → recip_table f n ≡ none
+pub recip_past : (f : Format) (n : ℕ) → 32 < n → recip_table f n ≡ None
 unfolding recip_table
 recip_past f n h = rw (le-ltb n 33 h) refl
 
@@ -108,26 +109,10 @@ pub recip_clear : (f : Format) (n : ℕ) → T (not_minus_zero (recip_fact f n))
 unfolding recip_fact rounded recip_rule
 recip_clear f n = round_clear_false f _ _
 
--- ---- to index 32 there is one, and a number that is told is this one
-pub recip_exists : (f : Format) (n : ℕ) → n ≤ 32 → recip_table f n ≡ number (recip_fact f n)
+-- ---- to index 32 there is one
+pub recip_exists : (f : Format) (n : ℕ) → n ≤ 32 → recip_table f n ≡ Some (recip_fact f n)
 unfolding recip_table
 recip_exists f n h = rw (lt-ltb n 33 (omega arith)) refl
-
-unwrap : Float → Recip → Float
-unwrap x (number y) = y
-unwrap x none = x
-
-pub recip_number : (f : Format) (n : ℕ) (x : Float) → n ≤ 32 → number x ≡ recip_table f n → x ≡ recip_fact f n
-unfolding unwrap
-recip_number f n x h e = ap (unwrap x) (e ∙ recip_exists f n h)
-
-is_number : Recip → Bool
-is_number (number y) = true
-is_number none = false
-
-pub recip_not_none : {A : Type 0} (f : Format) (n : ℕ) → n ≤ 32 → none ≡ recip_table f n → A
-unfolding is_number
-recip_not_none f n h e = absurd (subst T (sym (ap is_number (e ∙ recip_exists f n h))) tt)
 
 -- n is none of 0, .., k - 1: what the last arm of a match knows
 abbrev pub NoneBelow : ℕ → ℕ → Type 0

@@ -2,4 +2,3 @@ pub mod Tables
 pub mod Patterns
 pub mod Every
 pub mod Rows
-pub mod Found

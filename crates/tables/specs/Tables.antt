@@ -1,5 +1,5 @@
 -- The tables, in every format: each entry is the exact rational of its row's rule, rounded once.
-use Rattle.std.specs.Prelude.{ℕ, ◌+◌, ◌*◌, ◌^◌, ◌%◌, List, false, cond, eqb, ltb, Float}
+use Rattle.std.specs.Prelude.{Option, Some, None, ℕ, ◌+◌, ◌*◌, ◌^◌, ◌%◌, List, false, cond, eqb, ltb, Float}
 use Rattle.std.specs.Float.{Format}
 use Rattle.ieee.specs.Table.{factorial, Rational, rounded, entries}
 
@@ -44,11 +44,6 @@ row_table f row = entries f (table_rule (circle_table row)) 0 (table_length (cir
 unfoldable pub recip_fact : Format → ℕ → Float
 recip_fact f n = rounded f (table_rule recip_row n)
 
--- what the table of reciprocals has at an index
-pub data Recip : Type 0 where
-  number : Float → Recip
-  none : Recip
-
 -- the table ends at index 32: past it there is none (02, K7)
-unfoldable pub recip_table : Format → ℕ → Recip
-recip_table f n = cond (ltb n (table_length recip_row)) (number (recip_fact f n)) none
+unfoldable pub recip_table : Format → ℕ → Option Float
+recip_table f n = cond (ltb n (table_length recip_row)) (Some (recip_fact f n)) None

@@ -1,18 +1,6 @@
 // The tables at f64.
-ghost use Rattle.std.specs.Prelude.{◌≡◌};
-ghost use Rattle.std.specs.Float.{binary64};
-ghost use Rattle.tables.specs.Tables.{row_table, recip_table};
-ghost use Rattle.tables.specs.Rows.{row_named};
-ghost use Rattle.tables.specs.Found.{recip_told};
 
-use crate::Row;
-
-// What the table of reciprocals has at an index: a number, or none.
-#[derive(Clone, Copy)]
-pub enum Recip {
-    Number(f64),
-    None,
-}
+use crate::{Row, Tables};
 
 // 1/2 (-1)^i / (4^i (2i+1)!): sin(x/2)/x in x^2.
 const SWEPT_K: [f64; 16] = [
@@ -114,57 +102,53 @@ const SWEPT_COS_HALF: [f64; 16] = [
     -3.511074584737332e-42,
 ];
 
-// The sixteen terms of a row.
-pub fn table(row: Row) -> [f64; 16]
-    ensures { result ≡ row_table binary64 (row_named row) }
-{
-    match row {
-        Row::K => SWEPT_K,
-        Row::A => SWEPT_A,
-        Row::B => SWEPT_B,
-        Row::D => SWEPT_D,
-        Row::CosHalf => SWEPT_COS_HALF,
+impl Tables for f64 {
+    fn table(row: Row) -> [f64; 16] {
+        match row {
+            Row::K => SWEPT_K,
+            Row::A => SWEPT_A,
+            Row::B => SWEPT_B,
+            Row::D => SWEPT_D,
+            Row::CosHalf => SWEPT_COS_HALF,
+        }
     }
-}
 
-// 1/n!, or that there is none: the table ends at index 32.
-pub fn recip_fact(n: usize) -> Recip
-    ensures { recip_told result ≡ recip_table binary64 n }
-{
-    match n {
-        0 => Recip::Number(1.0),
-        1 => Recip::Number(1.0),
-        2 => Recip::Number(0.5),
-        3 => Recip::Number(0.16666666666666666),
-        4 => Recip::Number(0.041666666666666664),
-        5 => Recip::Number(0.008333333333333333),
-        6 => Recip::Number(0.001388888888888889),
-        7 => Recip::Number(0.0001984126984126984),
-        8 => Recip::Number(2.48015873015873e-5),
-        9 => Recip::Number(2.7557319223985893e-6),
-        10 => Recip::Number(2.755731922398589e-7),
-        11 => Recip::Number(2.505210838544172e-8),
-        12 => Recip::Number(2.08767569878681e-9),
-        13 => Recip::Number(1.6059043836821613e-10),
-        14 => Recip::Number(1.1470745597729725e-11),
-        15 => Recip::Number(7.647163731819816e-13),
-        16 => Recip::Number(4.779477332387385e-14),
-        17 => Recip::Number(2.8114572543455206e-15),
-        18 => Recip::Number(1.5619206968586225e-16),
-        19 => Recip::Number(8.22063524662433e-18),
-        20 => Recip::Number(4.110317623312165e-19),
-        21 => Recip::Number(1.9572941063391263e-20),
-        22 => Recip::Number(8.896791392450574e-22),
-        23 => Recip::Number(3.868170170630684e-23),
-        24 => Recip::Number(1.6117375710961184e-24),
-        25 => Recip::Number(6.446950284384474e-26),
-        26 => Recip::Number(2.4795962632247976e-27),
-        27 => Recip::Number(9.183689863795546e-29),
-        28 => Recip::Number(3.279889237069838e-30),
-        29 => Recip::Number(1.1309962886447716e-31),
-        30 => Recip::Number(3.7699876288159054e-33),
-        31 => Recip::Number(1.216125041553518e-34),
-        32 => Recip::Number(3.8003907548547434e-36),
-        _ => Recip::None,
+    fn recip_fact(n: usize) -> Option<f64> {
+        match n {
+            0 => Some(1.0),
+            1 => Some(1.0),
+            2 => Some(0.5),
+            3 => Some(0.16666666666666666),
+            4 => Some(0.041666666666666664),
+            5 => Some(0.008333333333333333),
+            6 => Some(0.001388888888888889),
+            7 => Some(0.0001984126984126984),
+            8 => Some(2.48015873015873e-5),
+            9 => Some(2.7557319223985893e-6),
+            10 => Some(2.755731922398589e-7),
+            11 => Some(2.505210838544172e-8),
+            12 => Some(2.08767569878681e-9),
+            13 => Some(1.6059043836821613e-10),
+            14 => Some(1.1470745597729725e-11),
+            15 => Some(7.647163731819816e-13),
+            16 => Some(4.779477332387385e-14),
+            17 => Some(2.8114572543455206e-15),
+            18 => Some(1.5619206968586225e-16),
+            19 => Some(8.22063524662433e-18),
+            20 => Some(4.110317623312165e-19),
+            21 => Some(1.9572941063391263e-20),
+            22 => Some(8.896791392450574e-22),
+            23 => Some(3.868170170630684e-23),
+            24 => Some(1.6117375710961184e-24),
+            25 => Some(6.446950284384474e-26),
+            26 => Some(2.4795962632247976e-27),
+            27 => Some(9.183689863795546e-29),
+            28 => Some(3.279889237069838e-30),
+            29 => Some(1.1309962886447716e-31),
+            30 => Some(3.7699876288159054e-33),
+            31 => Some(1.216125041553518e-34),
+            32 => Some(3.8003907548547434e-36),
+            _ => None,
+        }
     }
 }

@@ -3,6 +3,13 @@
 // generated_sim3.rs.
 #![tactic(auto)]
 
+ghost use Rattle.std.specs.Prelude.{◌≡◌, map};
+ghost use Rattle.std.specs.Option.{option_map};
+ghost use Rattle.tables.specs.Tables.{row_table, recip_table};
+ghost use Rattle.tables.specs.Rows.{row_named};
+
+use ieee::Real;
+
 pub mod double; // f64
 pub mod single; // f32
 
@@ -14,4 +21,15 @@ pub enum Row {
     B,
     D,
     CosHalf,
+}
+
+// The tables at a width.
+pub trait Tables: Real {
+    // The sixteen terms of a row.
+    fn table(row: Row) -> [Self; 16]
+        ensures { map Self.float result ≡ row_table Self.format (row_named row) };
+
+    // 1/n!, or that there is none: the table ends at index 32.
+    fn recip_fact(n: usize) -> Option<Self>
+        ensures { option_map Self.float result ≡ recip_table Self.format n };
 }

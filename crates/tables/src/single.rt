@@ -1,18 +1,6 @@
 // The tables at f32.
-ghost use Rattle.std.specs.Prelude.{◌≡◌};
-ghost use Rattle.std.specs.Float.{binary32};
-ghost use Rattle.tables.specs.Tables.{row_table, recip_table};
-ghost use Rattle.tables.specs.Rows.{row_named};
-ghost use Rattle.tables.specs.Found.{recip_single_told};
 
-use crate::Row;
-
-// What the table of reciprocals has at an index: a number, or none.
-#[derive(Clone, Copy)]
-pub enum Recip {
-    Number(f32),
-    None,
-}
+use crate::{Row, Tables};
 
 // 1/2 (-1)^i / (4^i (2i+1)!): sin(x/2)/x in x^2.
 const SWEPT_K: [f32; 16] = [
@@ -114,57 +102,53 @@ const SWEPT_COS_HALF: [f32; 16] = [
     -3.512e-42,
 ];
 
-// The sixteen terms of a row.
-pub fn table(row: Row) -> [f32; 16]
-    ensures { result ≡ row_table binary32 (row_named row) }
-{
-    match row {
-        Row::K => SWEPT_K,
-        Row::A => SWEPT_A,
-        Row::B => SWEPT_B,
-        Row::D => SWEPT_D,
-        Row::CosHalf => SWEPT_COS_HALF,
+impl Tables for f32 {
+    fn table(row: Row) -> [f32; 16] {
+        match row {
+            Row::K => SWEPT_K,
+            Row::A => SWEPT_A,
+            Row::B => SWEPT_B,
+            Row::D => SWEPT_D,
+            Row::CosHalf => SWEPT_COS_HALF,
+        }
     }
-}
 
-// 1/n!, or that there is none: the table ends at index 32.
-pub fn recip_fact(n: usize) -> Recip
-    ensures { recip_single_told result ≡ recip_table binary32 n }
-{
-    match n {
-        0 => Recip::Number(1.0),
-        1 => Recip::Number(1.0),
-        2 => Recip::Number(0.5),
-        3 => Recip::Number(0.16666667),
-        4 => Recip::Number(0.041666668),
-        5 => Recip::Number(0.008333334),
-        6 => Recip::Number(0.0013888889),
-        7 => Recip::Number(0.0001984127),
-        8 => Recip::Number(2.4801588e-5),
-        9 => Recip::Number(2.7557319e-6),
-        10 => Recip::Number(2.755732e-7),
-        11 => Recip::Number(2.5052108e-8),
-        12 => Recip::Number(2.0876756e-9),
-        13 => Recip::Number(1.6059044e-10),
-        14 => Recip::Number(1.1470745e-11),
-        15 => Recip::Number(7.6471636e-13),
-        16 => Recip::Number(4.7794773e-14),
-        17 => Recip::Number(2.8114574e-15),
-        18 => Recip::Number(1.5619207e-16),
-        19 => Recip::Number(8.220635e-18),
-        20 => Recip::Number(4.1103176e-19),
-        21 => Recip::Number(1.9572942e-20),
-        22 => Recip::Number(8.896791e-22),
-        23 => Recip::Number(3.8681703e-23),
-        24 => Recip::Number(1.6117376e-24),
-        25 => Recip::Number(6.4469503e-26),
-        26 => Recip::Number(2.4795963e-27),
-        27 => Recip::Number(9.18369e-29),
-        28 => Recip::Number(3.279889e-30),
-        29 => Recip::Number(1.1309962e-31),
-        30 => Recip::Number(3.7699878e-33),
-        31 => Recip::Number(1.216125e-34),
-        32 => Recip::Number(3.8003907e-36),
-        _ => Recip::None,
+    fn recip_fact(n: usize) -> Option<f32> {
+        match n {
+            0 => Some(1.0),
+            1 => Some(1.0),
+            2 => Some(0.5),
+            3 => Some(0.16666667),
+            4 => Some(0.041666668),
+            5 => Some(0.008333334),
+            6 => Some(0.0013888889),
+            7 => Some(0.0001984127),
+            8 => Some(2.4801588e-5),
+            9 => Some(2.7557319e-6),
+            10 => Some(2.755732e-7),
+            11 => Some(2.5052108e-8),
+            12 => Some(2.0876756e-9),
+            13 => Some(1.6059044e-10),
+            14 => Some(1.1470745e-11),
+            15 => Some(7.6471636e-13),
+            16 => Some(4.7794773e-14),
+            17 => Some(2.8114574e-15),
+            18 => Some(1.5619207e-16),
+            19 => Some(8.220635e-18),
+            20 => Some(4.1103176e-19),
+            21 => Some(1.9572942e-20),
+            22 => Some(8.896791e-22),
+            23 => Some(3.8681703e-23),
+            24 => Some(1.6117376e-24),
+            25 => Some(6.4469503e-26),
+            26 => Some(2.4795963e-27),
+            27 => Some(9.18369e-29),
+            28 => Some(3.279889e-30),
+            29 => Some(1.1309962e-31),
+            30 => Some(3.7699878e-33),
+            31 => Some(1.216125e-34),
+            32 => Some(3.8003907e-36),
+            _ => None,
+        }
     }
 }

@@ -11,7 +11,7 @@ use lib.Ieee.{Float}
 use Rattle.linalg.specs.Answer.{answers, refuses}
 use Rattle.linalg.proofs.Answers.{never}
 use Rattle.layout.proofs.Runs.{sets_front}
-use Rattle.frames.specs.declared.Pose.{Pose}
+use Rattle.frames.specs.Floats.{Pose}
 use Rattle.layout.specs.Layout.{pose_count}
 use Rattle.from_lists.specs.Lists.{wrong_length, PoseLists, frames_count}
 use Rattle.to_lists.specs.Written.{status, written, fitting, framed_numbers, framed_written, framed_fitting}

@@ -11,18 +11,18 @@ use lib.Seq.{sets}
 use lib.IntN.{pos}
 use lib.Ieee.{Float, Format, of_int}
 use Rattle.ieee.specs.Numbers.{f0, f1}
-use Rattle.linalg.specs.declared.vector.Vec3.{Vec3}
-use Rattle.linalg.specs.declared.matrix.Mat3.{Mat3}
-use Rattle.coeffs.specs.declared.sim3.Scaled.{Scaled}
-use Rattle.coeffs.specs.declared.sim3.ScaledPair.{ScaledPair}
-use Rattle.coeffs.specs.declared.sim3.Armed.{Armed}
-use Rattle.coeffs.specs.declared.sim3.ArmedPair.{ArmedPair}
-use Rattle.so3.specs.declared.quat.Quat.{Quat}
-use Rattle.sim3.specs.declared.sim3.Sim3.{Sim3}
-use Rattle.jacobian.specs.declared.jac.Sim3Jac.{Sim3Jac}
-use Rattle.sides.specs.declared.pair.BlockPair.{BlockPair}
-use Rattle.sides.specs.declared.side.ActJacobians.{ActJacobians}
-use Rattle.sides.specs.declared.side.TwoJacobians.{TwoJacobians}
+use Rattle.linalg.specs.Floats.{Vec3}
+use Rattle.linalg.specs.Floats.{Mat3}
+use Rattle.coeffs.specs.Floats.{Scaled}
+use Rattle.coeffs.specs.Floats.{ScaledPair}
+use Rattle.coeffs.specs.Floats.{Armed}
+use Rattle.coeffs.specs.Floats.{ArmedPair}
+use Rattle.so3.specs.Floats.{Quat}
+use Rattle.sim3.specs.Floats.{Sim3}
+use Rattle.jacobian.specs.Floats.{Sim3Jac}
+use Rattle.sides.specs.Floats.{BlockPair}
+use Rattle.sides.specs.Floats.{ActJacobians}
+use Rattle.sides.specs.Floats.{TwoJacobians}
 use Rattle.layout.proofs.Runs.{sets_split}
 use Rattle.linalg.specs.Vector.{vec_numbers}
 use Rattle.to_lists.specs.Written.{arm_numbers, armed_numbers, armed_pair_numbers}

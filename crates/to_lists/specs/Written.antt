@@ -5,10 +5,10 @@ use Rattle.std.specs.Float.{Format}
 use Rattle.std.specs.Float.Ieee.{of_int}
 use Rattle.ieee.specs.Numbers.{f0, f1}
 use Rattle.linalg.specs.Answer.{Answer, answers, refuses, and_then}
-use Rattle.coeffs.specs.declared.sim3.Armed.{Armed}
-use Rattle.coeffs.specs.declared.sim3.ArmedPair.{ArmedPair}
+use Rattle.coeffs.specs.Floats.{Armed}
+use Rattle.coeffs.specs.Floats.{ArmedPair}
 use Rattle.sim3.specs.Pose.{pose_renormalized}
-use Rattle.frames.specs.declared.Pose.{Pose}
+use Rattle.frames.specs.Floats.{Pose}
 use Rattle.layout.specs.Layout.{pose_count, pose_numbers, scaled_numbers, scaled_pair_numbers, armed_scaled}
 use Rattle.from_lists.specs.Lists.{wrong_length, pose_from, PoseLists, pose_lists, frames_count}
 

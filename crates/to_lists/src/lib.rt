@@ -7,16 +7,17 @@ ghost use Rattle.std.specs.Float.{binary64};
 ghost use Rattle.std.proofs.lemmas.List.Edits.{sets};
 ghost use Rattle.linalg.specs.Vector.{vec_numbers};
 ghost use Rattle.layout.specs.Layout.{mat_numbers, quat_numbers, pose_numbers, block_numbers, block_pair_numbers, coeffs_numbers, scaled_numbers, scaled_pair_numbers, two_numbers, act_numbers};
-ghost use Rattle.frames.specs.Joins.{pose_told};
 ghost use Rattle.from_lists.specs.Lists.{pose_lists};
 ghost use Rattle.to_lists.specs.Written.{status, written, fitting, framed_written, framed_fitting, joined_fitting, arm_numbers, armed_numbers, armed_pair_numbers, renormalize_call};
+ghost use Rattle.linalg.specs.Answer.{answer};
 
 use coeffs::sim3::{Armed, ArmedPair, ScaledPair};
-use frames::{Pose, PoseAnswer};
+use frames::Pose;
 use from_lists::{FRAMES, LIST_LENGTH, PoseRead, pose_from};
 use jacobian::jac::Sim3Jac;
 use layout::{ACT_JACOBIANS, BLOCK, BLOCK_PAIR, POSE, SCALED_PAIR, TWO_JACOBIANS};
 use linalg::matrix::Mat3;
+use linalg::refusal::Refusal;
 use linalg::vector::Vec3;
 use series::sim3::Sim3Coeffs;
 use sides::pair::BlockPair;
@@ -30,7 +31,7 @@ const ARMED: usize = 2 + 9 + 1;
 
 const ARMED_PAIR: usize = 2 * ARMED;
 
-fn set_three(out: &mut [f64], at: usize, v: Vec3)
+fn set_three(out: &mut [f64], at: usize, v: Vec3<f64>)
     requires { at + 3 ≤ length out.old }
     ensures { out.new ≡ sets out.old at (vec_numbers v) }
 {
@@ -39,7 +40,7 @@ fn set_three(out: &mut [f64], at: usize, v: Vec3)
     out[at + 2] = v.z;
 }
 
-fn set_quat(out: &mut [f64], at: usize, q: Quat)
+fn set_quat(out: &mut [f64], at: usize, q: Quat<f64>)
     requires { at + 4 ≤ length out.old }
     ensures { out.new ≡ sets out.old at (quat_numbers q) }
 {
@@ -49,7 +50,7 @@ fn set_quat(out: &mut [f64], at: usize, q: Quat)
     out[at + 3] = q.z;
 }
 
-fn set_mat(out: &mut [f64], at: usize, m: Mat3)
+fn set_mat(out: &mut [f64], at: usize, m: Mat3<f64>)
     requires { at + 9 ≤ length out.old }
     ensures { out.new ≡ sets out.old at (mat_numbers m) }
 {
@@ -58,7 +59,7 @@ fn set_mat(out: &mut [f64], at: usize, m: Mat3)
     set_three(out, at + 6, m.c2);
 }
 
-fn set_block(out: &mut [f64], at: usize, j: Sim3Jac)
+fn set_block(out: &mut [f64], at: usize, j: Sim3Jac<f64>)
     requires { at + 31 ≤ length out.old }
     ensures { out.new ≡ sets out.old at (block_numbers j) }
 {
@@ -70,7 +71,7 @@ fn set_block(out: &mut [f64], at: usize, j: Sim3Jac)
 }
 
 // The nine coefficients, and the flag as 1 or 0.
-fn set_scaled(out: &mut [f64], at: usize, c: Sim3Coeffs, scaled: bool)
+fn set_scaled(out: &mut [f64], at: usize, c: Sim3Coeffs<f64>, scaled: bool)
     requires { at + 10 ≤ length out.old }
     ensures { out.new ≡ sets out.old at (scaled_numbers (record { c = c; scaled = scaled })) }
 {
@@ -86,7 +87,7 @@ fn set_scaled(out: &mut [f64], at: usize, c: Sim3Coeffs, scaled: bool)
     out[at + 9] = ieee::pick(scaled, 1.0, 0.0);
 }
 
-fn set_pose(out: &mut [f64], at: usize, x: Sim3)
+fn set_pose(out: &mut [f64], at: usize, x: Sim3<f64>)
     requires { at + 8 ≤ length out.old }
     ensures { out.new ≡ sets out.old at (pose_numbers x) }
 {
@@ -95,7 +96,7 @@ fn set_pose(out: &mut [f64], at: usize, x: Sim3)
     out[at + 7] = x.sigma;
 }
 
-pub fn put_pose(out: &mut [f64], x: Sim3) -> u32
+pub fn put_pose(out: &mut [f64], x: Sim3<f64>) -> u32
     ensures value { result ≡ status (fitting out.old (pose_numbers x)) }
     ensures out_after { out.new ≡ written (fitting out.old (pose_numbers x)) out.old }
 {
@@ -118,7 +119,7 @@ pub fn renormalize_pose(x: &mut [f64]) -> u32
 }
 
 // The numbers to one list and the frames, from and to, to another; both or none.
-pub fn put_framed(out: &mut [f64], out_frames: &mut [u16], x: Pose) -> u32
+pub fn put_framed(out: &mut [f64], out_frames: &mut [u16], x: Pose<f64>) -> u32
     ensures value { result ≡ status (framed_fitting (pose_lists out.old out_frames.old) x) }
     ensures out_frames_after { pose_lists out.new out_frames.new
         ≡ framed_written (λ o. framed_fitting o x) (pose_lists out.old out_frames.old) }
@@ -136,19 +137,19 @@ pub fn put_framed(out: &mut [f64], out_frames: &mut [u16], x: Pose) -> u32
 }
 
 // The pose where the frames met, else the refusal.
-pub fn put_joined(out: &mut [f64], out_frames: &mut [u16], a: PoseAnswer) -> u32
-    ensures value { result ≡ status (joined_fitting (pose_lists out.old out_frames.old) (pose_told a)) }
+pub fn put_joined(out: &mut [f64], out_frames: &mut [u16], a: Result<Pose<f64>, Refusal>) -> u32
+    ensures value { result ≡ status (joined_fitting (pose_lists out.old out_frames.old) (answer a)) }
     ensures out_frames_after { pose_lists out.new out_frames.new
-        ≡ framed_written (λ o. joined_fitting o (pose_told a)) (pose_lists out.old out_frames.old) }
+        ≡ framed_written (λ o. joined_fitting o (answer a)) (pose_lists out.old out_frames.old) }
 {
     match a {
-        PoseAnswer::Pose(x) => put_framed(out, out_frames, x),
-        PoseAnswer::Refused(n) => n as u32,
+        Ok(x) => put_framed(out, out_frames, x),
+        Err(refusal) => refusal.number() as u32,
     }
 }
 
 // At sigma, then at -sigma.
-pub fn put_scaled_pair(out: &mut [f64], p: ScaledPair) -> u32
+pub fn put_scaled_pair(out: &mut [f64], p: ScaledPair<f64>) -> u32
     ensures value { result ≡ status (fitting out.old (scaled_pair_numbers p)) }
     ensures out_after { out.new ≡ written (fitting out.old (scaled_pair_numbers p)) out.old }
 {
@@ -161,7 +162,7 @@ pub fn put_scaled_pair(out: &mut [f64], p: ScaledPair) -> u32
 }
 
 // The arm, and 1 or 0 for whether v0 and w0 of the closed arm come from series of their own.
-fn set_arm(out: &mut [f64], at: usize, a: Armed)
+fn set_arm(out: &mut [f64], at: usize, a: Armed<f64>)
     requires { at + 2 ≤ length out.old }
     ensures { out.new ≡ sets out.old at (arm_numbers binary64 a) }
 {
@@ -169,7 +170,7 @@ fn set_arm(out: &mut [f64], at: usize, a: Armed)
     out[at + 1] = ieee::pick(a.ends, 1.0, 0.0);
 }
 
-pub fn put_armed(out: &mut [f64], a: Armed) -> u32
+pub fn put_armed(out: &mut [f64], a: Armed<f64>) -> u32
     ensures value { result ≡ status (fitting out.old (armed_numbers binary64 a)) }
     ensures out_after { out.new ≡ written (fitting out.old (armed_numbers binary64 a)) out.old }
 {
@@ -182,7 +183,7 @@ pub fn put_armed(out: &mut [f64], a: Armed) -> u32
 }
 
 // The arms at sigma and at -sigma, then the coefficients of both.
-pub fn put_armed_pair(out: &mut [f64], p: ArmedPair) -> u32
+pub fn put_armed_pair(out: &mut [f64], p: ArmedPair<f64>) -> u32
     ensures value { result ≡ status (fitting out.old (armed_pair_numbers binary64 p)) }
     ensures out_after { out.new ≡ written (fitting out.old (armed_pair_numbers binary64 p)) out.old }
 {
@@ -196,7 +197,7 @@ pub fn put_armed_pair(out: &mut [f64], p: ArmedPair) -> u32
     0
 }
 
-pub fn put_block(out: &mut [f64], j: Sim3Jac) -> u32
+pub fn put_block(out: &mut [f64], j: Sim3Jac<f64>) -> u32
     ensures value { result ≡ status (fitting out.old (block_numbers j)) }
     ensures out_after { out.new ≡ written (fitting out.old (block_numbers j)) out.old }
 {
@@ -208,7 +209,7 @@ pub fn put_block(out: &mut [f64], j: Sim3Jac) -> u32
 }
 
 // Left, its inverse, right, its inverse.
-pub fn put_block_pair(out: &mut [f64], p: BlockPair) -> u32
+pub fn put_block_pair(out: &mut [f64], p: BlockPair<f64>) -> u32
     ensures value { result ≡ status (fitting out.old (block_pair_numbers p)) }
     ensures out_after { out.new ≡ written (fitting out.old (block_pair_numbers p)) out.old }
 {
@@ -223,7 +224,7 @@ pub fn put_block_pair(out: &mut [f64], p: BlockPair) -> u32
 }
 
 // By the first operand, then by the second.
-pub fn put_two(out: &mut [f64], t: TwoJacobians) -> u32
+pub fn put_two(out: &mut [f64], t: TwoJacobians<f64>) -> u32
     ensures value { result ≡ status (fitting out.old (two_numbers t)) }
     ensures out_after { out.new ≡ written (fitting out.old (two_numbers t)) out.old }
 {
@@ -236,7 +237,7 @@ pub fn put_two(out: &mut [f64], t: TwoJacobians) -> u32
 }
 
 // By phi, rho and sigma of the pose, then by the point.
-pub fn put_act(out: &mut [f64], j: ActJacobians) -> u32
+pub fn put_act(out: &mut [f64], j: ActJacobians<f64>) -> u32
     ensures value { result ≡ status (fitting out.old (act_numbers j)) }
     ensures out_after { out.new ≡ written (fitting out.old (act_numbers j)) out.old }
 {

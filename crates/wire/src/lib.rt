@@ -10,6 +10,8 @@ ghost use Rattle.wire.specs.Wire.{width, word_of, word_bytes, word_at, number_of
 ghost use Rattle.wire.specs.Wire.{fewer, numbers_at, words_at, numbers, numbers_bytes, words_bytes, all_finite};
 ghost use Rattle.wire.specs.Private.{Plain};
 
+use ieee::Real;
+
 pub mod single; // singles
 
 // How many bytes a double has.
@@ -51,7 +53,7 @@ pub fn word_from_le_bytes(b: [u8; 8]) -> u64
 pub fn from_le_bytes(b: [u8; 8]) -> f64
     ensures { result ≡ number_of binary64 b }
 {
-    ieee::from_bits(word_from_le_bytes(b))
+    f64::from_pattern(word_from_le_bytes(b))
 }
 
 // The i-th eight bytes of a list as one whole number.
@@ -108,7 +110,7 @@ pub fn word_to_le_bytes(n: u64) -> [u8; 8]
 pub fn to_le_bytes(x: f64) -> [u8; 8]
     ensures { result ≡ number_bytes binary64 x }
 {
-    word_to_le_bytes(ieee::to_bits(x))
+    word_to_le_bytes(x.pattern())
 }
 
 // The four bytes of `n`, the least first.
@@ -163,7 +165,7 @@ fn decode_any(b: &[u8], out: &mut [f64], n: usize)
 {
     let mut i = 0;
     while i < n {
-        out[i] = ieee::from_bits(word_at(b, i));
+        out[i] = f64::from_pattern(word_at(b, i));
         i += 1;
     }
 }

@@ -7,6 +7,8 @@ ghost use Rattle.wire.specs.Wire.{width, word_of, word_at, number_of, number_byt
 ghost use Rattle.wire.specs.Wire.{fewer, numbers_at, numbers, numbers_bytes, all_finite};
 ghost use Rattle.wire.specs.Private.{Plain};
 
+use ieee::Real;
+
 // How many bytes a single has.
 pub const NUMBER: usize = 4;
 
@@ -36,7 +38,7 @@ pub fn word_from_le_bytes(b: [u8; 4]) -> u32
 pub fn from_le_bytes(b: [u8; 4]) -> f32
     ensures { result ≡ number_of binary32 b }
 {
-    ieee_f32::from_bits(word_from_le_bytes(b))
+    f32::from_pattern(word_from_le_bytes(b))
 }
 
 // The i-th four bytes of a list as one whole number.
@@ -66,7 +68,7 @@ pub fn no_nan(b: &[u8]) -> bool
 pub fn to_le_bytes(x: f32) -> [u8; 4]
     ensures { result ≡ number_bytes binary32 x }
 {
-    crate::count_to_le_bytes(ieee_f32::to_bits(x))
+    crate::count_to_le_bytes(x.pattern())
 }
 
 // ---- read
@@ -78,7 +80,7 @@ fn decode_any(b: &[u8], out: &mut [f32], n: usize)
 {
     let mut i = 0;
     while i < n {
-        out[i] = ieee_f32::from_bits(word_at(b, i));
+        out[i] = f32::from_pattern(word_at(b, i));
         i += 1;
     }
 }

@@ -1,8 +1,10 @@
 -- `demands::both_signs` meets its contract, demand 3: by what the eight calls ensure, and what negation, mirroring and transposing ensure of their arguments.
-use mathlib.Core.Path.{◌≡◌, ap, ◌∙◌}
-use lib.Ieee.{binary64, neg}
+use mathlib.Core.Path.{◌≡◌, ◌∙◌}
 use Rattle.linalg.specs.Matrix.{mat_transpose}
+use Rattle.linalg.specs.Floats.{as_mat3}
 use Rattle.closed.specs.Values.{mirrored}
+use Rattle.closed.specs.Floats.{as_values}
+use Rattle.sim3.specs.Floats.{as_sim3_tangent}
 use Rattle.coeffs.specs.Entries.{scaled_answer}
 use Rattle.sim3.specs.Tangent.{tangent_neg}
 use Rattle.sim3.specs.Exp.{pose_exp}
@@ -11,18 +13,23 @@ use Rattle.demands.proofs.Holds.{demand_3}
 use Rattle.demands.proofs.both_signs.Goals as goal
 
 pub returns : goal.returns
-returns c =
-    let a = c.args in
-    let back : c.neg-back.result ≡ tangent_neg a.tau = c.neg-back.ensures in
-    let m : c.mirrored-m.result ≡ mirrored a.tau.sigma a.v = c.mirrored-m.ensures in
-    let jt : c.transpose-jt.result ≡ mat_transpose a.jl = c.transpose-jt.ensures in
-    let it : c.transpose-it.result ≡ mat_transpose a.jl_inv = c.transpose-it.ensures in
-    demand_3 binary64 a.tau a.z a.v a.jl a.jl_inv _
+returns g c =
+    let f = g.T.Real.format in
+    let r = g.T.Real.float in
+    let tau = as_sim3_tangent r c.args.tau in
+    let v = as_values r c.args.v in
+    let jl = as_mat3 r c.args.jl in
+    let jl_inv = as_mat3 r c.args.jl_inv in
+    let back : as_sim3_tangent r c.neg-back.result ≡ tangent_neg tau = c.neg-back.ensures in
+    let m : as_values r c.mirrored-m.result ≡ mirrored tau.sigma v = c.mirrored-m.ensures in
+    let jt : as_mat3 r c.transpose-jt.result ≡ mat_transpose jl = c.transpose-jt.ensures in
+    let it : as_mat3 r c.transpose-it.result ≡ mat_transpose jl_inv = c.transpose-it.ensures in
+    demand_3 f tau (r c.args.z) v jl jl_inv _
     c.sim3_coeffs_scaled_pair-pair.ensures
     c.sim3_coeffs_scaled-plus.ensures
-    (c.sim3_coeffs_scaled-minus.ensures ∙ ap (scaled_answer binary64 (neg a.tau.sigma) a.z) m)
+    (c.sim3_coeffs_scaled-minus.ensures ∙ (λ i. scaled_answer f (g.met.T.Real.neg_law _ _ c.neg.ensures i) (r c.args.z) (m i)))
     c.block_pair-block.ensures
     c.jl_and_inverse-left.ensures
-    (c.jl_and_inverse-right.ensures ∙ (λ i. jl_and_inverse binary64 (back i) (m i) (jt i) (it i)))
+    (c.jl_and_inverse-right.ensures ∙ (λ i. jl_and_inverse f (back i) (m i) (jt i) (it i)))
     c.exp-exp.ensures
-    (c.exp-exp_neg.ensures ∙ (λ i. pose_exp binary64 (back i) (m i)))
+    (c.exp-exp_neg.ensures ∙ (λ i. pose_exp f (back i) (m i)))

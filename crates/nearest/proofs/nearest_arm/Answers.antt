@@ -2,16 +2,16 @@
 use mathlib.Core.Path.{sym, ◌∙◌}
 use lib.Ieee.{binary64, of_bits}
 use Rattle.ieee.specs.Finite.{is_finite}
-use Rattle.nearest.specs.Nearest.{nearest_told, first_told}
+use Rattle.nearest.specs.Nearest.{first_told}
 use Rattle.nearest.proofs.Answers.{below-zero, not_finite, accepted, right}
 use Rattle.nearest.proofs.nearest_arm.Goals as goal
 
 pub returns-then-z : goal.returns-then-z
-unfolding nearest_told of_bits
+unfolding of_bits
 returns-then-z c = below-zero binary64 first_told c.args.sigma c.args.z c.if-z.true
 
 pub returns-then-not-both_finite : goal.returns-then-not-both_finite
-unfolding nearest_told of_bits
+unfolding of_bits
 returns-then-not-both_finite c = not_finite binary64 first_told c.args.sigma c.args.z
     c.if-z.false (sym c.both_finite.ensures ∙ c.if-not-both_finite.true)
 

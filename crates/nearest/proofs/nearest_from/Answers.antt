@@ -6,7 +6,7 @@ use native.Mathlib.Omega.{arith}
 use lib.Ieee.{binary64}
 use Rattle.ieee.specs.Patterns.{patterns}
 use Rattle.linalg.specs.Answer.{answers}
-use Rattle.nearest.specs.Nearest.{step, down, up, nearest_told, nearest_from, first_told, arm_at}
+use Rattle.nearest.specs.Nearest.{step, down, up, nearest_from, first_told, arm_at}
 use Rattle.nearest.proofs.Sides.{Ends, Ahead, from_low, to_high, nowhere, downward, upward}
 use Rattle.nearest.proofs.nearest_from.Goals as goal
 use Rattle.nearest.proofs.nearest_from.Goals.{After-edge-high}
@@ -48,7 +48,6 @@ apart : (c : After-edge-high) → (c.edge-high.result ≡ patterns binary64 → 
 apart c h = let w = (ends c).upper.within in omega arith
 
 pub returns-then-high-eq-END : goal.returns-then-high-eq-END
-unfolding nearest_told
 returns-then-high-eq-END c = ap answers (nowhere (ends (goal.at.returns-then-high-eq-END c).After-edge-high) first_told c.if-low-eq0.true c.if-high-eq-END.true)
 
 pub upward-requires : goal.upward-requires

@@ -1,19 +1,18 @@
--- Written by tools/widths from crates/nearest/proofs/nearest_arm/Answers.antt: edit that one. Digest 43b6c06cb33b839f.
+-- Written by tools/widths from crates/nearest/proofs/nearest_arm/Answers.antt: edit that one. Digest df4db7a14ae2281a.
 -- `nearest_f32::nearest_arm` meets its contract: its tests are those of the definition, in their order. Assumes nothing.
 use mathlib.Core.Path.{sym, ◌∙◌}
 use lib.Ieee.{binary32, of_bits}
 use Rattle.ieee.specs.Finite.{is_finite}
 use Rattle.nearest.specs.Nearest.{first_told}
-use Rattle.nearest_f32.specs.Told.{nearest_told}
 use Rattle.nearest.proofs.Answers.{below-zero, not_finite, accepted, right}
 use Rattle.nearest_f32.proofs.nearest_arm.Goals as goal
 
 pub returns-then-z : goal.returns-then-z
-unfolding nearest_told of_bits
+unfolding of_bits
 returns-then-z c = below-zero binary32 first_told c.args.sigma c.args.z c.if-z.true
 
 pub returns-then-not-both_finite : goal.returns-then-not-both_finite
-unfolding nearest_told of_bits
+unfolding of_bits
 returns-then-not-both_finite c = not_finite binary32 first_told c.args.sigma c.args.z
     c.if-z.false (sym c.both_finite.ensures ∙ c.if-not-both_finite.true)
 

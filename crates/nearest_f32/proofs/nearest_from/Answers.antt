@@ -1,4 +1,4 @@
--- Written by tools/widths from crates/nearest/proofs/nearest_from/Answers.antt: edit that one. Digest 5f8a1430cffbc6fa.
+-- Written by tools/widths from crates/nearest/proofs/nearest_from/Answers.antt: edit that one. Digest 248510d716e187dd.
 -- `nearest_f32::nearest_from` meets its contract: `low` and `high` are the ends of p's arm, and its tests say which of them is nearer. Assumes nothing.
 -- what is known once both ends are found
 use mathlib.Core.Path.{◌≡◌, refl, ap, ◌∙◌}
@@ -8,7 +8,6 @@ use lib.Ieee.{binary32}
 use Rattle.ieee.specs.Patterns.{patterns}
 use Rattle.linalg.specs.Answer.{answers}
 use Rattle.nearest.specs.Nearest.{step, down, up, nearest_from, first_told, arm_at}
-use Rattle.nearest_f32.specs.Told.{nearest_told}
 use Rattle.nearest.proofs.Sides.{Ends, Ahead, from_low, to_high, nowhere, downward, upward}
 use Rattle.nearest_f32.proofs.nearest_from.Goals as goal
 use Rattle.nearest_f32.proofs.nearest_from.Goals.{After-edge-high}
@@ -50,7 +49,6 @@ apart : (c : After-edge-high) → (c.edge-high.result ≡ patterns binary32 → 
 apart c h = let w = (ends c).upper.within in omega arith
 
 pub returns-then-high-eq-END : goal.returns-then-high-eq-END
-unfolding nearest_told
 returns-then-high-eq-END c = ap answers (nowhere (ends (goal.at.returns-then-high-eq-END c).After-edge-high) first_told c.if-low-eq0.true c.if-high-eq-END.true)
 
 pub upward-requires : goal.upward-requires

@@ -2,7 +2,7 @@
 use mathlib.Core.Path.{◌≡◌, sym, ◌∙◌}
 use mathlib.Core.Bool.{true, false}
 use lib.ListN.{length}
-use Rattle.point_lists.specs.Points.{points_accepted, list_told, points_answer, points_out}
+use Rattle.point_lists.specs.Points.{points_accepted, points_answer, points_out}
 use Rattle.point_lists.proofs.Lists.{accepted_thirds}
 use Rattle.point_lists.proofs.act_each.Goals as goal
 
@@ -12,7 +12,7 @@ each-requires c =
     accepted_thirds (length a.pts.now) (length a.out.now) (sym c.accepted.ensures ∙ c.if-accepted.true)
 
 pub returns-then-accepted : goal.returns-then-accepted
-unfolding list_told points_answer points_out
+unfolding points_answer points_out
 returns-then-accepted c =
     let a = c.args in
     let h : points_accepted (length a.pts.now) (length a.out.now) ≡ true = sym c.accepted.ensures ∙ c.if-accepted.true in
@@ -22,7 +22,7 @@ returns-then-accepted c =
     }
 
 pub returns : goal.returns
-unfolding list_told points_answer points_out
+unfolding points_answer points_out
 returns c =
     let a = c.args in
     let h : points_accepted (length a.pts.now) (length a.out.now) ≡ false = sym c.accepted.ensures ∙ c.if-accepted.false in

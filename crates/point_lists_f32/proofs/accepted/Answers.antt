@@ -1,20 +1,13 @@
--- Written by tools/widths from crates/point_lists/proofs/accepted/Answers.antt: edit that one. Digest e4cfeca4d7a1a6d3.
+-- Written by tools/widths from crates/point_lists/proofs/accepted/Answers.antt: edit that one. Digest afb940af51290e94.
 -- `point_lists_f32::accepted` meets its contract: each test says its part of the condition. Assumes nothing.
 use borrow.Author.Tests.{eq-eqb, ne_eqb, le-leb, lt-leb}
 use Rattle.point_lists_f32.proofs.accepted.Goals as goal
-use Rattle.linalg_f32.proofs.As.{linalg_singles}
-use Rattle.circle_f32.proofs.As.{circle_singles}
-use Rattle.series_f32.proofs.As.{series_singles}
-use Rattle.closed_f32.proofs.As.{closed_singles}
-use Rattle.coeffs_f32.proofs.As.{coeffs_singles}
-use Rattle.so3_f32.proofs.As.{so3_singles}
-use Rattle.sim3_f32.proofs.As.{sim3_singles}
 
 pub returns-then-n-ne0 : goal.returns-then-n-ne0
-returns-then-n-ne0 c = simp (linalg_singles, circle_singles, series_singles, closed_singles, coeffs_singles, so3_singles, sim3_singles, ne_eqb _ _ c.if-n-ne0.true)
+returns-then-n-ne0 c = simp (ne_eqb _ _ c.if-n-ne0.true)
 
 pub returns-then-n-gt65535 : goal.returns-then-n-gt65535
-returns-then-n-gt65535 c = simp (linalg_singles, circle_singles, series_singles, closed_singles, coeffs_singles, so3_singles, sim3_singles, eq-eqb _ _ c.if-n-ne0.false, lt-leb _ _ c.if-n-gt65535.true)
+returns-then-n-gt65535 c = simp (eq-eqb _ _ c.if-n-ne0.false, lt-leb _ _ c.if-n-gt65535.true)
 
 pub returns : goal.returns
-returns c = simp (linalg_singles, circle_singles, series_singles, closed_singles, coeffs_singles, so3_singles, sim3_singles, eq-eqb _ _ c.if-n-ne0.false, le-leb _ _ c.if-n-gt65535.false)
+returns c = simp (eq-eqb _ _ c.if-n-ne0.false, le-leb _ _ c.if-n-gt65535.false)

@@ -1,4 +1,4 @@
--- Written by tools/widths from crates/point_lists/proofs/each/Answers.antt: edit that one. Digest 0a0874a423ea0053.
+-- Written by tools/widths from crates/point_lists/proofs/each/Answers.antt: edit that one. Digest ed2e3669d550993f.
 -- `point_lists_f32::each` meets its contract: after i turns the first i triples are moved and the rest is as it was, and what is left to read begins at triple i. Assumes nothing.
 use Prim.Native.Nat.{◌-◌}
 use mathlib.Core.Path.{◌≡◌, refl, ◌∙◌}
@@ -8,41 +8,17 @@ use Rattle.point_lists.specs.Points.{points_moved}
 use Rattle.sim3.specs.Pose.{pose_act}
 use Rattle.point_lists.proofs.Lists.{moved_more, moved_all, left-first, left-next, left-length}
 use Rattle.point_lists_f32.proofs.each.Goals as goal
-use Rattle.linalg_f32.specs.As.{as_vec3}
-use Rattle.so3_f32.specs.As.{as_quat}
-use Rattle.sim3_f32.specs.As.{as_sim3}
-use Rattle.linalg_f32.proofs.As.{linalg_singles}
-use Rattle.circle_f32.proofs.As.{circle_singles}
-use Rattle.series_f32.proofs.As.{series_singles}
-use Rattle.closed_f32.proofs.As.{closed_singles}
-use Rattle.coeffs_f32.proofs.As.{coeffs_singles}
-use Rattle.so3_f32.proofs.As.{so3_singles}
-use Rattle.sim3_f32.proofs.As.{sim3_singles}
 
 pub loop-i-init : goal.loop-i-init
-unfolding points_moved as_quat as_sim3 as_vec3
+unfolding points_moved
 loop-i-init c = (omega arith, refl, refl, refl, omega arith)
 
 pub loop-i-preserved : goal.loop-i-preserved
 loop-i-preserved c =
     let a = c.args in
-    let more = moved_more (pose_act binary32 (as_sim3 a.x) a.up) a.pts.now a.out.now c.loop-i.i (omega arith) in (
+    let more = moved_more (pose_act binary32 a.x a.up) a.pts.now a.out.now c.loop-i.i (omega arith) in (
       omega arith,
-      simp (
-        linalg_singles,
-        circle_singles,
-        series_singles,
-        closed_singles,
-        coeffs_singles,
-        so3_singles,
-        sim3_singles,
-        c.put_point.ensures,
-        c.act-p.ensures,
-        c.point_at.ensures,
-        c.loop-i.invariant.3,
-        left-first a.pts.now c.loop-i.i,
-        c.loop-i.invariant.1,
-      ) more,
+      simp (c.put_point.ensures, c.act-p.ensures, c.point_at.ensures, c.loop-i.invariant.3, left-first a.pts.now c.loop-i.i, c.loop-i.invariant.1) more,
       c.put_point.auto.out ∙ c.loop-i.invariant.2,
       left-next a.pts.now c.loop-i.rest.now c.loop-i.i c.loop-i.invariant.3,
       left-length a.pts.now c.loop-i.rest.now c.loop-i.i c.loop-i.invariant.3 (omega arith),
@@ -52,11 +28,10 @@ pub shape_of-out : goal.shape_of-out
 shape_of-out c = c.loop-i.invariant.2
 
 pub returns : goal.returns
-unfolding as_quat as_sim3 as_vec3
 returns c =
     let a = c.args in
     let e : c.loop-i.i ≡ a.n = omega arith in
-    cc (moved_all (pose_act binary32 (as_sim3 a.x) a.up) a.pts.now a.out.now c.loop-i.i (omega arith))
+    cc (moved_all (pose_act binary32 a.x a.up) a.pts.now a.out.now c.loop-i.i (omega arith))
 
 pub point_at-requires : goal.point_at-requires
 point_at-requires c = omega arith

@@ -1,4 +1,4 @@
--- Written by tools/widths from crates/point_lists/proofs/last/Answers.antt: edit that one. Digest 603d52be7da4c0e0.
+-- Written by tools/widths from crates/point_lists/proofs/last/Answers.antt: edit that one. Digest 930dd26953ae17f0.
 -- `point_lists_f32::last` meets its contract: where e is n nothing is left, and else the one triple that is left is put in its place. Assumes nothing.
 use Prim.Native.Nat.{◌+◌}
 use mathlib.Core.Path.{◌≡◌, ap, ◌∙◌}
@@ -7,20 +7,11 @@ use lib.Ieee.{binary32}
 use Rattle.point_lists.specs.Points.{points_moved, mat_act}
 use Rattle.point_lists.proofs.Lists.{moved_last, moved_all}
 use Rattle.point_lists_f32.proofs.last.Goals as goal
-use Rattle.linalg_f32.specs.As.{as_mat3, as_vec3}
-use Rattle.linalg_f32.proofs.As.{linalg_singles}
-use Rattle.circle_f32.proofs.As.{circle_singles}
-use Rattle.series_f32.proofs.As.{series_singles}
-use Rattle.closed_f32.proofs.As.{closed_singles}
-use Rattle.coeffs_f32.proofs.As.{coeffs_singles}
-use Rattle.so3_f32.proofs.As.{so3_singles}
-use Rattle.sim3_f32.proofs.As.{sim3_singles}
 
 pub returns-then-e-n : goal.returns-then-e-n
-unfolding as_mat3 as_vec3
 returns-then-e-n c =
     let a = c.args in
-    let g = mat_act binary32 (as_mat3 a.m) (as_vec3 a.t) in
+    let g = mat_act binary32 a.m a.t in
     let q : a.e ≡ a.n = omega arith in
     moved_all g a.pts.now a.out.now a.e (omega arith) ∙ ap (points_moved g a.pts.now) q
 
@@ -30,10 +21,10 @@ shape_of-out c = c.put_point.auto.out
 pub returns : goal.returns
 returns c =
     let a = c.args in
-    let g = mat_act binary32 (as_mat3 a.m) (as_vec3 a.t) in
+    let g = mat_act binary32 a.m a.t in
     let q : a.e + 1 ≡ a.n = omega arith in
     let moved = moved_last g a.pts.now a.out.now a.e (omega arith) ∙ ap (points_moved g a.pts.now) q in
-    simp (linalg_singles, circle_singles, series_singles, closed_singles, coeffs_singles, so3_singles, sim3_singles, c.put_point.ensures, c.mat_act.ensures, c.point_at.ensures) moved
+    simp (c.put_point.ensures, c.mat_act.ensures, c.point_at.ensures) moved
 
 pub overflow_mul-e : goal.overflow_mul-e
 overflow_mul-e c = omega arith

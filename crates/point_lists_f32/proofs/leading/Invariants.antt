@@ -1,4 +1,4 @@
--- Written by tools/widths from crates/point_lists/proofs/leading/Invariants.antt: edit that one. Digest 4134d68d32f553c9.
+-- Written by tools/widths from crates/point_lists/proofs/leading/Invariants.antt: edit that one. Digest 74ff16527f3ffd30.
 -- `point_lists_f32::leading` meets its contract: after i turns the first i triples are moved and the rest is as it was, and what is left to read begins at triple i. Assumes nothing.
 use Prim.Native.Nat.{◌+◌, ◌*◌, ◌-◌, ◌≤◌}
 use mathlib.Core.Path.{◌≡◌}
@@ -7,11 +7,10 @@ use lib.ListN.{length, drop}
 use lib.Ieee.{binary32}
 use Rattle.point_lists.specs.Points.{points_moved, mat_act}
 use Rattle.point_lists_f32.proofs.leading.Given as goal
-use Rattle.linalg_f32.specs.As.{as_mat3, as_vec3}
 
 abbrev pub invariant-loop-i : goal.invariant-loop-i
 invariant-loop-i l =
-    (l.i ≤ l.e) × (l.out ≡ points_moved (mat_act binary32 (as_mat3 l.m) (as_vec3 l.t)) l.pts l.i ++ drop (l.i * 3) l.initial.out)
+    (l.i ≤ l.e) × (l.out ≡ points_moved (mat_act binary32 l.m l.t) l.pts l.i ++ drop (l.i * 3) l.initial.out)
     × (length l.out ≡ length l.initial.out) × (l.rest ≡ drop (l.i * 3) l.pts) × (length l.rest + l.i * 3 ≡ length l.pts)
 
 abbrev pub decreases-loop-i : goal.decreases-loop-i

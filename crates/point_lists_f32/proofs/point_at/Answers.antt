@@ -1,9 +1,8 @@
--- Written by tools/widths from crates/point_lists/proofs/point_at/Answers.antt: edit that one. Digest 4a0c6227c75cdff1.
+-- Written by tools/widths from crates/point_lists/proofs/point_at/Answers.antt: edit that one. Digest 4a9bacc656c10c0e.
 use mathlib.Core.Path.{refl}
 use Rattle.point_lists.specs.Points.{point_at}
 use Rattle.point_lists_f32.proofs.point_at.Goals as goal
-use Rattle.linalg_f32.specs.As.{as_vec3}
 
 pub returns : goal.returns
-unfolding point_at as_vec3
+unfolding point_at
 returns c = refl

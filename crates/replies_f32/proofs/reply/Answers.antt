@@ -1,4 +1,4 @@
--- Written by tools/widths from crates/replies/proofs/reply/Answers.antt: edit that one. Digest 7b9f51e286629287.
+-- Written by tools/widths from crates/replies/proofs/reply/Answers.antt: edit that one. Digest ab48af30e8aae8ed.
 -- `replies_f32::reply` meets its contract: a cut record and an output without room are told; else the mark or NO is stored before what the entry wrote. Assumes nothing.
 -- what is known where the entry has answered
 use native.Mathlib.Omega.{arith}
@@ -16,16 +16,6 @@ use Rattle.outcome.specs.declared.Gave.{Gave}
 use Rattle.replies.specs.Table.{width_of, answer_of, entry_reply}
 use Rattle.replies.proofs.Replies.{width-most, Given, given_length, given_most, given_wrote, given_refused}
 use Rattle.replies_f32.proofs.reply.Goals as goal
-use Rattle.linalg_f32.proofs.As.{linalg_singles}
-use Rattle.circle_f32.proofs.As.{circle_singles}
-use Rattle.series_f32.proofs.As.{series_singles}
-use Rattle.closed_f32.proofs.As.{closed_singles}
-use Rattle.coeffs_f32.proofs.As.{coeffs_singles}
-use Rattle.so3_f32.proofs.As.{so3_singles}
-use Rattle.sim3_f32.proofs.As.{sim3_singles}
-use Rattle.jacobian_f32.proofs.As.{jacobian_singles}
-use Rattle.sides_f32.proofs.As.{sides_singles}
-use Rattle.frames_f32.proofs.As.{frames_singles}
 use Rattle.from_lists_f32.proofs.As.{from_lists_singles}
 
 given :
@@ -68,20 +58,7 @@ bounds-out-0 c =
 
 pub bounds-out-1 : goal.bounds-out-1
 bounds-out-1 c =
-    let room = c.if-out-lt-LONGEST.false in simp (
-      linalg_singles,
-      circle_singles,
-      series_singles,
-      closed_singles,
-      coeffs_singles,
-      so3_singles,
-      sim3_singles,
-      jacobian_singles,
-      sides_singles,
-      frames_singles,
-      from_lists_singles,
-      length-set,
-    )
+    let room = c.if-out-lt-LONGEST.false in simp (from_lists_singles, length-set)
     (omega (
       arith,
       given_length (given c.args.e c.args.s.now c.args.out.now _ _ _ c.width-end.ensures c.if-s-end.false c.if-out-lt-LONGEST.false
@@ -98,20 +75,7 @@ bounds-out-0-in-Unusable c =
 
 pub bounds-out-1-in-Unusable : goal.bounds-out-1-in-Unusable
 bounds-out-1-in-Unusable c =
-    let room = c.if-out-lt-LONGEST.false in simp (
-      linalg_singles,
-      circle_singles,
-      series_singles,
-      closed_singles,
-      coeffs_singles,
-      so3_singles,
-      sim3_singles,
-      jacobian_singles,
-      sides_singles,
-      frames_singles,
-      from_lists_singles,
-      length-set,
-    )
+    let room = c.if-out-lt-LONGEST.false in simp (from_lists_singles, length-set)
     (omega (
       arith,
       given_length (given c.args.e c.args.s.now c.args.out.now _ _ _ c.width-end.ensures c.if-s-end.false c.if-out-lt-LONGEST.false
@@ -128,20 +92,7 @@ bounds-out-0-in-Refused c =
 
 pub bounds-out-1-in-Refused : goal.bounds-out-1-in-Refused
 bounds-out-1-in-Refused c =
-    let room = c.if-out-lt-LONGEST.false in simp (
-      linalg_singles,
-      circle_singles,
-      series_singles,
-      closed_singles,
-      coeffs_singles,
-      so3_singles,
-      sim3_singles,
-      jacobian_singles,
-      sides_singles,
-      frames_singles,
-      from_lists_singles,
-      length-set,
-    )
+    let room = c.if-out-lt-LONGEST.false in simp (from_lists_singles, length-set)
     (omega (
       arith,
       given_length (given c.args.e c.args.s.now c.args.out.now _ _ _ c.width-end.ensures c.if-s-end.false c.if-out-lt-LONGEST.false
@@ -150,20 +101,7 @@ bounds-out-1-in-Refused c =
 
 pub bounds-out-2 : goal.bounds-out-2
 bounds-out-2 c =
-    let room = c.if-out-lt-LONGEST.false in simp (
-      linalg_singles,
-      circle_singles,
-      series_singles,
-      closed_singles,
-      coeffs_singles,
-      so3_singles,
-      sim3_singles,
-      jacobian_singles,
-      sides_singles,
-      frames_singles,
-      from_lists_singles,
-      length-set,
-    )
+    let room = c.if-out-lt-LONGEST.false in simp (from_lists_singles, length-set)
     (omega (
       arith,
       given_length (given c.args.e c.args.s.now c.args.out.now _ _ _ c.width-end.ensures c.if-s-end.false c.if-out-lt-LONGEST.false
@@ -172,57 +110,18 @@ bounds-out-2 c =
 
 pub shape_of-out-in-Wrote : goal.shape_of-out-in-Wrote
 shape_of-out-in-Wrote c =
-    simp (
-      linalg_singles,
-      circle_singles,
-      series_singles,
-      closed_singles,
-      coeffs_singles,
-      so3_singles,
-      sim3_singles,
-      jacobian_singles,
-      sides_singles,
-      frames_singles,
-      from_lists_singles,
-      length-set,
-    ) (given_length (given c.args.e c.args.s.now c.args.out.now _ _ _ c.width-end.ensures
-    c.if-s-end.false c.if-out-lt-LONGEST.false c.give.ensures.value c.give.ensures.out_after))
+    simp (from_lists_singles, length-set) (given_length (given c.args.e c.args.s.now c.args.out.now _ _ _ c.width-end.ensures c.if-s-end.false
+    c.if-out-lt-LONGEST.false c.give.ensures.value c.give.ensures.out_after))
 
 pub shape_of-out-in-Unusable : goal.shape_of-out-in-Unusable
 shape_of-out-in-Unusable c =
-    simp (
-      linalg_singles,
-      circle_singles,
-      series_singles,
-      closed_singles,
-      coeffs_singles,
-      so3_singles,
-      sim3_singles,
-      jacobian_singles,
-      sides_singles,
-      frames_singles,
-      from_lists_singles,
-      length-set,
-    ) (given_length (given c.args.e c.args.s.now c.args.out.now _ _ _ c.width-end.ensures
-    c.if-s-end.false c.if-out-lt-LONGEST.false c.give.ensures.value c.give.ensures.out_after))
+    simp (from_lists_singles, length-set) (given_length (given c.args.e c.args.s.now c.args.out.now _ _ _ c.width-end.ensures c.if-s-end.false
+    c.if-out-lt-LONGEST.false c.give.ensures.value c.give.ensures.out_after))
 
 pub shape_of-out-in-Refused : goal.shape_of-out-in-Refused
 shape_of-out-in-Refused c =
-    simp (
-      linalg_singles,
-      circle_singles,
-      series_singles,
-      closed_singles,
-      coeffs_singles,
-      so3_singles,
-      sim3_singles,
-      jacobian_singles,
-      sides_singles,
-      frames_singles,
-      from_lists_singles,
-      length-set,
-    ) (given_length (given c.args.e c.args.s.now c.args.out.now _ _ _ c.width-end.ensures
-    c.if-s-end.false c.if-out-lt-LONGEST.false c.give.ensures.value c.give.ensures.out_after))
+    simp (from_lists_singles, length-set) (given_length (given c.args.e c.args.s.now c.args.out.now _ _ _ c.width-end.ensures c.if-s-end.false
+    c.if-out-lt-LONGEST.false c.give.ensures.value c.give.ensures.out_after))
 
 pub overflow_add-result : goal.overflow_add-result
 overflow_add-result c =

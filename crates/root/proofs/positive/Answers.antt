@@ -33,6 +33,6 @@ returns c =
     let d = c.digits_of-z in
     let w = c.whole_root-p in
     let v = c.nearer-v in
-    let x = c.from_bits-nearest in
+    let x = c.from_pattern-nearest in
     rw (exponent-is (d.result.power / 2) (omega (arith, d.ensures.few)))
     (parts_are _ d.result.digits d.result.power d.ensures w.result.root w.result.remainder v.result w.ensures.0 w.ensures.1 v.ensures x.result x.ensures)

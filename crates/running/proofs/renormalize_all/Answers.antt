@@ -1,7 +1,7 @@
 use Rattle.std.proofs.Common.{◌≡◌, ◌∙◌, ◌+◌, ℕ, List, length, get_or, set, arith, add-one, ap}
 use Rattle.std.specs.Float.{binary64}
 use Rattle.frames.specs.Pose.{framed_renormalized}
-use Rattle.frames.specs.declared.Pose.{Pose}
+use Rattle.frames.specs.Floats.{Pose}
 use Rattle.running.specs.Running.{all_renormalized}
 use Rattle.running.proofs.Each.{up_to, up_to_more, up_to_all}
 use Rattle.running.proofs.renormalize_all.Goals as goal

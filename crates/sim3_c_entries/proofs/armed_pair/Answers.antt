@@ -1,6 +1,5 @@
 -- `sim3_c_entries::armed_pair` meets its contract: the list is read, the engine is asked, and its answer is written or the refusal handed on. Assumes nothing.
 use mathlib.Core.Path.{refl}
-use Rattle.coeffs.specs.Entries.{armed_pair_told}
 use Rattle.from_lists.specs.Lists.{values_read_told}
 use Rattle.to_lists.specs.Written.{status, written}
 use Rattle.sim3_c_entries.specs.Calls.{arms_call}
@@ -14,30 +13,30 @@ returns-in_default c = rw (← c.values_from.ensures, c.in_default.is)
       out_after = refl;
     })
 
-pub returns-in-Coeffs : goal.returns-in-Coeffs
-unfolding status written arms_call armed_pair_told values_read_told
-returns-in-Coeffs c =
+pub returns-in-Ok : goal.returns-in-Ok
+unfolding status written arms_call values_read_told
+returns-in-Ok c =
     rw (
       ← c.values_from.ensures,
       c.in-Got.is,
       ← c.sim3_coeffs_armed_pair.ensures,
-      c.in-Coeffs.is,
+      c.in-Ok.is,
     )
     (record {
       value = c.put_arms.ensures.value;
       out_after = c.put_arms.ensures.out_after;
     })
 
-pub returns-in-Refused : goal.returns-in-Refused
-unfolding status written arms_call armed_pair_told values_read_told
-returns-in-Refused c =
+pub returns-in-Err : goal.returns-in-Err
+unfolding status written arms_call values_read_told
+returns-in-Err c =
     rw (
       ← c.values_from.ensures,
       c.in-Got.is,
       ← c.sim3_coeffs_armed_pair.ensures,
-      c.in-Refused.is,
+      c.in-Err.is,
     )
     (record {
-      value = refl;
+      value = c.number.ensures;
       out_after = refl;
     })

@@ -1,7 +1,6 @@
--- Written by tools/widths from crates/sim3_c_entries/proofs/sim3_block_inverse/Answers.antt: edit that one. Digest 8723691013600519.
+-- Written by tools/widths from crates/sim3_c_entries/proofs/sim3_block_inverse/Answers.antt: edit that one. Digest 87919f28df79ce2e.
 -- `sim3_c_entries_f32::sim3_block_inverse_f32` meets its contract: the lists are read, the engine is asked, and its answer is written or the refusal handed on. Assumes nothing.
 use mathlib.Core.Path.{refl}
-use Rattle.jacobian_f32.specs.Told.{jac_told}
 use Rattle.from_lists_f32.specs.Told.{block_read_told}
 use Rattle.to_lists.specs.Written.{status, written}
 use Rattle.sim3_c_entries.specs.Calls.{block_inverse_call}
@@ -15,30 +14,30 @@ returns-in_default c = rw (← c.block_from.ensures, c.in_default.is)
       out_after = refl;
     })
 
-pub returns-in-Block : goal.returns-in-Block
-unfolding status written block_inverse_call block_read_told jac_told
-returns-in-Block c =
+pub returns-in-Ok : goal.returns-in-Ok
+unfolding status written block_inverse_call block_read_told
+returns-in-Ok c =
     rw (
       ← c.block_from.ensures,
       c.in-Got.is,
       ← c.inverse.ensures,
-      c.in-Block.is,
+      c.in-Ok.is,
     )
     (record {
       value = c.put_block.ensures.value;
       out_after = c.put_block.ensures.out_after;
     })
 
-pub returns-in-Refused : goal.returns-in-Refused
-unfolding status written block_inverse_call block_read_told jac_told
-returns-in-Refused c =
+pub returns-in-Err : goal.returns-in-Err
+unfolding status written block_inverse_call block_read_told
+returns-in-Err c =
     rw (
       ← c.block_from.ensures,
       c.in-Got.is,
       ← c.inverse.ensures,
-      c.in-Refused.is,
+      c.in-Err.is,
     )
     (record {
-      value = refl;
+      value = c.number.ensures;
       out_after = refl;
     })

@@ -1,4 +1,4 @@
--- Written by tools/widths from crates/to_lists/proofs/put_act/Answers.antt: edit that one. Digest c6cd61efce2d8f77.
+-- Written by tools/widths from crates/to_lists/proofs/put_act/Answers.antt: edit that one. Digest 5df5ce16dbf8f6ac.
 -- `to_lists_f32::put_act` meets its contract: an `out` of the length that is due has the numbers written, and any other is left as it was. Assumes nothing.
 use mathlib.Core.Path.{◌∙◌}
 use Rattle.layout.specs.Layout.{act_numbers}
@@ -6,23 +6,20 @@ use Rattle.layout.proofs.Numbers.{act_count_lem}
 use Rattle.to_lists.proofs.Fits.{fits, misfits}
 use Rattle.to_lists.proofs.Stores.{act_stored}
 use Rattle.to_lists_f32.proofs.put_act.Goals as goal
-use Rattle.linalg_f32.specs.As.{as_mat3, as_vec3}
-use Rattle.sides_f32.specs.As.{as_act_jacobians}
 
 pub returns-then-out-ne-ACT_JACOBIANS : goal.returns-then-out-ne-ACT_JACOBIANS
 returns-then-out-ne-ACT_JACOBIANS c =
     let a = c.args in
-    let m = misfits a.out.now (act_numbers (as_act_jacobians a.j)) 30 c.if-out-ne-ACT_JACOBIANS.true (act_count_lem (as_act_jacobians a.j)) in
+    let m = misfits a.out.now (act_numbers a.j) 30 c.if-out-ne-ACT_JACOBIANS.true (act_count_lem a.j) in
     record {
       value = m.0;
       out_after = m.1;
     }
 
 pub returns : goal.returns
-unfolding as_act_jacobians as_mat3 as_vec3
 returns c =
     let a = c.args in
-    let f = fits a.out.now (act_numbers (as_act_jacobians a.j)) 30 c.if-out-ne-ACT_JACOBIANS.false (act_count_lem (as_act_jacobians a.j)) in
+    let f = fits a.out.now (act_numbers a.j) 30 c.if-out-ne-ACT_JACOBIANS.false (act_count_lem a.j) in
     record {
       value = f.0;
       out_after = rw (
@@ -30,5 +27,5 @@ returns c =
         c.set_three.ensures,
         c.set_mat-2.ensures,
         c.set_mat.ensures,
-      ) (act_stored (as_act_jacobians a.j) a.out.now) ∙ f.1;
+      ) (act_stored a.j a.out.now) ∙ f.1;
     }

@@ -1,4 +1,4 @@
--- Written by tools/widths from crates/to_lists/proofs/put_armed_pair/Answers.antt: edit that one. Digest 16876d1212eb20ec.
+-- Written by tools/widths from crates/to_lists/proofs/put_armed_pair/Answers.antt: edit that one. Digest d12628333884fea7.
 -- `to_lists_f32::put_armed_pair` meets its contract: an `out` of the length that is due has the numbers written, and any other is left as it was. Assumes nothing.
 use mathlib.Core.Path.{◌∙◌}
 use lib.Ieee.{binary32}
@@ -6,23 +6,20 @@ use Rattle.to_lists.specs.Written.{armed_pair_numbers}
 use Rattle.to_lists.proofs.Fits.{fits, misfits}
 use Rattle.to_lists.proofs.Stores.{armed-pair-count, armed-pair_stored}
 use Rattle.to_lists_f32.proofs.put_armed_pair.Goals as goal
-use Rattle.series_f32.specs.As.{as_sim3_coeffs}
-use Rattle.coeffs_f32.specs.As.{as_armed, as_armed_pair, as_scaled}
 
 pub returns-then-out-ne-ARMED_PAIR : goal.returns-then-out-ne-ARMED_PAIR
 returns-then-out-ne-ARMED_PAIR c =
     let a = c.args in
-    let m = misfits a.out.now (armed_pair_numbers binary32 (as_armed_pair a.p)) 24 c.if-out-ne-ARMED_PAIR.true (armed-pair-count binary32 (as_armed_pair a.p)) in
+    let m = misfits a.out.now (armed_pair_numbers binary32 a.p) 24 c.if-out-ne-ARMED_PAIR.true (armed-pair-count binary32 a.p) in
     record {
       value = m.0;
       out_after = m.1;
     }
 
 pub returns : goal.returns
-unfolding as_armed as_armed_pair as_scaled as_sim3_coeffs
 returns c =
     let a = c.args in
-    let f = fits a.out.now (armed_pair_numbers binary32 (as_armed_pair a.p)) 24 c.if-out-ne-ARMED_PAIR.false (armed-pair-count binary32 (as_armed_pair a.p)) in
+    let f = fits a.out.now (armed_pair_numbers binary32 a.p) 24 c.if-out-ne-ARMED_PAIR.false (armed-pair-count binary32 a.p) in
     record {
       value = f.0;
       out_after = rw (
@@ -30,5 +27,5 @@ returns c =
         c.set_scaled.ensures,
         c.set_arm-2.ensures,
         c.set_arm.ensures,
-      ) (armed-pair_stored binary32 (as_armed_pair a.p) a.out.now) ∙ f.1;
+      ) (armed-pair_stored binary32 a.p a.out.now) ∙ f.1;
     }

@@ -1,27 +1,24 @@
--- Written by tools/widths from crates/to_lists/proofs/put_block/Answers.antt: edit that one. Digest 96cd458e4b6f5f0b.
+-- Written by tools/widths from crates/to_lists/proofs/put_block/Answers.antt: edit that one. Digest cfeb82c80d3d3b38.
 -- `to_lists_f32::put_block` meets its contract: an `out` of the length that is due has the numbers written, and any other is left as it was. Assumes nothing.
 use mathlib.Core.Path.{◌∙◌}
 use Rattle.layout.specs.Layout.{block_numbers}
 use Rattle.layout.proofs.Numbers.{block-count}
 use Rattle.to_lists.proofs.Fits.{fits, misfits}
 use Rattle.to_lists_f32.proofs.put_block.Goals as goal
-use Rattle.linalg_f32.specs.As.{as_mat3, as_vec3}
-use Rattle.jacobian_f32.specs.As.{as_sim3_jac}
 
 pub returns-then-out-ne-BLOCK : goal.returns-then-out-ne-BLOCK
 returns-then-out-ne-BLOCK c =
     let a = c.args in
-    let m = misfits a.out.now (block_numbers (as_sim3_jac a.j)) 31 c.if-out-ne-BLOCK.true (block-count (as_sim3_jac a.j)) in
+    let m = misfits a.out.now (block_numbers a.j) 31 c.if-out-ne-BLOCK.true (block-count a.j) in
     record {
       value = m.0;
       out_after = m.1;
     }
 
 pub returns : goal.returns
-unfolding as_mat3 as_sim3_jac as_vec3
 returns c =
     let a = c.args in
-    let f = fits a.out.now (block_numbers (as_sim3_jac a.j)) 31 c.if-out-ne-BLOCK.false (block-count (as_sim3_jac a.j)) in
+    let f = fits a.out.now (block_numbers a.j) 31 c.if-out-ne-BLOCK.false (block-count a.j) in
     record {
       value = f.0;
       out_after = c.set_block.ensures ∙ f.1;

@@ -1,4 +1,4 @@
--- Written by tools/widths from crates/to_lists/proofs/put_framed/Answers.antt: edit that one. Digest 9ebea2afedf3e0b0.
+-- Written by tools/widths from crates/to_lists/proofs/put_framed/Answers.antt: edit that one. Digest 46f0c20563d01b7b.
 -- `to_lists_f32::put_framed` meets its contract: lists of the lengths that are due have the numbers and the frames written, and any other two are left as they were. Assumes nothing.
 use borrow.Author.Rules.{rules}
 use borrow.Author.Tests.{eq-eqb, ne_eqb}
@@ -11,13 +11,10 @@ use Rattle.from_lists.specs.Lists.{pose_lists}
 use Rattle.to_lists.specs.Written.{status, written, framed_fitting}
 use Rattle.to_lists.proofs.Fits.{sets-all}
 use Rattle.to_lists_f32.proofs.put_framed.Goals as goal
-use Rattle.linalg_f32.specs.As.{as_vec3}
-use Rattle.so3_f32.specs.As.{as_quat}
-use Rattle.sim3_f32.specs.As.{as_sim3}
-use Rattle.frames_f32.specs.As.{as_pose}
+use Rattle.from_lists_f32.proofs.As.{from_lists_singles}
 
 pub returns-then-out-ne-POSE : goal.returns-then-out-ne-POSE
-unfolding status written framed_fitting as_pose as_quat as_sim3 as_vec3
+unfolding status written framed_fitting
 returns-then-out-ne-POSE c = rw (ne_eqb _ _ c.if-out-ne-POSE.true)
     (record {
       value = refl;
@@ -25,7 +22,7 @@ returns-then-out-ne-POSE c = rw (ne_eqb _ _ c.if-out-ne-POSE.true)
     })
 
 pub returns-then-out_frames-ne-FRAMES : goal.returns-then-out_frames-ne-FRAMES
-unfolding status written framed_fitting as_pose as_quat as_sim3 as_vec3
+unfolding status written framed_fitting
 returns-then-out_frames-ne-FRAMES c = rw (eq-eqb _ _ c.if-out-ne-POSE.false, ne_eqb _ _ c.if-out_frames-ne-FRAMES.true)
     (record {
       value = refl;
@@ -33,10 +30,10 @@ returns-then-out_frames-ne-FRAMES c = rw (eq-eqb _ _ c.if-out-ne-POSE.false, ne_
     })
 
 pub returns : goal.returns
-unfolding status written framed_fitting as_pose as_quat as_sim3 as_vec3
+unfolding status written framed_fitting
 returns c =
     let a = c.args in
-    let x = (as_pose a.x) in
+    let x = a.x in
     let numbers = c.set_pose.ensures ∙ sets-all a.out.now (pose_numbers x.sim3) (c.if-out-ne-POSE.false ∙ sym (pose-count x.sim3)) in
     let frames = sets-all a.out_frames.now (x.from ∷ x.to ∷ []) c.if-out_frames-ne-FRAMES.false in
     rw (eq-eqb _ _ c.if-out-ne-POSE.false, eq-eqb _ _ c.if-out_frames-ne-FRAMES.false)
@@ -46,4 +43,4 @@ returns c =
     })
 
 pub bounds-out_frames-1 : goal.bounds-out_frames-1
-bounds-out_frames-1 c = simp length-set (search rules)
+bounds-out_frames-1 c = simp (from_lists_singles, length-set) (search rules)

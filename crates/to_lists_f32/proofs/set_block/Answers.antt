@@ -1,14 +1,12 @@
--- Written by tools/widths from crates/to_lists/proofs/set_block/Answers.antt: edit that one. Digest 288286a8413c3a3f.
+-- Written by tools/widths from crates/to_lists/proofs/set_block/Answers.antt: edit that one. Digest 1ec99b7a91db66a7.
 -- `to_lists_f32::set_block` meets its contract: the runs of its parts are its run. Assumes nothing.
 use borrow.Author.Rules.{rules}
 use lib.ListN.{length-set}
 use Rattle.to_lists.proofs.Stores.{block_stored}
 use Rattle.to_lists_f32.proofs.set_block.Goals as goal
-use Rattle.linalg_f32.specs.As.{as_mat3, as_vec3}
-use Rattle.jacobian_f32.specs.As.{as_sim3_jac}
+use Rattle.from_lists_f32.proofs.As.{from_lists_singles}
 
 pub returns : goal.returns
-unfolding as_mat3 as_sim3_jac as_vec3
 returns c =
     let a = c.args in
     rw (
@@ -16,7 +14,7 @@ returns c =
       c.set_mat-3.ensures,
       c.set_mat-2.ensures,
       c.set_mat.ensures,
-    ) (block_stored (as_sim3_jac a.j) a.out.now a.at)
+    ) (block_stored a.j a.out.now a.at)
 
 pub shape_of-out : goal.shape_of-out
-shape_of-out c = simp length-set (search rules)
+shape_of-out c = simp (from_lists_singles, length-set) (search rules)

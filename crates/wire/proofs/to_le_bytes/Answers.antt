@@ -5,4 +5,4 @@ use Rattle.wire.proofs.to_le_bytes.Goals as goal
 
 pub returns : goal.returns
 unfolding number_bytes
-returns c = c.word_to_le_bytes.ensures ∙ rw c.to_bits.ensures
+returns c = c.word_to_le_bytes.ensures ∙ rw c.pattern.ensures

@@ -1,20 +1,28 @@
 -- `circle::kernel::exp_group` meets its contract: by what its calls ensure and its tests say; below the limit of cos_half both members are on their series. Assumes nothing.
-use lib.Ieee.{binary64}
 use Rattle.tables.specs.Tables.{k_row}
 use Rattle.circle.specs.Kernel.{row_short, row_own, row_member, circle_exp}
 use Rattle.circle.proofs.Rows.{below_all}
 use Rattle.circle.proofs.kernel.exp_group.Goals as goal
 
-pub returns-then-z : goal.returns-then-z
+pub returns-then-lt : goal.returns-then-lt
 unfolding circle_exp row_member row_short
-returns-then-z c = simp (c.series-then-z.ensures, c.series.ensures, c.if-z.true)
+returns-then-lt g c =
+    let real = g.met.T.Real in
+    let s = simp (c.lt.ensures, real.lt_law, c.exp_short_below.ensures) at c.if-lt.true in
+    simp (c.series-then-lt.ensures, c.series.ensures, c.short_terms-n.ensures, s)
 
-pub returns-then-z-2 : goal.returns-then-z-2
+pub returns-then-lt-2 : goal.returns-then-lt-2
 unfolding circle_exp row_member row_own
-returns-then-z-2 c =
-    let t = c.if-z-2.true in
-    simp (c.whole-then-z-2.ensures, c.whole.ensures, t, below_all binary64 k_row _ t, c.if-z.false)
+returns-then-lt-2 g c =
+    let real = g.met.T.Real in
+    let s = simp (c.lt.ensures, real.lt_law, c.exp_short_below.ensures) at c.if-lt.false in
+    let t = simp (c.lt-2.ensures, real.lt_law, c.below.ensures) at c.if-lt-2.true in
+    simp (c.whole-then-lt-2.ensures, c.whole.ensures, t, below_all g.T.Real.format k_row _ t, s)
 
 pub returns : goal.returns
 unfolding circle_exp row_member row_own
-returns c = simp (c.own_arm.ensures, c.if-z-2.false, c.if-z.false)
+returns g c =
+    let real = g.met.T.Real in
+    let s = simp (c.lt.ensures, real.lt_law, c.exp_short_below.ensures) at c.if-lt.false in
+    let t = simp (c.lt-2.ensures, real.lt_law, c.below.ensures) at c.if-lt-2.false in
+    simp (c.own_arm.ensures, real.div_law _ _ _ c.div.ensures, t, s)

@@ -1,44 +1,20 @@
--- `circle::kernel::horner` meets its contract: with i terms left to take, p is the sum of the terms from i on. Assumes nothing.
-use mathlib.Core.Path.{◌≡◌, sym, ◌∙◌}
-use native.Mathlib.Omega.{arith}
-use lib.Ieee.{binary64, of_bits}
-use Rattle.circle.proofs.Horner.{horner_none, horner_last, horner_more}
+-- `circle::kernel::horner` meets its contract: the terms that are left, and p after them, sum to what all terms sum to. Assumes nothing.
+use Rattle.std.proofs.Common.{append_assoc}
+use Rattle.std.proofs.lemmas.List.{map-append, nil_from_length}
+use lib.Ieee.{of_bits}
+use Rattle.circle.specs.Kernel.{horner_sum}
+use Rattle.circle.proofs.Horner.{horner_join}
 use Rattle.circle.proofs.kernel.horner.Goals as goal
 
-pub returns-then-n-eq0 : goal.returns-then-n-eq0
-unfolding of_bits
-returns-then-n-eq0 c = horner_none binary64 _ _ c.if-n-eq0.true
+pub returns-in_default : goal.returns-in_default
+unfolding horner_sum of_bits
+returns-in_default g c = rw (nil_from_length c.args.t.now c.in_default.ensures.cases) c.of.ensures
 
-pub loop-i-init : goal.loop-i-init
-loop-i-init c = (omega arith, sym (horner_last binary64 c.args.z c.args.t.now (omega arith)))
-
-pub loop-i-preserved : goal.loop-i-preserved
-loop-i-preserved c =
-    let a = c.args in
-    (omega arith, cc (horner_more binary64 a.z a.t.now c.loop-i.i (omega arith) (omega arith)))
+pub loop-c-preserved : goal.loop-c-preserved
+loop-c-preserved g c =
+    let real = g.met.T.Real in
+    simp (real.add_law _ _ _ c.add-p.ensures, real.mul_law _ _ _ c.mul.ensures, ← horner_join) (simp (c.in-Some-c.ensures.steps, map-append, append_assoc) at c.loop-c.invariant)
 
 pub returns : goal.returns
-returns c =
-    let e : c.loop-i.i ≡ 0 = omega arith in
-    c.loop-i.invariant.1 ∙ rw e
-
-pub overflow_sub-i : goal.overflow_sub-i
-overflow_sub-i c = omega arith
-
-pub offset_bounds-t-i : goal.offset_bounds-t-i
-offset_bounds-t-i c = omega arith
-
-pub bounds-t-i : goal.bounds-t-i
-bounds-t-i c = omega arith
-
-pub overflow_sub-i-in-loop-i : goal.overflow_sub-i-in-loop-i
-overflow_sub-i-in-loop-i c = omega arith
-
-pub offset_bounds-t-i-in-loop-i : goal.offset_bounds-t-i-in-loop-i
-offset_bounds-t-i-in-loop-i c = omega arith
-
-pub bounds-t-i-in-loop-i : goal.bounds-t-i-in-loop-i
-bounds-t-i-in-loop-i c = omega arith
-
-pub loop-i-smaller : goal.loop-i-smaller
-loop-i-smaller c = omega arith
+unfolding horner_sum
+returns g c = rw (nil_from_length _ c.in-None.ensures.steps.0) at c.loop-c.invariant

@@ -1,13 +1,9 @@
--- `circle::kernel::horner` meets its contract: with i terms left to take, p is the sum of the terms from i on. Assumes nothing.
-use Prim.Native.Nat.{◌<◌}
-use mathlib.Core.Path.{◌≡◌}
-use lib.ListN.{length, drop}
-use lib.Ieee.{binary64}
+-- `circle::kernel::horner` meets its contract: the terms that are left, and p after them, sum to what all terms sum to. Assumes nothing.
+use Rattle.std.proofs.Common.{◌≡◌, map, [], ◌∷◌, ◌++◌}
 use Rattle.circle.specs.Kernel.{horner_sum}
 use Rattle.circle.proofs.kernel.horner.Given as goal
 
-abbrev pub invariant-loop-i : goal.invariant-loop-i
-invariant-loop-i l = (l.i < length l.t) × (l.p ≡ horner_sum binary64 l.z (drop l.i l.t))
-
-abbrev pub decreases-loop-i : goal.decreases-loop-i
-decreases-loop-i l = l.i
+abbrev pub invariant-loop-c : goal.invariant-loop-c
+invariant-loop-c g l =
+    let r = g.T.Real in
+    horner_sum r.format (r.float l.z) (map r.float l.c-iterator.iter.rest.now ++ (r.float l.p ∷ [])) ≡ horner_sum r.format (r.float l.z) (map r.float l.t)

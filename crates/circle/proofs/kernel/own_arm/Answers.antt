@@ -2,10 +2,10 @@
 use Rattle.circle.specs.Kernel.{row_own}
 use Rattle.circle.proofs.kernel.own_arm.Goals as goal
 
-pub returns-then-z-below : goal.returns-then-z-below
+pub returns-then-lt : goal.returns-then-lt
 unfolding row_own
-returns-then-z-below c = simp (c.whole.ensures, ← c.below.ensures, c.if-z-below.true)
+returns-then-lt g c = let real = g.met.T.Real in simp (c.whole.ensures, ← c.below.ensures, ← real.lt_law, ← c.lt.ensures, c.if-lt.true)
 
-pub returns-else-z-below : goal.returns-else-z-below
+pub returns-else-lt : goal.returns-else-lt
 unfolding row_own
-returns-else-z-below c = simp (← c.below.ensures, c.if-z-below.false)
+returns-else-lt g c = let real = g.met.T.Real in simp (← c.below.ensures, ← real.lt_law, ← c.lt.ensures, c.if-lt.false)

@@ -1,7 +1,8 @@
+use Rattle.std.proofs.Common.{rules}
 use Rattle.coeffs.specs.Private.{closed_one}
 use lib.Ieee.{of_bits}
 use Rattle.coeffs.proofs.sim3.closed_one.Goals as goal
 
 pub returns : goal.returns
 unfolding closed_one of_bits
-returns c = simp (c.closed_from-c.ensures, c.on_form_b.ensures)
+returns g c = let real = g.met.T.Real in search (rules, real.lt_law)

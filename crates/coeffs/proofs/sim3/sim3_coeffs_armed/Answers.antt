@@ -2,44 +2,44 @@
 use mathlib.Core.Path.{sym, ap, ◌∙◌}
 use borrow.Author.Tests.{lt-ltb, le-ltb}
 use lib.Dec.{ltb}
-use lib.Ieee.{binary64}
-use Rattle.linalg.specs.Answer.{answers, and_then}
-use Rattle.circle.specs.Kernel.{sinc_abd_told, circle_sinc_abd_answer}
+use Rattle.std.proofs.Common.{rules}
+use Rattle.circle.specs.Kernel.{circle_sinc_abd_answer}
 use Rattle.closed.specs.Limits.{coeffs_delta}
-use Rattle.closed.specs.Arm.{coeffs_arm}
-use Rattle.coeffs.specs.Private.{series_arm}
-use Rattle.coeffs.specs.Entries.{scaled_told, armed_told}
+use Rattle.closed.specs.Floats.{as_values}
 use Rattle.closed.proofs.Arm.{ends-series, ends-closed}
-use Rattle.coeffs.proofs.Arms.{by_series, by_closed, closed-refuses, armed-told, armed-refuses, told_at}
+use Rattle.coeffs.specs.Entries.{armed_answer}
+use Rattle.coeffs.specs.Private.{series_arm}
+use Rattle.coeffs.proofs.Arms.{by_series, by_closed, armed-told}
 use Rattle.coeffs.proofs.sim3.sim3_coeffs_armed.Goals as goal
+
+pub returns-in_err-s : goal.returns-in_err-s
+unfolding series_arm armed_answer
+returns-in_err-s g c = search rules
 
 pub returns-then-at-lt-CLOSED : goal.returns-then-at-lt-CLOSED
 unfolding coeffs_delta
-returns-then-at-lt-CLOSED c =
+returns-then-at-lt-CLOSED g c =
+    let r = g.T.Real in
     let a = c.args in
-    let e = c.arm-at.ensures in
+    let real = g.met.T.Real in
+    let e = simp (real.add_law _ _ _ c.add-delta.ensures, real.mul_law _ _ _ c.mul.ensures) at c.arm-at.ensures in
     let t = ap (λ n. ltb n 5) (sym e) ∙ lt-ltb _ _ c.if-at-lt-CLOSED.true in
-    let r = c.by_series.ensures ∙ ap (series_arm binary64 a.sigma a.z) e ∙ sym (by_series binary64 a.sigma a.z a.v t) in
-    c.tell.ensures
-    ∙ (λ i. and_then (r i) (λ s. answers (told_at (e i) (sym (ends-series binary64 a.sigma (coeffs_arm binary64 (coeffs_delta binary64 a.sigma a.z)) t) i) s)))
-    ∙ sym (armed-told binary64 a.sigma a.z a.v)
+    let s = by_series r.format (r.float a.sigma) (r.float a.z) (as_values r.float a.v) t in
+    let n = ends-series r.format (r.float a.sigma) _ t in
+    search (rules, s, n, e, armed-told)
 
-pub returns-in-Coeffs : goal.returns-in-Coeffs
-unfolding scaled_told coeffs_delta sinc_abd_told circle_sinc_abd_answer
-returns-in-Coeffs c =
+pub returns-in_err-t : goal.returns-in_err-t
+unfolding circle_sinc_abd_answer armed_answer
+returns-in_err-t g c = search rules
+
+pub returns : goal.returns
+unfolding coeffs_delta circle_sinc_abd_answer
+returns g c =
+    let r = g.T.Real in
     let a = c.args in
-    let e = c.arm-at.ensures in
+    let real = g.met.T.Real in
+    let e = simp (real.add_law _ _ _ c.add-delta.ensures, real.mul_law _ _ _ c.mul.ensures) at c.arm-at.ensures in
     let t = ap (λ n. ltb n 5) (sym e) ∙ le-ltb _ _ c.if-at-lt-CLOSED.false in
-    let w = c.w0_small-ends.ensures in
-    let r = ap answers (rw w at c.closed_one-s.ensures) ∙ sym (by_closed binary64 a.sigma a.z a.v _ t
-    (sym c.sinc_a_b_d.ensures ∙ ap sinc_abd_told c.in-Coeffs.is)) in
-    c.tell-in-Coeffs.ensures
-    ∙ (λ i. and_then (r i) (λ s. answers (told_at (e i) ((w ∙ sym (ends-closed binary64 a.sigma (coeffs_arm binary64 (coeffs_delta binary64 a.sigma a.z)) t)) i) s)))
-    ∙ sym (armed-told binary64 a.sigma a.z a.v)
-
-pub returns-in-Refused : goal.returns-in-Refused
-unfolding armed_told sinc_abd_told circle_sinc_abd_answer
-returns-in-Refused c =
-    let a = c.args in
-    let r = sym c.sinc_a_b_d.ensures ∙ ap sinc_abd_told c.in-Refused.is in
-    sym (armed-refuses binary64 a.sigma a.z a.v _ (closed-refuses binary64 a.sigma a.z a.v _ _ r))
+    let s = by_closed r.format (r.float a.sigma) (r.float a.z) (as_values r.float a.v) _ t (sym c.in_ok-t.ensures) in
+    let n = ends-closed r.format (r.float a.sigma) _ t in
+    search (rules, real.add_law, real.mul_law, s, n, e, armed-told)

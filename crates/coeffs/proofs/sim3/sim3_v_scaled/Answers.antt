@@ -2,42 +2,43 @@
 use mathlib.Core.Path.{sym, ap, ◌∙◌}
 use borrow.Author.Tests.{lt-ltb, le-ltb}
 use lib.Dec.{ltb}
-use mathlib.Core.Bool.{false}
-use lib.Ieee.{binary64, of_bits}
-use Rattle.series.specs.Series.{series_v_told, series_v_answer}
-use Rattle.circle.specs.Kernel.{sinc_a_told, circle_sinc_a_answer}
+use lib.Ieee.{of_bits}
+use Rattle.std.proofs.Common.{rules}
+use Rattle.series.specs.Series.{series_v_answer}
+use Rattle.circle.specs.Kernel.{circle_sinc_a_answer}
 use Rattle.closed.specs.Limits.{coeffs_delta}
 use Rattle.closed.specs.Arm.{arm_terms}
-use Rattle.coeffs.specs.Entries.{v_scaled_told, v_scaled_answer}
-use Rattle.coeffs.proofs.Arms.{series-answers, series-refuses, arm-refuses, within-v, v-series, v-closed-answers}
+use Rattle.closed.specs.Floats.{as_values}
+use Rattle.coeffs.specs.Entries.{v_scaled_answer}
+use Rattle.coeffs.proofs.Arms.{v-series, v-closed-answers}
 use Rattle.coeffs.proofs.sim3.sim3_v_scaled.Goals as goal
 
-pub returns-in-Coeffs : goal.returns-in-Coeffs
-unfolding v_scaled_told v_scaled_answer series_v_told series_v_answer coeffs_delta
-returns-in-Coeffs c =
+pub returns-in_err-c : goal.returns-in_err-c
+unfolding v_scaled_answer series_v_answer
+returns-in_err-c g c = search rules
+
+pub returns-then-at-lt-CLOSED : goal.returns-then-at-lt-CLOSED
+unfolding v_scaled_answer series_v_answer coeffs_delta
+returns-then-at-lt-CLOSED g c =
+    let r = g.T.Real in
     let a = c.args in
-    let d = c.terms.ensures in
-    let e = c.arm-at.ensures in
+    let real = g.met.T.Real in
+    let e = simp (real.add_law _ _ _ c.add-delta.ensures, real.mul_law _ _ _ c.mul.ensures) at c.arm-at.ensures in
     let t = ap (λ n. ltb n 5) (sym e) ∙ lt-ltb _ _ c.if-at-lt-CLOSED.true in
-    let r = sym c.series_v.ensures ∙ ap series_v_told c.in-Coeffs.is in
-    sym (series-answers 30 a.z _ _ _ _ (λ x. record { c = x; scaled = false }) (within-v _ d.1) (v-series binary64 a.sigma a.z a.v _ t (d.0 ∙ ap (arm_terms binary64) e)) r)
+    let s = v-series r.format (r.float a.sigma) (r.float a.z) (as_values r.float a.v) _ t (c.arm_terms.ensures.count ∙ ap (arm_terms r.format) e) in
+    search (rules, s)
 
-pub returns-in-Refused : goal.returns-in-Refused
-unfolding v_scaled_told v_scaled_answer series_v_told series_v_answer
-returns-in-Refused c =
-    let r = sym c.series_v.ensures ∙ ap series_v_told c.in-Refused.is in
-    sym (series-refuses 30 c.args.z _ _ _ _ (within-v _ c.terms.ensures.1) r)
+pub returns-in_err-t : goal.returns-in_err-t
+unfolding v_scaled_answer circle_sinc_a_answer
+returns-in_err-t g c = search rules
 
-pub returns-in-Coeffs-sinc_a : goal.returns-in-Coeffs-sinc_a
-unfolding v_scaled_told v_scaled_answer sinc_a_told circle_sinc_a_answer coeffs_delta of_bits
-returns-in-Coeffs-sinc_a c =
+pub returns : goal.returns
+unfolding v_scaled_answer circle_sinc_a_answer coeffs_delta of_bits
+returns g c =
+    let r = g.T.Real in
     let a = c.args in
-    let e = c.arm-at.ensures in
+    let real = g.met.T.Real in
+    let e = simp (real.add_law _ _ _ c.add-delta.ensures, real.mul_law _ _ _ c.mul.ensures) at c.arm-at.ensures in
     let t = ap (λ n. ltb n 5) (sym e) ∙ le-ltb _ _ c.if-at-lt-CLOSED.false in
-    let r = sym c.sinc_a.ensures ∙ ap sinc_a_told c.in-Coeffs-sinc_a.is in
-    simp (c.closed_v-c.ensures, c.w0_small-small.ensures, c.on_form_b-form_b.ensures)
-    (sym (v-closed-answers binary64 a.sigma a.z a.v _ t r))
-
-pub returns-in-Refused-sinc_a : goal.returns-in-Refused-sinc_a
-unfolding v_scaled_told v_scaled_answer sinc_a_told circle_sinc_a_answer
-returns-in-Refused-sinc_a c = sym (arm-refuses c.args.z _ _ _ (sym c.sinc_a.ensures ∙ ap sinc_a_told c.in-Refused-sinc_a.is))
+    let s = v-closed-answers r.format (r.float a.sigma) (r.float a.z) (as_values r.float a.v) _ t (sym c.in_ok-t.ensures) in
+    search (rules, real.add_law, real.mul_law, real.lt_law, s)

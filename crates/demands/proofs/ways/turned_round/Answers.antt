@@ -3,4 +3,4 @@ use Rattle.demands.proofs.ways.turned_round.Goals as goal
 
 pub returns : goal.returns
 unfolding turned_round
-returns c = simp c.neg.ensures
+returns g c = simp c.neg.ensures

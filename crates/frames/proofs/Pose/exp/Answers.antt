@@ -1,6 +1,7 @@
+use Rattle.std.proofs.Common.{rules}
 use Rattle.frames.specs.Pose.{framed_exp}
 use Rattle.frames.proofs.Pose.exp.Goals as goal
 
 pub returns : goal.returns
 unfolding framed_exp
-returns c = simp (c.between.ensures, c.exp.ensures)
+returns g c = search rules

@@ -1,6 +1,7 @@
+use Rattle.std.proofs.Common.{rules}
 use Rattle.frames.specs.Pose.{framed_identity}
 use Rattle.frames.proofs.Pose.identity.Goals as goal
 
 pub returns : goal.returns
 unfolding framed_identity
-returns c = simp (c.between.ensures, c.identity.ensures)
+returns g c = search rules

@@ -1,6 +1,7 @@
+use Rattle.std.proofs.Common.{rules}
 use Rattle.frames.specs.Pose.{framed_inverse}
 use Rattle.frames.proofs.Pose.inverse.Goals as goal
 
 pub returns : goal.returns
 unfolding framed_inverse
-returns c = simp (c.between.ensures, c.inverse.ensures)
+returns g c = search rules

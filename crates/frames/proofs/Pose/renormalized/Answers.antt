@@ -1,6 +1,7 @@
+use Rattle.std.proofs.Common.{rules}
 use Rattle.frames.specs.Pose.{framed_renormalized}
 use Rattle.frames.proofs.Pose.renormalized.Goals as goal
 
 pub returns : goal.returns
 unfolding framed_renormalized
-returns c = simp (c.between.ensures, c.renormalized.ensures)
+returns g c = search rules

@@ -1,6 +1,7 @@
+use Rattle.std.proofs.Common.{rules}
 use Rattle.frames.specs.Pose.{framed_rplus}
 use Rattle.frames.proofs.Pose.rplus.Goals as goal
 
 pub returns : goal.returns
 unfolding framed_rplus
-returns c = simp (c.between.ensures, c.rplus.ensures)
+returns g c = search rules

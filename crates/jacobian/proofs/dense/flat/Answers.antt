@@ -6,7 +6,7 @@ use Rattle.jacobian.proofs.dense.flat.Goals as goal
 
 pub returns : goal.returns
 unfolding seven_flat tangent_to_dense
-returns c = rw (
+returns g c = rw (
   c.put_column-7.ensures,
   c.put_column-6.ensures,
   c.put_column-5.ensures,

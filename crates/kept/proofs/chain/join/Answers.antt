@@ -1,7 +1,7 @@
 -- `kept::chain::join` meets its contract: the state is read and joined, what is answered is written, and the answer told; a refusal writes no byte of the state. Assumes nothing.
 use mathlib.Core.Path.{refl, sym, ap, ◌∙◌}
 use lib.Seq.{sets}
-use Rattle.frames.specs.Joins.{pose_told}
+use Rattle.linalg.specs.Answer.{answer}
 use Rattle.running.specs.Running.{Joint}
 use Rattle.running.specs.declared.Start.TheVariants.{Posed}
 use Rattle.running.specs.declared.Running.{Running}
@@ -22,14 +22,14 @@ pub refuse-requires : goal.refuse-requires
 refuse-requires c =
     c.requires.longest_in_bounds
 
-pub returns-in-Pose : goal.returns-in-Pose
-unfolding joint_bytes pose_told
-returns-in-Pose c =
+pub returns-in-Ok : goal.returns-in-Ok
+unfolding joint_bytes
+returns-in-Ok c =
     let a = c.args in
-    let p = c.in-Pose.p in
+    let p = c.in-Ok.p in
     let j = ch-joined a.mem.now a.b.now _ _ _ _ c.framed_at-x.ensures c.number_at-up.ensures
     c.running_at.ensures c.join-j.ensures in
-    let e = sym (ap (λ (j : Joint). j.answer) j) ∙ ap pose_told c.in-Pose.is in
+    let e = sym (ap (λ (j : Joint). j.answer) j) ∙ ap answer c.in-Ok.is in
     let k = c.put_posed.ensures in
     let left : Joint → Running = λ j. record { pose = Posed p; every = j.running.every; since = j.running.since } in
     rw e
@@ -40,17 +40,18 @@ returns-in-Pose c =
       mem_after_2 = k.mem_after_2 ∙ ap left j ∙ sym (ch_stood (running_of a.mem.now) a.b.now p e);
     })
 
-pub returns-in-Refused : goal.returns-in-Refused
-unfolding joint_bytes pose_told
-returns-in-Refused c =
+pub returns-in-Err : goal.returns-in-Err
+unfolding joint_bytes
+returns-in-Err c =
     let a = c.args in
     let j = ch-joined a.mem.now a.b.now _ _ _ _ c.framed_at-x.ensures c.number_at-up.ensures
     c.running_at.ensures c.join-j.ensures in
-    let e = sym (ap (λ (j : Joint). j.answer) j) ∙ ap pose_told c.in-Refused.is in
+    let e = sym (ap (λ (j : Joint). j.answer) j) ∙ ap answer c.in-Err.is in
+    let told = rw c.number.ensures at c.refuse.ensures in
     rw e
     (record {
-      result_value = c.refuse.ensures.result_value;
-      out_after = c.refuse.ensures.out_after;
+      result_value = told.result_value;
+      out_after = told.out_after;
       mem_after = refl;
-      mem_after_2 = sym (ch-kept (running_of a.mem.now) a.b.now c.in-Refused.number e);
+      mem_after_2 = sym (ch-kept (running_of a.mem.now) a.b.now _ e);
     })

@@ -1,20 +1,19 @@
--- `linalg::matrix::component` meets its contract: by what its tests say. Assumes nothing.
-use borrow.Author.Tests.{ne_eqb}
-use Rattle.linalg.specs.Matrix.{entry_told, vec_component}
+use Rattle.std.proofs.Common.{rules}
+use Rattle.linalg.specs.Matrix.{vec_component}
 use Rattle.linalg.proofs.matrix.component.Goals as goal
 
 pub returns-in-0 : goal.returns-in-0
-unfolding entry_told vec_component
-returns-in-0 c = simp c.in-0.is
+unfolding vec_component
+returns-in-0 g c = search rules
 
 pub returns-in-1 : goal.returns-in-1
-unfolding entry_told vec_component
-returns-in-1 c = simp c.in-1.is
+unfolding vec_component
+returns-in-1 g c = search rules
 
 pub returns-in-2 : goal.returns-in-2
-unfolding entry_told vec_component
-returns-in-2 c = simp c.in-2.is
+unfolding vec_component
+returns-in-2 g c = search rules
 
 pub returns-in_default : goal.returns-in_default
-unfolding entry_told vec_component
-returns-in_default c = simp (ne_eqb _ _ c.in_default.in_default-own.rest.1, ne_eqb _ _ c.in_default.in_default-own.rest.0.1, ne_eqb _ _ c.in_default.in_default-own.rest.0.0.1)
+unfolding vec_component
+returns-in_default g c = search rules

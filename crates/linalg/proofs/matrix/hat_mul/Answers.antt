@@ -3,4 +3,4 @@ use Rattle.linalg.proofs.matrix.hat_mul.Goals as goal
 
 pub returns : goal.returns
 unfolding mat_hat_mul
-returns c = simp (c.hat_col-3.ensures, c.hat_col-2.ensures, c.hat_col.ensures)
+returns g c = simp (c.hat_col-3.ensures, c.hat_col-2.ensures, c.hat_col.ensures)

@@ -14,5 +14,5 @@ unfolding of_bits
 returns c =
     let z = c.args.z in
     let fit : T (fits binary32 z) = search rules in
-    let e : c.to_bits.result ≡ to_bits binary32 (plain z) = c.to_bits.ensures ∙ start_is binary32 z fit in
+    let e : c.pattern.result ≡ to_bits binary32 (plain z) = c.pattern.ensures ∙ start_is binary32 z fit in
     (e, subst (λ (n : ℕ). n < patterns binary32) (sym e) (start_below binary32 z fit c.requires.0 c.requires.1))

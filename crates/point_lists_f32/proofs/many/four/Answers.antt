@@ -3,8 +3,6 @@ use borrow.Author.Rules.{rules}
 use mathlib.Core.Path.{◌∙◌}
 use native.Mathlib.Omega.{arith}
 use Rattle.point_lists_f32.specs.Private.{put_four}
-use Rattle.linalg_f32.specs.As.{as_mat3, as_vec3}
-use Rattle.linalg_f32.proofs.As.{linalg_singles}
 use Rattle.point_lists_f32.proofs.many.four.Goals as goal
 
 pub put_four-requires : goal.put_four-requires
@@ -15,7 +13,6 @@ pub returns : goal.returns
 unfolding put_four
 returns c =
     simp (
-      linalg_singles,
       c.put_four.ensures,
       c.less_act-d.ensures,
       c.less_act-c.ensures,

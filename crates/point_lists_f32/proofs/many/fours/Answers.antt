@@ -9,8 +9,6 @@ use lib.Ieee.{binary32}
 use Rattle.point_lists.specs.Points.{points_moved, mat_act}
 use Rattle.point_lists_f32.specs.Private.{mat_turned}
 use Rattle.point_lists_f32.proofs.Fours.{four_more_lem}
-use Rattle.linalg_f32.specs.As.{as_mat3, as_vec3}
-use Rattle.linalg_f32.proofs.As.{linalg_singles}
 use Rattle.point_lists_f32.proofs.many.fours.Goals as goal
 
 pub loop-i-init : goal.loop-i-init
@@ -20,7 +18,7 @@ loop-i-init c = (omega arith, refl, refl, refl)
 pub loop-i-preserved : goal.loop-i-preserved
 loop-i-preserved c =
     let a = c.args in
-    let g = mat_act binary32 (mat_turned (as_mat3 a.m)) (as_vec3 a.t) in
+    let g = mat_act binary32 (mat_turned a.m) a.t in
     let more = four_more_lem g a.pts.now a.out.now c.loop-i.i (omega arith) in
     (omega arith, omega arith, simp (c.four.ensures, c.loop-i.invariant.2) more, c.four.auto.out ∙ c.loop-i.invariant.3)
 
@@ -30,6 +28,6 @@ shape_of-out c = c.loop-i.invariant.3
 pub returns : goal.returns
 returns c =
     let a = c.args in
-    let g = mat_act binary32 (mat_turned (as_mat3 a.m)) (as_vec3 a.t) in
+    let g = mat_act binary32 (mat_turned a.m) a.t in
     let e : c.loop-i.i ≡ a.e = omega arith in
     c.loop-i.invariant.2 ∙ ap (λ (k : ℕ). points_moved g a.pts.now k ++ drop (k * 3) a.out.now) e

@@ -9,13 +9,11 @@ use lib.Ieee.{binary32}
 use Rattle.point_lists.specs.Points.{points_moved, mat_act}
 use Rattle.point_lists_f32.specs.Private.{mat_turned}
 use Rattle.point_lists_f32.proofs.Fours.{four_more_lem}
-use Rattle.linalg_f32.specs.As.{as_mat3, as_vec3}
-use Rattle.linalg_f32.proofs.As.{linalg_singles}
 use Rattle.point_lists_f32.proofs.many.fours.Given as goal
 
 abbrev pub invariant-loop-i : goal.invariant-loop-i
 invariant-loop-i l =
-    (l.i ≤ l.e) × (l.i % 4 ≡ 0) × (l.out ≡ points_moved (mat_act binary32 (mat_turned (as_mat3 l.m)) (as_vec3 l.t)) l.pts l.i ++ drop (l.i * 3) l.initial.out)
+    (l.i ≤ l.e) × (l.i % 4 ≡ 0) × (l.out ≡ points_moved (mat_act binary32 (mat_turned l.m) l.t) l.pts l.i ++ drop (l.i * 3) l.initial.out)
     × (length l.out ≡ length l.initial.out)
 
 abbrev pub decreases-loop-i : goal.decreases-loop-i

@@ -7,10 +7,8 @@ use Rattle.linalg.specs.Matrix.{mat_mul_vec}
 use Rattle.point_lists.specs.Points.{mat_act}
 use Rattle.point_lists_f32.specs.Private.{mat_turned}
 use Rattle.point_lists_f32.proofs.Fours.{less}
-use Rattle.linalg_f32.specs.As.{as_mat3, as_vec3}
-use Rattle.linalg_f32.proofs.As.{linalg_singles}
 use Rattle.point_lists_f32.proofs.many.less_act.Goals as goal
 
 pub returns : goal.returns
-unfolding mat_act mat_mul_vec vec_add mat_turned vec_neg as_mat3 as_vec3
+unfolding mat_act mat_mul_vec vec_add mat_turned vec_neg
 returns c = simp less

@@ -2,8 +2,6 @@
 use borrow.Author.Rules.{rules}
 use mathlib.Core.Path.{◌∙◌}
 use native.Mathlib.Omega.{arith}
-use Rattle.linalg_f32.specs.As.{as_mat3, as_vec3}
-use Rattle.linalg_f32.proofs.As.{linalg_singles}
 use Rattle.point_lists_f32.proofs.many.put_four.Goals as goal
 
 pub returns : goal.returns

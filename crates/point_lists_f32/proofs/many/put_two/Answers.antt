@@ -3,8 +3,6 @@ use borrow.Author.Rules.{rules}
 use mathlib.Core.Path.{◌∙◌}
 use native.Mathlib.Omega.{arith}
 use Rattle.point_lists_f32.specs.Private.{put_two}
-use Rattle.linalg_f32.specs.As.{as_mat3, as_vec3}
-use Rattle.linalg_f32.proofs.As.{linalg_singles}
 use Rattle.point_lists_f32.proofs.many.put_two.Goals as goal
 
 pub returns : goal.returns

@@ -2,15 +2,12 @@
 use borrow.Author.Rules.{rules}
 use mathlib.Core.Path.{◌∙◌}
 use native.Mathlib.Omega.{arith}
-use Rattle.linalg_f32.specs.As.{as_mat3, as_vec3}
 use Rattle.point_lists_f32.proofs.many.short.Goals as goal
 
 pub shape_of-out : goal.shape_of-out
-unfolding as_mat3 as_vec3
 shape_of-out c = c.leading.auto.out ∙ c.last.auto.out
 
 pub returns : goal.returns
-unfolding as_mat3 as_vec3
 returns c = c.leading.ensures ∙ c.last.ensures
 
 pub overflow_sub-e : goal.overflow_sub-e

@@ -1,24 +1,15 @@
 -- `series::horner::g_stopped` meets its contract: after i turns the loop holds the partial sum after i entries. Assumes nothing.
-use mathlib.Core.Path.{◌≡◌, refl}
-use Prim.Native.Nat.{◌+◌, ◌-◌}
-use native.Mathlib.Omega.{arith}
-use lib.Ieee.{binary64, of_bits}
+use Rattle.std.proofs.Common.{rules}
+use lib.Ieee.{of_bits}
 use Rattle.series.specs.Pass.{g_stopped}
 use Rattle.series.proofs.PartialSums.{stopped_more}
 use Rattle.series.proofs.horner.g_stopped.Goals as goal
 
 pub loop-i-init : goal.loop-i-init
 unfolding g_stopped of_bits
-loop-i-init c = (omega arith, refl)
+loop-i-init g c = search rules
 
 pub loop-i-preserved : goal.loop-i-preserved
-loop-i-preserved c =
-    let a = c.args in
-    let i = c.loop-i.i in
-    let d : a.terms - 1 - i + a.l ≡ a.terms - (i + 1) + a.l = omega arith in
-    (omega arith, cc (stopped_more binary64 a.sigma a.l a.terms i _ d))
-
-pub returns : goal.returns
-returns c =
-    let d : c.loop-i.i ≡ c.args.n = omega arith in
-    cc
+loop-i-preserved g c =
+    let real = g.met.T.Real in
+    search (rules, real.add_law, real.mul_law, stopped_more)

@@ -1,35 +1,16 @@
 -- `series::pair::turns_below` meets its contract: the loop holds `pair_turns` at an even j with -p for p, and ends at n, which is even. Assumes nothing.
-use mathlib.Core.Path.{◌≡◌}
-use Prim.Native.Nat.{◌-◌}
-use native.Mathlib.Omega.{arith}
-use lib.Ieee.{binary64}
-use Rattle.series.specs.Private.{pair_turns, turns_minus}
+use Rattle.std.proofs.Common.{rules}
+use Rattle.series.specs.Private.{pair_turns}
 use Rattle.series.proofs.Minus.{turns_twice}
 use Rattle.series.proofs.Pairs.{two_more}
 use Rattle.series.proofs.pair.turns_below.Goals as goal
 
 pub loop-j-init : goal.loop-j-init
 unfolding pair_turns
-loop-j-init c = (omega arith, omega arith, simp (c.turns_minus-s.ensures, c.none-2.ensures, c.none.ensures, c.first.ensures))
+loop-j-init g c = search rules
 
 pub loop-j-preserved : goal.loop-j-preserved
-loop-j-preserved c =
-    let a = c.args in
-    let m = two_more binary64 a.sigma a.z c.loop-j.j (omega arith) in (
-      omega arith,
-      omega arith,
-      simp (
-        c.two_turns-s.ensures,
-        c.recip-in-loop-j-2.ensures,
-        c.recip-in-loop-j.ensures,
-        c.recip.ensures,
-        c.loop-j.invariant.2,
-        turns_twice,
-        m,
-      ),
-    )
+loop-j-preserved g c = search (rules, turns_twice, two_more)
 
 pub returns : goal.returns
-returns c =
-    let d : c.loop-j.j ≡ c.args.n = omega arith in
-    simp (c.turns_minus.ensures, c.loop-j.invariant.2, d, turns_twice)
+returns g c = search (rules, turns_twice)

@@ -1,6 +1,7 @@
+use Rattle.std.proofs.Common.{rules}
 use Rattle.series.specs.Series.{series_coeffs}
 use Rattle.series.proofs.recurrence.coeffs.Goals as goal
 
 pub returns : goal.returns
 unfolding series_coeffs
-returns c = simp c.chi_delta.ensures
+returns g c = search rules

@@ -1,8 +1,8 @@
-use mathlib.Core.Path.{refl}
+use Rattle.std.proofs.Common.{rules}
 use Rattle.series.specs.Series.{series_first}
 use lib.Ieee.{of_bits}
 use Rattle.series.proofs.recurrence.first.Goals as goal
 
 pub returns : goal.returns
 unfolding series_first of_bits
-returns c = refl
+returns g c = search rules

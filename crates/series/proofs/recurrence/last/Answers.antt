@@ -1,7 +1,7 @@
-use mathlib.Core.Path.{refl}
+use Rattle.std.proofs.Common.{rules}
 use Rattle.series.specs.Private.{sums_last}
 use Rattle.series.proofs.recurrence.last.Goals as goal
 
 pub returns : goal.returns
 unfolding sums_last
-returns c = refl
+returns g c = let real = g.met.T.Real in search (rules, real.add_law)

@@ -1,8 +1,8 @@
-use mathlib.Core.Path.{refl}
+use Rattle.std.proofs.Common.{rules}
 use Rattle.series.specs.Private.{sums_none}
 use lib.Ieee.{of_bits}
 use Rattle.series.proofs.recurrence.none.Goals as goal
 
 pub returns : goal.returns
 unfolding sums_none of_bits
-returns c = refl
+returns g c = search rules

@@ -1,17 +1,17 @@
 -- `series::sim3::series` meets its contract: the tests are the definition's, 1 before 4. Assumes nothing.
-use borrow.Author.Tests.{lt-ltb, le-ltb}
+use Rattle.std.proofs.Common.{rules}
 use lib.Ieee.{of_bits}
-use Rattle.series.specs.Series.{series_told, series_answer}
+use Rattle.series.specs.Series.{series_answer}
 use Rattle.series.proofs.sim3.series.Goals as goal
 
-pub returns-then-z : goal.returns-then-z
-unfolding series_told series_answer of_bits
-returns-then-z c = simp c.if-z.true
+pub returns-then-lt : goal.returns-then-lt
+unfolding series_answer of_bits
+returns-then-lt g c = let real = g.met.T.Real in search (rules, real.lt_law)
 
 pub returns-then-k-gt28 : goal.returns-then-k-gt28
-unfolding series_told series_answer of_bits
-returns-then-k-gt28 c = simp (lt-ltb _ _ c.if-k-gt28.true, c.if-z.false)
+unfolding series_answer of_bits
+returns-then-k-gt28 g c = let real = g.met.T.Real in search (rules, real.lt_law)
 
 pub returns : goal.returns
-unfolding series_told series_answer of_bits
-returns c = simp (c.series_at.ensures, le-ltb _ _ c.if-k-gt28.false, c.if-z.false)
+unfolding series_answer of_bits
+returns g c = let real = g.met.T.Real in search (rules, real.lt_law)

@@ -5,12 +5,15 @@ use Rattle.series.proofs.sim3.series_v_at.Goals as goal
 
 pub returns : goal.returns
 unfolding series_v series_full coeffs4 series_coeffs
-returns c =
+returns g c =
+    let real = g.met.T.Real in
     simp (
-      v1-is,
-      v2-is,
       c.chi_delta.ensures,
-      c.recip.ensures,
       c.g_series-v0.ensures,
-      c.turns_v_at-s.ensures,
+      real.add_law _ _ _ c.add-v2.ensures,
+      real.mul_law _ _ _ c.mul.ensures,
+      c.recip.ensures,
+      ← v1-is,
+      ← v2-is,
+      ← c.turns_v_at-s.ensures,
     )

@@ -1,6 +1,7 @@
+use Rattle.std.proofs.Common.{rules}
 use Rattle.sides.specs.Side.{compose_jacobians_left}
 use Rattle.sides.proofs.side.compose_jacobians_left.Goals as goal
 
 pub returns : goal.returns
 unfolding compose_jacobians_left
-returns c = simp (c.adjoint.ensures, c.identity.ensures)
+returns g c = search rules

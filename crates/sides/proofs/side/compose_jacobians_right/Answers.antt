@@ -1,6 +1,7 @@
+use Rattle.std.proofs.Common.{rules}
 use Rattle.sides.specs.Side.{compose_jacobians_right}
 use Rattle.sides.proofs.side.compose_jacobians_right.Goals as goal
 
 pub returns : goal.returns
 unfolding compose_jacobians_right
-returns c = simp (c.identity.ensures, c.inverse_adjoint.ensures)
+returns g c = search rules

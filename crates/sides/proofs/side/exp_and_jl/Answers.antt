@@ -1,3 +1,4 @@
+use Rattle.std.proofs.Common.{rules}
 use Rattle.sides.specs.Side.{exp_and_jl}
 use Rattle.sides.specs.Blocks.{jac_jl}
 use Rattle.sim3.specs.Exp.{pose_exp}
@@ -7,4 +8,4 @@ use Rattle.sides.proofs.side.exp_and_jl.Goals as goal
 
 pub returns : goal.returns
 unfolding exp_and_jl jac_jl pose_exp coeffs_v coeffs4
-returns c = simp (c.jl_blocks_with-j.ensures, c.v_apply-t.ensures, c.exp-q.ensures, c.sim3_coeffs_of-c.ensures)
+returns g c = search rules

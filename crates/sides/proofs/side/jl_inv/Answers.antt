@@ -1,6 +1,7 @@
+use Rattle.std.proofs.Common.{rules}
 use Rattle.sides.specs.Side.{jac_jl_inv}
 use Rattle.sides.proofs.side.jl_inv.Goals as goal
 
 pub returns : goal.returns
 unfolding jac_jl_inv
-returns c = simp c.jl_and_inverse.ensures
+returns g c = search rules

@@ -1,6 +1,7 @@
+use Rattle.std.proofs.Common.{rules}
 use Rattle.sides.specs.Side.{jac_jr_inv}
 use Rattle.sides.proofs.side.jr_inv.Goals as goal
 
 pub returns : goal.returns
 unfolding jac_jr_inv
-returns c = simp (c.jl_inv.ensures, c.neg.ensures)
+returns g c = search rules

@@ -3,7 +3,7 @@ use Rattle.sim3.proofs.sim3.poly_apply.Goals as goal
 
 pub returns : goal.returns
 unfolding poly_apply
-returns c =
+returns g c =
     simp (
       c.add-2.ensures,
       c.scale-3.ensures,

@@ -2,7 +2,8 @@
 use borrow.Author.Tests.{not-true, not-false}
 use mathlib.Core.Path.{◌≡◌, sym, ◌∙◌}
 use mathlib.Core.Bool.{true, false}
-use lib.Ieee.{binary64, lt}
+use lib.Ieee.{lt}
+use Rattle.linalg.specs.Floats.{as_vec3}
 use Rattle.linalg.specs.Vector.{vec_norm_sq}
 use Rattle.tables.specs.Tables.{b_row}
 use Rattle.circle.specs.Limits.{row_limit}
@@ -12,21 +13,22 @@ use Rattle.sim3.proofs.sim3.v_apply.Goals as goal
 
 pub returns-then-not-b_takes_exact_arm_of : goal.returns-then-not-b_takes_exact_arm_of
 unfolding v_apply
-returns-then-not-b_takes_exact_arm_of c =
-    let a = c.args in
-    let near : lt (vec_norm_sq binary64 a.phi) (row_limit binary64 b_row) ≡ true = not-false _
+returns-then-not-b_takes_exact_arm_of g c =
+    let f = g.T.Real.format in
+    let near : lt (vec_norm_sq f (as_vec3 g.T.Real.float c.args.phi)) (row_limit f b_row) ≡ true = not-false _
     (sym c.b_takes_exact_arm_of.ensures ∙ c.if-not-b_takes_exact_arm_of.true) in
     simp (c.poly_apply.ensures, near)
 
 pub returns : goal.returns
 unfolding v_apply coeffs_delta
-returns c =
-    let a = c.args in
-    let far : lt (vec_norm_sq binary64 a.phi) (row_limit binary64 b_row) ≡ false = not-true _
+returns g c =
+    let f = g.T.Real.format in
+    let real = g.met.T.Real in
+    let far : lt (vec_norm_sq f (as_vec3 g.T.Real.float c.args.phi)) (row_limit f b_row) ≡ false = not-true _
     (sym c.b_takes_exact_arm_of.ensures ∙ c.if-not-b_takes_exact_arm_of.false) in
     simp (
       c.add-2.ensures,
-      c.add.ensures,
+      c.add-3.ensures,
       c.scale-2.ensures,
       c.cross.ensures,
       c.scale.ensures,
@@ -34,4 +36,8 @@ returns c =
       c.dot.ensures,
       far,
       c.norm_sq-z.ensures,
+      real.div_law _ _ _ c.div-chi.ensures,
+      real.add_law _ _ _ c.add.ensures,
+      real.mul_law _ _ _ c.mul.ensures,
+      real.mul_law _ _ _ c.mul-2.ensures,
     )

@@ -1,6 +1,6 @@
 -- `sim3_c::points::sim3_act_each` meets its contract: the lists are read, the engine is asked, and its answer is written or the refusal handed on. Assumes nothing.
 use mathlib.Core.Path.{refl, sym, ap, ◌∙◌}
-use Rattle.point_lists.specs.Points.{list_told}
+use Rattle.linalg.specs.Answer.{answer}
 use Rattle.from_lists.specs.Lists.{pose_read_told}
 use Rattle.to_lists.specs.Written.{status, written}
 use Rattle.sim3_c.specs.Calls.{act_call, act_each_call}
@@ -15,32 +15,32 @@ returns-in_default c = rw (← c.pose_from.ensures, c.in_default.is)
       out_after = refl;
     })
 
-pub returns-in-Written : goal.returns-in-Written
-unfolding status written act_each_call act_call list_told pose_read_told
-returns-in-Written c =
+pub returns-in-Ok : goal.returns-in-Ok
+unfolding status written act_each_call act_call pose_read_told
+returns-in-Ok c =
     rw (
       ← c.pose_from.ensures,
       c.in-Got.is,
       ← c.act_each.ensures.result_value,
-      c.in-Written.is,
+      c.in-Ok.is,
     )
     (record {
       value = refl;
       out_after = c.act_each.ensures.out_after;
     })
 
-pub returns-in-Refused : goal.returns-in-Refused
-unfolding status written act_each_call act_call list_told pose_read_told
-returns-in-Refused c =
+pub returns-in-Err : goal.returns-in-Err
+unfolding status written act_each_call act_call pose_read_told
+returns-in-Err c =
     let a = c.args in
-    let p = points_alone _ a.pts.now a.out.now _ (sym c.act_each.ensures.result_value ∙ ap list_told c.in-Refused.is) in
+    let p = points_alone _ a.pts.now a.out.now _ (sym c.act_each.ensures.result_value ∙ ap answer c.in-Err.is) in
     rw (
       ← c.pose_from.ensures,
       c.in-Got.is,
       ← c.act_each.ensures.result_value,
-      c.in-Refused.is,
+      c.in-Err.is,
     )
     (record {
-      value = refl;
+      value = c.number.ensures;
       out_after = c.act_each.ensures.out_after ∙ p;
     })

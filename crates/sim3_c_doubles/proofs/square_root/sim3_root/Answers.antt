@@ -9,35 +9,34 @@ use lib.ListN.{set, length-set}
 use mir.Syntax.{w64}
 use mir.Val.{to_z, of_z}
 use mir.ValLaws.{to_z-of_z}
-use Rattle.root.specs.Root.{root_told}
 use Rattle.to_lists.specs.Written.{status, written}
 use Rattle.sim3_c_doubles.specs.Root.{root_lists, root_fits, root_call}
 use Rattle.to_lists.proofs.Fits.{sets-all}
 use Rattle.sim3_c_doubles.proofs.square_root.sim3_root.Goals as goal
 
 pub returns-then-whole-ne-WHOLE : goal.returns-then-whole-ne-WHOLE
-unfolding status written root_call root_fits root_told
-returns-then-whole-ne-WHOLE c = rw (← c.root.ensures, c.in-Parts.is, ne_eqb _ _ c.if-whole-ne-WHOLE.true)
+unfolding status written root_call root_fits
+returns-then-whole-ne-WHOLE c = rw (← c.root.ensures, c.in-Ok.is, ne_eqb _ _ c.if-whole-ne-WHOLE.true)
     (record {
       value = refl;
       nearest_after = refl;
     })
 
 pub returns-then-exponent-ne-EXPONENT : goal.returns-then-exponent-ne-EXPONENT
-unfolding status written root_call root_fits root_told
+unfolding status written root_call root_fits
 returns-then-exponent-ne-EXPONENT c =
-    rw (← c.root.ensures, c.in-Parts.is, eq-eqb _ _ c.if-whole-ne-WHOLE.false, ne_eqb _ _ c.if-exponent-ne-EXPONENT.true)
+    rw (← c.root.ensures, c.in-Ok.is, eq-eqb _ _ c.if-whole-ne-WHOLE.false, ne_eqb _ _ c.if-exponent-ne-EXPONENT.true)
     (record {
       value = refl;
       nearest_after = refl;
     })
 
 pub returns-then-nearest-ne-NEAREST : goal.returns-then-nearest-ne-NEAREST
-unfolding status written root_call root_fits root_told
+unfolding status written root_call root_fits
 returns-then-nearest-ne-NEAREST c =
     rw (
       ← c.root.ensures,
-      c.in-Parts.is,
+      c.in-Ok.is,
       eq-eqb _ _ c.if-whole-ne-WHOLE.false,
       eq-eqb _ _ c.if-exponent-ne-EXPONENT.false,
       ne_eqb _ _ c.if-nearest-ne-NEAREST.true,
@@ -48,17 +47,17 @@ returns-then-nearest-ne-NEAREST c =
     })
 
 pub returns-else-nearest-ne-NEAREST : goal.returns-else-nearest-ne-NEAREST
-unfolding status written root_call root_fits root_told
+unfolding status written root_call root_fits
 returns-else-nearest-ne-NEAREST c =
     let a = c.args in
-    let p = c.in-Parts.p in
+    let p = c.in-Ok.p in
     let whole = sets-all a.whole.now (p.root ∷ p.remainder ∷ []) c.if-whole-ne-WHOLE.false in
     let back : to_z w64 (of_z w64 p.exponent) ≡ p.exponent = to_z-of_z w64 p.exponent (record { sfits = c.struct_told-1.given.1.1.0.1 }) in
     let exponent = ap (λ (s : ℤ). set a.exponent.now 0 s) back ∙ sets-all a.exponent.now (p.exponent ∷ []) c.if-exponent-ne-EXPONENT.false in
     let nearest = sets-all a.nearest.now (p.nearest ∷ []) c.if-nearest-ne-NEAREST.false in
     rw (
       ← c.root.ensures,
-      c.in-Parts.is,
+      c.in-Ok.is,
       eq-eqb _ _ c.if-whole-ne-WHOLE.false,
       eq-eqb _ _ c.if-exponent-ne-EXPONENT.false,
       eq-eqb _ _ c.if-nearest-ne-NEAREST.false,
@@ -71,10 +70,10 @@ returns-else-nearest-ne-NEAREST c =
 pub bounds-whole-1 : goal.bounds-whole-1
 bounds-whole-1 c = simp length-set (search rules)
 
-pub returns-in-Refused : goal.returns-in-Refused
-unfolding status written root_call root_fits root_told
-returns-in-Refused c = rw (← c.root.ensures, c.in-Refused.is)
+pub returns-in-Err : goal.returns-in-Err
+unfolding status written root_call root_fits
+returns-in-Err c = rw (← c.root.ensures, c.in-Err.is)
     (record {
-      value = refl;
+      value = c.number.ensures;
       nearest_after = refl;
     })

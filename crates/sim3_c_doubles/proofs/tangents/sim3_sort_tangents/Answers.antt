@@ -2,26 +2,26 @@
 use borrow.Author.Rules.{rules}
 use mathlib.Core.Path.{refl, sym, ap, ◌∙◌}
 use lib.Ieee.{binary64}
-use Rattle.order.specs.Order.{sort_told}
+use Rattle.linalg.specs.Answer.{answer}
 use Rattle.to_lists.specs.Written.{status, written}
 use Rattle.sim3_c_doubles.specs.Order.{sort_call}
 use Rattle.sim3_c_doubles.proofs.Patterns.{sort_alone}
 use Rattle.sim3_c_doubles.proofs.tangents.sim3_sort_tangents.Goals as goal
 
-pub returns-in-Written : goal.returns-in-Written
-unfolding status written sort_call sort_told
-returns-in-Written c = rw (← c.sort.ensures.result_value, c.in-Written.is)
+pub returns-in-Ok : goal.returns-in-Ok
+unfolding status written sort_call
+returns-in-Ok c = rw (← c.sort.ensures.result_value, c.in-Ok.is)
     (record {
       value = refl;
       list_after = c.sort.ensures.list_after;
     })
 
-pub returns-in-Refused : goal.returns-in-Refused
-unfolding status written sort_call sort_told
-returns-in-Refused c =
-    let p = sort_alone binary64 c.args.list.now _ (sym c.sort.ensures.result_value ∙ ap sort_told c.in-Refused.is) in
-    rw (← c.sort.ensures.result_value, c.in-Refused.is)
+pub returns-in-Err : goal.returns-in-Err
+unfolding status written sort_call
+returns-in-Err c =
+    let p = sort_alone binary64 c.args.list.now _ (sym c.sort.ensures.result_value ∙ ap answer c.in-Err.is) in
+    rw (← c.sort.ensures.result_value, c.in-Err.is)
     (record {
-      value = refl;
+      value = c.number.ensures;
       list_after = c.sort.ensures.list_after ∙ p;
     })

@@ -1,7 +1,6 @@
--- Written by tools/widths from crates/sim3_c/proofs/arms/sim3_coeffs_armed/Answers.antt: edit that one. Digest 2727b3d10d241a1a.
+-- Written by tools/widths from crates/sim3_c/proofs/arms/sim3_coeffs_armed/Answers.antt: edit that one. Digest d38f64c8f24ea6e5.
 -- `sim3_c_f32::arms::sim3_coeffs_armed_f32` meets its contract: the lists are read, the engine is asked, and its answer is written or the refusal handed on. Assumes nothing.
 use mathlib.Core.Path.{refl}
-use Rattle.coeffs_f32.specs.Told.{armed_told}
 use Rattle.from_lists_f32.specs.Told.{values_read_told}
 use Rattle.to_lists.specs.Written.{status, written}
 use Rattle.sim3_c.specs.Calls.{armed_call}
@@ -15,30 +14,30 @@ returns-in_default c = rw (← c.values_from.ensures, c.in_default.is)
       out_after = refl;
     })
 
-pub returns-in-Coeffs : goal.returns-in-Coeffs
-unfolding status written armed_call armed_told values_read_told
-returns-in-Coeffs c =
+pub returns-in-Ok : goal.returns-in-Ok
+unfolding status written armed_call values_read_told
+returns-in-Ok c =
     rw (
       ← c.values_from.ensures,
       c.in-Got.is,
       ← c.sim3_coeffs_armed.ensures,
-      c.in-Coeffs.is,
+      c.in-Ok.is,
     )
     (record {
       value = c.put_armed.ensures.value;
       out_after = c.put_armed.ensures.out_after;
     })
 
-pub returns-in-Refused : goal.returns-in-Refused
-unfolding status written armed_call armed_told values_read_told
-returns-in-Refused c =
+pub returns-in-Err : goal.returns-in-Err
+unfolding status written armed_call values_read_told
+returns-in-Err c =
     rw (
       ← c.values_from.ensures,
       c.in-Got.is,
       ← c.sim3_coeffs_armed.ensures,
-      c.in-Refused.is,
+      c.in-Err.is,
     )
     (record {
-      value = refl;
+      value = c.number.ensures;
       out_after = refl;
     })

@@ -7,8 +7,8 @@ pub returns : goal.returns
 returns c =
     simp (
       c.product_is_due.ensures,
-      c.from_bits-third.ensures,
-      c.from_bits-second.ensures,
-      c.from_bits-first.ensures,
+      c.from_pattern-third.ensures,
+      c.from_pattern-second.ensures,
+      c.from_pattern-first.ensures,
       c.zero-hidden.ensures,
     ) documented_is-due

@@ -5,7 +5,8 @@ use Rattle.so3.proofs.so3.act.Goals as goal
 
 pub returns : goal.returns
 unfolding so3_act of_bits
-returns c =
+returns g c =
+    let real = g.met.T.Real in
     simp (
       c.add-2.ensures,
       c.scale-2.ensures,
@@ -13,4 +14,7 @@ returns c =
       c.add.ensures,
       c.scale.ensures,
       c.cross-uv.ensures,
+      real.mul_law _ _ _ c.mul.ensures,
+      c.of.ensures,
+      c.of-2.ensures,
     )

@@ -4,4 +4,4 @@ use Rattle.so3.proofs.so3.inv_act.Goals as goal
 
 pub returns : goal.returns
 unfolding so3_inv_act
-returns c = simp (c.act.ensures, c.inverse.ensures)
+returns g c = simp (c.act.ensures, c.inverse.ensures)

@@ -26,7 +26,7 @@ loop-i-preserved c =
     let a = c.args in
     let l = c.loop-i in (
       omega (arith, c.loop-i-test.true),
-      rw (l.invariant.1, c.from_bits.ensures, c.word_at.ensures) (decoded_more (number_at binary32 a.b.now) a.out.now l.i),
+      rw (l.invariant.1, c.from_pattern.ensures, c.word_at.ensures) (decoded_more (number_at binary32 a.b.now) a.out.now l.i),
       length-set l.out l.i _ ∙ l.invariant.2,
     )
 

@@ -3,4 +3,4 @@ use Rattle.wire.proofs.single.to_le_bytes.Goals as goal
 
 pub returns : goal.returns
 unfolding number_bytes count_bytes
-returns c = simp (c.count_to_le_bytes.ensures, c.to_bits.ensures)
+returns c = simp (c.count_to_le_bytes.ensures, c.pattern.ensures)

@@ -1,14 +1,7 @@
+use Rattle.std.proofs.Common.{rules}
 use Rattle.jacobian.specs.Jac.{jac_apply}
 use Rattle.jacobian.proofs.jac.Sim3Jac.apply.Goals as goal
 
 pub returns : goal.returns
 unfolding jac_apply
-returns c =
-    simp (
-      c.add-2.ensures,
-      c.scale.ensures,
-      c.add.ensures,
-      c.mul_vec-3.ensures,
-      c.mul_vec-2.ensures,
-      c.mul_vec.ensures,
-    )
+returns g c = let real = g.met.T.Real in search (rules, real.mul_law)

@@ -1,22 +1,12 @@
-use Rattle.jacobian.specs.Jac.{jac_told, jac_inverse_answer, jac_inverse}
+use Rattle.std.proofs.Common.{rules}
+use Rattle.jacobian.specs.Jac.{jac_inverse_answer, jac_inverse}
 use lib.Ieee.{of_bits}
 use Rattle.jacobian.proofs.jac.Sim3Jac.inverse.Goals as goal
 
-pub returns-then-e : goal.returns-then-e
-unfolding jac_told jac_inverse_answer jac_inverse of_bits
-returns-then-e c = simp (c.if-e.true, c.inverse_adj.ensures)
+pub returns-then-le : goal.returns-then-le
+unfolding jac_inverse_answer jac_inverse of_bits
+returns-then-le g c = let real = g.met.T.Real in search (rules, real.le_law)
 
 pub returns : goal.returns
-unfolding jac_told jac_inverse_answer jac_inverse of_bits
-returns c =
-    simp (
-      c.neg-2.ensures,
-      c.scale.ensures,
-      c.mul_vec.ensures,
-      c.neg.ensures,
-      c.mul-2.ensures,
-      c.mul.ensures,
-      c.inverse_adj-2.ensures,
-      c.if-e.false,
-      c.inverse_adj.ensures,
-    )
+unfolding jac_inverse_answer jac_inverse of_bits
+returns g c = let real = g.met.T.Real in search (rules, real.le_law, real.div_law)

@@ -1,33 +1,19 @@
--- `linalg::matrix::Mat3::col` meets its contract: its three entries are the column, and where one is refused so is the column. Assumes nothing.
-use mathlib.Core.Path.{refl, sym, ap, ◌∙◌}
-use Rattle.linalg.specs.Matrix.{entry_told, vec_told, vec_component}
-use Rattle.linalg.proofs.Thirds.{col_refused, col_answers}
+use Rattle.std.proofs.Common.{rules}
+use Rattle.linalg.specs.Matrix.{mat_col}
 use Rattle.linalg.proofs.matrix.Mat3.col.Goals as goal
 
+pub returns-in-0 : goal.returns-in-0
+unfolding mat_col
+returns-in-0 g c = search rules
+
+pub returns-in-1 : goal.returns-in-1
+unfolding mat_col
+returns-in-1 g c = search rules
+
+pub returns-in-2 : goal.returns-in-2
+unfolding mat_col
+returns-in-2 g c = search rules
+
 pub returns-in_default : goal.returns-in_default
-unfolding entry_told vec_told vec_component
-returns-in_default c =
-    let a = c.args in
-    sym (col_refused a.self 0 a.c _ (λ v. v.x) (λ v. refl) (sym c.get.ensures ∙ ap entry_told c.in_default.is))
-
-pub returns-in_default-get : goal.returns-in_default-get
-unfolding entry_told vec_told vec_component
-returns-in_default-get c =
-    let a = c.args in
-    sym (col_refused a.self 1 a.c _ (λ v. v.y) (λ v. refl) (sym c.get-2.ensures ∙ ap entry_told c.in_default-get.is))
-
-pub returns-in_default-get-2 : goal.returns-in_default-get-2
-unfolding entry_told vec_told vec_component
-returns-in_default-get-2 c =
-    let a = c.args in
-    sym (col_refused a.self 2 a.c _ (λ v. v.z) (λ v. refl) (sym c.get-3.ensures ∙ ap entry_told c.in_default-get-2.is))
-
-pub returns : goal.returns
-unfolding entry_told vec_told
-returns c =
-    let a = c.args in
-    sym (col_answers a.self a.c _ _ _
-    (sym c.get.ensures
-    ∙ ap entry_told c.in-Number.is)
-    (sym c.get-2.ensures ∙ ap entry_told c.in-Number-get.is)
-    (sym c.get-3.ensures ∙ ap entry_told c.in-Number-get-2.is))
+unfolding mat_col
+returns-in_default g c = search rules

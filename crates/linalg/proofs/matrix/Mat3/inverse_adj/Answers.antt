@@ -3,7 +3,7 @@ use Rattle.linalg.proofs.matrix.Mat3.inverse_adj.Goals as goal
 
 pub returns : goal.returns
 unfolding mat_inverse_adj
-returns c =
+returns g c =
     simp (
       c.from_rows.ensures,
       c.over-3.ensures,

@@ -3,4 +3,4 @@ use Rattle.linalg.proofs.matrix.Mat3.neg.Goals as goal
 
 pub returns : goal.returns
 unfolding mat_neg
-returns c = simp (c.neg-3.ensures, c.neg-2.ensures, c.neg.ensures)
+returns g c = simp (c.neg-3.ensures, c.neg-2.ensures, c.neg.ensures)

@@ -3,4 +3,4 @@ use Rattle.linalg.proofs.matrix.Mat3.scale.Goals as goal
 
 pub returns : goal.returns
 unfolding mat_scale
-returns c = simp (c.scale-3.ensures, c.scale-2.ensures, c.scale.ensures)
+returns g c = simp (c.scale-3.ensures, c.scale-2.ensures, c.scale.ensures)

@@ -3,4 +3,4 @@ use Rattle.linalg.proofs.matrix.Mat3.sub.Goals as goal
 
 pub returns : goal.returns
 unfolding mat_sub
-returns c = simp (c.sub-3.ensures, c.sub-2.ensures, c.sub.ensures)
+returns g c = simp (c.sub-3.ensures, c.sub-2.ensures, c.sub.ensures)

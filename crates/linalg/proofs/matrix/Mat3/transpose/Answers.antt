@@ -3,4 +3,4 @@ use Rattle.linalg.proofs.matrix.Mat3.transpose.Goals as goal
 
 pub returns : goal.returns
 unfolding mat_transpose
-returns c = simp c.from_rows.ensures
+returns g c = simp c.from_rows.ensures

@@ -3,4 +3,4 @@ use Rattle.linalg.proofs.vector.Vec3.norm_sq.Goals as goal
 
 pub returns : goal.returns
 unfolding vec_norm_sq
-returns c = simp c.dot.ensures
+returns g c = simp c.dot.ensures

@@ -3,4 +3,4 @@ use Rattle.sim3.proofs.sim3.Sim3.act.Goals as goal
 
 pub returns : goal.returns
 unfolding pose_act
-returns c = simp (c.add.ensures, c.scale.ensures, c.act-rp.ensures)
+returns g c = simp (c.add.ensures, c.scale.ensures, c.act-rp.ensures)

@@ -3,4 +3,4 @@ use Rattle.sim3.proofs.sim3.Sim3.lplus.Goals as goal
 
 pub returns : goal.returns
 unfolding pose_lplus
-returns c = simp (c.mul.ensures, c.exp.ensures)
+returns g c = simp (c.mul.ensures, c.exp.ensures)

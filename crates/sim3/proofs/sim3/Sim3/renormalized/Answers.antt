@@ -3,4 +3,4 @@ use Rattle.sim3.proofs.sim3.Sim3.renormalized.Goals as goal
 
 pub returns : goal.returns
 unfolding pose_renormalized
-returns c = simp c.renormalized.ensures
+returns g c = simp c.renormalized.ensures

@@ -1,6 +1,7 @@
+use Rattle.std.proofs.Common.{rules}
 use Rattle.sim3.specs.Tangent.{tangent_neg}
 use Rattle.sim3.proofs.tangent.Sim3Tangent.neg.Goals as goal
 
 pub returns : goal.returns
 unfolding tangent_neg
-returns c = simp (c.neg-2.ensures, c.neg.ensures)
+returns g c = let real = g.met.T.Real in search (rules, real.neg_law)

@@ -1,7 +1,0 @@
-// Written by tools/widths from crates/circle/src/lib.rt: edit that one. Digest 71a13c837ef49d12.
-// The circle functions at a squared angle z: the coefficients of the exponential and of the closed
-// forms above it, each by a series below its limit and by its exact form elsewhere.
-#![tactic(auto)]
-
-pub mod kernel; // the coefficients of the exponential, and what the closed forms read
-mod generated; // the limits and term counts of the rows

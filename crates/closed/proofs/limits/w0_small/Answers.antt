@@ -1,6 +1,0 @@
--- `closed::limits::w0_small` meets its contract: the comparison, as the definition has it. Assumes nothing.
-use mathlib.Core.Path.{refl}
-use Rattle.closed.proofs.limits.w0_small.Goals as goal
-
-pub returns : goal.returns
-returns c = refl

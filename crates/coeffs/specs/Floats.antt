@@ -1,0 +1,73 @@
+-- The structs over the floats that the definitions speak of, and each struct of the code as one of them: `h` gives the float of a number.
+use Rattle.std.specs.Prelude.{Float}
+use Rattle.coeffs.specs.declared.closed_form.Ws as CodeWs
+use Rattle.coeffs.specs.declared.closed_form.Dvs as CodeDvs
+use Rattle.coeffs.specs.declared.closed_form.EtMt as CodeEtMt
+use Rattle.coeffs.specs.declared.closed_form.Exps as CodeExps
+use Rattle.coeffs.specs.declared.closed_form.Ends as CodeEnds
+use Rattle.coeffs.specs.declared.sim3.Scaled as CodeScaled
+use Rattle.coeffs.specs.declared.sim3.VScaled as CodeVScaled
+use Rattle.coeffs.specs.declared.sim3.ScaledPair as CodeScaledPair
+use Rattle.coeffs.specs.declared.sim3.Armed as CodeArmed
+use Rattle.coeffs.specs.declared.sim3.ArmedPair as CodeArmedPair
+use Rattle.series.specs.Floats.{as_coeffs4, as_sim3_coeffs}
+
+abbrev pub Ws : Type 0
+Ws = CodeWs.Ws Float
+
+abbrev pub as_ws : {T : Type 0} → (T → Float) → CodeWs.Ws T → Ws
+as_ws h a = record { w1 = h a.w1; w2 = h a.w2 }
+
+abbrev pub Dvs : Type 0
+Dvs = CodeDvs.Dvs Float
+
+abbrev pub as_dvs : {T : Type 0} → (T → Float) → CodeDvs.Dvs T → Dvs
+as_dvs h a = record { dv1 = h a.dv1; dv2 = h a.dv2 }
+
+abbrev pub EtMt : Type 0
+EtMt = CodeEtMt.EtMt Float
+
+abbrev pub as_et_mt : {T : Type 0} → (T → Float) → CodeEtMt.EtMt T → EtMt
+as_et_mt h a = record { et = h a.et; mt = h a.mt }
+
+abbrev pub Exps : Type 0
+Exps = CodeExps.Exps Float
+
+abbrev pub as_exps : {T : Type 0} → (T → Float) → CodeExps.Exps T → Exps
+as_exps h a = record { e = h a.e; m1 = h a.m1; g = h a.g }
+
+abbrev pub Ends : Type 0
+Ends = CodeEnds.Ends Float
+
+abbrev pub as_ends : {T : Type 0} → (T → Float) → CodeEnds.Ends T → Ends
+as_ends h a = record { v0 = h a.v0; w0 = h a.w0; v0_neg = h a.v0_neg; w0_neg = h a.w0_neg }
+
+abbrev pub Scaled : Type 0
+Scaled = CodeScaled.Scaled Float
+
+abbrev pub as_scaled : {T : Type 0} → (T → Float) → CodeScaled.Scaled T → Scaled
+as_scaled h a = record { c = as_sim3_coeffs h a.c; scaled = a.scaled }
+
+abbrev pub VScaled : Type 0
+VScaled = CodeVScaled.VScaled Float
+
+abbrev pub as_v_scaled : {T : Type 0} → (T → Float) → CodeVScaled.VScaled T → VScaled
+as_v_scaled h a = record { c = as_coeffs4 h a.c; scaled = a.scaled }
+
+abbrev pub ScaledPair : Type 0
+ScaledPair = CodeScaledPair.ScaledPair Float
+
+abbrev pub as_scaled_pair : {T : Type 0} → (T → Float) → CodeScaledPair.ScaledPair T → ScaledPair
+as_scaled_pair h a = record { pos = as_scaled h a.pos; neg = as_scaled h a.neg }
+
+abbrev pub Armed : Type 0
+Armed = CodeArmed.Armed Float
+
+abbrev pub as_armed : {T : Type 0} → (T → Float) → CodeArmed.Armed T → Armed
+as_armed h a = record { s = as_scaled h a.s; arm = a.arm; ends = a.ends }
+
+abbrev pub ArmedPair : Type 0
+ArmedPair = CodeArmedPair.ArmedPair Float
+
+abbrev pub as_armed_pair : {T : Type 0} → (T → Float) → CodeArmedPair.ArmedPair T → ArmedPair
+as_armed_pair h a = record { pos = as_armed h a.pos; neg = as_armed h a.neg }

@@ -1,0 +1,93 @@
+-- The structs over the floats that the definitions speak of, and each struct of the code as one of them: `h` gives the float of a number.
+use Rattle.std.specs.Prelude.{Float}
+use Rattle.series.specs.declared.recurrence.Level as CodeLevel
+use Rattle.series.specs.declared.recurrence.Sums as CodeSums
+use Rattle.series.specs.declared.recurrence.Tail as CodeTail
+use Rattle.series.specs.declared.recurrence.Turns as CodeTurns
+use Rattle.series.specs.declared.recurrence.TurnsV as CodeTurnsV
+use Rattle.series.specs.declared.recurrence.TurnsPair as CodeTurnsPair
+use Rattle.series.specs.declared.recurrence.SumsPair as CodeSumsPair
+use Rattle.series.specs.declared.sim3.Sim3Coeffs as CodeSim3Coeffs
+use Rattle.series.specs.declared.sim3.Coeffs4 as CodeCoeffs4
+use Rattle.series.specs.declared.sim3.CoeffsPair as CodeCoeffsPair
+use Rattle.series.specs.declared.sim3.GPair as CodeGPair
+use Rattle.series.specs.declared.sim3.Horner as CodeHorner
+use Rattle.series.specs.declared.stopped.Stopped as CodeStopped
+
+abbrev pub Level : Type 0
+Level = CodeLevel.Level Float
+
+abbrev pub as_level : {T : Type 0} → (T → Float) → CodeLevel.Level T → Level
+as_level h a = record { xi = h a.xi; dxi = h a.dxi; zeta = h a.zeta; dzeta = h a.dzeta; p = h a.p }
+
+abbrev pub Sums : Type 0
+Sums = CodeSums.Sums Float
+
+abbrev pub as_sums : {T : Type 0} → (T → Float) → CodeSums.Sums T → Sums
+as_sums h a = record { v1 = h a.v1; dv1 = h a.dv1; v2 = h a.v2; dv2 = h a.dv2; w1 = h a.w1; w2 = h a.w2 }
+
+abbrev pub Tail : Type 0
+Tail = CodeTail.Tail Float
+
+abbrev pub as_tail : {T : Type 0} → (T → Float) → CodeTail.Tail T → Tail
+as_tail h a = record { v2 = h a.v2; w2 = h a.w2; dv1 = h a.dv1; dv1_next = h a.dv1_next; dv2 = h a.dv2; dv2_next = h a.dv2_next; dv2_last = h a.dv2_last }
+
+abbrev pub Turns : Type 0
+Turns = CodeTurns.Turns Float
+
+abbrev pub as_turns : {T : Type 0} → (T → Float) → CodeTurns.Turns T → Turns
+as_turns h a = record { level = as_level h a.level; sums = as_sums h a.sums }
+
+abbrev pub TurnsV : Type 0
+TurnsV = CodeTurnsV.TurnsV Float
+
+abbrev pub as_turns_v : {T : Type 0} → (T → Float) → CodeTurnsV.TurnsV T → TurnsV
+as_turns_v h a = record { p = h a.p; xi = h a.xi; zeta = h a.zeta; v1 = h a.v1; v2 = h a.v2 }
+
+abbrev pub TurnsPair : Type 0
+TurnsPair = CodeTurnsPair.TurnsPair Float
+
+abbrev pub as_turns_pair : {T : Type 0} → (T → Float) → CodeTurnsPair.TurnsPair T → TurnsPair
+as_turns_pair h a = record { level = as_level h a.level; pos = as_sums h a.pos; neg = as_sums h a.neg }
+
+abbrev pub SumsPair : Type 0
+SumsPair = CodeSumsPair.SumsPair Float
+
+abbrev pub as_sums_pair : {T : Type 0} → (T → Float) → CodeSumsPair.SumsPair T → SumsPair
+as_sums_pair h a = record { pos = as_sums h a.pos; neg = as_sums h a.neg }
+
+abbrev pub Sim3Coeffs : Type 0
+Sim3Coeffs = CodeSim3Coeffs.Sim3Coeffs Float
+
+abbrev pub as_sim3_coeffs : {T : Type 0} → (T → Float) → CodeSim3Coeffs.Sim3Coeffs T → Sim3Coeffs
+as_sim3_coeffs h a = record { v0 = h a.v0; v1 = h a.v1; v2 = h a.v2; w0 = h a.w0; w1 = h a.w1; w2 = h a.w2; dv1 = h a.dv1; dv2 = h a.dv2; chi_delta = h a.chi_delta }
+
+abbrev pub Coeffs4 : Type 0
+Coeffs4 = CodeCoeffs4.Coeffs4 Float
+
+abbrev pub as_coeffs4 : {T : Type 0} → (T → Float) → CodeCoeffs4.Coeffs4 T → Coeffs4
+as_coeffs4 h a = record { v0 = h a.v0; v1 = h a.v1; v2 = h a.v2; chi_delta = h a.chi_delta }
+
+abbrev pub CoeffsPair : Type 0
+CoeffsPair = CodeCoeffsPair.CoeffsPair Float
+
+abbrev pub as_coeffs_pair : {T : Type 0} → (T → Float) → CodeCoeffsPair.CoeffsPair T → CoeffsPair
+as_coeffs_pair h a = record { pos = as_sim3_coeffs h a.pos; neg = as_sim3_coeffs h a.neg }
+
+abbrev pub GPair : Type 0
+GPair = CodeGPair.GPair Float
+
+abbrev pub as_g_pair : {T : Type 0} → (T → Float) → CodeGPair.GPair T → GPair
+as_g_pair h a = record { pos = h a.pos; neg = h a.neg }
+
+abbrev pub Horner : Type 0
+Horner = CodeHorner.Horner Float
+
+abbrev pub as_horner : {T : Type 0} → (T → Float) → CodeHorner.Horner T → Horner
+as_horner h a = record { v0 = as_g_pair h a.v0; w0 = as_g_pair h a.w0 }
+
+abbrev pub Stopped : Type 0
+Stopped = CodeStopped.Stopped Float
+
+abbrev pub as_stopped : {T : Type 0} → (T → Float) → CodeStopped.Stopped T → Stopped
+as_stopped h a = record { series = as_horner h a.series; series_alone = as_horner h a.series_alone; closed = as_horner h a.closed; closed_alone = as_horner h a.closed_alone }
