@@ -1,2 +1,3 @@
 pub mod Rising
 pub mod Arm
+pub mod Compare

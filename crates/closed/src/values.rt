@@ -22,11 +22,12 @@ pub struct Values<T> {
     pub down: T,
 }
 
-// Whether sigma is +0 or -0.
+// Whether sigma is +0 or -0. PERF (D122): one `==`, since `<=` of a type parameter asks std for an order of
+// three, which the compiler does not put together to one comparison again.
 pub fn at_zero<T: Real>(sigma: T) -> bool
     ensures { result ≡ at_zero (T.float sigma) }
 {
-    (sigma <= T::of(0.0)) & (T::of(0.0) <= sigma)
+    sigma == T::of(0.0)
 }
 
 impl<T: Real> Values<T> {

@@ -7,6 +7,7 @@ ghost use Rattle.sim3.specs.Floats.{as_sim3_tangent};
 ghost use Rattle.linalg.specs.Floats.{as_vec3};
 ghost use Rattle.jacobian.specs.Floats.{as_sim3_jac};
 
+use closed::values::at_zero;
 use ieee::Real;
 use linalg::matrix::Mat3;
 use linalg::refusal::Refusal;
@@ -68,7 +69,7 @@ impl<T: Real> Sim3Jac<T> {
     {
         let e = self.e;
         let ci = self.c.inverse_adj().inv;
-        if (e <= T::of(0.0)) & (T::of(0.0) <= e) {
+        if at_zero(e) {
             return Err(Refusal::ZeroScale);
         }
         let ai = self.a.inverse_adj().inv;
