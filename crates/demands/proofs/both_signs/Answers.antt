@@ -30,11 +30,11 @@ returns g c =
     let it : as_mat3 r c.transpose-it.result ≡ mat_transpose jl_inv = c.transpose-it.ensures in
     let neg_sigma = g.met.T.Real.neg_law _ _ c.neg.ensures in
     let minus : told (as_scaled r) c.sim3_coeffs_scaled-minus.result ≡ scaled_answer f (neg tau.sigma) (r c.args.z) (mirrored tau.sigma v) =
-        cc (c.sim3_coeffs_scaled-minus.ensures, neg_sigma, m) in
+    cc (c.sim3_coeffs_scaled-minus.ensures, neg_sigma, m) in
     let right :
-        as_jac_and_inverse r c.jl_and_inverse-right.result
-        ≡ jl_and_inverse f (tangent_neg tau) (mirrored tau.sigma v) (mat_transpose jl) (mat_transpose jl_inv) =
-        cc (c.jl_and_inverse-right.ensures, back, m, jt, it) in
+    as_jac_and_inverse r c.jl_and_inverse-right.result
+    ≡ jl_and_inverse f (tangent_neg tau) (mirrored tau.sigma v) (mat_transpose jl) (mat_transpose jl_inv) =
+    cc (c.jl_and_inverse-right.ensures, back, m, jt, it) in
     let exp_neg : as_sim3 r c.exp-exp_neg.result ≡ pose_exp f (tangent_neg tau) (mirrored tau.sigma v) = cc (c.exp-exp_neg.ensures, back, m) in
     demand_3 f tau (r c.args.z) v jl jl_inv _
     c.sim3_coeffs_scaled_pair-pair.ensures
