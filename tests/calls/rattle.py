@@ -20,16 +20,18 @@ use series::sim3::Coeffs4;
 use series::sim3::Sim3Coeffs;
 use sim3::sim3::Sim3;
 use sim3::tangent::Sim3Tangent;
-use so3::quat::Quat;
+use so3::quat::{Quat, Renormalize};
 
 fn code(n: u8) -> u32 { n as u32 }
 """
 
 # What the functions of poses with frames want besides.
 FRAMES = """
-use frames::Pose;
+use frames::{Frames, Pose};
 
 fn frame(n: usize) -> u16 { (n % 65536) as u16 }
+
+fn between(from: usize, to: usize) -> Frames { Frames { from: frame(from), to: frame(to) } }
 
 fn framed(sim3: Sim3<f64>, from: usize, to: usize) -> Pose<f64> { Pose { sim3, from: frame(from), to: frame(to) } }
 """

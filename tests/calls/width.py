@@ -12,22 +12,13 @@ DOUBLE = Width("f64", "", 8, "double", 0x7FF8000000000000, "d", "Q", LISTS)
 SINGLE = Width("f32", "_f32", 4, "float", 0x7FC00000, "f", "I", LISTS / "f32")
 WIDTHS = {width.name: width for width in (DOUBLE, SINGLE)}
 
-# The crates that the wrappers call, and those below them; and those of them that stand once for each width.
+# The crates that the wrappers call, and those below them.
 CRATES = "ieee linalg tables circle series closed coeffs so3 sim3 point_lists jacobian sides frames framed_jacobian"
-TWICE = ["point_lists"]
-
-
-def used(width, crates=CRATES):
-    """The crates that the wrappers of a width rest on: a twin rests on the definitions and laws of the crate at f64."""
-    twins = [] if width == DOUBLE else [crate + width.ending for crate in TWICE if crate in crates.split()]
-    return [*crates.split(), *twins]
 
 
 def at_width(source, width):
-    """The wrappers' source, written at f64, at a width: numbers and the exported names are that width's, and so are crates that stand twice."""
+    """The wrappers' source, written at f64, at a width: numbers and the exported names are that width's."""
     if width == DOUBLE:
         return source
     source = re.sub(r"\bf64\b", width.name, source)
-    for crate in TWICE:
-        source = re.sub(rf"(?<![\w:]){crate}::(?:({crate})::)?", lambda m: "".join(f"{part}{width.ending}::" for part in (crate, m[1]) if part), source)
     return re.sub(r"(?<=fn )call_\d+", lambda m: m[0] + width.ending, source)

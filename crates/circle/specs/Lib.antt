@@ -1,3 +1,4 @@
 pub mod Floats
 pub mod Limits
 pub mod Kernel
+pub mod Private

@@ -1,15 +1,16 @@
 // The exact arms, the series arms and the two groups, at a squared angle z = x^2. Its root x, the sine
 // and cosine of x/2 and the sine of x are handed in. A NaN is below no limit, so it takes the exact
 // arms.
-ghost use Rattle.std.specs.Prelude.{◌≡◌, not, ◌≤◌, map};
+ghost use Rattle.std.specs.Prelude.{◌≡◌, cond, not, ◌≤◌, map};
 ghost use Rattle.std.specs.Float.Ieee.{lt};
 ghost use Rattle.ieee.specs.Numbers.{f0};
 ghost use Rattle.linalg.specs.Vector.{vec_norm_sq};
 ghost use Rattle.tables.specs.Tables.{b_row};
 ghost use Rattle.tables.specs.Rows.{row_named};
 ghost use Rattle.circle.specs.Limits.{row_limit};
-ghost use Rattle.circle.specs.Kernel.{horner_sum, row_series, row_whole, row_own, exact_a, exact_b, exact_d, sinc_from, circle_exp, circle_sinc_abd, circle_sinc_a, circle_exp_answer, circle_sinc_answer, circle_sinc_abd_answer, circle_sinc_a_answer};
-ghost use Rattle.linalg.specs.Answer.{told};
+ghost use Rattle.circle.specs.Kernel.{horner_sum, row_series, row_whole, row_own, exact_a, exact_b, exact_d, sinc_from, circle_exp, circle_sinc_abd, circle_sinc_a, circle_exp_answer, circle_sinc_answer, circle_sinc_abd_answer, circle_sinc_a_answer, not_below_zero};
+ghost use Rattle.linalg.specs.Answer.{answer, told};
+ghost use Rattle.circle.specs.Private.{asked_of};
 ghost use Rattle.circle.specs.Floats.{as_exp_coeffs, as_sinc_a, as_sinc_abd};
 ghost use Rattle.linalg.specs.Floats.{as_vec3};
 
@@ -74,18 +75,21 @@ fn whole<T: Limits>(row: Row, z: T) -> T
     series(row, T::terms(row), z)
 }
 
-// Whether a squared angle is refused. -0 and NaN are not below zero.
-fn negative<T: Limits>(z: T) -> bool
-    ensures { result ≡ lt (T.float z) f0 }
+// Refusal 1 for a squared angle below zero, which -0 and NaN are not.
+fn unless_negative<T: Limits>(z: T) -> Result<(), Refusal>
+    ensures { answer result ≡ not_below_zero (T.float z) tt }
 {
-    z < T::of(0.0)
+    if z.is_below(T::of(0.0)) {
+        return Err(Refusal::NegativeAngle);
+    }
+    Ok(())
 }
 
 // A member above its group's short limit: its whole arm below its own limit, else `exact`.
 fn own_arm<T: Limits>(row: Row, z: T, exact: T) -> T
     ensures { T.float result ≡ row_own T.format (row_named row) (T.float z) (T.float exact) }
 {
-    if z < T::below(row) {
+    if z.is_below(T::below(row)) {
         whole(row, z)
     } else {
         exact
@@ -97,14 +101,14 @@ fn own_arm<T: Limits>(row: Row, z: T, exact: T) -> T
 fn exp_group<T: Limits>(z: T, root: T, sin_half: T, cos_half: T) -> ExpCoeffs<T>
     ensures { as_exp_coeffs T.float result ≡ circle_exp T.format (T.float z) (T.float root) (T.float sin_half) (T.float cos_half) }
 {
-    if z < T::exp_short_below() {
+    if z.is_below(T::exp_short_below()) {
         let n = T::short_terms();
         return ExpCoeffs {
             k: series(Row::K, n, z),
             cos_half: series(Row::CosHalf, n, z),
         };
     }
-    if z < T::below(Row::CosHalf) {
+    if z.is_below(T::below(Row::CosHalf)) {
         return ExpCoeffs {
             k: whole(Row::K, z),
             cos_half: whole(Row::CosHalf, z),
@@ -125,9 +129,7 @@ pub fn exp_coeffs<T: Limits>(
 ) -> Result<ExpCoeffs<T>, Refusal>
     ensures { told (as_exp_coeffs T.float) result ≡ circle_exp_answer T.format (T.float z) (T.float root) (T.float sin_half) (T.float cos_half) }
 {
-    if negative(z) {
-        return Err(Refusal::NegativeAngle);
-    }
+    unless_negative(z)?;
     Ok(exp_group(z, root, sin_half, cos_half))
 }
 
@@ -142,40 +144,46 @@ pub fn exp_coeffs_of<T: Limits>(phi: Vec3<T>, root: T, sin_half: T, cos_half: T)
 pub fn sinc_value<T: Limits>(z: T, root: T, sin_half: T, cos_half: T) -> Result<T, Refusal>
     ensures { told T.float result ≡ circle_sinc_answer T.format (T.float z) (T.float root) (T.float sin_half) (T.float cos_half) }
 {
-    if negative(z) {
-        return Err(Refusal::NegativeAngle);
-    }
+    unless_negative(z)?;
     let c = exp_group(z, root, sin_half, cos_half);
     Ok(sinc_from(c.k, c.cos_half))
 }
 
-// The group of five, k and cos_half as sin x/x.
-fn five_group<T: Limits>(z: T, root: T, sin_half: T, cos_half: T, sin: T) -> SincABD<T>
-    ensures { as_sinc_abd T.float result ≡ circle_sinc_abd T.format (T.float z) (T.float root) (T.float sin_half) (T.float cos_half) (T.float sin) }
+// x where all members are asked for, and else zero.
+fn asked<T: Limits, const ALL: bool>(x: T) -> T
+    ensures { T.float result ≡ cond ALL (T.float x) f0 }
 {
-    if z < T::five_short_below() {
+    if ALL { x } else { T::of(0.0) }
+}
+
+// The group of five, k and cos_half as sin x/x. Where not all are asked for, b and d are zero, and the
+// compiler leaves out what nothing reads.
+fn group<T: Limits, const ALL: bool>(z: T, root: T, sin_half: T, cos_half: T, sin: T) -> SincABD<T>
+    ensures { as_sinc_abd T.float result ≡ asked_of ALL (circle_sinc_abd T.format (T.float z) (T.float root) (T.float sin_half) (T.float cos_half) (T.float sin)) }
+{
+    if z.is_below(T::five_short_below()) {
         let n = T::short_terms();
         return SincABD {
             sinc: sinc_from(series(Row::K, n, z), series(Row::CosHalf, n, z)),
             a: series(Row::A, n, z),
-            b: series(Row::B, n, z),
-            d: series(Row::D, n, z),
+            b: asked::<T, ALL>(series(Row::B, n, z)),
+            d: asked::<T, ALL>(series(Row::D, n, z)),
         };
     }
-    if z < T::below(Row::CosHalf) {
+    if z.is_below(T::below(Row::CosHalf)) {
         return SincABD {
             sinc: sinc_from(whole(Row::K, z), whole(Row::CosHalf, z)),
             a: whole(Row::A, z),
-            b: whole(Row::B, z),
-            d: whole(Row::D, z),
+            b: asked::<T, ALL>(whole(Row::B, z)),
+            d: asked::<T, ALL>(whole(Row::D, z)),
         };
     }
     let a = a_from(z, sin_half);
     SincABD {
         sinc: sinc_from(own_arm(Row::K, z, sin_half / root), cos_half),
         a: own_arm(Row::A, z, a),
-        b: own_arm(Row::B, z, b_from(z, root, sin)),
-        d: own_arm(Row::D, z, d_from(z, a)),
+        b: asked::<T, ALL>(own_arm(Row::B, z, b_from(z, root, sin))),
+        d: asked::<T, ALL>(own_arm(Row::D, z, d_from(z, a))),
     }
 }
 
@@ -184,7 +192,25 @@ fn five_group<T: Limits>(z: T, root: T, sin_half: T, cos_half: T, sin: T) -> Sin
 pub fn b_takes_exact_arm_of<T: Limits>(phi: Vec3<T>) -> bool
     ensures { result ≡ not (lt (vec_norm_sq T.format (as_vec3 T.float phi)) (row_limit T.format b_row)) }
 {
-    !(phi.norm_sq() < T::below(Row::B))
+    !phi.norm_sq().is_below(T::below(Row::B))
+}
+
+// The group of five at any z: `sinc_a_b_d` for a caller that has refused z already.
+pub fn five_group<T: Limits>(z: T, root: T, sin_half: T, cos_half: T, sin: T) -> SincABD<T>
+    ensures { as_sinc_abd T.float result ≡ circle_sinc_abd T.format (T.float z) (T.float root) (T.float sin_half) (T.float cos_half) (T.float sin) }
+{
+    group::<T, true>(z, root, sin_half, cos_half, sin)
+}
+
+// sinc and a of the group of five alone, with its bits, at any z.
+pub fn two_group<T: Limits>(z: T, root: T, sin_half: T, cos_half: T) -> SincA<T>
+    ensures { as_sinc_a T.float result ≡ circle_sinc_a T.format (T.float z) (T.float root) (T.float sin_half) (T.float cos_half) }
+{
+    let c = group::<T, false>(z, root, sin_half, cos_half, T::of(0.0));
+    SincA {
+        sinc: c.sinc,
+        a: c.a,
+    }
 }
 
 // (sin x/x, a, b, d) at x^2 = z, which the closed forms of Sim(3) read; refusal 1 for z below zero.
@@ -197,39 +223,15 @@ pub fn sinc_a_b_d<T: Limits>(
 ) -> Result<SincABD<T>, Refusal>
     ensures { told (as_sinc_abd T.float) result ≡ circle_sinc_abd_answer T.format (T.float z) (T.float root) (T.float sin_half) (T.float cos_half) (T.float sin) }
 {
-    if negative(z) {
-        return Err(Refusal::NegativeAngle);
-    }
+    unless_negative(z)?;
     Ok(five_group(z, root, sin_half, cos_half, sin))
-}
-
-// sinc and a of the group of five alone, with its bits.
-fn two_group<T: Limits>(z: T, root: T, sin_half: T, cos_half: T) -> SincA<T>
-    ensures { as_sinc_a T.float result ≡ circle_sinc_a T.format (T.float z) (T.float root) (T.float sin_half) (T.float cos_half) }
-{
-    if z < T::five_short_below() {
-        let n = T::short_terms();
-        let sinc = sinc_from(series(Row::K, n, z), series(Row::CosHalf, n, z));
-        let a = series(Row::A, n, z);
-        return SincA { sinc, a };
-    }
-    if z < T::below(Row::CosHalf) {
-        let sinc = sinc_from(whole(Row::K, z), whole(Row::CosHalf, z));
-        let a = whole(Row::A, z);
-        return SincA { sinc, a };
-    }
-    let sinc = sinc_from(own_arm(Row::K, z, sin_half / root), cos_half);
-    let a = own_arm(Row::A, z, a_from(z, sin_half));
-    SincA { sinc, a }
 }
 
 // sinc and a of `sinc_a_b_d` alone, which the closed form of V reads; refusal 1 for z below zero.
 pub fn sinc_a<T: Limits>(z: T, root: T, sin_half: T, cos_half: T) -> Result<SincA<T>, Refusal>
     ensures { told (as_sinc_a T.float) result ≡ circle_sinc_a_answer T.format (T.float z) (T.float root) (T.float sin_half) (T.float cos_half) }
 {
-    if negative(z) {
-        return Err(Refusal::NegativeAngle);
-    }
+    unless_negative(z)?;
     Ok(two_group(z, root, sin_half, cos_half))
 }
 

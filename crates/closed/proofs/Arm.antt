@@ -1,4 +1,4 @@
--- The arm: Δ, the arm and whether v₀ and w₀ come from series of their own are even in σ; and the last on either kind of arm. Assumes nothing.
+-- The arm: Δ, the arm and whether v₀ and w₀ come from series of their own are even in σ; the last on either kind of arm; and a series arm's number. Assumes nothing.
 use mathlib.Core.Path.{◌≡◌, refl, ap}
 use Prim.Native.Nat.{ℕ}
 use mathlib.Core.Bool.{true, false}
@@ -6,7 +6,9 @@ use lib.Dec.{ltb}
 use lib.Ieee.{Float, Format, neg, mul, lt}
 use Rattle.ieee.proofs.Sign.{mul-neg-neg}
 use Rattle.closed.specs.Limits.{coeffs_delta, w0_below}
-use Rattle.closed.specs.Arm.{coeffs_arm, arm_ends}
+use Rattle.closed.specs.Arm.{coeffs_arm, arm_ends, series_number}
+use Rattle.closed.specs.declared.limits.SeriesArm.{SeriesArm}
+use Rattle.closed.specs.declared.limits.SeriesArm.TheVariants as by
 
 pub delta_even : (f : Format) (sigma z : Float) → coeffs_delta f (neg sigma) z ≡ coeffs_delta f sigma z
 unfolding coeffs_delta
@@ -26,3 +28,9 @@ ends-series f sigma arm t = rw t refl
 pub ends-closed : (f : Format) (sigma : Float) (arm : ℕ) → ltb arm 5 ≡ false → arm_ends f sigma arm ≡ lt (mul f sigma sigma) (w0_below f)
 unfolding arm_ends
 ends-closed f sigma arm t = rw t refl
+
+pub series-below : (a : SeriesArm) → ltb (series_number a) 5 ≡ true
+series-below by.Short = refl
+series-below by.Mid = refl
+series-below by.Upper = refl
+series-below by.Long = refl

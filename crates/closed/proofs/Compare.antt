@@ -1,14 +1,14 @@
 -- Comparisons in other words: with zero, and with a number that is no NaN. Assumes nothing.
-use mathlib.Core.Path.{◌≡◌, refl, sym, ◌∙◌}
-use mathlib.Core.Bool.{Bool, true, false, not, cond, ◌&&◌}
+use mathlib.Core.Path.{◌≡◌, refl}
+use mathlib.Core.Bool.{true, false, ◌&&◌}
 use Prim.Native.Nat.{ℕ}
 use native.Mathlib.Omega.{arith}
 use lib.Dec.{T, leb, eqb, eqb→eq, leb→le, le→leb}
-use lib.Ieee.{Float, nan, inf, fin, lt, le, eq}
+use lib.Ieee.{Float, nan, inf, fin, le, eq}
 use lib.Ieee.Scale.{finite}
 use lib.Ieee.Fits.{eq→eqb, and_i, and_l, and_r}
 use Rattle.ieee.specs.Numbers.{f0}
-use Rattle.ieee.proofs.Order.{iff, eq_is, le_is, side, number, lt_not_le}
+use Rattle.ieee.proofs.Order.{iff, eq_is, le_is, side}
 
 both : (a b : ℕ) → eqb a b ≡ (leb a b && leb b a)
 both a b =

@@ -1,10 +1,24 @@
 -- The arm of the coefficients at Δ: 1 to 4 are the series' term counts in rising order of Δ, and 5 is the closed arm,
--- which a NaN takes too.
+-- which a NaN takes too. The code names the arms, and each name has its number.
 use Rattle.std.specs.Prelude.{ℕ, Bool, false, cond, eqb, ltb, Float}
 use Rattle.std.specs.Float.{Format, binary32, binary64}
 use Rattle.std.specs.Float.Ieee.{lt}
 use Rattle.ieee.specs.Infix.{operations}
 use Rattle.closed.specs.Limits.{short_below, mid_below, upper_below, series_below, w0_below}
+use Rattle.closed.specs.declared.limits.SeriesArm.{SeriesArm}
+use Rattle.closed.specs.declared.limits.SeriesArm.TheVariants as by
+use Rattle.closed.specs.declared.limits.Arm.{Arm}
+use Rattle.closed.specs.declared.limits.Arm.TheVariants as arm
+
+abbrev pub series_number : SeriesArm → ℕ
+series_number by.Short = 1
+series_number by.Mid = 2
+series_number by.Upper = 3
+series_number by.Long = 4
+
+abbrev pub arm_number : Arm → ℕ
+arm_number (arm.Series a) = series_number a
+arm_number arm.Closed = 5
 
 unfoldable pub coeffs_arm : Format → Float → ℕ
 coeffs_arm f delta =

@@ -3,9 +3,60 @@
 ghost use Rattle.std.specs.Prelude.{◌≡◌, ◌≤◌};
 ghost use Rattle.std.specs.Float.Ieee.{mul, lt, le};
 ghost use Rattle.closed.specs.Limits.{short_below, mid_below, upper_below, series_below, form_b_below, w0_below};
-ghost use Rattle.closed.specs.Arm.{coeffs_arm, arm_terms};
+ghost use Rattle.closed.specs.Arm.{coeffs_arm, arm_number, series_number, arm_terms};
 
 use ieee::Real;
+
+// The arms by series, with more and more terms.
+#[derive(Clone, Copy, PartialEq, Eq)]
+pub enum SeriesArm {
+    Short,
+    Mid,
+    Upper,
+    Long,
+}
+
+// The arms of the coefficients, in rising order of delta.
+#[derive(Clone, Copy, PartialEq, Eq)]
+pub enum Arm {
+    Series(SeriesArm),
+    Closed,
+}
+
+impl Arm {
+    // The arm's number in the answers: 1 to 4 for the series, 5 for the closed arm.
+    pub fn number(self) -> u8
+        ensures { result ≡ arm_number self }
+    {
+        match self {
+            Arm::Series(SeriesArm::Short) => 1,
+            Arm::Series(SeriesArm::Mid) => 2,
+            Arm::Series(SeriesArm::Upper) => 3,
+            Arm::Series(SeriesArm::Long) => 4,
+            Arm::Closed => 5,
+        }
+    }
+
+    // The arm at delta, by series with more and more terms, or the closed one, which a NaN takes. The last
+    // limit is tested first, so that the closed arm costs one test.
+    pub fn at<T: Arms>(delta: T) -> Arm
+        ensures { arm_number result ≡ coeffs_arm T.format (T.float delta) }
+    {
+        if delta.is_below(T::series_below()) {
+            if delta.is_below(T::short_below()) {
+                return Arm::Series(SeriesArm::Short);
+            }
+            if delta.is_below(T::mid_below()) {
+                return Arm::Series(SeriesArm::Mid);
+            }
+            if delta.is_below(T::upper_below()) {
+                return Arm::Series(SeriesArm::Upper);
+            }
+            return Arm::Series(SeriesArm::Long);
+        }
+        Arm::Closed
+    }
+}
 
 // The limits in delta, rising: a series arm is taken below its limit, the closed one at the last.
 pub trait Arms: Real {
@@ -29,9 +80,9 @@ pub trait Arms: Real {
     fn w0_below() -> Self
         ensures { Self.float result ≡ w0_below Self.format };
 
-    // The series' term count on the arms 1 to 4: within what the series take, so no arm is refused 4.
-    fn arm_terms(arm: u8) -> usize
-        ensures count { result ≡ arm_terms Self.format arm }
+    // The series' term count: within what the series take, so no arm is refused 4.
+    fn arm_terms(arm: SeriesArm) -> usize
+        ensures count { result ≡ arm_terms Self.format (series_number arm) }
         ensures accepted { result ≤ 28 };
 }
 
@@ -61,12 +112,12 @@ impl Arms for f64 {
         0.5829415347136074 // 3fe2a77501626657
     }
 
-    fn arm_terms(arm: u8) -> usize {
+    fn arm_terms(arm: SeriesArm) -> usize {
         match arm {
-            1 => 6,
-            2 => 11,
-            3 => 14,
-            _ => 19,
+            SeriesArm::Short => 6,
+            SeriesArm::Mid => 11,
+            SeriesArm::Upper => 14,
+            SeriesArm::Long => 19,
         }
     }
 }
@@ -96,49 +147,26 @@ impl Arms for f32 {
         0.58294153 // 3f153ba8
     }
 
-    fn arm_terms(arm: u8) -> usize {
+    fn arm_terms(arm: SeriesArm) -> usize {
         match arm {
-            1 => 4,
-            2 => 7,
-            3 => 9,
-            _ => 11,
+            SeriesArm::Short => 4,
+            SeriesArm::Mid => 7,
+            SeriesArm::Upper => 9,
+            SeriesArm::Long => 11,
         }
     }
-}
-
-// The number of the closed arm.
-pub const CLOSED: u8 = 5;
-
-// The arm at delta: 1 to 4 for the series with more and more terms, 5 for the closed one, which a NaN
-// takes. The last limit is tested first, so that the closed arm costs one test.
-pub fn arm<T: Arms>(delta: T) -> u8
-    ensures { result ≡ coeffs_arm T.format (T.float delta) }
-{
-    if delta < T::series_below() {
-        if delta < T::short_below() {
-            return 1;
-        }
-        if delta < T::mid_below() {
-            return 2;
-        }
-        if delta < T::upper_below() {
-            return 3;
-        }
-        return 4;
-    }
-    CLOSED
 }
 
 // Whether v1 takes its form b.
 pub fn on_form_b<T: Arms>(delta: T) -> bool
     ensures { result ≡ le (form_b_below T.format) (T.float delta) }
 {
-    T::form_b_below() <= delta
+    T::form_b_below().is_at_most(delta)
 }
 
 // Whether the closed arm sums v0 and w0 by their series.
 pub fn w0_small<T: Arms>(sigma: T) -> bool
     ensures { result ≡ lt (mul T.format (T.float sigma) (T.float sigma)) (w0_below T.format) }
 {
-    sigma * sigma < T::w0_below()
+    (sigma * sigma).is_below(T::w0_below())
 }

@@ -38,16 +38,13 @@ impl<T: Real> Values<T> {
     {
         let zero = at_zero(sigma);
         Values {
-            root: self.root,
-            sin_half: self.sin_half,
-            cos_half: self.cos_half,
-            sin: self.sin,
             e: ieee::pick(zero, self.e0, self.e),
             m: ieee::pick(zero, self.m0, self.m),
             e0: ieee::pick(zero, self.e, self.e0),
             m0: ieee::pick(zero, self.m, self.m0),
             up: self.down,
             down: self.up,
+            ..self
         }
     }
 }

@@ -10,7 +10,6 @@ use Rattle.linalg.specs.Vector.{vec_norm_sq}
 use Rattle.linalg.specs.Floats.{Vec3}
 use Rattle.linalg.proofs.Answers.{answered_as, answered-at, not_refused}
 use Rattle.circle.specs.Kernel.{not_below_zero, circle_sinc_abd, circle_sinc_a}
-use Rattle.circle.specs.Floats.{SincABD}
 use Rattle.circle.specs.Floats.{SincA}
 use Rattle.circle.proofs.Angle.{norm_not_below}
 use Rattle.series.specs.Series.{series_full, series_v, coeffs4}
@@ -53,19 +52,18 @@ pub scaled-closed :
 unfolding coeffs_scaled
 scaled-closed f sigma z v t = rw (t, ends-closed f sigma (coeffs_arm f (coeffs_delta f sigma z)) t) refl
 
--- ---- the answer of one sign is its arm's
+-- ---- what is formed at one sign is what its arm forms
 pub by_series :
     (f : Format) (sigma z : Float) (v : Values) → ltb (coeffs_arm f (coeffs_delta f sigma z)) 5 ≡ true →
-    scaled_answer f sigma z v ≡ series_arm f sigma z (coeffs_arm f (coeffs_delta f sigma z))
-unfolding scaled_answer series_arm
-by_series f sigma z v t = ap (not_below_zero z) (scaled-series f sigma z v _ t refl)
+    coeffs_scaled f sigma z v ≡ series_arm f sigma z (coeffs_arm f (coeffs_delta f sigma z))
+unfolding series_arm
+by_series f sigma z v t = scaled-series f sigma z v _ t refl
 
 pub by_closed :
-    (f : Format) (sigma z : Float) (v : Values) (t : SincABD) → ltb (coeffs_arm f (coeffs_delta f sigma z)) 5 ≡ false →
-    not_below_zero z (circle_sinc_abd f z v.root v.sin_half v.cos_half v.sin) ≡ answers t →
-    scaled_answer f sigma z v ≡ answers (closed_one f sigma z (coeffs_delta f sigma z) (small f sigma) t v)
-unfolding scaled_answer closed_one
-by_closed f sigma z v t h r = arm-answers z _ t _ (λ x. closed_one f sigma z (coeffs_delta f sigma z) (small f sigma) x v) (scaled-closed f sigma z v h) r
+    (f : Format) (sigma z : Float) (v : Values) → ltb (coeffs_arm f (coeffs_delta f sigma z)) 5 ≡ false →
+    coeffs_scaled f sigma z v ≡ closed_one f sigma z (coeffs_delta f sigma z) (small f sigma) (circle_sinc_abd f z v.root v.sin_half v.cos_half v.sin) v
+unfolding closed_one
+by_closed f sigma z v t = scaled-closed f sigma z v t
 
 -- ---- with the arm told
 pub then_as : {A B : Type 0} (t : Bool) (a : A) (g : A → B) → cond t (refuses 1) (answers (g a)) ≡ and_then (cond t (refuses 1) (answers a)) (λ x. answers (g x))
@@ -100,12 +98,6 @@ pub v-closed :
     coeffs_v_scaled f sigma z v ≡ v-scaled f sigma z v (circle_sinc_a f z v.root v.sin_half v.cos_half)
 unfolding coeffs_v_scaled coeffs4 closed_from closed_nine closed_joined closed_v_from closed_v closed_only circle_sinc_a circle_sinc_abd
 v-closed f sigma z v t = rw (scaled-closed f sigma z v t) refl
-
--- ---- the closed arm, from what the circle functions answer
-pub v-closed-answers :
-    (f : Format) (sigma z : Float) (v : Values) (t : SincA) → ltb (coeffs_arm f (coeffs_delta f sigma z)) 5 ≡ false →
-    not_below_zero z (circle_sinc_a f z v.root v.sin_half v.cos_half) ≡ answers t → not_below_zero z (coeffs_v_scaled f sigma z v) ≡ answers (v-scaled f sigma z v t)
-v-closed-answers f sigma z v t h r = arm-answers z _ t _ (v-scaled f sigma z v) (v-closed f sigma z v h) r
 
 -- ---- unscaled, from the scaled answer
 pub v-answers :

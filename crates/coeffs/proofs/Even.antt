@@ -10,7 +10,6 @@ use Rattle.linalg.specs.Vector.{vec_norm_sq}
 use Rattle.linalg.specs.Floats.{Vec3}
 use Rattle.linalg.proofs.Answers.{both_as}
 use Rattle.circle.specs.Kernel.{not_below_zero, circle_sinc_abd}
-use Rattle.circle.specs.Floats.{SincABD}
 use Rattle.series.specs.Series.{series_full}
 use Rattle.ieee.proofs.Sign.{mul-neg-neg}
 use Rattle.closed.specs.Values.{mirrored}
@@ -20,12 +19,12 @@ use Rattle.coeffs.specs.Group.{coeffs_scaled, coeffs_pair, coeffs_armed, coeffs_
 use Rattle.coeffs.specs.Entries.{scaled_answer, beside, pair_answer, armed_answer, beside_armed, armed_pair_answer}
 use Rattle.coeffs.specs.Closed.{closed_from, closed_v_from}
 use Rattle.coeffs.specs.Private.{closed_exps, closed_ends, closed_with}
-use Rattle.coeffs.specs.Private.{minus_et_mt, pair_ends, closed_pair, series_arms}
+use Rattle.coeffs.specs.Private.{minus_et_mt, pair_ends, closed_pair, series_arm, series_arms}
 use Rattle.closed.specs.Floats.{Values}
 use Rattle.coeffs.specs.Floats.{ScaledPair}
 use Rattle.coeffs.specs.Floats.{ArmedPair}
 use Rattle.closed.proofs.Arm.{delta_even, arm_even, ends_even}
-use Rattle.coeffs.proofs.Arms.{arm-answers, scaled-series, scaled-closed, then_as, told_at, angle_answers, angle_refuses}
+use Rattle.coeffs.proofs.Arms.{scaled-series, scaled-closed, then_as, told_at, angle_answers, angle_refuses}
 
 -- ---- the pair in its two arms
 pub pair-series :
@@ -53,25 +52,18 @@ pub pair-answer-is : (f : Format) (sigma z : Float) (v : Values) → pair_answer
 unfolding pair_answer beside scaled_answer coeffs_pair
 pair-answer-is f sigma z v = both_as (lt z f0) 1 (coeffs_scaled f sigma z v) (coeffs_scaled f (neg sigma) z (mirrored sigma v)) (λ p n. record { pos = p; neg = n })
 
--- ---- the pair's answer is its arm's
+-- ---- what is formed at both is what the arm forms
 pub pair_by_series :
     (f : Format) (sigma z : Float) (v : Values) → ltb (coeffs_arm f (coeffs_delta f sigma z)) 5 ≡ true →
-    pair_answer f sigma z v ≡ series_arms f sigma z (coeffs_arm f (coeffs_delta f sigma z))
-unfolding series_arms
-pair_by_series f sigma z v t = pair-answer-is f sigma z v ∙ ap (not_below_zero z) (pair-series f sigma z v _ t refl)
-
-pub pair_by_closed :
-    (f : Format) (sigma z : Float) (v : Values) (t : SincABD) → ltb (coeffs_arm f (coeffs_delta f sigma z)) 5 ≡ false →
-    not_below_zero z (circle_sinc_abd f z v.root v.sin_half v.cos_half v.sin) ≡ answers t →
-    pair_answer f sigma z v ≡ answers (closed_pair f sigma z (coeffs_delta f sigma z) (pair_ends f sigma (lt (mul f sigma sigma) (w0_below f)) v) t v)
-pair_by_closed f sigma z v t h r =
-    pair-answer-is f sigma z v ∙ arm-answers z _ t _ (λ x. closed_pair f sigma z (coeffs_delta f sigma z) (pair_ends f sigma (lt (mul f sigma sigma) (w0_below f)) v) x v) (pair-closed f sigma z v h) r
+    coeffs_pair f sigma z v ≡ series_arms f sigma z (coeffs_arm f (coeffs_delta f sigma z))
+unfolding series_arm series_arms
+pair_by_series f sigma z v t = pair-series f sigma z v _ t refl
 
 -- ---- with the arms told: the armed pair's answer is the pair's, with the arm at σ and its ends told at either sign
 abbrev pub told_both : ℕ → Bool → ScaledPair → ArmedPair
 told_both arm ends p = record { pos = told_at arm ends p.pos; neg = told_at arm ends p.neg }
 
-armed-pair-is :
+pub armed-pair-is :
     (f : Format) (sigma z : Float) (v : Values) →
     let arm = coeffs_arm f (coeffs_delta f sigma z) in
     coeffs_armed_pair f sigma z v ≡ told_both arm (arm_ends f sigma arm) (coeffs_pair f sigma z v)
@@ -94,7 +86,7 @@ armed-pair-told f sigma z v =
     ∙ then_as (lt z f0) (coeffs_pair f sigma z v) told
     ∙ ap (λ a. and_then a (λ p. answers (told p))) (sym (pair-answer-is f sigma z v))
 
-armed-pair-answer-is : (f : Format) (sigma z : Float) (v : Values) → armed_pair_answer f sigma z v ≡ not_below_zero z (coeffs_armed_pair f sigma z v)
+pub armed-pair-answer-is : (f : Format) (sigma z : Float) (v : Values) → armed_pair_answer f sigma z v ≡ not_below_zero z (coeffs_armed_pair f sigma z v)
 unfolding armed_pair_answer beside_armed armed_answer coeffs_armed_pair
 armed-pair-answer-is f sigma z v = both_as (lt z f0) 1 (coeffs_armed f sigma z v) (coeffs_armed f (neg sigma) z (mirrored sigma v)) (λ p n. record { pos = p; neg = n })
 

@@ -1,16 +1,17 @@
 -- The structs over the floats that the definitions speak of, and each struct of the code as one of them: `h` gives the float of a number.
-use Rattle.std.specs.Prelude.{Float}
+use Rattle.std.specs.Prelude.{ℕ, Bool, Float}
 use Rattle.coeffs.specs.declared.closed_form.Ws as CodeWs
 use Rattle.coeffs.specs.declared.closed_form.Dvs as CodeDvs
 use Rattle.coeffs.specs.declared.closed_form.EtMt as CodeEtMt
 use Rattle.coeffs.specs.declared.closed_form.Exps as CodeExps
 use Rattle.coeffs.specs.declared.closed_form.Ends as CodeEnds
 use Rattle.coeffs.specs.declared.sim3.Scaled as CodeScaled
-use Rattle.coeffs.specs.declared.sim3.VScaled as CodeVScaled
-use Rattle.coeffs.specs.declared.sim3.ScaledPair as CodeScaledPair
 use Rattle.coeffs.specs.declared.sim3.Armed as CodeArmed
-use Rattle.coeffs.specs.declared.sim3.ArmedPair as CodeArmedPair
-use Rattle.series.specs.Floats.{as_coeffs4, as_sim3_coeffs}
+use Rattle.series.specs.declared.sim3.Signs as CodeSigns
+use Rattle.series.specs.declared.sim3.Sim3Coeffs as CodeSim3Coeffs
+use Rattle.series.specs.declared.sim3.Coeffs4 as CodeCoeffs4
+use Rattle.series.specs.Floats.{Coeffs4, Sim3Coeffs, as_coeffs4, as_sim3_coeffs}
+use Rattle.closed.specs.Arm.{arm_number}
 
 abbrev pub Ws : Type 0
 Ws = CodeWs.Ws Float
@@ -43,31 +44,34 @@ abbrev pub as_ends : {T : Type 0} → (T → Float) → CodeEnds.Ends T → Ends
 as_ends h a = record { v0 = h a.v0; w0 = h a.w0; v0_neg = h a.v0_neg; w0_neg = h a.w0_neg }
 
 abbrev pub Scaled : Type 0
-Scaled = CodeScaled.Scaled Float
+Scaled = CodeScaled.Scaled Sim3Coeffs
 
-abbrev pub as_scaled : {T : Type 0} → (T → Float) → CodeScaled.Scaled T → Scaled
+abbrev pub as_scaled : {T : Type 0} → (T → Float) → CodeScaled.Scaled (CodeSim3Coeffs.Sim3Coeffs T) → Scaled
 as_scaled h a = record { c = as_sim3_coeffs h a.c; scaled = a.scaled }
 
 abbrev pub VScaled : Type 0
-VScaled = CodeVScaled.VScaled Float
+VScaled = CodeScaled.Scaled Coeffs4
 
-abbrev pub as_v_scaled : {T : Type 0} → (T → Float) → CodeVScaled.VScaled T → VScaled
+abbrev pub as_v_scaled : {T : Type 0} → (T → Float) → CodeScaled.Scaled (CodeCoeffs4.Coeffs4 T) → VScaled
 as_v_scaled h a = record { c = as_coeffs4 h a.c; scaled = a.scaled }
 
 abbrev pub ScaledPair : Type 0
-ScaledPair = CodeScaledPair.ScaledPair Float
+ScaledPair = CodeSigns.Signs Scaled
 
-abbrev pub as_scaled_pair : {T : Type 0} → (T → Float) → CodeScaledPair.ScaledPair T → ScaledPair
+abbrev pub as_scaled_pair : {T : Type 0} → (T → Float) → CodeSigns.Signs (CodeScaled.Scaled (CodeSim3Coeffs.Sim3Coeffs T)) → ScaledPair
 as_scaled_pair h a = record { pos = as_scaled h a.pos; neg = as_scaled h a.neg }
 
-abbrev pub Armed : Type 0
-Armed = CodeArmed.Armed Float
+-- the arm by its number
+pub record Armed : Type 0 where
+  pub s : Scaled
+  pub arm : ℕ
+  pub ends : Bool
 
 abbrev pub as_armed : {T : Type 0} → (T → Float) → CodeArmed.Armed T → Armed
-as_armed h a = record { s = as_scaled h a.s; arm = a.arm; ends = a.ends }
+as_armed h a = record { s = as_scaled h a.s; arm = arm_number a.arm; ends = a.ends }
 
 abbrev pub ArmedPair : Type 0
-ArmedPair = CodeArmedPair.ArmedPair Float
+ArmedPair = CodeSigns.Signs Armed
 
-abbrev pub as_armed_pair : {T : Type 0} → (T → Float) → CodeArmedPair.ArmedPair T → ArmedPair
+abbrev pub as_armed_pair : {T : Type 0} → (T → Float) → CodeSigns.Signs (CodeArmed.Armed T) → ArmedPair
 as_armed_pair h a = record { pos = as_armed h a.pos; neg = as_armed h a.neg }

@@ -3,10 +3,8 @@ use Rattle.std.specs.Prelude.{ℕ, Bool, false, cond, Float}
 use Rattle.std.specs.Float.{Format}
 use Rattle.std.specs.Float.Ieee.{neg, lt, le}
 use Rattle.ieee.specs.Numbers.{f0}
-use Rattle.linalg.specs.Answer.{Answer}
 use Rattle.series.specs.Series.{series_full}
 use Rattle.series.specs.Floats.{Sim3Coeffs}
-use Rattle.circle.specs.Kernel.{not_below_zero}
 use Rattle.circle.specs.Floats.{SincABD}
 use Rattle.closed.specs.Values.{at_zero}
 use Rattle.closed.specs.Limits.{form_b_below}
@@ -63,11 +61,9 @@ closed_pair f sigma z delta h t v =
       neg = record { c = closed_with f (neg sigma) z t n.et n.mt h.v0_neg h.w0_neg formB; scaled = lt f0 (neg sigma) };
     }
 
--- ---- what a series arm answers by its number, for one sign and for both
-unfoldable pub series_arm : Format → Float → Float → ℕ → Answer Scaled
-series_arm f sigma z arm = not_below_zero z (record { c = series_full f sigma z (arm_terms f arm); scaled = false })
+-- ---- what a series arm forms by its number, for one sign and for both
+unfoldable pub series_arm : Format → Float → Float → ℕ → Scaled
+series_arm f sigma z arm = record { c = series_full f sigma z (arm_terms f arm); scaled = false }
 
-unfoldable pub series_arms : Format → Float → Float → ℕ → Answer ScaledPair
-series_arms f sigma z arm =
-    let k = arm_terms f arm in
-    not_below_zero z (record { pos = record { c = series_full f sigma z k; scaled = false }; neg = record { c = series_full f (neg sigma) z k; scaled = false } })
+unfoldable pub series_arms : Format → Float → Float → ℕ → ScaledPair
+series_arms f sigma z arm = record { pos = series_arm f sigma z arm; neg = series_arm f (neg sigma) z arm }

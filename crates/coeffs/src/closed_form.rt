@@ -2,7 +2,7 @@
 // 0 < sigma, so that nothing overflows before the answer does.
 ghost use Rattle.std.specs.Prelude.{◌≡◌};
 ghost use Rattle.std.specs.Float.Ieee.{neg};
-ghost use Rattle.coeffs.specs.Closed.{closed_v0, closed_w0, closed_v, closed_ws, closed_dvs, closed_joined, closed_v_from, closed_only, closed_from};
+ghost use Rattle.coeffs.specs.Closed.{closed_v0, closed_w0, closed_v, closed_ws, closed_dvs, closed_nine, closed_v_from, closed_only, closed_from};
 ghost use Rattle.coeffs.specs.Private.{closed_exps, closed_ends, closed_with};
 ghost use Rattle.series.specs.Floats.{as_coeffs4, as_coeffs_pair, as_sim3_coeffs};
 ghost use Rattle.coeffs.specs.Floats.{as_dvs, as_ends, as_exps, as_ws};
@@ -37,8 +37,8 @@ fn w0_of<T: Width>(sigma: T, g: T, m1: T, small: bool) -> T
 }
 
 // v1, v2 and chi_delta from v0.
-fn v_from<T: Width>(sigma: T, z: T, t: SincABD<T>, e: T, m1: T, v0: T, form_b: bool) -> Coeffs4<T>
-    ensures { as_coeffs4 T.float result ≡ closed_v T.format (T.float sigma) (T.float z) (as_sinc_abd T.float t) (T.float e) (T.float m1) (T.float v0) form_b }
+fn v_from<T: Width>(sigma: T, z: T, t: SincA<T>, e: T, m1: T, v0: T, form_b: bool) -> Coeffs4<T>
+    ensures { as_coeffs4 T.float result ≡ closed_v T.format (T.float sigma) (T.float z) (closed_only (as_sinc_a T.float t)) (T.float e) (T.float m1) (T.float v0) form_b }
 {
     let sinc = t.sinc;
     let a = t.a;
@@ -96,10 +96,12 @@ fn dv_from<T: Width>(sigma: T, z: T, t: SincABD<T>, e: T, v2: T) -> Dvs<T>
     }
 }
 
-// All nine, put together.
-fn nine<T: Width>(v: Coeffs4<T>, w0: T, w: Ws<T>, d: Dvs<T>) -> Sim3Coeffs<T>
-    ensures { as_sim3_coeffs T.float result ≡ closed_joined (as_coeffs4 T.float v) (T.float w0) (as_ws T.float w) (as_dvs T.float d) }
+// All nine from v, w0 and e: w1, w2 and the derivatives are formed here.
+fn nine<T: Width>(sigma: T, z: T, t: SincABD<T>, e: T, v: Coeffs4<T>, w0: T) -> Sim3Coeffs<T>
+    ensures { as_sim3_coeffs T.float result ≡ closed_nine T.format (T.float sigma) (T.float z) (as_sinc_abd T.float t) (T.float e) (as_coeffs4 T.float v) (T.float w0) }
 {
+    let w = w_from(sigma, z, v, w0);
+    let d = dv_from(sigma, z, t, e, v.v2);
     Sim3Coeffs {
         v0: v.v0,
         v1: v.v1,
@@ -129,44 +131,43 @@ pub struct Exps<T> {
     pub g: T,
 }
 
-fn exps_of<T: Width>(sigma: T, et: T, mt: T) -> Exps<T>
-    ensures { as_exps T.float result ≡ closed_exps (T.float sigma) (T.float et) (T.float mt) }
+fn exps_of<T: Width>(sigma: T, x: EtMt<T>) -> Exps<T>
+    ensures { as_exps T.float result ≡ closed_exps (T.float sigma) (T.float x.et) (T.float x.mt) }
 {
-    let pos = T::of(0.0) < sigma;
+    let pos = T::of(0.0).is_below(sigma);
     Exps {
-        e: ieee::pick(pos, T::of(1.0), et),
-        m1: ieee::pick(pos, -mt, mt),
-        g: ieee::pick(pos, et, T::of(1.0)),
+        e: ieee::pick(pos, T::of(1.0), x.et),
+        m1: ieee::pick(pos, -x.mt, x.mt),
+        g: ieee::pick(pos, x.et, T::of(1.0)),
     }
 }
 
-// The circle functions from those that v reads: b and d are left zero.
-fn only<T: Width>(t: SincA<T>) -> SincABD<T>
-    ensures { as_sinc_abd T.float result ≡ closed_only (as_sinc_a T.float t) }
+// Those of the circle functions that v reads.
+fn of_v<T: Width>(t: SincABD<T>) -> SincA<T>
+    ensures { as_sinc_a T.float result ≡ record { sinc = T.float t.sinc; a = T.float t.a } }
 {
-    SincABD {
-        a: t.a,
-        b: T::of(0.0),
+    SincA {
         sinc: t.sinc,
-        d: T::of(0.0),
+        a: t.a,
     }
 }
 
-// v and chi_delta alone, from the circle functions t and from e^t, e^t - 1 at t = -|sigma|.
+// v and chi_delta alone, from the circle functions t and from e^t, e^t - 1 at t = -|sigma|. PERF: it and `v_at` have
+// several callers, and as functions of their own they would be handed their numbers in memory.
+#[inline(always)]
 pub fn closed_v<T: Width>(
     sigma: T,
     z: T,
     t: SincA<T>,
-    et: T,
-    mt: T,
+    et_mt: EtMt<T>,
     form_b: bool,
     small: bool,
 ) -> Coeffs4<T>
-    ensures { as_coeffs4 T.float result ≡ closed_v_from T.format (T.float sigma) (T.float z) (closed_only (as_sinc_a T.float t)) (T.float et) (T.float mt) form_b small }
+    ensures { as_coeffs4 T.float result ≡ closed_v_from T.format (T.float sigma) (T.float z) (closed_only (as_sinc_a T.float t)) (T.float et_mt.et) (T.float et_mt.mt) form_b small }
 {
-    let x = exps_of(sigma, et, mt);
+    let x = exps_of(sigma, et_mt);
     let v0 = v0_of(sigma, x.g, x.m1, small);
-    v_from(sigma, z, only(t), x.e, x.m1, v0, form_b)
+    v_from(sigma, z, t, x.e, x.m1, v0, form_b)
 }
 
 // All nine, from the same.
@@ -174,20 +175,16 @@ pub fn closed_from<T: Width>(
     sigma: T,
     z: T,
     t: SincABD<T>,
-    et: T,
-    mt: T,
+    et_mt: EtMt<T>,
     form_b: bool,
     small: bool,
 ) -> Sim3Coeffs<T>
-    ensures { as_sim3_coeffs T.float result ≡ closed_from T.format (T.float sigma) (T.float z) (as_sinc_abd T.float t) (T.float et) (T.float mt) form_b small }
+    ensures { as_sim3_coeffs T.float result ≡ closed_from T.format (T.float sigma) (T.float z) (as_sinc_abd T.float t) (T.float et_mt.et) (T.float et_mt.mt) form_b small }
 {
-    let x = exps_of(sigma, et, mt);
-    let v0 = v0_of(sigma, x.g, x.m1, small);
+    let v = closed_v(sigma, z, of_v(t), et_mt, form_b, small);
+    let x = exps_of(sigma, et_mt);
     let w0 = w0_of(sigma, x.g, x.m1, small);
-    let v = v_from(sigma, z, t, x.e, x.m1, v0, form_b);
-    let w = w_from(sigma, z, v, w0);
-    let d = dv_from(sigma, z, t, x.e, v.v2);
-    nine(v, w0, w, d)
+    nine(sigma, z, t, x.e, v, w0)
 }
 
 // v0 and w0 at both signs.
@@ -227,8 +224,8 @@ fn ends_of<T: Width>(sigma: T, x: Exps<T>, y: Exps<T>, small: bool) -> Ends<T>
 pub fn ends_both<T: Width>(sigma: T, x: EtMt<T>, y: EtMt<T>, small: bool) -> Ends<T>
     ensures { as_ends T.float result ≡ closed_ends T.format (T.float sigma) (closed_exps (T.float sigma) (T.float x.et) (T.float x.mt)) (closed_exps (neg (T.float sigma)) (T.float y.et) (T.float y.mt)) small }
 {
-    let p = exps_of(sigma, x.et, x.mt);
-    let n = exps_of(-sigma, y.et, y.mt);
+    let p = exps_of(sigma, x);
+    let n = exps_of(-sigma, y);
     ends_of(sigma, p, n, small)
 }
 
@@ -246,16 +243,13 @@ pub fn closed_both<T: Width>(
     ensures { as_coeffs_pair T.float result ≡ record { pos = closed_with T.format (T.float sigma) (T.float z) (as_sinc_abd T.float t) (T.float x.et) (T.float x.mt) (T.float h.v0) (T.float h.w0) form_b; neg = closed_with T.format (neg (T.float sigma)) (T.float z) (as_sinc_abd T.float t) (T.float y.et) (T.float y.mt) (T.float h.v0_neg) (T.float h.w0_neg) form_b } }
 {
     let minus = -sigma;
-    let p = exps_of(sigma, x.et, x.mt);
-    let n = exps_of(minus, y.et, y.mt);
-    let a = v_from(sigma, z, t, p.e, p.m1, h.v0, form_b);
-    let b = v_from(minus, z, t, n.e, n.m1, h.v0_neg, form_b);
-    let wa = w_from(sigma, z, a, h.w0);
-    let wb = w_from(minus, z, b, h.w0_neg);
-    let da = dv_from(sigma, z, t, p.e, a.v2);
-    let db = dv_from(minus, z, t, n.e, b.v2);
+    let p = exps_of(sigma, x);
+    let n = exps_of(minus, y);
+    let tv = of_v(t);
+    let a = v_from(sigma, z, tv, p.e, p.m1, h.v0, form_b);
+    let b = v_from(minus, z, tv, n.e, n.m1, h.v0_neg, form_b);
     CoeffsPair {
-        pos: nine(a, h.w0, wa, da),
-        neg: nine(b, h.w0_neg, wb, db),
+        pos: nine(sigma, z, t, p.e, a, h.w0),
+        neg: nine(minus, z, t, n.e, b, h.w0_neg),
     }
 }

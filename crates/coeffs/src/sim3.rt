@@ -2,7 +2,7 @@
 // both signs. Each finds the arm once.
 ghost use Rattle.std.specs.Prelude.{◌≡◌};
 ghost use Rattle.linalg.specs.Vector.{vec_norm_sq};
-ghost use Rattle.coeffs.specs.Group.{coeffs_scaled, coeffs_unscale, coeffs_unscale_v, coeffs_plain, coeffs_v, coeffs_pair};
+ghost use Rattle.coeffs.specs.Group.{coeffs_scaled, coeffs_unscale, coeffs_unscale_v, coeffs_plain, coeffs_v_scaled, coeffs_v, coeffs_armed, coeffs_pair, coeffs_armed_pair};
 ghost use Rattle.coeffs.specs.Private.{closed_one, minus_et_mt, pair_ends, closed_pair, series_arm, series_arms};
 ghost use Rattle.coeffs.specs.Entries.{scaled_answer, coeffs_answer, v_answer, v_scaled_answer, pair_answer};
 ghost use Rattle.coeffs.specs.Entries.{armed_answer, armed_pair_answer};
@@ -11,60 +11,98 @@ ghost use Rattle.series.specs.Floats.{as_coeffs4, as_sim3_coeffs};
 ghost use Rattle.coeffs.specs.Floats.{as_armed, as_armed_pair, as_ends, as_et_mt, as_scaled, as_scaled_pair, as_v_scaled};
 ghost use Rattle.circle.specs.Floats.{as_sinc_abd};
 ghost use Rattle.linalg.specs.Floats.{as_vec3};
+ghost use Rattle.closed.specs.Arm.{arm_number, series_number};
 ghost use Rattle.closed.specs.Floats.{as_values};
 
 use crate::closed_form::{Ends, EtMt, closed_both, closed_from, closed_v, ends_both};
 use crate::width::Width;
-use circle::kernel::SincABD;
-use closed::limits::{CLOSED, arm, on_form_b, w0_small};
+use circle::kernel::{SincABD, five_group, two_group};
+use closed::limits::{Arm, SeriesArm, on_form_b, w0_small};
 use closed::values::{Values, at_zero};
 use linalg::refusal::Refusal;
 use linalg::vector::Vec3;
-use series::sim3::{Coeffs4, Sim3Coeffs};
+use series::count::Count;
+use series::pair::series_pair_at;
+use series::sim3::{Coeffs4, Signs, Sim3Coeffs, series_at, series_v_at};
 
-// The coefficients as their arm forms them: scaled by e^-sigma where `scaled`.
+// Coefficients as their arm forms them: scaled by e^-sigma where `scaled`.
 #[derive(Clone, Copy)]
-pub struct Scaled<T> {
-    pub c: Sim3Coeffs<T>,
+pub struct Scaled<C> {
+    pub c: C,
     pub scaled: bool,
 }
 
 // v and chi_delta alone, as their arm forms them.
-#[derive(Clone, Copy)]
-pub struct VScaled<T> {
-    pub c: Coeffs4<T>,
-    pub scaled: bool,
-}
+pub type VScaled<T> = Scaled<Coeffs4<T>>;
 
 // The coefficients at sigma and at -sigma.
-#[derive(Clone, Copy)]
-pub struct ScaledPair<T> {
-    pub pos: Scaled<T>,
-    pub neg: Scaled<T>,
-}
+pub type ScaledPair<T> = Signs<Scaled<Sim3Coeffs<T>>>;
 
-// The coefficients with the arm that formed them, 1 to 4 for the series with more and more terms and 5
-// for the closed one; `ends` says whether v0 and w0 of the closed arm come from series of their own.
+// The coefficients with the arm that formed them; `ends` says whether v0 and w0 of the closed arm come
+// from series of their own.
 #[derive(Clone, Copy)]
 pub struct Armed<T> {
-    pub s: Scaled<T>,
-    pub arm: u8,
+    pub s: Scaled<Sim3Coeffs<T>>,
+    pub arm: Arm,
     pub ends: bool,
 }
 
 // The same at sigma and at -sigma.
-#[derive(Clone, Copy)]
-pub struct ArmedPair<T> {
-    pub pos: Armed<T>,
-    pub neg: Armed<T>,
+pub type ArmedPair<T> = Signs<Armed<T>>;
+
+impl<T: Width> Scaled<Sim3Coeffs<T>> {
+    // The coefficients times up where scaled, times 1 elsewhere: the last step of the scaled form.
+    pub fn unscale(self, up: T) -> Sim3Coeffs<T>
+        ensures { as_sim3_coeffs T.float result ≡ coeffs_unscale T.format (as_sim3_coeffs T.float self.c) (T.float up) self.scaled }
+    {
+        let s = ieee::pick(self.scaled, up, T::of(1.0));
+        let c = self.c;
+        Sim3Coeffs {
+            v0: s * c.v0,
+            v1: s * c.v1,
+            v2: s * c.v2,
+            w0: s * c.w0,
+            w1: s * c.w1,
+            w2: s * c.w2,
+            dv1: s * c.dv1,
+            dv2: s * c.dv2,
+            chi_delta: s * c.chi_delta,
+        }
+    }
 }
 
+impl<T: Width> Scaled<Coeffs4<T>> {
+    // The same on v and chi_delta alone.
+    fn unscale_v(self, up: T) -> Coeffs4<T>
+        ensures { as_coeffs4 T.float result ≡ coeffs_unscale_v T.format (as_coeffs4 T.float self.c) (T.float up) self.scaled }
+    {
+        let s = ieee::pick(self.scaled, up, T::of(1.0));
+        let c = self.c;
+        Coeffs4 {
+            v0: s * c.v0,
+            v1: s * c.v1,
+            v2: s * c.v2,
+            chi_delta: s * c.chi_delta,
+        }
+    }
+}
+
+// ---- at any z: what the entries answer where they do not refuse
+
 // The coefficients by a series arm.
-fn by_series<T: Width>(sigma: T, z: T, arm: u8) -> Result<Scaled<T>, Refusal>
-    ensures { told (as_scaled T.float) result ≡ series_arm T.format (T.float sigma) (T.float z) arm }
+fn by_series<T: Width>(sigma: T, z: T, arm: SeriesArm) -> Scaled<Sim3Coeffs<T>>
+    ensures { as_scaled T.float result ≡ series_arm T.format (T.float sigma) (T.float z) (series_number arm) }
 {
-    let c = series::sim3::series(sigma, z, T::arm_terms(arm))?;
-    Ok(Scaled { c, scaled: false })
+    Scaled {
+        c: series_at(
+            sigma,
+            z,
+            Count {
+                terms: T::arm_terms(arm),
+            },
+        ),
+        scaled: false,
+    }
 }
 
 // The coefficients by the closed arm from the circle functions t, v0 and w0 by their series where
@@ -76,117 +114,62 @@ fn closed_one<T: Width>(
     small: bool,
     t: SincABD<T>,
     v: Values<T>,
-) -> Scaled<T>
+) -> Scaled<Sim3Coeffs<T>>
     ensures { as_scaled T.float result ≡ closed_one T.format (T.float sigma) (T.float z) (T.float delta) small (as_sinc_abd T.float t) (as_values T.float v) }
 {
-    let c = closed_from(sigma, z, t, v.e, v.m, on_form_b(delta), small);
     Scaled {
-        c,
-        scaled: T::of(0.0) < sigma,
+        c: closed_from(sigma, z, t, at_plus(v), on_form_b(delta), small),
+        scaled: T::of(0.0).is_below(sigma),
     }
 }
 
-// The coefficients at (sigma, z = theta^2) and whether they are scaled; refusal 1 for z < 0.
-pub fn sim3_coeffs_scaled<T: Width>(sigma: T, z: T, v: Values<T>) -> Result<Scaled<T>, Refusal>
-    ensures { told (as_scaled T.float) result ≡ scaled_answer T.format (T.float sigma) (T.float z) (as_values T.float v) }
+// sim3_coeffs_armed.
+fn armed_at<T: Width>(sigma: T, z: T, v: Values<T>) -> Armed<T>
+    ensures { as_armed T.float result ≡ coeffs_armed T.format (T.float sigma) (T.float z) (as_values T.float v) }
 {
     let delta = sigma * sigma + z;
-    let at = arm(delta);
-    if at < CLOSED {
-        return by_series(sigma, z, at);
-    }
-    let t = circle::kernel::sinc_a_b_d(z, v.root, v.sin_half, v.cos_half, v.sin)?;
-    let small = w0_small(sigma);
-    Ok(closed_one(sigma, z, delta, small, t, v))
-}
-
-// sim3_coeffs_scaled with the arm told.
-pub fn sim3_coeffs_armed<T: Width>(sigma: T, z: T, v: Values<T>) -> Result<Armed<T>, Refusal>
-    ensures { told (as_armed T.float) result ≡ armed_answer T.format (T.float sigma) (T.float z) (as_values T.float v) }
-{
-    let delta = sigma * sigma + z;
-    let at = arm(delta);
-    if at < CLOSED {
-        let s = by_series(sigma, z, at)?;
-        return Ok(Armed {
-            s,
-            arm: at,
+    let arm = Arm::at(delta);
+    match arm {
+        Arm::Series(by) => Armed {
+            s: by_series(sigma, z, by),
+            arm,
             ends: false,
-        });
-    }
-    let t = circle::kernel::sinc_a_b_d(z, v.root, v.sin_half, v.cos_half, v.sin)?;
-    let ends = w0_small(sigma);
-    let s = closed_one(sigma, z, delta, ends, t, v);
-    Ok(Armed { s, arm: at, ends })
-}
-
-// c times up where scaled, c times 1 elsewhere: the last step of the scaled form.
-pub fn unscale<T: Width>(c: Sim3Coeffs<T>, up: T, scaled: bool) -> Sim3Coeffs<T>
-    ensures { as_sim3_coeffs T.float result ≡ coeffs_unscale T.format (as_sim3_coeffs T.float c) (T.float up) scaled }
-{
-    let s = ieee::pick(scaled, up, T::of(1.0));
-    Sim3Coeffs {
-        v0: s * c.v0,
-        v1: s * c.v1,
-        v2: s * c.v2,
-        w0: s * c.w0,
-        w1: s * c.w1,
-        w2: s * c.w2,
-        dv1: s * c.dv1,
-        dv2: s * c.dv2,
-        chi_delta: s * c.chi_delta,
+        },
+        Arm::Closed => {
+            let t = five_group(z, v.root, v.sin_half, v.cos_half, v.sin);
+            let ends = w0_small(sigma);
+            let s = closed_one(sigma, z, delta, ends, t, v);
+            Armed { s, arm, ends }
+        }
     }
 }
 
-// The coefficients at (sigma, z), unscaled; refusal 1 for z < 0.
-pub fn sim3_coeffs<T: Width>(sigma: T, z: T, v: Values<T>) -> Result<Sim3Coeffs<T>, Refusal>
-    ensures { told (as_sim3_coeffs T.float) result ≡ coeffs_answer T.format (T.float sigma) (T.float z) (as_values T.float v) }
-{
-    let s = sim3_coeffs_scaled(sigma, z, v)?;
-    let c = s.c;
-    Ok(unscale(c, v.up, s.scaled))
-}
-
-// v and chi_delta of sim3_coeffs_scaled alone: the same bits.
-pub fn sim3_v_scaled<T: Width>(sigma: T, z: T, v: Values<T>) -> Result<VScaled<T>, Refusal>
-    ensures { told (as_v_scaled T.float) result ≡ v_scaled_answer T.format (T.float sigma) (T.float z) (as_values T.float v) }
+// sim3_v_scaled. PERF: see `closed_v`.
+#[inline(always)]
+fn v_at<T: Width>(sigma: T, z: T, v: Values<T>) -> VScaled<T>
+    ensures { as_v_scaled T.float result ≡ coeffs_v_scaled T.format (T.float sigma) (T.float z) (as_values T.float v) }
 {
     let delta = sigma * sigma + z;
-    let at = arm(delta);
-    if at < CLOSED {
-        let c = series::sim3::series_v(sigma, z, T::arm_terms(at))?;
-        return Ok(VScaled { c, scaled: false });
+    match Arm::at(delta) {
+        Arm::Series(by) => Scaled {
+            c: series_v_at(
+                sigma,
+                z,
+                Count {
+                    terms: T::arm_terms(by),
+                },
+            ),
+            scaled: false,
+        },
+        Arm::Closed => {
+            let t = two_group(z, v.root, v.sin_half, v.cos_half);
+            let c = closed_v(sigma, z, t, at_plus(v), on_form_b(delta), w0_small(sigma));
+            Scaled {
+                c,
+                scaled: T::of(0.0).is_below(sigma),
+            }
+        }
     }
-    let t = circle::kernel::sinc_a(z, v.root, v.sin_half, v.cos_half)?;
-    let form_b = on_form_b(delta);
-    let small = w0_small(sigma);
-    let c = closed_v(sigma, z, t, v.e, v.m, form_b, small);
-    Ok(VScaled {
-        c,
-        scaled: T::of(0.0) < sigma,
-    })
-}
-
-// unscale on v and chi_delta alone.
-fn unscale_v<T: Width>(c: Coeffs4<T>, up: T, scaled: bool) -> Coeffs4<T>
-    ensures { as_coeffs4 T.float result ≡ coeffs_unscale_v T.format (as_coeffs4 T.float c) (T.float up) scaled }
-{
-    let s = ieee::pick(scaled, up, T::of(1.0));
-    Coeffs4 {
-        v0: s * c.v0,
-        v1: s * c.v1,
-        v2: s * c.v2,
-        chi_delta: s * c.chi_delta,
-    }
-}
-
-// v and chi_delta of sim3_coeffs alone: the same bits; refusal 1 for z < 0.
-pub fn sim3_v<T: Width>(sigma: T, z: T, v: Values<T>) -> Result<Coeffs4<T>, Refusal>
-    ensures { told (as_coeffs4 T.float) result ≡ v_answer T.format (T.float sigma) (T.float z) (as_values T.float v) }
-{
-    let s = sim3_v_scaled(sigma, z, v)?;
-    let c = s.c;
-    Ok(unscale_v(c, v.up, s.scaled))
 }
 
 // e^t and e^t - 1 of the values at sigma, and at -sigma.
@@ -236,23 +219,24 @@ fn closed_pair<T: Width>(
     );
     let a = c.pos;
     let b = c.neg;
-    ScaledPair {
+    Signs {
         pos: Scaled {
             c: a,
-            scaled: T::of(0.0) < sigma,
+            scaled: T::of(0.0).is_below(sigma),
         },
         neg: Scaled {
             c: b,
-            scaled: T::of(0.0) < -sigma,
+            scaled: T::of(0.0).is_below(-sigma),
         },
     }
 }
 
 // Both signs by a series arm.
-fn pair_by_series<T: Width>(sigma: T, z: T, arm: u8) -> Result<ScaledPair<T>, Refusal>
-    ensures { told (as_scaled_pair T.float) result ≡ series_arms T.format (T.float sigma) (T.float z) arm }
+fn pair_by_series<T: Width>(sigma: T, z: T, arm: SeriesArm) -> ScaledPair<T>
+    ensures { as_scaled_pair T.float result ≡ series_arms T.format (T.float sigma) (T.float z) (series_number arm) }
 {
-    let p = series::pair::series_pair(sigma, z, T::arm_terms(arm))?;
+    let terms = T::arm_terms(arm);
+    let p = series_pair_at(sigma, z, Count { terms });
     let a = p.pos;
     let b = p.neg;
     let pos = Scaled {
@@ -263,14 +247,14 @@ fn pair_by_series<T: Width>(sigma: T, z: T, arm: u8) -> Result<ScaledPair<T>, Re
         c: b,
         scaled: false,
     };
-    Ok(ScaledPair { pos, neg })
+    Signs { pos, neg }
 }
 
 // Both signs with the arm told: it is even in sigma.
-fn tell_pair<T: Width>(p: ScaledPair<T>, arm: u8, ends: bool) -> ArmedPair<T>
-    ensures { as_armed_pair T.float result ≡ record { pos = record { s = as_scaled T.float p.pos; arm = arm; ends = ends }; neg = record { s = as_scaled T.float p.neg; arm = arm; ends = ends } } }
+fn tell_pair<T: Width>(p: ScaledPair<T>, arm: Arm, ends: bool) -> ArmedPair<T>
+    ensures { as_armed_pair T.float result ≡ record { pos = record { s = as_scaled T.float p.pos; arm = arm_number arm; ends = ends }; neg = record { s = as_scaled T.float p.neg; arm = arm_number arm; ends = ends } } }
 {
-    ArmedPair {
+    Signs {
         pos: Armed {
             s: p.pos,
             arm,
@@ -284,6 +268,72 @@ fn tell_pair<T: Width>(p: ScaledPair<T>, arm: u8, ends: bool) -> ArmedPair<T>
     }
 }
 
+// sim3_coeffs_armed_pair.
+fn armed_pair_at<T: Width>(sigma: T, z: T, v: Values<T>) -> ArmedPair<T>
+    ensures { as_armed_pair T.float result ≡ coeffs_armed_pair T.format (T.float sigma) (T.float z) (as_values T.float v) }
+{
+    let delta = sigma * sigma + z;
+    let arm = Arm::at(delta);
+    match arm {
+        Arm::Series(by) => tell_pair(pair_by_series(sigma, z, by), arm, false),
+        Arm::Closed => {
+            let ends = w0_small(sigma);
+            let h = pair_ends(sigma, ends, v);
+            let t = five_group(z, v.root, v.sin_half, v.cos_half, v.sin);
+            tell_pair(closed_pair(sigma, z, delta, h, t, v), arm, ends)
+        }
+    }
+}
+
+// ---- at z = theta^2, refusal 1 for z < 0
+
+// The coefficients at (sigma, z) with the arm told.
+pub fn sim3_coeffs_armed<T: Width>(sigma: T, z: T, v: Values<T>) -> Result<Armed<T>, Refusal>
+    ensures { told (as_armed T.float) result ≡ armed_answer T.format (T.float sigma) (T.float z) (as_values T.float v) }
+{
+    if z.is_below(T::of(0.0)) {
+        return Err(Refusal::NegativeAngle);
+    }
+    Ok(armed_at(sigma, z, v))
+}
+
+// The coefficients at (sigma, z) and whether they are scaled: sim3_coeffs_armed without its arm.
+pub fn sim3_coeffs_scaled<T: Width>(
+    sigma: T,
+    z: T,
+    v: Values<T>,
+) -> Result<Scaled<Sim3Coeffs<T>>, Refusal>
+    ensures { told (as_scaled T.float) result ≡ scaled_answer T.format (T.float sigma) (T.float z) (as_values T.float v) }
+{
+    Ok(sim3_coeffs_armed(sigma, z, v)?.s)
+}
+
+// The coefficients at (sigma, z), unscaled.
+pub fn sim3_coeffs<T: Width>(sigma: T, z: T, v: Values<T>) -> Result<Sim3Coeffs<T>, Refusal>
+    ensures { told (as_sim3_coeffs T.float) result ≡ coeffs_answer T.format (T.float sigma) (T.float z) (as_values T.float v) }
+{
+    let s = sim3_coeffs_scaled(sigma, z, v)?;
+    Ok(s.unscale(v.up))
+}
+
+// v and chi_delta of sim3_coeffs_scaled alone: the same bits.
+pub fn sim3_v_scaled<T: Width>(sigma: T, z: T, v: Values<T>) -> Result<VScaled<T>, Refusal>
+    ensures { told (as_v_scaled T.float) result ≡ v_scaled_answer T.format (T.float sigma) (T.float z) (as_values T.float v) }
+{
+    if z.is_below(T::of(0.0)) {
+        return Err(Refusal::NegativeAngle);
+    }
+    Ok(v_at(sigma, z, v))
+}
+
+// v and chi_delta of sim3_coeffs alone: the same bits.
+pub fn sim3_v<T: Width>(sigma: T, z: T, v: Values<T>) -> Result<Coeffs4<T>, Refusal>
+    ensures { told (as_coeffs4 T.float) result ≡ v_answer T.format (T.float sigma) (T.float z) (as_values T.float v) }
+{
+    let s = sim3_v_scaled(sigma, z, v)?;
+    Ok(s.unscale_v(v.up))
+}
+
 // sim3_coeffs_armed at sigma and at -sigma, the latter on the mirrored values, each to the bit: the
 // arm, the circle functions, the exponential's values and the recurrence are shared.
 pub fn sim3_coeffs_armed_pair<T: Width>(
@@ -293,16 +343,10 @@ pub fn sim3_coeffs_armed_pair<T: Width>(
 ) -> Result<ArmedPair<T>, Refusal>
     ensures { told (as_armed_pair T.float) result ≡ armed_pair_answer T.format (T.float sigma) (T.float z) (as_values T.float v) }
 {
-    let delta = sigma * sigma + z;
-    let at = arm(delta);
-    if at < CLOSED {
-        return Ok(tell_pair(pair_by_series(sigma, z, at)?, at, false));
+    if z.is_below(T::of(0.0)) {
+        return Err(Refusal::NegativeAngle);
     }
-    let ends = w0_small(sigma);
-    let h = pair_ends(sigma, ends, v);
-    let t = circle::kernel::sinc_a_b_d(z, v.root, v.sin_half, v.cos_half, v.sin)?;
-    let p = closed_pair(sigma, z, delta, h, t, v);
-    Ok(tell_pair(p, at, ends))
+    Ok(armed_pair_at(sigma, z, v))
 }
 
 // sim3_coeffs_scaled at sigma and at -sigma, likewise: the armed pair without what it tells besides.
@@ -318,48 +362,49 @@ pub fn sim3_coeffs_scaled_pair<T: Width>(
     let p = sim3_coeffs_armed_pair(sigma, z, v)?;
     let pos = p.pos.s;
     let neg = p.neg.s;
-    Ok(ScaledPair { pos, neg })
+    Ok(Signs { pos, neg })
 }
 
-// ---- the same at z = |phi|^2, which is never below zero: nothing is refused, and the refusing arm
-// of each match is never taken.
+// ---- at z = |phi|^2, which is never below zero: nothing is refused
 
 // sim3_coeffs_scaled at |phi|^2.
-pub fn sim3_coeffs_scaled_of<T: Width>(phi: Vec3<T>, sigma: T, v: Values<T>) -> Scaled<T>
+pub fn sim3_coeffs_scaled_of<T: Width>(
+    phi: Vec3<T>,
+    sigma: T,
+    v: Values<T>,
+) -> Scaled<Sim3Coeffs<T>>
     ensures { as_scaled T.float result ≡ coeffs_scaled T.format (T.float sigma) (vec_norm_sq T.format (as_vec3 T.float phi)) (as_values T.float v) }
 {
-    match sim3_coeffs_scaled(sigma, phi.norm_sq(), v) {
-        Ok(s) => s,
-        Err(_) => unreachable!(),
-    }
+    armed_at(sigma, phi.norm_sq(), v).s
 }
 
 // sim3_coeffs at |phi|^2.
 pub fn sim3_coeffs_of<T: Width>(phi: Vec3<T>, sigma: T, v: Values<T>) -> Sim3Coeffs<T>
     ensures { as_sim3_coeffs T.float result ≡ coeffs_plain T.format (T.float sigma) (vec_norm_sq T.format (as_vec3 T.float phi)) (as_values T.float v) }
 {
-    match sim3_coeffs(sigma, phi.norm_sq(), v) {
-        Ok(c) => c,
-        Err(_) => unreachable!(),
-    }
+    sim3_coeffs_scaled_of(phi, sigma, v).unscale(v.up)
 }
 
 // sim3_v at |phi|^2.
 pub fn sim3_v_of<T: Width>(phi: Vec3<T>, sigma: T, v: Values<T>) -> Coeffs4<T>
     ensures { as_coeffs4 T.float result ≡ coeffs_v T.format (T.float sigma) (vec_norm_sq T.format (as_vec3 T.float phi)) (as_values T.float v) }
 {
-    match sim3_v(sigma, phi.norm_sq(), v) {
-        Ok(c) => c,
-        Err(_) => unreachable!(),
-    }
+    v_at(sigma, phi.norm_sq(), v).unscale_v(v.up)
+}
+
+// sim3_coeffs_armed_pair at |phi|^2.
+pub fn sim3_coeffs_armed_pair_of<T: Width>(phi: Vec3<T>, sigma: T, v: Values<T>) -> ArmedPair<T>
+    ensures { as_armed_pair T.float result ≡ coeffs_armed_pair T.format (T.float sigma) (vec_norm_sq T.format (as_vec3 T.float phi)) (as_values T.float v) }
+{
+    armed_pair_at(sigma, phi.norm_sq(), v)
 }
 
 // sim3_coeffs_scaled_pair at |phi|^2.
 pub fn sim3_coeffs_scaled_pair_of<T: Width>(phi: Vec3<T>, sigma: T, v: Values<T>) -> ScaledPair<T>
     ensures { as_scaled_pair T.float result ≡ coeffs_pair T.format (T.float sigma) (vec_norm_sq T.format (as_vec3 T.float phi)) (as_values T.float v) }
 {
-    match sim3_coeffs_scaled_pair(sigma, phi.norm_sq(), v) {
-        Ok(p) => p,
-        Err(_) => unreachable!(),
-    }
+    let p = sim3_coeffs_armed_pair_of(phi, sigma, v);
+    let pos = p.pos.s;
+    let neg = p.neg.s;
+    Signs { pos, neg }
 }

@@ -1,8 +1,7 @@
 -- Turning the translation round: t, b and f are sums of products with exactly one factor from ρ, and no test, divisor or coefficient reads ρ; the rest does not
 -- mention it. Assumes nothing.
-use mathlib.Core.Path.{◌≡◌, refl, sym, subst}
+use mathlib.Core.Path.{refl}
 use mathlib.Core.Bool.{Bool, true, false, cond}
-use Prim.Native.Nat.{ℕ}
 use lib.Ieee.{Float, Format, mul, lt}
 use Rattle.ieee.specs.Numbers.{f2}
 use Rattle.linalg.specs.Vector.{vec_norm_sq, vec_cross}
@@ -14,14 +13,13 @@ use Rattle.circle.specs.Limits.{row_limit}
 use Rattle.series.specs.Floats.{Coeffs4}
 use Rattle.series.specs.Floats.{Sim3Coeffs}
 use Rattle.closed.specs.Floats.{Values}
-use Rattle.sim3.specs.Exp.{poly_apply, v_apply, pose_exp}
+use Rattle.sim3.specs.Exp.{combined, poly_apply, v_apply, pose_exp}
 use Rattle.sim3.specs.Floats.{Sim3Tangent}
-use Rattle.sides.specs.Blocks.{combined, jl_q, jl_blocks, jac_jl, jl_and_inverse_from, jl_and_inverse}
+use Rattle.sides.specs.Blocks.{jl_q, jl_blocks, jac_jl, jl_and_inverse_from, jl_and_inverse}
 use Rattle.sides.specs.Side.{exp_and_jl}
 use Rattle.sides.specs.Pair.{block_pair}
 use Rattle.frames.specs.Pose.{framed_exp}
-use Rattle.demands.specs.Turned.{turned_round, OppositeVec, OppositeMat, TurnedSim3, TurnedBlock, ways_of, Turned, TurnedTheorem}
-use Rattle.demands.specs.Floats.{BothWays}
+use Rattle.demands.specs.Turned.{turned_round, OppositeVec, OppositeMat, TurnedSim3, TurnedBlock, one_way_of, ways_of, TurnedTheorem}
 use Rattle.demands.proofs.Opposite.{neg-vec, vec-neg, vec-add, vec-scale, scale_by, dot_by, by_opposite, cross_by, hat_opposite, mat-add, mat-sub, mat-scale, mat_by, mat-times, hat_mul, outer}
 
 -- ---- the exponential
@@ -81,7 +79,7 @@ module _ (f : Format) (tau : Sim3Tangent) (v : Values) (jl jlInv : Mat3) where
   inverted_turned = blocks-turned f tau.phi tau.rho _ (neg-vec tau.rho) _ jl
 
 pub turned_theorem : TurnedTheorem
-unfolding ways_of framed_exp exp_and_jl block_pair
+unfolding ways_of one_way_of framed_exp exp_and_jl block_pair
 turned_theorem f tau v jl jlInv from to =
     record {
       exp = record { sim3 = exp-turned f tau v jl jlInv; from = refl; to = refl };
@@ -91,34 +89,3 @@ turned_theorem f tau v jl jlInv from to =
       beside_inverse = inverted_turned f tau v jl jlInv;
       in_pair = inverted_turned f tau v jl jlInv;
     }
-
--- ---- what the ten calls return: each premise is what one call ensures
-module _ (f : Format) (tau : Sim3Tangent) (v : Values) (jl jlInv : Mat3) (from to : ℕ) (r : BothWays) where
-  pub ways_turned :
-      r.exp ≡ framed_exp f tau v from to →
-      r.exp_turned ≡ framed_exp f (turned_round tau) v from to →
-      r.left ≡ jac_jl f tau v jl →
-      r.left_turned ≡ jac_jl f (turned_round tau) v jl →
-      r.together ≡ exp_and_jl f tau v jl →
-      r.together_turned ≡ exp_and_jl f (turned_round tau) v jl →
-      r.inverted ≡ jl_and_inverse f tau v jl jlInv →
-      r.inverted_turned ≡ jl_and_inverse f (turned_round tau) v jl jlInv →
-      r.pair ≡ block_pair f tau v jl jlInv →
-      r.pair_turned ≡ block_pair f (turned_round tau) v jl jlInv →
-      (r ≡ ways_of f tau v jl jlInv from to) × Turned r
-  unfolding ways_of
-  ways_turned exp exp' left left' both both' inv inv' pair pair' =
-      let is : r ≡ ways_of f tau v jl jlInv from to = λ i.
-      record {
-        exp = exp i;
-        exp_turned = exp' i;
-        left = left i;
-        left_turned = left' i;
-        together = both i;
-        together_turned = both' i;
-        inverted = inv i;
-        inverted_turned = inv' i;
-        pair = pair i;
-        pair_turned = pair' i;
-      } in
-      (is, subst Turned (sym is) (turned_theorem f tau v jl jlInv from to))

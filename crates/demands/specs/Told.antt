@@ -11,11 +11,11 @@ abbrev pub signs_told : {T : Type 0} → (T → Float) → BothSigns T → Signs
 signs_told h r =
     record {
       pair = told (as_scaled_pair h) r.pair;
-      plus = told (as_scaled h) r.plus;
-      minus = told (as_scaled h) r.minus;
+      plus = told (as_scaled h) r.plus.coeffs;
+      minus = told (as_scaled h) r.minus.coeffs;
       block = as_block_pair h r.block;
-      left = as_jac_and_inverse h r.left;
-      right = as_jac_and_inverse h r.right;
-      exp = as_sim3 h r.exp;
-      exp_neg = as_sim3 h r.exp_neg;
+      left = as_jac_and_inverse h r.plus.left;
+      right = as_jac_and_inverse h r.minus.left;
+      exp = as_sim3 h r.plus.exp;
+      exp_neg = as_sim3 h r.minus.exp;
     }

@@ -18,7 +18,7 @@ use Rattle.sides.specs.Side.{exp_and_jl}
 use Rattle.sides.specs.Pair.{block_pair}
 use Rattle.frames.specs.Pose.{framed_exp}
 use Rattle.frames.specs.Floats.{Pose}
-use Rattle.demands.specs.Floats.{BothWays}
+use Rattle.demands.specs.Floats.{BothWays, OneWay}
 
 -- the tangent with all of ρ negated
 unfoldable pub turned_round : Sim3Tangent → Sim3Tangent
@@ -62,31 +62,30 @@ pub record TurnedBlock (x y : Sim3Jac) : Type 0 where
   pub f : OppositeVec x.f y.f
   pub e : y.e ≡ x.e
 
--- ---- the exponential with its frames, the left Jacobian by itself, both from one evaluation, with its inverse, and in the block pair: each both ways
-unfoldable pub ways_of : Format → Sim3Tangent → Values → Mat3 → Mat3 → ℕ → ℕ → BothWays
-ways_of f tau v jl jlInv from to =
-    let back = turned_round tau in
+-- ---- the exponential with its frames, the left Jacobian by itself, both from one evaluation, with its inverse, and in the block pair
+unfoldable pub one_way_of : Format → Sim3Tangent → Values → Mat3 → Mat3 → ℕ → ℕ → OneWay
+one_way_of f tau v jl jlInv from to =
     record {
       exp = framed_exp f tau v from to;
-      exp_turned = framed_exp f back v from to;
       left = jac_jl f tau v jl;
-      left_turned = jac_jl f back v jl;
       together = exp_and_jl f tau v jl;
-      together_turned = exp_and_jl f back v jl;
       inverted = jl_and_inverse f tau v jl jlInv;
-      inverted_turned = jl_and_inverse f back v jl jlInv;
       pair = block_pair f tau v jl jlInv;
-      pair_turned = block_pair f back v jl jlInv;
     }
+
+-- each both ways
+unfoldable pub ways_of : Format → Sim3Tangent → Values → Mat3 → Mat3 → ℕ → ℕ → BothWays
+ways_of f tau v jl jlInv from to =
+    record { ahead = one_way_of f tau v jl jlInv from to; turned = one_way_of f (turned_round tau) v jl jlInv from to }
 
 -- of the inverse, and of the pair's other blocks, nothing is said
 pub record Turned (r : BothWays) : Type 0 where
-  pub exp : TurnedPose r.exp r.exp_turned
-  pub left : TurnedBlock r.left r.left_turned
-  pub together_exp : TurnedSim3 r.together.x r.together_turned.x
-  pub together_left : TurnedBlock r.together.jl r.together_turned.jl
-  pub beside_inverse : TurnedBlock r.inverted.j r.inverted_turned.j
-  pub in_pair : TurnedBlock r.pair.left r.pair_turned.left
+  pub exp : TurnedPose r.ahead.exp r.turned.exp
+  pub left : TurnedBlock r.ahead.left r.turned.left
+  pub together_exp : TurnedSim3 r.ahead.together.x r.turned.together.x
+  pub together_left : TurnedBlock r.ahead.together.jl r.turned.together.jl
+  pub beside_inverse : TurnedBlock r.ahead.inverted.j r.turned.inverted.j
+  pub in_pair : TurnedBlock r.ahead.pair.left r.turned.pair.left
 
 -- what `turned_theorem` proves, without a premise
 abbrev pub TurnedTheorem : Type 0

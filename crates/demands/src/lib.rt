@@ -5,13 +5,17 @@
 // tangent with its translation turned round: module ways.
 #![tactic(auto)]
 
+ghost use Rattle.std.specs.Prelude.{◌≡◌};
 ghost use Rattle.demands.specs.Demand3.{Demand3};
 ghost use Rattle.demands.specs.Flags.{FlagsScale};
 ghost use Rattle.demands.specs.Told.{signs_told};
 ghost use Rattle.linalg.specs.Answer.{told};
-ghost use Rattle.sim3.specs.Floats.{as_sim3_tangent};
-ghost use Rattle.coeffs.specs.Floats.{as_armed_pair};
-ghost use Rattle.sides.specs.Floats.{as_block_pair};
+ghost use Rattle.sim3.specs.Exp.{pose_exp};
+ghost use Rattle.sim3.specs.Floats.{as_sim3, as_sim3_tangent};
+ghost use Rattle.coeffs.specs.Entries.{scaled_answer};
+ghost use Rattle.coeffs.specs.Floats.{as_armed_pair, as_scaled};
+ghost use Rattle.sides.specs.Blocks.{jl_and_inverse};
+ghost use Rattle.sides.specs.Floats.{as_block_pair, as_jac_and_inverse};
 ghost use Rattle.closed.specs.Floats.{as_values};
 ghost use Rattle.linalg.specs.Floats.{as_mat3};
 
@@ -20,6 +24,7 @@ use coeffs::sim3::{ArmedPair, Scaled, ScaledPair};
 use coeffs::width::Width;
 use linalg::matrix::Mat3;
 use linalg::refusal::Refusal;
+use series::sim3::Sim3Coeffs;
 use sides::blocks::JacAndInverse;
 use sides::pair::BlockPair;
 use sim3::sim3::Sim3;
@@ -27,18 +32,44 @@ use sim3::tangent::Sim3Tangent;
 
 pub mod ways; // both ways along rho
 
-// What the eight calls return: the pair of coefficients, and those of each sign apart; the pair of
-// blocks, and those of each sign apart; the exponential of the tangent and of its negative.
+// What the three calls on one sign return: the coefficients, the left Jacobian with its inverse, and the
+// exponential.
+#[derive(Clone, Copy)]
+pub struct OneSign<T> {
+    pub coeffs: Result<Scaled<Sim3Coeffs<T>>, Refusal>,
+    pub left: JacAndInverse<T>,
+    pub exp: Sim3<T>,
+}
+
+// What the eight calls return: the pair of coefficients and the pair of blocks, and what each sign gives apart.
 #[derive(Clone, Copy)]
 pub struct BothSigns<T> {
     pub pair: Result<ScaledPair<T>, Refusal>,
-    pub plus: Result<Scaled<T>, Refusal>,
-    pub minus: Result<Scaled<T>, Refusal>,
     pub block: BlockPair<T>,
-    pub left: JacAndInverse<T>,
-    pub right: JacAndInverse<T>,
-    pub exp: Sim3<T>,
-    pub exp_neg: Sim3<T>,
+    pub plus: OneSign<T>,
+    pub minus: OneSign<T>,
+}
+
+fn one_sign<T: Width>(
+    tau: Sim3Tangent<T>,
+    z: T,
+    v: Values<T>,
+    jl: Mat3<T>,
+    jl_inv: Mat3<T>,
+) -> OneSign<T>
+    ensures coeffs { told (as_scaled T.float) result.coeffs
+        ≡ scaled_answer T.format (T.float tau.sigma) (T.float z) (as_values T.float v) }
+    ensures left { as_jac_and_inverse T.float result.left
+        ≡ jl_and_inverse T.format (as_sim3_tangent T.float tau) (as_values T.float v) (as_mat3 T.float jl)
+        (as_mat3 T.float jl_inv) }
+    ensures exp { as_sim3 T.float result.exp
+        ≡ pose_exp T.format (as_sim3_tangent T.float tau) (as_values T.float v) }
+{
+    OneSign {
+        coeffs: coeffs::sim3::sim3_coeffs_scaled(tau.sigma, z, v),
+        left: sides::side::jl_and_inverse(tau, v, jl, jl_inv),
+        exp: Sim3::exp(tau, v),
+    }
 }
 
 // The paired functions on tau and z, and the one-sign functions on each sign: on the negative with
@@ -52,28 +83,19 @@ pub fn both_signs<T: Width>(
 ) -> BothSigns<T>
     ensures { Demand3 T.format (as_sim3_tangent T.float tau) (T.float z) (as_values T.float v) (as_mat3 T.float jl) (as_mat3 T.float jl_inv) (signs_told T.float result) }
 {
-    let sigma = tau.sigma;
     let back = tau.neg();
-    let m = v.mirrored(sigma);
+    let m = v.mirrored(tau.sigma);
     let jt = jl.transpose();
     let it = jl_inv.transpose();
-    let pair = coeffs::sim3::sim3_coeffs_scaled_pair(sigma, z, v);
-    let plus = coeffs::sim3::sim3_coeffs_scaled(sigma, z, v);
-    let minus = coeffs::sim3::sim3_coeffs_scaled(-sigma, z, m);
+    let pair = coeffs::sim3::sim3_coeffs_scaled_pair(tau.sigma, z, v);
     let block = sides::pair::block_pair(tau, v, jl, jl_inv);
-    let left = sides::side::jl_and_inverse(tau, v, jl, jl_inv);
-    let right = sides::side::jl_and_inverse(back, m, jt, it);
-    let exp = Sim3::exp(tau, v);
-    let exp_neg = Sim3::exp(back, m);
+    let plus = one_sign(tau, z, v, jl, jl_inv);
+    let minus = one_sign(back, z, m, jt, it);
     BothSigns {
         pair,
+        block,
         plus,
         minus,
-        block,
-        left,
-        right,
-        exp,
-        exp_neg,
     }
 }
 

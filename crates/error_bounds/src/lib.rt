@@ -17,8 +17,10 @@ use coeffs::sim3::Scaled;
 use coeffs::width::Width;
 use linalg::refusal::Refusal;
 use linalg::vector::Vec3;
+use series::sim3::Sim3Coeffs;
 use sim3::sim3::Sim3;
 use sim3::tangent::Sim3Tangent;
+use so3::quat::Renormalize;
 
 // s R p + t, up being e^sigma of x.
 pub fn act<T: Width>(x: Sim3<T>, up: T, p: Vec3<T>) -> Vec3<T>
@@ -56,7 +58,11 @@ pub fn exp<T: Width>(tau: Sim3Tangent<T>, v: Values<T>) -> Sim3<T>
 }
 
 // The coefficients at sigma and z, or refusal 1.
-pub fn coefficients<T: Width>(sigma: T, z: T, v: Values<T>) -> Result<Scaled<T>, Refusal>
+pub fn coefficients<T: Width>(
+    sigma: T,
+    z: T,
+    v: Values<T>,
+) -> Result<Scaled<Sim3Coeffs<T>>, Refusal>
     ensures { CoefficientsAnswered T.format (T.float sigma) (T.float z) (told (as_scaled T.float) result) }
 {
     coeffs::sim3::sim3_coeffs_scaled(sigma, z, v)

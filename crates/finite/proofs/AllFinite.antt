@@ -1,9 +1,11 @@
 -- The product that tells whether a pose's numbers are all finite, in either format. Assumes nothing.
-use mathlib.Core.Path.{◌≡◌, refl, sym, ◌∙◌}
-use mathlib.Core.Bool.{Bool, true, false, ◌&&◌, and-true, and_assoc}
+use mathlib.Core.Path.{◌≡◌, refl, ◌∙◌}
+use mathlib.Core.Bool.{Bool, true, false, not, ◌&&◌, and-true, and_assoc}
 use mathlib.Core.List.{List, [], ◌∷◌, ◌++◌}
-use lib.Ieee.{Float, Format, mul, of_bits}
+use Prim.Native.Nat.{zero, suc}
+use lib.Ieee.{Float, nan, inf, fin, Format, mul, of_bits, is_nan}
 use Rattle.ieee.specs.Finite.{is_finite, ZeroIf}
+use Rattle.ieee.specs.Signs.{plain}
 use Rattle.ieee.proofs.Finite.{zero-starts, zero-times, zero-joins}
 use Rattle.linalg.specs.Vector.{vec_numbers}
 use Rattle.sim3.specs.Floats.{Sim3}
@@ -75,3 +77,14 @@ pose-zero f x =
     let two : (a b c d : Float) → ZeroIf (fine (a ∷ b ∷ c ∷ d ∷ [])) (mul f (zeros f (a ∷ b ∷ [])) (zeros f (c ∷ d ∷ []))) =
     λ a b c d. joined f (a ∷ b ∷ []) (c ∷ d ∷ []) _ _ (begun f (a ∷ b ∷ [])) (begun f (c ∷ d ∷ [])) in
     woven f (pose_numbers x) _ _ (two x.q.w x.q.y x.t.x x.t.z) (two x.q.x x.q.z x.t.y x.sigma)
+
+-- such a product is told by whether it is NaN
+pub told_by_nan : (b : Bool) (z : Float) → ZeroIf b z → not (is_nan z) ≡ b
+unfolding plain is_nan
+told_by_nan true nan h = absurd (cc)
+told_by_nan false nan h = refl
+told_by_nan true (inf s) h = refl
+told_by_nan false (inf s) h = absurd (cc)
+told_by_nan true (fin s m e) h = refl
+told_by_nan false (fin s zero e) h = absurd (cc)
+told_by_nan false (fin s (suc m) e) h = absurd (cc)

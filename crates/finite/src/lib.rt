@@ -24,10 +24,8 @@ fn pose_zero(x: Sim3<f64>) -> f64
     a * c * (b * d)
 }
 
-// A NaN does not equal itself.
 pub fn pose(x: Sim3<f64>) -> bool
     ensures { result ≡ all_finite (numbers (pose_numbers x)) }
 {
-    let z = pose_zero(x);
-    z == z
+    !pose_zero(x).is_nan()
 }

@@ -1,11 +1,12 @@
 -- The structs over the floats that the definitions speak of, and each struct of the code as one of them: `h` gives the float of a number.
 use Rattle.std.specs.Prelude.{Float}
-use Rattle.framed_jacobian.specs.declared.PoseAndJl as CodePoseAndJl
-use Rattle.frames.specs.Floats.{as_pose}
+use Rattle.sides.specs.declared.side.ExpAndJl as CodeExpAndJl
+use Rattle.frames.specs.declared.Pose as CodePose
+use Rattle.frames.specs.Floats.{Pose, as_pose}
 use Rattle.jacobian.specs.Floats.{as_sim3_jac}
 
 abbrev pub PoseAndJl : Type 0
-PoseAndJl = CodePoseAndJl.PoseAndJl Float
+PoseAndJl = CodeExpAndJl.ExpAndJl Pose Float
 
-abbrev pub as_pose_and_jl : {T : Type 0} → (T → Float) → CodePoseAndJl.PoseAndJl T → PoseAndJl
+abbrev pub as_pose_and_jl : {T : Type 0} → (T → Float) → CodeExpAndJl.ExpAndJl (CodePose.Pose T) T → PoseAndJl
 as_pose_and_jl h a = record { x = as_pose h a.x; jl = as_sim3_jac h a.jl }

@@ -11,34 +11,30 @@ ghost use Rattle.closed.specs.Floats.{as_values};
 
 use closed::values::Values;
 use coeffs::width::Width;
-use frames::Pose;
-use jacobian::jac::Sim3Jac;
+use frames::{Frames, Pose};
 use linalg::matrix::Mat3;
+use sides::side::ExpAndJl;
 use sim3::tangent::Sim3Tangent;
-
-#[derive(Clone, Copy)]
-pub struct PoseAndJl<T> {
-    pub x: Pose<T>,
-    pub jl: Sim3Jac<T>,
-}
 
 // (Exp tau, J_l(tau)) from one evaluation of the coefficients, with the values of tau and J_l(phi).
 pub fn exp_and_jl<T: Width>(
     tau: Sim3Tangent<T>,
     v: Values<T>,
     jl_phi: Mat3<T>,
-    from: u16,
-    to: u16,
-) -> PoseAndJl<T>
+    frames: Frames,
+) -> ExpAndJl<Pose<T>, T>
     ensures { as_pose_and_jl T.float result
-        ≡ framed_exp_and_jl T.format (as_sim3_tangent T.float tau) (as_values T.float v) (as_mat3 T.float jl_phi) from
-        to }
+        ≡ framed_exp_and_jl T.format (as_sim3_tangent T.float tau) (as_values T.float v) (as_mat3 T.float jl_phi)
+        frames.from frames.to }
 {
     let both = sides::side::exp_and_jl(tau, v, jl_phi);
-    let sim3 = both.x;
-    let jl = both.jl;
-    PoseAndJl {
-        x: Pose { sim3, from, to },
-        jl,
+    let Frames { from, to } = frames;
+    ExpAndJl {
+        x: Pose {
+            sim3: both.x,
+            from,
+            to,
+        },
+        jl: both.jl,
     }
 }

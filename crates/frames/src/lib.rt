@@ -22,7 +22,7 @@ use linalg::refusal::Refusal;
 use linalg::vector::Vec3;
 use sim3::sim3::Sim3;
 use sim3::tangent::Sim3Tangent;
-use so3::quat::Quat;
+use so3::quat::{Quat, Renormalize};
 
 #[derive(Clone, Copy)]
 pub struct Pose<T> {
@@ -31,18 +31,29 @@ pub struct Pose<T> {
     pub to: u16,
 }
 
-fn between<T: Real>(sim3: Sim3<T>, from: u16, to: u16) -> Pose<T>
-    ensures { as_pose T.float result ≡ framed (as_sim3 T.float sim3) from to }
-{
-    Pose { sim3, from, to }
+// The two frames of a pose that starts from none.
+#[derive(Clone, Copy, PartialEq, Eq)]
+pub struct Frames {
+    pub from: u16,
+    pub to: u16,
 }
 
-// x, where the frames a and b are one and the same.
-fn meet<T: Real>(a: u16, b: u16, x: Pose<T>) -> Result<Pose<T>, Refusal>
-    ensures { told (as_pose T.float) result ≡ meets a b (as_pose T.float x) }
+fn between<T: Real>(sim3: Sim3<T>, frames: Frames) -> Pose<T>
+    ensures { as_pose T.float result ≡ framed (as_sim3 T.float sim3) frames.from frames.to }
+{
+    Pose {
+        sim3,
+        from: frames.from,
+        to: frames.to,
+    }
+}
+
+// A product's numbers and frames, where the frames a and b, at which its operands meet, are one and the same.
+fn joined<T: Real>(a: u16, b: u16, sim3: Sim3<T>, frames: Frames) -> Result<Pose<T>, Refusal>
+    ensures { told (as_pose T.float) result ≡ meets a b (framed (as_sim3 T.float sim3) frames.from frames.to) }
 {
     if a == b {
-        Ok(x)
+        Ok(between(sim3, frames))
     } else {
         Err(Refusal::FramesDiffer)
     }
@@ -50,17 +61,17 @@ fn meet<T: Real>(a: u16, b: u16, x: Pose<T>) -> Result<Pose<T>, Refusal>
 
 impl<T: Real> Pose<T> {
     // (R, t, sigma) and the frames.
-    pub fn from_parts(q: Quat<T>, t: Vec3<T>, sigma: T, from: u16, to: u16) -> Pose<T>
+    pub fn from_parts(q: Quat<T>, t: Vec3<T>, sigma: T, frames: Frames) -> Pose<T>
         ensures { as_pose T.float result
-            ≡ framed (pose (as_quat T.float q) (as_vec3 T.float t) (T.float sigma)) from to }
+            ≡ framed (pose (as_quat T.float q) (as_vec3 T.float t) (T.float sigma)) frames.from frames.to }
     {
-        between(Sim3::from_parts(q, t, sigma), from, to)
+        between(Sim3::from_parts(q, t, sigma), frames)
     }
 
-    pub fn identity(from: u16, to: u16) -> Pose<T>
-        ensures { as_pose T.float result ≡ framed_identity from to }
+    pub fn identity(frames: Frames) -> Pose<T>
+        ensures { as_pose T.float result ≡ framed_identity frames.from frames.to }
     {
-        between(Sim3::identity(), from, to)
+        between(Sim3::identity(), frames)
     }
 
     // X Y, where X starts from the frame to which Y goes; up is e^sigma of X.
@@ -68,17 +79,22 @@ impl<T: Real> Pose<T> {
         ensures { told (as_pose T.float) result
             ≡ framed_mul T.format (as_pose T.float self) (as_pose T.float other) (T.float up) }
     {
-        let x = self.sim3;
-        let joined = between(x.mul(other.sim3, up), other.from, self.to);
-        meet(self.from, other.to, joined)
+        let frames = Frames {
+            from: other.from,
+            to: self.to,
+        };
+        joined(self.from, other.to, self.sim3.mul(other.sim3, up), frames)
     }
 
     // X^-1, back from `to` to `from`; down is e^-sigma.
     pub fn inverse(self, down: T) -> Pose<T>
         ensures { as_pose T.float result ≡ framed_inverse T.format (as_pose T.float self) (T.float down) }
     {
-        let x = self.sim3;
-        between(x.inverse(down), self.to, self.from)
+        Pose {
+            sim3: self.sim3.inverse(down),
+            from: self.to,
+            to: self.from,
+        }
     }
 
     // X Y^-1, where both start from one frame; ds is the exponential of the difference of the two
@@ -87,9 +103,14 @@ impl<T: Real> Pose<T> {
         ensures { told (as_pose T.float) result
             ≡ framed_mul_inv T.format (as_pose T.float self) (as_pose T.float other) (T.float ds) }
     {
-        let x = self.sim3;
-        let joined = between(x.mul_inv(other.sim3, ds), other.to, self.to);
-        meet(self.from, other.from, joined)
+        let to = self.to;
+        let frames = Frames { from: other.to, to };
+        joined(
+            self.from,
+            other.from,
+            self.sim3.mul_inv(other.sim3, ds),
+            frames,
+        )
     }
 
     // Y^-1 X, where both go to one frame; down is e^-sigma of Y.
@@ -97,27 +118,27 @@ impl<T: Real> Pose<T> {
         ensures { told (as_pose T.float) result
             ≡ framed_inv_mul T.format (as_pose T.float self) (as_pose T.float other) (T.float down) }
     {
-        let x = self.sim3;
-        let joined = between(x.inv_mul(other.sim3, down), self.from, other.from);
-        meet(self.to, other.to, joined)
-    }
-
-    // The quaternion's Newton step; the frames stay.
-    pub fn renormalized(self) -> Pose<T>
-        ensures { as_pose T.float result ≡ framed_renormalized T.format (as_pose T.float self) }
-    {
-        let x = self.sim3;
-        between(x.renormalized(), self.from, self.to)
+        let to = other.from;
+        let frames = Frames {
+            from: self.from,
+            to,
+        };
+        joined(
+            self.to,
+            other.to,
+            self.sim3.inv_mul(other.sim3, down),
+            frames,
+        )
     }
 }
 
 impl<T: Width> Pose<T> {
     // Exp tau, which starts from no pose.
-    pub fn exp(tau: Sim3Tangent<T>, v: Values<T>, from: u16, to: u16) -> Pose<T>
+    pub fn exp(tau: Sim3Tangent<T>, v: Values<T>, frames: Frames) -> Pose<T>
         ensures { as_pose T.float result
-            ≡ framed_exp T.format (as_sim3_tangent T.float tau) (as_values T.float v) from to }
+            ≡ framed_exp T.format (as_sim3_tangent T.float tau) (as_values T.float v) frames.from frames.to }
     {
-        between(Sim3::exp(tau, v), from, to)
+        between(Sim3::exp(tau, v), frames)
     }
 
     // X Exp(tau), which keeps the frames; up is e^sigma of X, v the values of tau.
@@ -126,8 +147,10 @@ impl<T: Width> Pose<T> {
             ≡ framed_rplus T.format (as_pose T.float self) (T.float up) (as_sim3_tangent T.float tau)
             (as_values T.float v) }
     {
-        let x = self.sim3;
-        between(x.rplus(up, tau, v), self.from, self.to)
+        Pose {
+            sim3: self.sim3.rplus(up, tau, v),
+            ..self
+        }
     }
 
     // Exp(tau) X, which keeps the frames; v the values of tau.
@@ -135,14 +158,23 @@ impl<T: Width> Pose<T> {
         ensures { as_pose T.float result
             ≡ framed_lplus T.format (as_pose T.float self) (as_sim3_tangent T.float tau) (as_values T.float v) }
     {
-        let x = self.sim3;
-        between(x.lplus(tau, v), self.from, self.to)
+        Pose {
+            sim3: self.sim3.lplus(tau, v),
+            ..self
+        }
     }
 }
 
-// `Pose::renormalized` on a pose that is lent; nothing else is altered.
-pub fn renormalize<T: Real>(x: &mut Pose<T>)
-    ensures { as_pose T.float x.new ≡ framed_renormalized T.format (as_pose T.float x.old) }
-{
-    *x = (*x).renormalized();
+impl<T: Real> Renormalize for Pose<T> {
+    ghost renormalizes = { λ x y. as_pose T.float y ≡ framed_renormalized T.format (as_pose T.float x) };
+
+    // The quaternion's Newton step; the frames stay.
+    fn renormalized(self) -> Pose<T>
+        ensures { as_pose T.float result ≡ framed_renormalized T.format (as_pose T.float self) }
+    {
+        Pose {
+            sim3: self.sim3.renormalized(),
+            ..self
+        }
+    }
 }

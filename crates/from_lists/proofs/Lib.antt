@@ -1,2 +1,4 @@
 -- The laws of lists that are read whole.
+pub mod Back
+pub mod Items
 pub mod Lists

@@ -11,23 +11,7 @@ use Rattle.frames.specs.Pose.{framed}
 use Rattle.frames.specs.Floats.{Pose}
 use Rattle.jacobian.specs.Floats.{Sim3Jac}
 use Rattle.layout.specs.Layout.{vec_count, mat_count, pose_count, tangent_count, values_count, block_count, vec_in, mat_in, pose_in, tangent_in, values_in, block_in}
-use Rattle.from_lists.specs.declared.VecRead.{VecRead}
-use Rattle.from_lists.specs.declared.VecRead.TheVariants as vecs
-use Rattle.from_lists.specs.declared.MatRead.{MatRead}
-use Rattle.from_lists.specs.declared.MatRead.TheVariants as mats
-use Rattle.from_lists.specs.declared.PoseRead.{PoseRead}
-use Rattle.from_lists.specs.declared.PoseRead.TheVariants as poses
-use Rattle.from_lists.specs.declared.Frames.{Frames}
-use Rattle.from_lists.specs.declared.FramesRead.{FramesRead}
-use Rattle.from_lists.specs.declared.FramesRead.TheVariants as pairs
-use Rattle.from_lists.specs.declared.FramedRead.{FramedRead}
-use Rattle.from_lists.specs.declared.FramedRead.TheVariants as FramedPoses
-use Rattle.from_lists.specs.declared.TangentRead.{TangentRead}
-use Rattle.from_lists.specs.declared.TangentRead.TheVariants as tangents
-use Rattle.from_lists.specs.declared.ValuesRead.{ValuesRead}
-use Rattle.from_lists.specs.declared.ValuesRead.TheVariants as tens
-use Rattle.from_lists.specs.declared.BlockRead.{BlockRead}
-use Rattle.from_lists.specs.declared.BlockRead.TheVariants as jacs
+use Rattle.frames.specs.declared.Frames.{Frames}
 
 -- the refusal of a list whose length is not the one that is due
 abbrev pub wrong_length : ℕ
@@ -76,36 +60,3 @@ frames_from l = sized l frames_count (record { from = get_or l 0 0; to = get_or 
 
 unfoldable pub framed_from : PoseLists → Answer Pose
 framed_from l = and_then (pose_from l.numbers) (λ x. and_then (frames_from l.frames) (λ k. answers (framed x k.from k.to)))
-
--- ---- what each case of a reading says
-unfoldable pub vec_read_told : VecRead → Answer Vec3
-vec_read_told (vecs.Got v) = answers v
-vec_read_told vecs.Wrong = refuses wrong_length
-
-unfoldable pub mat_read_told : MatRead → Answer Mat3
-mat_read_told (mats.Got m) = answers m
-mat_read_told mats.Wrong = refuses wrong_length
-
-unfoldable pub pose_read_told : PoseRead → Answer Sim3
-pose_read_told (poses.Got x) = answers x
-pose_read_told poses.Wrong = refuses wrong_length
-
-unfoldable pub frames_read_told : FramesRead → Answer Frames
-frames_read_told (pairs.Got k) = answers k
-frames_read_told pairs.Wrong = refuses wrong_length
-
-unfoldable pub framed_read_told : FramedRead → Answer Pose
-framed_read_told (FramedPoses.Got x) = answers x
-framed_read_told FramedPoses.Wrong = refuses wrong_length
-
-unfoldable pub tangent_read_told : TangentRead → Answer Sim3Tangent
-tangent_read_told (tangents.Got t) = answers t
-tangent_read_told tangents.Wrong = refuses wrong_length
-
-unfoldable pub values_read_told : ValuesRead → Answer Values
-values_read_told (tens.Got v) = answers v
-values_read_told tens.Wrong = refuses wrong_length
-
-unfoldable pub block_read_told : BlockRead → Answer Sim3Jac
-block_read_told (jacs.Got j) = answers j
-block_read_told jacs.Wrong = refuses wrong_length

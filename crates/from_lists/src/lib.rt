@@ -1,227 +1,256 @@
-// The things that stand in the numbers of a list that a C function is lent; Wrong where the list has
+// The things that stand in the numbers of a list that a C function is lent; refused where the list has
 // another length. Matrices go column by column.
 #![tactic(auto)]
 
-ghost use Rattle.std.specs.Prelude.{◌≡◌, ◌+◌, ◌≤◌, length};
-ghost use Rattle.layout.specs.Layout.{vec_in, mat_in, pose_in};
-ghost use Rattle.from_lists.specs.Lists.{number_in, vec_from, mat_from, pose_from, tangent_from, values_from, block_from, pose_lists, frames_from, framed_from};
-ghost use Rattle.from_lists.specs.Lists.{vec_read_told, mat_read_told, pose_read_told, frames_read_told, framed_read_told, tangent_read_told, values_read_told, block_read_told};
+ghost use Rattle.std.specs.Prelude.{◌≡◌, ◌+◌, ◌≤◌, ◌++◌, ℕ, List, Float, length};
+ghost use Rattle.linalg.specs.Answer.{answer, told};
+ghost use Rattle.linalg.specs.Vector.{vec_numbers};
+ghost use Rattle.layout.specs.Layout.{vec_count, mat_count, pose_count, tangent_count, values_count, block_count, mat_numbers, quat_numbers, pose_numbers, block_numbers};
+ghost use Rattle.from_lists.specs.Lists.{sized, vec_from, mat_from, pose_from, tangent_from, values_from, block_from, pose_lists, frames_from, framed_from};
+ghost use Rattle.from_lists.specs.Numbers.{tangent_numbers, values_numbers};
+ghost use Rattle.linalg.specs.Floats.{as_mat3, as_vec3};
+ghost use Rattle.closed.specs.Floats.{as_values};
+ghost use Rattle.so3.specs.Floats.{as_quat};
+ghost use Rattle.sim3.specs.Floats.{as_sim3, as_sim3_tangent};
+ghost use Rattle.frames.specs.Floats.{as_pose};
+ghost use Rattle.jacobian.specs.Floats.{as_sim3_jac};
 
 use closed::values::Values;
-use frames::Pose;
+use frames::{Frames, Pose};
+use ieee::Real;
 use jacobian::jac::Sim3Jac;
 use layout::{BLOCK, MAT, POSE, TANGENT, VALUES, VEC};
 use linalg::matrix::Mat3;
+use linalg::refusal::Refusal;
 use linalg::vector::Vec3;
 use sim3::sim3::Sim3;
 use sim3::tangent::Sim3Tangent;
 use so3::quat::Quat;
 
-// A list has not the length that is due. No refusal of the engine has this number or one near it.
-pub const LIST_LENGTH: u32 = 100;
-
 // A pose's frames: from, to.
 pub const FRAMES: usize = 2;
 
-#[derive(Clone, Copy)]
-pub enum VecRead {
-    Got(Vec3<f64>),
-    Wrong,
+// What is made of a fixed number of numbers, in the order in which they stand in a list.
+pub trait FromNumbers<T: Real>: Copy {
+    const COUNT: usize;
+
+    ghost COUNT: { ℕ };
+
+    ghost numbers: { Self → List Float };
+
+    fn from_numbers(l: &[T]) -> Self
+        requires { length l.now ≡ COUNT }
+        ensures { numbers result ≡ T.floats l.now };
 }
 
-#[derive(Clone, Copy)]
-pub enum MatRead {
-    Got(Mat3<f64>),
-    Wrong,
-}
-
-#[derive(Clone, Copy)]
-pub enum PoseRead {
-    Got(Sim3<f64>),
-    Wrong,
-}
-
-// The frames of a pose, as they stand in a list.
-#[derive(Clone, Copy)]
-pub struct Frames {
-    pub from: u16,
-    pub to: u16,
-}
-
-#[derive(Clone, Copy)]
-pub enum FramesRead {
-    Got(Frames),
-    Wrong,
-}
-
-#[derive(Clone, Copy)]
-pub enum FramedRead {
-    Got(Pose<f64>),
-    Wrong,
-}
-
-#[derive(Clone, Copy)]
-pub enum TangentRead {
-    Got(Sim3Tangent<f64>),
-    Wrong,
-}
-
-#[derive(Clone, Copy)]
-pub enum ValuesRead {
-    Got(Values<f64>),
-    Wrong,
-}
-
-#[derive(Clone, Copy)]
-pub enum BlockRead {
-    Got(Sim3Jac<f64>),
-    Wrong,
-}
-
-fn vec_in(l: &[f64], at: usize) -> Vec3<f64>
-    requires { at + 3 ≤ length l.now }
-    ensures { result ≡ vec_in (number_in l.now) at }
+// What stands at the front of a list, and the list behind it.
+fn front<T: Real, X: FromNumbers<T>>(l: &[T]) -> (X, &[T])
+    requires { X.COUNT ≤ length l.now }
+    ensures value { X.numbers result.0 ++ T.floats result.1.now ≡ T.floats l.now }
+    ensures rest_len { X.COUNT + length result.1.now ≡ length l.now }
 {
-    Vec3 {
-        x: l[at],
-        y: l[at + 1],
-        z: l[at + 2],
+    let (first, rest) = l.split_at(X::COUNT);
+    (X::from_numbers(first), rest)
+}
+
+// What a list says that has just the numbers of one thing.
+pub fn from_list<T: Real, X: FromNumbers<T>>(l: &[T]) -> Result<X, Refusal>
+    ensures { told X.numbers result ≡ sized l.now X.COUNT (T.floats l.now) }
+{
+    if l.len() != X::COUNT {
+        return Err(Refusal::ListLength);
+    }
+    Ok(X::from_numbers(l))
+}
+
+impl<T: Real> FromNumbers<T> for Vec3<T> {
+    const COUNT: usize = VEC;
+
+    ghost COUNT = { vec_count };
+
+    ghost numbers = { λ v. vec_numbers (as_vec3 T.float v) };
+
+    fn from_numbers(l: &[T]) -> Vec3<T> {
+        Vec3 {
+            x: l[0],
+            y: l[1],
+            z: l[2],
+        }
     }
 }
 
-fn mat_in(l: &[f64], at: usize) -> Mat3<f64>
-    requires { at + 9 ≤ length l.now }
-    ensures { result ≡ mat_in (number_in l.now) at }
-{
-    Mat3 {
-        c0: vec_in(l, at),
-        c1: vec_in(l, at + 3),
-        c2: vec_in(l, at + 6),
+impl<T: Real> FromNumbers<T> for Mat3<T> {
+    const COUNT: usize = MAT;
+
+    ghost COUNT = { mat_count };
+
+    ghost numbers = { λ m. mat_numbers (as_mat3 T.float m) };
+
+    fn from_numbers(l: &[T]) -> Mat3<T> {
+        let (c0, rest) = front(l);
+        let (c1, rest) = front(rest);
+        Mat3 {
+            c0,
+            c1,
+            c2: Vec3::from_numbers(rest),
+        }
     }
 }
 
-pub fn vec_from(l: &[f64]) -> VecRead
-    ensures { vec_read_told result ≡ vec_from l.now }
-{
-    if l.len() != VEC {
-        return VecRead::Wrong;
-    }
-    VecRead::Got(vec_in(l, 0))
-}
+// w, x, y, z.
+impl<T: Real> FromNumbers<T> for Quat<T> {
+    const COUNT: usize = 4;
 
-pub fn mat_from(l: &[f64]) -> MatRead
-    ensures { mat_read_told result ≡ mat_from l.now }
-{
-    if l.len() != MAT {
-        return MatRead::Wrong;
-    }
-    MatRead::Got(mat_in(l, 0))
-}
+    ghost COUNT = { 4 };
 
-// Quaternion w x y z, t, sigma.
-fn pose_in(l: &[f64], at: usize) -> Sim3<f64>
-    requires { at + 8 ≤ length l.now }
-    ensures { result ≡ pose_in (number_in l.now) at }
-{
-    let q = Quat {
-        w: l[at],
-        x: l[at + 1],
-        y: l[at + 2],
-        z: l[at + 3],
-    };
-    Sim3 {
-        q,
-        t: vec_in(l, at + 4),
-        sigma: l[at + 7],
+    ghost numbers = { λ q. quat_numbers (as_quat T.float q) };
+
+    fn from_numbers(l: &[T]) -> Quat<T> {
+        Quat {
+            w: l[0],
+            x: l[1],
+            y: l[2],
+            z: l[3],
+        }
     }
 }
 
-pub fn pose_from(l: &[f64]) -> PoseRead
-    ensures { pose_read_told result ≡ pose_from l.now }
-{
-    if l.len() != POSE {
-        return PoseRead::Wrong;
-    }
-    PoseRead::Got(pose_in(l, 0))
-}
+// Quaternion, t, sigma.
+impl<T: Real> FromNumbers<T> for Sim3<T> {
+    const COUNT: usize = POSE;
 
-// From, to.
-pub fn frames_from(l: &[u16]) -> FramesRead
-    ensures { frames_read_told result ≡ frames_from l.now }
-{
-    if l.len() != FRAMES {
-        return FramesRead::Wrong;
-    }
-    FramesRead::Got(Frames {
-        from: l[0],
-        to: l[1],
-    })
-}
+    ghost COUNT = { pose_count };
 
-// A pose's numbers, and its frames from a list beside them.
-pub fn framed_from(l: &[f64], k: &[u16]) -> FramedRead
-    ensures { framed_read_told result ≡ framed_from (pose_lists l.now k.now) }
-{
-    let PoseRead::Got(x) = pose_from(l) else {
-        return FramedRead::Wrong;
-    };
-    let FramesRead::Got(f) = frames_from(k) else {
-        return FramedRead::Wrong;
-    };
-    FramedRead::Got(Pose {
-        sim3: x,
-        from: f.from,
-        to: f.to,
-    })
+    ghost numbers = { λ x. pose_numbers (as_sim3 T.float x) };
+
+    fn from_numbers(l: &[T]) -> Sim3<T> {
+        let (q, rest) = front(l);
+        let (t, rest) = front(rest);
+        Sim3 {
+            q,
+            t,
+            sigma: rest[0],
+        }
+    }
 }
 
 // phi, rho, sigma.
-pub fn tangent_from(l: &[f64]) -> TangentRead
-    ensures { tangent_read_told result ≡ tangent_from l.now }
-{
-    if l.len() != TANGENT {
-        return TangentRead::Wrong;
+impl<T: Real> FromNumbers<T> for Sim3Tangent<T> {
+    const COUNT: usize = TANGENT;
+
+    ghost COUNT = { tangent_count };
+
+    ghost numbers = { λ t. tangent_numbers (as_sim3_tangent T.float t) };
+
+    fn from_numbers(l: &[T]) -> Sim3Tangent<T> {
+        let (phi, rest) = front(l);
+        let (rho, rest) = front(rest);
+        Sim3Tangent {
+            phi,
+            rho,
+            sigma: rest[0],
+        }
     }
-    TangentRead::Got(Sim3Tangent {
-        phi: vec_in(l, 0),
-        rho: vec_in(l, 3),
-        sigma: l[6],
-    })
 }
 
 // The ten function values.
-pub fn values_from(l: &[f64]) -> ValuesRead
-    ensures { values_read_told result ≡ values_from l.now }
-{
-    if l.len() != VALUES {
-        return ValuesRead::Wrong;
+impl<T: Real> FromNumbers<T> for Values<T> {
+    const COUNT: usize = VALUES;
+
+    ghost COUNT = { values_count };
+
+    ghost numbers = { λ v. values_numbers (as_values T.float v) };
+
+    fn from_numbers(l: &[T]) -> Values<T> {
+        Values {
+            root: l[0],
+            sin_half: l[1],
+            cos_half: l[2],
+            sin: l[3],
+            e: l[4],
+            m: l[5],
+            e0: l[6],
+            m0: l[7],
+            up: l[8],
+            down: l[9],
+        }
     }
-    ValuesRead::Got(Values {
-        root: l[0],
-        sin_half: l[1],
-        cos_half: l[2],
-        sin: l[3],
-        e: l[4],
-        m: l[5],
-        e0: l[6],
-        m0: l[7],
-        up: l[8],
-        down: l[9],
-    })
 }
 
 // a, b, c, f, e.
-pub fn block_from(l: &[f64]) -> BlockRead
-    ensures { block_read_told result ≡ block_from l.now }
-{
-    if l.len() != BLOCK {
-        return BlockRead::Wrong;
+impl<T: Real> FromNumbers<T> for Sim3Jac<T> {
+    const COUNT: usize = BLOCK;
+
+    ghost COUNT = { block_count };
+
+    ghost numbers = { λ j. block_numbers (as_sim3_jac T.float j) };
+
+    fn from_numbers(l: &[T]) -> Sim3Jac<T> {
+        let (a, rest) = front(l);
+        let (b, rest) = front(rest);
+        let (c, rest) = front(rest);
+        let (f, rest) = front(rest);
+        Sim3Jac {
+            a,
+            b,
+            c,
+            f,
+            e: rest[0],
+        }
     }
-    BlockRead::Got(Sim3Jac {
-        a: mat_in(l, 0),
-        b: mat_in(l, 9),
-        c: mat_in(l, 18),
-        f: vec_in(l, 27),
-        e: l[30],
-    })
+}
+
+pub fn vec_from<T: Real>(l: &[T]) -> Result<Vec3<T>, Refusal>
+    ensures { told (as_vec3 T.float) result ≡ vec_from (T.floats l.now) }
+{
+    from_list(l)
+}
+
+pub fn mat_from<T: Real>(l: &[T]) -> Result<Mat3<T>, Refusal>
+    ensures { told (as_mat3 T.float) result ≡ mat_from (T.floats l.now) }
+{
+    from_list(l)
+}
+
+pub fn pose_from<T: Real>(l: &[T]) -> Result<Sim3<T>, Refusal>
+    ensures { told (as_sim3 T.float) result ≡ pose_from (T.floats l.now) }
+{
+    from_list(l)
+}
+
+pub fn tangent_from<T: Real>(l: &[T]) -> Result<Sim3Tangent<T>, Refusal>
+    ensures { told (as_sim3_tangent T.float) result ≡ tangent_from (T.floats l.now) }
+{
+    from_list(l)
+}
+
+pub fn values_from<T: Real>(l: &[T]) -> Result<Values<T>, Refusal>
+    ensures { told (as_values T.float) result ≡ values_from (T.floats l.now) }
+{
+    from_list(l)
+}
+
+pub fn block_from<T: Real>(l: &[T]) -> Result<Sim3Jac<T>, Refusal>
+    ensures { told (as_sim3_jac T.float) result ≡ block_from (T.floats l.now) }
+{
+    from_list(l)
+}
+
+// From, to.
+pub fn frames_from(l: &[u16]) -> Result<Frames, Refusal>
+    ensures { answer result ≡ frames_from l.now }
+{
+    let [from, to] = *l else {
+        return Err(Refusal::ListLength);
+    };
+    Ok(Frames { from, to })
+}
+
+// A pose's numbers, and its frames from a list beside them.
+pub fn framed_from<T: Real>(l: &[T], k: &[u16]) -> Result<Pose<T>, Refusal>
+    ensures { told (as_pose T.float) result ≡ framed_from (pose_lists (T.floats l.now) k.now) }
+{
+    let sim3 = pose_from(l)?;
+    let Frames { from, to } = frames_from(k)?;
+    Ok(Pose { sim3, from, to })
 }

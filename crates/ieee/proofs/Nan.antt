@@ -1,9 +1,9 @@
 -- The NaN and its patterns, in every format. Assumes nothing.
 use Prim.Native.Nat.{ℕ}
 use mathlib.Core.Path.{◌≡◌, refl, sym, subst}
-use mathlib.Core.Bool.{not, true, false}
+use mathlib.Core.Bool.{true}
 use lib.Dec.{T}
-use lib.Ieee.{Float, nan, inf, fin, Format, binary32, binary64, of_bits, to_bits, div, ne, is_nan}
+use lib.Ieee.{Float, nan, inf, fin, Format, binary32, binary64, of_bits, to_bits, div, is_nan}
 
 pub zero-over-zero : (f : Format) → div f (of_bits f 0) (of_bits f 0) ≡ nan
 unfolding div of_bits
@@ -15,13 +15,6 @@ unfolding is_nan
 the_nan nan e = refl
 the_nan (inf s) e = absurd (subst T (sym e) tt)
 the_nan (fin s m k) e = absurd (subst T (sym e) tt)
-
--- a float that does not differ from itself is no NaN
-pub no_nan : (x : Float) → ne x x ≡ false → T (not (is_nan x))
-unfolding is_nan ne
-no_nan nan e = subst T e tt
-no_nan (inf s) e = tt
-no_nan (fin s m k) e = tt
 
 -- the pattern that a NaN is written as
 abbrev pub nan_pattern : Format → ℕ

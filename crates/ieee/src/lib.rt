@@ -4,13 +4,14 @@
 // the operations, over any format, that the crates above cite.
 #![tactic(auto)]
 
-ghost use Rattle.std.specs.Prelude.{◌≡◌, ◌≤◌, ℕ, Float, cond, refl};
+ghost use Rattle.std.specs.Prelude.{◌≡◌, ◌≤◌, ℕ, List, Float, cond, map, refl};
 ghost use Rattle.std.specs.Float.Ieee.{of_bits, to_bits};
 ghost use Rattle.std.specs.Float.Ieee as Ieee;
 ghost use Rattle.std.specs.Float.{Format, binary32, binary64};
 ghost use Rattle.std.specs.Mem.{type_size};
 ghost use Rattle.std.specs.Ordering.{partial_lt, partial_le};
-ghost use Rattle.std.proofs.Common.{rules};
+ghost use Rattle.std.proofs.Common.{rules, sym};
+ghost use Rattle.std.proofs.lemmas.List.{map-id};
 ghost use Rattle.ieee.specs.Held.{HeldFits};
 ghost use Rattle.ieee.specs.Compare.{partial_lt-is, partial_le-is};
 
@@ -33,6 +34,9 @@ pub trait Real: Copy
     // The number as the definitions see it, which are the same for every format.
     ghost float: { Self → Float };
 
+    // The numbers of a list as the definitions see them.
+    ghost floats: { List Self → List Float };
+
     ghost bits: { Self.Bits → ℕ };
 
     // The number `x`, where both formats hold it: every number of the narrower one.
@@ -47,11 +51,22 @@ pub trait Real: Copy
     fn pattern(self) -> Self::Bits
         ensures { bits result ≡ to_bits format (float self) };
 
+    // `self < other`. Its own method, since `<` of a type parameter asks `partial_cmp` for an order of three, which
+    // the compiler does not put together to one comparison again where the answer is stored or combined.
+    fn is_below(self, other: Self) -> bool
+        ensures { result ≡ Ieee.lt (float self) (float other) };
+
+    // `self <= other`.
+    fn is_at_most(self, other: Self) -> bool
+        ensures { result ≡ Ieee.le (float self) (float other) };
+
     // A number takes at most 8 bytes, so an array of a few dozen fits in memory.
     ghost size_law: { type_size Self.row ≤ 8 };
 
     // A number that a program holds is one of the format.
     ghost fits_law: { HeldFits Self.row format float };
+
+    ghost floats_law: { (l : List Self) → floats l ≡ map float l };
 
     // The operators are those of the format.
     ghost can_neg_law: { (a : Self) → Self.can_neg a };
@@ -88,6 +103,8 @@ impl Real for f64 {
 
     ghost float = { λ x. x };
 
+    ghost floats = { λ l. l };
+
     ghost bits = { λ n. n };
 
     fn of(x: f32) -> f64 {
@@ -102,15 +119,25 @@ impl Real for f64 {
     }
 
     fn pattern(self) -> u64 {
-        if self != self {
+        if self.is_nan() {
             return 0x7ff8_0000_0000_0000;
         }
         f64::to_bits(self)
     }
 
+    fn is_below(self, other: f64) -> bool {
+        self < other
+    }
+
+    fn is_at_most(self, other: f64) -> bool {
+        self <= other
+    }
+
     ghost size_law = { Prim.search rules };
 
     ghost fits_law = { λ x h. Prim.search rules };
+
+    ghost floats_law = { λ l. sym (map-id l) };
 
     ghost can_neg_law = { λ a. tt };
 
@@ -146,6 +173,8 @@ impl Real for f32 {
 
     ghost float = { λ x. x };
 
+    ghost floats = { λ l. l };
+
     ghost bits = { λ n. n };
 
     fn of(x: f32) -> f32 {
@@ -160,15 +189,25 @@ impl Real for f32 {
     }
 
     fn pattern(self) -> u32 {
-        if self != self {
+        if self.is_nan() {
             return 0x7fc0_0000;
         }
         f32::to_bits(self)
     }
 
+    fn is_below(self, other: f32) -> bool {
+        self < other
+    }
+
+    fn is_at_most(self, other: f32) -> bool {
+        self <= other
+    }
+
     ghost size_law = { Prim.search rules };
 
     ghost fits_law = { λ x h. Prim.search rules };
+
+    ghost floats_law = { λ l. sym (map-id l) };
 
     ghost can_neg_law = { λ a. tt };
 

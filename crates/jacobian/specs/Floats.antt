@@ -1,7 +1,6 @@
 -- The structs over the floats that the definitions speak of, and each struct of the code as one of them: `h` gives the float of a number.
 use Rattle.std.specs.Prelude.{Float}
 use Rattle.jacobian.specs.declared.dense.Seven as CodeSeven
-use Rattle.jacobian.specs.declared.dense.Rows as CodeRows
 use Rattle.jacobian.specs.declared.jac.Sim3Jac as CodeSim3Jac
 use Rattle.sim3.specs.Floats.{as_sim3_tangent}
 use Rattle.linalg.specs.Floats.{as_mat3, as_vec3}
@@ -11,12 +10,6 @@ Seven = CodeSeven.Seven Float
 
 abbrev pub as_seven : {T : Type 0} → (T → Float) → CodeSeven.Seven T → Seven
 as_seven h a = record { c0 = as_sim3_tangent h a.c0; c1 = as_sim3_tangent h a.c1; c2 = as_sim3_tangent h a.c2; c3 = as_sim3_tangent h a.c3; c4 = as_sim3_tangent h a.c4; c5 = as_sim3_tangent h a.c5; c6 = as_sim3_tangent h a.c6 }
-
-abbrev pub Rows : Type 0
-Rows = CodeRows.Rows Float
-
-abbrev pub as_rows : {T : Type 0} → (T → Float) → CodeRows.Rows T → Rows
-as_rows h a = record { x = as_sim3_tangent h a.x; y = as_sim3_tangent h a.y; z = as_sim3_tangent h a.z }
 
 abbrev pub Sim3Jac : Type 0
 Sim3Jac = CodeSim3Jac.Sim3Jac Float

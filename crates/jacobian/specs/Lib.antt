@@ -1,4 +1,3 @@
 pub mod Floats
 pub mod Jac
 pub mod Dense
-pub mod Private

@@ -1,18 +1,16 @@
 // 7x7 matrices as 49 numbers, column by column.
 ghost use Rattle.std.specs.Prelude.{◌≡◌, ◌+◌, ◌≤◌, length, map};
 ghost use Rattle.std.proofs.lemmas.List.Edits.{sets};
-ghost use Rattle.linalg.specs.Vector.{vec};
 ghost use Rattle.sim3.specs.Tangent.{tangent, tangent_to_dense};
-ghost use Rattle.jacobian.specs.Private.{seven_rows};
 ghost use Rattle.jacobian.specs.Dense.{column_at, seven_of, seven_flat, seven_transpose, seven_apply, jac_sandwich, jac_dense};
-ghost use Rattle.jacobian.specs.Floats.{as_rows, as_seven, as_sim3_jac};
+ghost use Rattle.jacobian.specs.Floats.{as_seven, as_sim3_jac};
 ghost use Rattle.sim3.specs.Floats.{as_sim3_tangent};
 ghost use Rattle.linalg.specs.Floats.{as_vec3};
 
 use crate::jac::Sim3Jac;
 use ieee::Real;
 use linalg::vector::Vec3;
-use sim3::tangent::Sim3Tangent;
+use sim3::tangent::{Sim3Tangent, zero_vector};
 
 // Seven columns of seven numbers, each held as a tangent.
 #[derive(Clone, Copy)]
@@ -24,18 +22,6 @@ pub struct Seven<T> {
     pub c4: Sim3Tangent<T>,
     pub c5: Sim3Tangent<T>,
     pub c6: Sim3Tangent<T>,
-}
-
-// The seven numbers from one, as a tangent.
-fn seven_numbers<T: Real>(a: T, b: T, c: T, d: T, e: T, f: T, g: T) -> Sim3Tangent<T>
-    ensures { as_sim3_tangent T.float result
-        ≡ tangent (vec (T.float a) (T.float b) (T.float c)) (vec (T.float d) (T.float e) (T.float f)) (T.float g) }
-{
-    Sim3Tangent {
-        phi: Vec3 { x: a, y: b, z: c },
-        rho: Vec3 { x: d, y: e, z: f },
-        sigma: g,
-    }
 }
 
 // The seven numbers from place i on.
@@ -106,64 +92,48 @@ fn flat<T: Real>(m: Seven<T>) -> [T; 49]
     out
 }
 
-// The numbers x, y and z of seven vectors, in a row each.
-#[derive(Clone, Copy)]
-pub struct Rows<T> {
-    pub x: Sim3Tangent<T>,
-    pub y: Sim3Tangent<T>,
-    pub z: Sim3Tangent<T>,
-}
-
-fn rows_of<T: Real>(
-    a: Vec3<T>,
-    b: Vec3<T>,
-    c: Vec3<T>,
-    d: Vec3<T>,
-    e: Vec3<T>,
-    f: Vec3<T>,
-    g: Vec3<T>,
-) -> Rows<T>
-    ensures { as_rows T.float result
-        ≡ seven_rows (as_vec3 T.float a) (as_vec3 T.float b) (as_vec3 T.float c) (as_vec3 T.float d) (as_vec3 T.float e)
-        (as_vec3 T.float f) (as_vec3 T.float g) }
-{
-    Rows {
-        x: seven_numbers(a.x, b.x, c.x, d.x, e.x, f.x, g.x),
-        y: seven_numbers(a.y, b.y, c.y, d.y, e.y, f.y, g.y),
-        z: seven_numbers(a.z, b.z, c.z, d.z, e.z, f.z, g.z),
-    }
-}
-
 // Rows for columns.
 fn transpose<T: Real>(m: Seven<T>) -> Seven<T>
     ensures { as_seven T.float result ≡ seven_transpose (as_seven T.float m) }
 {
-    let a = m.c0;
-    let b = m.c1;
-    let c = m.c2;
-    let d = m.c3;
-    let e = m.c4;
-    let f = m.c5;
-    let g = m.c6;
-    let p = rows_of(a.phi, b.phi, c.phi, d.phi, e.phi, f.phi, g.phi);
-    let q = rows_of(a.rho, b.rho, c.rho, d.rho, e.rho, f.rho, g.rho);
-    let c0 = p.x;
-    let c1 = p.y;
-    let c2 = p.z;
-    let c3 = q.x;
-    let c4 = q.y;
-    let c5 = q.z;
-    let c6 = seven_numbers(
+    let Seven {
+        c0: a,
+        c1: b,
+        c2: c,
+        c3: d,
+        c4: e,
+        c5: f,
+        c6: g,
+    } = m;
+    let r0 = [
+        a.phi.x, b.phi.x, c.phi.x, d.phi.x, e.phi.x, f.phi.x, g.phi.x,
+    ];
+    let r1 = [
+        a.phi.y, b.phi.y, c.phi.y, d.phi.y, e.phi.y, f.phi.y, g.phi.y,
+    ];
+    let r2 = [
+        a.phi.z, b.phi.z, c.phi.z, d.phi.z, e.phi.z, f.phi.z, g.phi.z,
+    ];
+    let r3 = [
+        a.rho.x, b.rho.x, c.rho.x, d.rho.x, e.rho.x, f.rho.x, g.rho.x,
+    ];
+    let r4 = [
+        a.rho.y, b.rho.y, c.rho.y, d.rho.y, e.rho.y, f.rho.y, g.rho.y,
+    ];
+    let r5 = [
+        a.rho.z, b.rho.z, c.rho.z, d.rho.z, e.rho.z, f.rho.z, g.rho.z,
+    ];
+    let r6 = [
         a.sigma, b.sigma, c.sigma, d.sigma, e.sigma, f.sigma, g.sigma,
-    );
+    ];
     Seven {
-        c0,
-        c1,
-        c2,
-        c3,
-        c4,
-        c5,
-        c6,
+        c0: Sim3Tangent::from_dense(r0),
+        c1: Sim3Tangent::from_dense(r1),
+        c2: Sim3Tangent::from_dense(r2),
+        c3: Sim3Tangent::from_dense(r3),
+        c4: Sim3Tangent::from_dense(r4),
+        c5: Sim3Tangent::from_dense(r5),
+        c6: Sim3Tangent::from_dense(r6),
     }
 }
 
@@ -196,11 +166,7 @@ pub fn write_dense<T: Real>(j: Sim3Jac<T>) -> [T; 49]
     let b = j.b;
     let c = j.c;
     let f = j.f;
-    let none = Vec3 {
-        x: T::of(0.0),
-        y: T::of(0.0),
-        z: T::of(0.0),
-    };
+    let none = zero_vector();
     flat(Seven {
         c0: column(a.c0, b.c0, T::of(0.0)),
         c1: column(a.c1, b.c1, T::of(0.0)),

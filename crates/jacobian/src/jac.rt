@@ -1,10 +1,8 @@
 // A Sim(3) Jacobian: the matrix with the rows (a, 0, 0), (b, c, f), (0, 0, e).
 ghost use Rattle.std.specs.Prelude.{◌≡◌};
-ghost use Rattle.ieee.specs.Numbers.{f0};
 ghost use Rattle.jacobian.specs.Jac.{jac_identity, jac_mul, jac_inverse_answer, jac_neg, jac_add, jac_scale, jac_apply, jac_apply_transpose};
 ghost use Rattle.linalg.specs.Answer.{told};
 ghost use Rattle.sim3.specs.Floats.{as_sim3_tangent};
-ghost use Rattle.linalg.specs.Floats.{as_vec3};
 ghost use Rattle.jacobian.specs.Floats.{as_sim3_jac};
 
 use closed::values::at_zero;
@@ -12,7 +10,7 @@ use ieee::Real;
 use linalg::matrix::Mat3;
 use linalg::refusal::Refusal;
 use linalg::vector::Vec3;
-use sim3::tangent::Sim3Tangent;
+use sim3::tangent::{Sim3Tangent, zero_vector};
 
 #[derive(Clone, Copy)]
 pub struct Sim3Jac<T> {
@@ -23,25 +21,15 @@ pub struct Sim3Jac<T> {
     pub e: T,
 }
 
-fn none<T: Real>() -> Vec3<T>
-    ensures { as_vec3 T.float result ≡ record { x = f0; y = f0; z = f0 } }
-{
-    Vec3 {
-        x: T::of(0.0),
-        y: T::of(0.0),
-        z: T::of(0.0),
-    }
-}
-
 impl<T: Real> Sim3Jac<T> {
     pub fn identity() -> Sim3Jac<T>
         ensures { as_sim3_jac T.float result ≡ jac_identity }
     {
         Sim3Jac {
             a: Mat3::identity(),
-            b: Mat3::from_cols(none(), none(), none()),
+            b: Mat3::from_cols(zero_vector(), zero_vector(), zero_vector()),
             c: Mat3::identity(),
-            f: none(),
+            f: zero_vector(),
             e: T::of(1.0),
         }
     }

@@ -39,18 +39,18 @@ ends (suc n) j xs = ends_on n j xs (found_of j.state xs) (ends n)
 
 -- the counts stay those of a job of so many records and n more
 counts_on_lem :
-    (n : ℕ) (j : Standing) (xs : List ℕ) (f : Found) → Sound (j.counts.begun + suc n) j.counts →
-    ((j : Standing) (xs : List ℕ) → Sound (j.counts.begun + n) j.counts → Sound (j.counts.begun + n) (counts_from n j xs)) →
-    Sound (j.counts.begun + suc n) (counts_on f j xs (λ how k. counts_from n (moved how xs j) (drop k xs)))
+    (n : ℕ) (j : Standing) (xs : List ℕ) (f : Found) → Sound (j.counts.four.begun + suc n) j.counts →
+    ((j : Standing) (xs : List ℕ) → Sound (j.counts.four.begun + n) j.counts → Sound (j.counts.four.begun + n) (counts_from n j xs)) →
+    Sound (j.counts.four.begun + suc n) (counts_on f j xs (λ how k. counts_from n (moved how xs j) (drop k xs)))
 unfolding counts_on
 counts_on_lem n j xs (took how k b) s ih =
-    let l : (moved how xs j).counts.begun + n ≡ j.counts.begun + suc n = rw (counted_begun how (row_at xs) j.counts) (omega arith) in
-    rw l at (ih (moved how xs j) (drop k xs) (rw l (counted_sound how (j.counts.begun + suc n) xs j.counts s (λ x. omega arith))))
+    let l : (moved how xs j).counts.four.begun + n ≡ j.counts.four.begun + suc n = rw (counted_begun how (row_at xs) j.counts) (omega arith) in
+    rw l at (ih (moved how xs j) (drop k xs) (rw l (counted_sound how (j.counts.four.begun + suc n) xs j.counts s (λ x. omega arith))))
 counts_on_lem n j xs ended s ih = s
-counts_on_lem n j xs unknown s ih = counted_sound Refused (j.counts.begun + suc n) xs j.counts s (λ x. omega arith)
-counts_on_lem n j xs cut s ih = counted_sound Refused (j.counts.begun + suc n) xs j.counts s (λ x. omega arith)
+counts_on_lem n j xs unknown s ih = counted_sound Refused (j.counts.four.begun + suc n) xs j.counts s (λ x. omega arith)
+counts_on_lem n j xs cut s ih = counted_sound Refused (j.counts.four.begun + suc n) xs j.counts s (λ x. omega arith)
 
-counts_sound_lem : (n : ℕ) (j : Standing) (xs : List ℕ) → Sound (j.counts.begun + n) j.counts → Sound (j.counts.begun + n) (counts_from n j xs)
+counts_sound_lem : (n : ℕ) (j : Standing) (xs : List ℕ) → Sound (j.counts.four.begun + n) j.counts → Sound (j.counts.four.begun + n) (counts_from n j xs)
 unfolding counts_from
 counts_sound_lem zero j xs s = s
 counts_sound_lem (suc n) j xs s = counts_on_lem n j xs (found_of j.state xs) s (counts_sound_lem n)

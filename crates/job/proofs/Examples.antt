@@ -22,7 +22,7 @@ use Rattle.replies.specs.Table.{framed_in, framed_items, ac_of, mu_of, answer_of
 use Rattle.kept.specs.State.{state_none}
 use Rattle.marks.specs.Marks.{look_up, mark_of, found_at, next_at, found_of, next_of}
 use Rattle.marks.specs.Rows.{row_count, row_known, row_at}
-use Rattle.job.specs.Counts.{counts_more, rows_more, rows_bytes}
+use Rattle.job.specs.Counts.{counts_more, four_more, rows_more, rows_bytes}
 use Rattle.job.specs.Job.{trailer, job_on, job_from, job_of, job_limit}
 
 -- a double by its two greatest bytes, the others 0
@@ -66,7 +66,7 @@ record_in =
 
 answered : job_of job_limit record_in ≡ 0x41 ∷ 0x43 ∷ (double 0x14 0x40 ++ (double 0x1c 0x40 ++ (double 0x22 0x40 ++ counts 1 1 0 0 (only 3))))
 unfolding of_bits to_bits add sub mul vec_scale vec_cross vec_add so3_act pose_act vec_in quat_in pose_in vec_numbers word_of word_bytes number_of number_at number_bytes item_bytes items_bytes
-    all_finite is_finite numbers count_bytes look_up mark_of mark_bytes reply_of ac_of answer_of entry_reply counts_more rows_more record_found found_by found_at found_of row_at
+    all_finite is_finite numbers count_bytes look_up mark_of mark_bytes reply_of ac_of answer_of entry_reply counts_more four_more rows_more record_found found_by found_at found_of row_at
     row_known rows_bytes trailer job_on job_from double zero one words counts nowhere only frames record_in
 answered = refl
 
@@ -91,7 +91,7 @@ small_in =
 
 small : job_of job_limit small_in ≡ 0x61 ∷ 0x63 ∷ (single 0xa0 0x40 ++ (single 0xe0 0x40 ++ (single 0x10 0x41 ++ counts 1 1 0 0 (only 10))))
 unfolding of_bits to_bits add sub mul vec_scale vec_cross vec_add so3_act pose_act vec_in quat_in pose_in vec_numbers word_of word_bytes number_of number_at number_bytes item_bytes items_bytes
-    all_finite is_finite numbers count_bytes look_up mark_of mark_bytes reply_of ac_of answer_of entry_reply counts_more rows_more record_found found_by found_at found_of row_at
+    all_finite is_finite numbers count_bytes look_up mark_of mark_bytes reply_of ac_of answer_of entry_reply counts_more four_more rows_more record_found found_by found_at found_of row_at
     row_known rows_bytes trailer job_on job_from single nought unit words counts nowhere only frames small_in
 small = refl
 
@@ -107,7 +107,7 @@ unfinite_in =
 
 unfinite : job_of job_limit unfinite_in ≡ 0x41 ∷ 0x43 ∷ (double 0xf8 0x7f ++ (double 0xf8 0x7f ++ (double 0xf8 0x7f ++ counts 1 0 0 1 (only 3))))
 unfolding of_bits to_bits add sub mul vec_scale vec_cross vec_add so3_act pose_act vec_in quat_in pose_in vec_numbers word_of word_bytes number_of number_at number_bytes item_bytes items_bytes
-    all_finite is_finite numbers count_bytes look_up mark_of mark_bytes reply_of ac_of answer_of entry_reply counts_more rows_more record_found found_by found_at found_of row_at
+    all_finite is_finite numbers count_bytes look_up mark_of mark_bytes reply_of ac_of answer_of entry_reply counts_more four_more rows_more record_found found_by found_at found_of row_at
     row_known rows_bytes trailer job_on job_from double zero one words counts nowhere only frames unfinite_in
 unfinite = refl
 
@@ -118,40 +118,40 @@ empty = refl
 
 -- half a mark
 half : job_of job_limit (0x41 ∷ []) ≡ 0x4e ∷ 0x4f ∷ 7 ∷ counts 1 0 1 0 (only 19)
-unfolding word_bytes count_bytes mark_bytes no_bytes counts_more rows_more found_of row_at rows_bytes trailer job_on job_from words counts nowhere only
+unfolding word_bytes count_bytes mark_bytes no_bytes counts_more four_more rows_more found_of row_at rows_bytes trailer job_on job_from words counts nowhere only
 half = refl
 
 -- a record that is cut after its mark
 cut_short : job_of job_limit (0x41 ∷ 0x43 ∷ 0 ∷ []) ≡ 0x4e ∷ 0x4f ∷ 7 ∷ counts 1 0 1 0 (only 3)
-unfolding word_bytes count_bytes look_up mark_of mark_bytes no_bytes counts_more rows_more record_found found_by found_at found_of row_at row_known
+unfolding word_bytes count_bytes look_up mark_of mark_bytes no_bytes counts_more four_more rows_more record_found found_by found_at found_of row_at row_known
     rows_bytes trailer job_on job_from words counts nowhere only
 cut_short = refl
 
 -- SH and SQ that are cut behind their letters
 sh-cut : job_of job_limit (0x53 ∷ 0x48 ∷ []) ≡ 0x4e ∷ 0x4f ∷ 7 ∷ counts 1 0 1 0 (only 17)
-unfolding word_bytes count_bytes look_up mark_of mark_bytes no_bytes counts_more rows_more record_found found_by found_at found_of row_at row_known
+unfolding word_bytes count_bytes look_up mark_of mark_bytes no_bytes counts_more four_more rows_more record_found found_by found_at found_of row_at row_known
     rows_bytes trailer job_on job_from words counts nowhere only
 sh-cut = refl
 
 sq-cut : job_of job_limit (0x53 ∷ 0x51 ∷ []) ≡ 0x4e ∷ 0x4f ∷ 7 ∷ counts 1 0 1 0 (only 18)
-unfolding word_bytes count_bytes look_up mark_of mark_bytes no_bytes counts_more rows_more record_found found_by found_at found_of row_at row_known
+unfolding word_bytes count_bytes look_up mark_of mark_bytes no_bytes counts_more four_more rows_more record_found found_by found_at found_of row_at row_known
     rows_bytes trailer job_on job_from words counts nowhere only
 sq-cut = refl
 
 -- a mark that is not in the table, with nothing behind it
 unlisted : job_of job_limit (0x51 ∷ 0x51 ∷ []) ≡ 0x4e ∷ 0x4f ∷ 6 ∷ counts 1 0 1 0 (only 19)
-unfolding word_bytes count_bytes look_up mark_of mark_bytes no_bytes counts_more rows_more record_found found_by found_at found_of row_at row_known
+unfolding word_bytes count_bytes look_up mark_of mark_bytes no_bytes counts_more four_more rows_more record_found found_by found_at found_of row_at row_known
     rows_bytes trailer job_on job_from words counts nowhere only
 unlisted = refl
 
 -- AR in small letters, and a capital with a small letter
 small_ar : job_of job_limit (0x61 ∷ 0x72 ∷ []) ≡ 0x4e ∷ 0x4f ∷ 6 ∷ counts 1 0 1 0 (only 19)
-unfolding word_bytes count_bytes look_up mark_of mark_bytes no_bytes counts_more rows_more record_found found_by found_at found_of row_at row_known
+unfolding word_bytes count_bytes look_up mark_of mark_bytes no_bytes counts_more four_more rows_more record_found found_by found_at found_of row_at row_known
     rows_bytes trailer job_on job_from words counts nowhere only
 small_ar = refl
 
 mixed : job_of job_limit (0x41 ∷ 0x63 ∷ []) ≡ 0x4e ∷ 0x4f ∷ 6 ∷ counts 1 0 1 0 (only 19)
-unfolding word_bytes count_bytes look_up mark_of mark_bytes no_bytes counts_more rows_more record_found found_by found_at found_of row_at row_known
+unfolding word_bytes count_bytes look_up mark_of mark_bytes no_bytes counts_more four_more rows_more record_found found_by found_at found_of row_at row_known
     rows_bytes trailer job_on job_from words counts nowhere only
 mixed = refl
 
@@ -160,12 +160,12 @@ mu_in : ℕ → List ℕ
 mu_in n = 0x4d ∷ 0x55 ∷ (replicate 64 0 ++ (frames 3 5 ++ (replicate 64 0 ++ (frames 3 7 ++ replicate n 0))))
 
 apart : job_of job_limit (mu_in 8) ≡ 0x4e ∷ 0x4f ∷ 9 ∷ counts 1 0 1 0 (only 4)
-unfolding word_of word_at word_bytes count_bytes look_up mark_of mark_bytes no_bytes reply_of framed_in framed_mul mu_of answer_of entry_reply counts_more rows_more record_found found_by
+unfolding word_of word_at word_bytes count_bytes look_up mark_of mark_bytes no_bytes reply_of framed_in framed_mul mu_of answer_of entry_reply counts_more four_more rows_more record_found found_by
     found_at found_of row_at row_known rows_bytes trailer job_on job_from words counts nowhere only frames mu_in
 apart = refl
 
 apart-cut : job_of job_limit (mu_in 7) ≡ 0x4e ∷ 0x4f ∷ 7 ∷ counts 1 0 1 0 (only 4)
-unfolding word_bytes count_bytes look_up mark_of mark_bytes no_bytes counts_more rows_more record_found found_by found_at found_of row_at row_known
+unfolding word_bytes count_bytes look_up mark_of mark_bytes no_bytes counts_more four_more rows_more record_found found_by found_at found_of row_at row_known
     rows_bytes trailer job_on job_from words counts nowhere only frames mu_in
 apart-cut = refl
 
@@ -177,7 +177,7 @@ joined :
     job_of job_limit (ch_in 3 5 ++ (ch_in 3 7 ++ (0x52 ∷ 0x4e ∷ 2 ∷ 1 ∷ [])))
     ≡ 0x43 ∷ 0x48 ∷ (replicate 64 0 ++ (frames 3 5 ++ (0x4e ∷ 0x4f ∷ 9 ∷ 0x52 ∷ 0x4e ∷ 2 ∷ 1 ∷ counts 3 2 1 0 (set (set nowhere 15 2) 16 1))))
 unfolding of_bits to_bits vec_in quat_in pose_in vec_numbers quat_numbers pose_numbers word_of word_at word_bytes number_of number_at number_bytes item_bytes items_bytes all_finite is_finite numbers
-    count_bytes look_up mark_of mark_bytes no_bytes reply_of framed_in framed_items framed_mul product_on join_on ch_of ch_reply rn_reply counts_more rows_more record_found found_by
+    count_bytes look_up mark_of mark_bytes no_bytes reply_of framed_in framed_items framed_mul product_on join_on ch_of ch_reply rn_reply counts_more four_more rows_more record_found found_by
     next_by ch_step rn_step found_at next_at found_of row_at row_known next_of rows_bytes trailer job_on job_from words counts nowhere only frames ch_in
 joined = refl
 

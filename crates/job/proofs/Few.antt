@@ -43,5 +43,5 @@ pub feed_few :
 feed_few limit held j xs last room = by (held && counts_sound limit j.counts) refl
   where
     by : (t : Bool) → held && counts_sound limit j.counts ≡ t → (feed_of limit held j xs last room).reason ≡ More → length xs - (feed_of limit held j xs last room).used < record_room
-    by true t e = let g = feed_good limit held j xs last room t in rw g (records_few (limit - j.counts.begun) j xs last room (rw g at e))
+    by true t e = let g = feed_good limit held j xs last room t in rw g (records_few (limit - j.counts.four.begun) j xs last room (rw g at e))
     by false t e = let g = rw (feed_bad limit held j xs last room t) at e in never (cc)

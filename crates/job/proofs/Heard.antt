@@ -23,7 +23,7 @@ use Rattle.job.proofs.Steps.{Turn}
 pub heard :
     {limit : ℕ} {input : List ℕ} {last : Bool} {j₀ : Standing} {out₀ : List ℕ} {d : Counts} {out : List ℕ}
     {at to : ℕ} (m : List ℕ) → length m ≡ memory →
-    Going limit input last j₀ out₀ (standing d (state_of m)) out at to → (d.begun ≡ limit → ⊥) →
+    Going limit input last j₀ out₀ (standing d (state_of m)) out at to → (d.four.begun ≡ limit → ⊥) →
     (q : Step) (p : ℕ) (R : List ℕ) (w : State) →
     let s = take (length input - at) (drop at input) in
     let o = take (length out - to) (drop to out) in

@@ -1,7 +1,7 @@
 -- The bytes lent for the state, round the record loop and out of it: at each turn what the loop leaves of them is
 -- what it would have left from its start. Assumes nothing.
 use Prim.Native.Nat.{ℕ, zero, suc, ◌+◌, ◌-◌, ◌≤◌, ◌<◌}
-use mathlib.Core.Path.{◌≡◌, refl, sym, ap, subst, ◌∙◌}
+use mathlib.Core.Path.{◌≡◌, refl, sym, ap, ◌∙◌}
 use mathlib.Core.Bool.{Bool, true, false, cond}
 use mathlib.Core.List.{List}
 use native.Mathlib.Nat.{sub-zero}
@@ -21,13 +21,11 @@ use Rattle.marks.specs.Marks.{found_of, behind_of}
 use Rattle.marks.specs.Rows.{row_at}
 use Rattle.marks.proofs.Heads.{taking, bytes_still}
 use Rattle.job.specs.declared.Counts.{Counts}
-use Rattle.job.specs.declared.Four.{Four}
 use Rattle.job.specs.declared.Fed.{Fed}
 use Rattle.job.specs.Counts.{counts_more}
 use Rattle.job.specs.Job.{Standing, standing}
 use Rattle.job.specs.Feed.{records_of, mem_on, mem_records}
-use Rattle.job.specs.Private.{four_of, joined, part_fed}
-use Rattle.job.proofs.Rows.{rejoined}
+use Rattle.job.specs.Private.{part_fed}
 use Rattle.job.proofs.Turns.{counted_begun}
 use Rattle.job.proofs.Loop.{Left}
 use Rattle.job.proofs.Steps.{Turn, here, spare, told_here, found-ended, found-unknown, found-cut}
@@ -78,11 +76,11 @@ module _
     m' ≡ cond (ltb (length (take (length out - to) (drop to out))) longest) m
     (behind_of m (take (length input - at) (drop at input))))
     (g :
-    mem_records (limit - j₀.counts.begun) m₀ input (length out₀) ≡
-    mem_records (limit - j.counts.begun) m (drop at input) (length out₀ - to)) where
+    mem_records (limit - j₀.counts.four.begun) m₀ input (length out₀) ≡
+    mem_records (limit - j.counts.four.begun) m (drop at input) (length out₀ - to)) where
   -- what the loop leaves from its start on
   abbrev pub final : List ℕ
-  final = mem_records (limit - j₀.counts.begun) m₀ input (length out₀)
+  final = mem_records (limit - j₀.counts.four.begun) m₀ input (length out₀)
 
   behind : m' ≡ cond (ltb (length out - to) longest) m (behind_of m (drop at input))
   behind = rw (here t, spare t) at e
@@ -93,24 +91,24 @@ module _
   -- round the loop, with the counts d
   pub mem_round :
       (how : Kind) (k n : ℕ) → q ≡ step.Took how k n → (d : Counts) → d ≡ counts_more how p j.counts →
-      final ≡ mem_records (limit - d.begun) m' (drop (at + k) input) (length out₀ - (to + n))
+      final ≡ mem_records (limit - d.four.begun) m' (drop (at + k) input) (length out₀ - (to + n))
   mem_round how k n o d c =
       let b = written_of (found_of j.state (drop at input)) (length out - to) in
       let u = sym (told_here t) ∙ ap step_told o in
       let f = told-took (found_of j.state (drop at input)) (length out - to) how k n u in
       let roomy : longest ≤ length out - to = f.roomy in
       let len : length out ≡ length out₀ = t.going.kept in
-      let few : j.counts.begun ≤ limit = t.going.sound.few in
-      let not_full : j.counts.begun ≡ limit → ⊥ = t.few in
+      let few : j.counts.four.begun ≤ limit = t.going.sound.few in
+      let not_full : j.counts.four.begun ≡ limit → ⊥ = t.few in
       let more = counted_begun how p j.counts in
-      let one_more : d.begun ≡ j.counts.begun + 1 = ap (λ (x : Counts). x.begun) c ∙ more in
-      let one_less : limit - j.counts.begun ≡ suc (limit - d.begun) = omega arith in
+      let one_more : d.four.begun ≡ j.counts.four.begun + 1 = ap (λ (x : Counts). x.four.begun) c ∙ more in
+      let one_less : limit - j.counts.four.begun ≡ suc (limit - d.four.begun) = omega arith in
       let long : length b ≡ n = f.long in
       let room : length out₀ - to - length b ≡ length out₀ - (to + n) = omega arith in
       let left : m' ≡ behind_of m (drop at input) = behind ∙ rw (le-ltb (length out - to) longest roomy) in
       let found : found_of (state_of m) (drop at input) ≡ took how k b = in_bytes ∙ f.found in
       g ∙ ap (λ (x : ℕ). mem_records x m (drop at input) (length out₀ - to)) one_less
-      ∙ mem_took (limit - d.begun) m (drop at input) (length out₀ - to) (omega arith) how k b found
+      ∙ mem_took (limit - d.four.begun) m (drop at input) (length out₀ - to) (omega arith) how k b found
       ∙ rw (room, drop-drop k at input, left)
 
   -- out of it
@@ -125,7 +123,7 @@ module _
   stopped f o k =
       let quiet : cond (ltb (length out - to) longest) m (behind_of m (drop at input)) ≡ m =
       rw (bytes_still j.state m (drop at input) f o k) (same (ltb (length out - to) longest) m) in
-      let all : mem_records (limit - j.counts.begun) m (drop at input) (length out₀ - to) ≡ m =
+      let all : mem_records (limit - j.counts.four.begun) m (drop at input) (length out₀ - to) ≡ m =
       mem_still _ m _ _ f (in_bytes ∙ o) k in
       behind ∙ quiet ∙ sym (g ∙ all)
 
@@ -141,21 +139,17 @@ module _
 -- ---- out of the loop: what it answers, what the output and the lent bytes hold then, and the state
 abbrev pub Leaves : ℕ → List ℕ → Bool → Counts → List ℕ → List ℕ → Fed → List ℕ → List ℕ → Type 0
 Leaves limit input last c m₀ out₀ f out m =
-    let P = records_of (limit - c.begun) (standing c (state_of m₀)) input last (length out₀) in
+    let P = records_of (limit - c.four.begun) (standing c (state_of m₀)) input last (length out₀) in
     record {
       value : f ≡ part_fed P;
       out_after : out ≡ sets out₀ 0 P.bytes;
-      mem_after : m ≡ mem_records (limit - c.begun) m₀ input (length out₀);
+      mem_after : m ≡ mem_records (limit - c.four.begun) m₀ input (length out₀);
       mem_after_2 : state_of m ≡ P.standing.state;
     }
 
--- by the counts that it began with, put together again
 pub left-from :
-    (limit : ℕ) (input : List ℕ) (last : Bool) (m₀ out₀ : List ℕ) (q : Four) (c : Counts) → q ≡ four_of c →
-    {f : Fed} {out m : List ℕ} →
-    Left limit input last (standing (joined q c.rows) (state_of m₀)) out₀ f out (state_of m) →
-    m ≡ mem_records (limit - q.begun) m₀ input (length out₀) →
+    (limit : ℕ) (input : List ℕ) (last : Bool) (m₀ out₀ : List ℕ) (c : Counts) → {f : Fed} {out m : List ℕ} →
+    Left limit input last (standing c (state_of m₀)) out₀ f out (state_of m) →
+    m ≡ mem_records (limit - c.four.begun) m₀ input (length out₀) →
     Leaves limit input last c m₀ out₀ f out m
-left-from limit input last m₀ out₀ q c e {f = f} {out = out} {m = m} l g =
-    subst (λ (x : Counts). Leaves limit input last x m₀ out₀ f out m) (rejoined q c e)
-    (record { value = l.0; out_after = l.1.0; mem_after = g; mem_after_2 = l.1.1 })
+left-from limit input last m₀ out₀ c l g = record { value = l.0; out_after = l.1.0; mem_after = g; mem_after_2 = l.1.1 }

@@ -52,10 +52,10 @@ records_fit n j xs last room =
 -- ---- the counts stay those of a job
 module _ (limit : ℕ) (last : Bool) where
   abbrev Keeps : ℕ → Standing → List ℕ → ℕ → Part → Type 0
-  Keeps n j xs room p = Sound limit j.counts → limit - j.counts.begun ≡ n → Sound limit p.standing.counts
+  Keeps n j xs room p = Sound limit j.counts → limit - j.counts.four.begun ≡ n → Sound limit p.standing.counts
 
   stop_sound :
-      (n : ℕ) (j : Standing) (xs : List ℕ) (f : Found) (r : Reason) (e : Standing) → Stops last j xs f r e → Sound limit j.counts → limit - j.counts.begun ≡ suc n →
+      (n : ℕ) (j : Standing) (xs : List ℕ) (f : Found) (r : Reason) (e : Standing) → Stops last j xs f r e → Sound limit j.counts → limit - j.counts.four.begun ≡ suc n →
       Sound limit e.counts
   stop_sound n j xs f r e (at_end_lem l) s i = s
   stop_sound n j xs f r e (at_pause l) s i = s
@@ -63,14 +63,14 @@ module _ (limit : ℕ) (last : Bool) where
   stop_sound n j xs f r e (at_cut l) s i = counted_sound Refused limit xs j.counts s (λ x. omega arith)
   stop_sound n j xs f r e (at_part l) s i = s
 
-  pub records_sound : (j : Standing) (xs : List ℕ) (room : ℕ) → Sound limit j.counts → Sound limit (records_of (limit - j.counts.begun) j xs last room).standing.counts
+  pub records_sound : (j : Standing) (xs : List ℕ) (room : ℕ) → Sound limit j.counts → Sound limit (records_of (limit - j.counts.four.begun) j xs last room).standing.counts
   records_sound j xs room s =
       records_by last Keeps
       (λ n j xs room h s i. s)
       (λ j xs room h s i. s)
       (λ n j xs room h f r e q t s i. stop_sound n j xs f r e t s i)
       (λ n j xs room h how k b q p ih s i. ih (counted_sound how limit xs j.counts s (λ x. omega arith)) (rw (counted_begun how (row_at xs) j.counts) (omega arith)))
-      (limit - j.counts.begun) j xs room s refl
+      (limit - j.counts.four.begun) j xs room s refl
 
 -- ---- the counts handed in
 and_left : (a b : Bool) → a && b ≡ true → a ≡ true
@@ -94,15 +94,15 @@ second_false false b e = refl
 pub sound_is : (limit : ℕ) (c : Counts) → counts_sound limit c ≡ true → Sound limit c
 unfolding counts_sound
 sound_is limit c e =
-    let x = and_right (leb c.begun limit) _ e in
-    let y = and_right (leb c.answered c.begun) _ x in
-    let a : c.answered ≤ c.begun = leb-true _ _ (and_left (leb c.answered c.begun) _ x) in
-    let b : c.refused ≤ c.begun - c.answered = leb-true _ _ (and_left (leb c.refused (c.begun - c.answered)) _ y) in
-    let z = and_right (leb c.refused (c.begun - c.answered)) _ y in
-    let u : c.unusable ≡ c.begun - c.answered - c.refused = eqb-true _ _ (and_left (eqb c.unusable (c.begun - c.answered - c.refused)) _ z) in
-    let v = and_right (eqb c.unusable (c.begun - c.answered - c.refused)) _ z in
+    let x = and_right (leb c.four.begun limit) _ e in
+    let y = and_right (leb c.four.answered c.four.begun) _ x in
+    let a : c.four.answered ≤ c.four.begun = leb-true _ _ (and_left (leb c.four.answered c.four.begun) _ x) in
+    let b : c.four.refused ≤ c.four.begun - c.four.answered = leb-true _ _ (and_left (leb c.four.refused (c.four.begun - c.four.answered)) _ y) in
+    let z = and_right (leb c.four.refused (c.four.begun - c.four.answered)) _ y in
+    let u : c.four.unusable ≡ c.four.begun - c.four.answered - c.four.refused = eqb-true _ _ (and_left (eqb c.four.unusable (c.four.begun - c.four.answered - c.four.refused)) _ z) in
+    let v = and_right (eqb c.four.unusable (c.four.begun - c.four.answered - c.four.refused)) _ z in
     record {
-      few = leb-true _ _ (and_left (leb c.begun limit) _ e);
+      few = leb-true _ _ (and_left (leb c.four.begun limit) _ e);
       sum = omega arith;
       each = (eqb-true _ _ (and_left (eqb (length c.rows) row_count) _ v), eqb-true _ _ (and_right (eqb (length c.rows) row_count) _ v));
     }
@@ -110,15 +110,15 @@ sound_is limit c e =
 pub is_sound : (limit : ℕ) (c : Counts) → Sound limit c → counts_sound limit c ≡ true
 unfolding counts_sound
 is_sound limit c s =
-    let f : c.begun ≤ limit = s.few in
-    let e : c.answered + c.refused + c.unusable ≡ c.begun = s.sum in
+    let f : c.four.begun ≤ limit = s.few in
+    let e : c.four.answered + c.four.refused + c.four.unusable ≡ c.four.begun = s.sum in
     rw (
-      le-leb c.begun limit f,
-      le-leb c.answered c.begun (omega arith),
-      le-leb c.refused (c.begun - c.answered) (omega arith),
-      eq-eqb c.unusable (c.begun - c.answered - c.refused) (omega arith),
+      le-leb c.four.begun limit f,
+      le-leb c.four.answered c.four.begun (omega arith),
+      le-leb c.four.refused (c.four.begun - c.four.answered) (omega arith),
+      eq-eqb c.four.unusable (c.four.begun - c.four.answered - c.four.refused) (omega arith),
       eq-eqb (length c.rows) row_count s.each.0,
-      eq-eqb (total c.rows) c.begun s.each.1,
+      eq-eqb (total c.rows) c.four.begun s.each.1,
     )
 
 pub feed_bad : (limit : ℕ) (held : Bool) (j : Standing) (xs : List ℕ) (last : Bool) (room : ℕ) → held && counts_sound limit j.counts ≡ false → feed_of limit held j xs last room ≡ halt Bad j
@@ -127,7 +127,7 @@ feed_bad limit held j xs last room e = rw e
 
 pub feed_good :
     (limit : ℕ) (held : Bool) (j : Standing) (xs : List ℕ) (last : Bool) (room : ℕ) → held && counts_sound limit j.counts ≡ true →
-    feed_of limit held j xs last room ≡ closed (records_of (limit - j.counts.begun) j xs last room)
+    feed_of limit held j xs last room ≡ closed (records_of (limit - j.counts.four.begun) j xs last room)
 unfolding feed_of
 feed_good limit held j xs last room e = rw e
 
@@ -165,28 +165,28 @@ module _ (c : Counts) (m xs : List ℕ) (room : ℕ) where
   mem_bad e = rw e
 
   pub mem_good : holds m && counts_sound job_limit c ≡ true →
-      fed_mem c m xs room ≡ mem_records (job_limit - c.begun) m xs room
+      fed_mem c m xs room ≡ mem_records (job_limit - c.four.begun) m xs room
   unfolding fed_mem
   mem_good e = rw e
 
 -- ---- the counts are a job's, the bytes hold a state, and the loop has answered l and left the output out₁ and the state w
 pub record Looped (limit : ℕ) (held : Bool) (j : Standing) (xs : List ℕ) (last : Bool) (out : List ℕ) (l : Fed) (out₁ : List ℕ) (w : State) : Type 0 where
   pub good : held && counts_sound limit j.counts ≡ true
-  pub told : l ≡ part_fed (records_of (limit - j.counts.begun) j xs last (length out))
-  pub wrote : out₁ ≡ sets out 0 (records_of (limit - j.counts.begun) j xs last (length out)).bytes
-  pub left : w ≡ (records_of (limit - j.counts.begun) j xs last (length out)).standing.state
+  pub told : l ≡ part_fed (records_of (limit - j.counts.four.begun) j xs last (length out))
+  pub wrote : out₁ ≡ sets out 0 (records_of (limit - j.counts.four.begun) j xs last (length out)).bytes
+  pub left : w ≡ (records_of (limit - j.counts.four.begun) j xs last (length out)).standing.state
 
 module _ {limit : ℕ} {held : Bool} {j : Standing} {xs : List ℕ} {last : Bool} {out : List ℕ} {l : Fed} {out₁ : List ℕ} {w : State} (k : Looped limit held j xs last out l out₁ w) where
   pub feed_room : ends l.reason ≡ true → l.written + longest ≤ length out₁
-  feed_room u = rw (k.told, k.wrote, length-sets) ((records_fit (limit - j.counts.begun) j xs last (length out)).spare (rw k.told at u))
+  feed_room u = rw (k.told, k.wrote, length-sets) ((records_fit (limit - j.counts.four.begun) j xs last (length out)).spare (rw k.told at u))
 
   pub feed_uses : l.used ≤ length xs
-  feed_uses = rw k.told (records_fit (limit - j.counts.begun) j xs last (length out)).uses
+  feed_uses = rw k.told (records_fit (limit - j.counts.four.begun) j xs last (length out)).uses
 
   pub feed_within : l.written + length (closing l.reason l.counts) ≤ length out
   feed_within =
-      let f = records_fit (limit - j.counts.begun) j xs last (length out) in
-      let P = records_of (limit - j.counts.begun) j xs last (length out) in
+      let f = records_fit (limit - j.counts.four.begun) j xs last (length out) in
+      let P = records_of (limit - j.counts.four.begun) j xs last (length out) in
       let s = records_sound limit last j xs (length out) (sound_is limit j.counts (and_right held _ k.good)) in
       rw k.told (closing_fits P.reason P.standing.counts _ _ s.each.0 f.within f.spare)
 
@@ -207,7 +207,7 @@ module _ {limit : ℕ} {held : Bool} {j : Standing} {xs : List ℕ} {last : Bool
       (n : ℕ) (out₂ : List ℕ) → n ≡ length (closing l.reason l.counts) → out₂ ≡ sets out₁ l.written (closing l.reason l.counts) →
       out₂ ≡ (feed_of limit held j xs last (length out)).bytes ++ drop (l.written + n) out
   feed_wrote n out₂ e v =
-      let P = records_of (limit - j.counts.begun) j xs last (length out) in
+      let P = records_of (limit - j.counts.four.begun) j xs last (length out) in
       let B = closing P.reason P.standing.counts in
       let h : length (P.bytes ++ B) ≤ length out = simp length-append (rw k.told at feed_within) in
       v

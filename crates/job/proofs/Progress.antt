@@ -20,9 +20,9 @@ use Rattle.job.proofs.Pieces.{feed_good}
 -- an answer it stops for want of room only after a record
 pub record Progress (last : Bool) (j : Standing) (room : ℕ) (p : Part) : Type 0 where
   pub more : p.reason ≡ More → last ≡ false
-  pub grows : j.counts.begun ≤ p.standing.counts.begun
-  pub still : p.standing.counts.begun ≡ j.counts.begun → p.used ≡ 0
-  pub roomy : longest ≤ room → p.reason ≡ Room → j.counts.begun < p.standing.counts.begun
+  pub grows : j.counts.four.begun ≤ p.standing.counts.four.begun
+  pub still : p.standing.counts.four.begun ≡ j.counts.four.begun → p.used ≡ 0
+  pub roomy : longest ≤ room → p.reason ≡ Room → j.counts.four.begun < p.standing.counts.four.begun
   pub fair : p.reason ≡ Bad → ⊥
 
 stop_goes :
@@ -42,13 +42,13 @@ records_progress last n j xs room =
     (λ j xs room h. record { more = λ u. never (cc); grows = omega arith; still = λ u. refl; roomy = λ k u. never (cc); fair = λ u. never (cc) })
     (λ n j xs room h f r e q s. stop_goes last j xs room f r e s)
     (λ n j xs room h how k b q p i.
-    let b₁ : (moved how xs j).counts.begun ≡ j.counts.begun + 1 = counted_begun how (row_at xs) j.counts in
-    let g : (moved how xs j).counts.begun ≤ p.standing.counts.begun = i.grows in
+    let b₁ : (moved how xs j).counts.four.begun ≡ j.counts.four.begun + 1 = counted_begun how (row_at xs) j.counts in
+    let g : (moved how xs j).counts.four.begun ≤ p.standing.counts.four.begun = i.grows in
     record { more = i.more; grows = omega arith; still = λ u. absurd (omega arith); roomy = λ k u. omega arith; fair = i.fair })
     n j xs room
 
 pub feed_progress :
     (limit : ℕ) (j : Standing) (xs : List ℕ) (last : Bool) (room : ℕ) → counts_sound limit j.counts ≡ true → Progress last j room (feed_of limit true j xs last room)
 feed_progress limit j xs last room s =
-    let m = records_progress last (limit - j.counts.begun) j xs room in
+    let m = records_progress last (limit - j.counts.four.begun) j xs room in
     rw (feed_good limit true j xs last room s) (record { more = m.more; grows = m.grows; still = m.still; roomy = m.roomy; fair = m.fair })

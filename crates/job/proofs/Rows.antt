@@ -15,11 +15,10 @@ use Rattle.layout.proofs.Runs.{sets_split}
 use Rattle.outcome.specs.declared.Kind.{Kind}
 use Rattle.outcome.specs.declared.Kind.TheVariants.{Answered, Refused, Unusable}
 use Rattle.marks.specs.Rows.{row_count}
-use Rattle.job.specs.declared.Counts.{Counts}
 use Rattle.job.specs.declared.Four.{Four}
-use Rattle.job.specs.Counts.{rows_more, total, rows_bytes, counts_more}
+use Rattle.job.specs.Counts.{rows_more, total, rows_bytes, four_more, counts_more}
 use Rattle.job.specs.Job.{job_limit}
-use Rattle.job.specs.Private.{Sound, Small, four_of, four_more, joined}
+use Rattle.job.specs.Private.{Sound, Small, joined}
 
 -- ---- the sum
 pub none-total : total (replicate row_count 0) ≡ 0
@@ -121,9 +120,6 @@ stored_more l out at i h =
 pub small : (f : Four) (l : List ℕ) → Sound job_limit (joined f l) → Small f
 small f l s = (s.few, s.sum)
 
-pub rejoined : (f : Four) (c : Counts) → f ≡ four_of c → joined f c.rows ≡ c
-rejoined f c e = ap (λ (x : Four). joined x c.rows) e
-
 pub more_begun : (how : Kind) (f g : Four) → g ≡ four_more how f → g.begun ≡ f.begun + 1
 unfolding four_more
 more_begun Answered f g e = ap (λ (x : Four). x.begun) e
@@ -131,7 +127,5 @@ more_begun Refused f g e = ap (λ (x : Four). x.begun) e
 more_begun Unusable f g e = ap (λ (x : Four). x.begun) e
 
 pub joined_more : (how : Kind) (r : ℕ) (f g : Four) (l : List ℕ) → g ≡ four_more how f → joined g (set l r (get_or l r 0 + 1)) ≡ counts_more how r (joined f l)
-unfolding four_more rows_more counts_more
-joined_more Answered r f g l e = rw e
-joined_more Refused r f g l e = rw e
-joined_more Unusable r f g l e = rw e
+unfolding rows_more counts_more
+joined_more how r f g l e = ap (λ (x : Four). joined x (set l r (get_or l r 0 + 1))) e

@@ -40,7 +40,7 @@ module _ {limit : ℕ} {input : List ℕ} {last : Bool} {j₀ : Standing} {out�
   -- out of the loop by the test for room: the reason r and the counts e are the definition's where there is room
   stopped :
       (r : Reason) (e : Standing) (f : Fed) → e.state ≡ j.state → f ≡ stop_of r j.counts e.counts at to (length out - to) →
-      (longest ≤ length out₀ - to → records_of (limit - j.counts.begun) j (drop at input) last (length out₀ - to) ≡ halt r e) → Left limit input last j₀ out₀ f out j.state
+      (longest ≤ length out₀ - to → records_of (limit - j.counts.four.begun) j (drop at input) last (length out₀ - to) ≡ halt r e) → Left limit input last j₀ out₀ f out j.state
   unfolding stop_of
   stopped r e f stays told turn = by (ltb (length out - to) longest) refl
     where
@@ -51,15 +51,15 @@ module _ {limit : ℕ} {input : List ℕ} {last : Bool} {j₀ : Standing} {out�
           let room : longest ≤ length out - to = ltb-false (length out - to) longest t in
           rw (← stays) (going_halt g r e f (told ∙ rw t) (turn (omega arith)))
 
-  pub left-full : (f : Fed) → f ≡ stop_of Full j.counts j.counts at to (length out - to) → j.counts.begun ≡ limit → Left limit input last j₀ out₀ f out j.state
-  left-full f told full = let z : limit - j.counts.begun ≡ 0 = omega arith in stopped Full j f refl told (λ h. rw z (records_full j _ last _ h))
+  pub left-full : (f : Fed) → f ≡ stop_of Full j.counts j.counts at to (length out - to) → j.counts.four.begun ≡ limit → Left limit input last j₀ out₀ f out j.state
+  left-full f told full = let z : limit - j.counts.four.begun ≡ 0 = omega arith in stopped Full j f refl told (λ h. rw z (records_full j _ last _ h))
 
 -- the limit is not met, and the code has lent `reply` the input from `at` on and the output from `to` on: q is the answer, p the place among the marks, R what that part of the output holds
 -- then, and w the state
 pub record Turn
     (limit : ℕ) (input : List ℕ) (last : Bool) (j₀ : Standing) (out₀ : List ℕ) (j : Standing) (out : List ℕ) (at to : ℕ) (q : Step) (p : ℕ) (R : List ℕ) (w : State) : Type 0 where
   pub going : Going limit input last j₀ out₀ j out at to
-  pub few : j.counts.begun ≡ limit → ⊥
+  pub few : j.counts.four.begun ≡ limit → ⊥
   pub told : step_told q ≡ became_of (found_of j.state (take (length input - at) (drop at input))) (length (take (length out - to) (drop to out)))
   pub wrote :
       R ≡
@@ -170,10 +170,10 @@ module _
       after_it ≡ out → w ≡ j.state → (r : Reason) (e : Standing) (f : Fed) → e.state ≡ j.state → f ≡ stop_of r j.counts e.counts at to (length after_it - to) →
       ((n : ℕ) → longest ≤ length out₀ - to → records_of (suc n) j (drop at input) last (length out₀ - to) ≡ halt r e) → Left limit input last j₀ out₀ f after_it w
   stop same stay r e f stays is turn =
-      let begun : j.counts.begun ≤ limit = t.going.sound.few in
-      let few : j.counts.begun ≡ limit → ⊥ = t.few in
-      let one_less : limit - j.counts.begun ≡ suc (limit - (j.counts.begun + 1)) = omega arith in
-      rw (same, stay) (stopped t.going r e f stays (rw same at is) (λ h. rw one_less (turn (limit - (j.counts.begun + 1)) h)))
+      let begun : j.counts.four.begun ≤ limit = t.going.sound.few in
+      let few : j.counts.four.begun ≡ limit → ⊥ = t.few in
+      let one_less : limit - j.counts.four.begun ≡ suc (limit - (j.counts.four.begun + 1)) = omega arith in
+      rw (same, stay) (stopped t.going r e f stays (rw same at is) (λ h. rw one_less (turn (limit - (j.counts.four.begun + 1)) h)))
 
   pub left_end : q ≡ step.End → last ≡ true → (f : Fed) → f ≡ stop_of End j.counts j.counts at to (length after_it - to) → Left limit input last j₀ out₀ f after_it w
   left_end e l f is = stop (quiet_end e) (stayed ended (found-ended e) refl) End j f refl is (λ n r. records_ended n j _ last _ r (found-ended e) ∙ rw l)

@@ -50,7 +50,7 @@ module _ (limit : ℕ) (ys : List ℕ) (last : Bool) (alone : last ≡ true → 
   onward p xs = p.bytes ++ (closing p.reason p.standing.counts ++ cond (goes_on p.reason) (job_with limit p.standing (drop p.used xs ++ ys)) [])
 
   abbrev Onward : ℕ → Standing → List ℕ → ℕ → Part → Type 0
-  Onward n j xs room p = limit - j.counts.begun ≡ n → job_from n j (xs ++ ys) ≡ onward p xs
+  Onward n j xs room p = limit - j.counts.four.begun ≡ n → job_from n j (xs ++ ys) ≡ onward p xs
 
   at_room : (n : ℕ) (j : Standing) (xs : List ℕ) (room : ℕ) → room < longest → Onward n j xs room (halt Room j)
   unfolding closing_of
@@ -60,7 +60,7 @@ module _ (limit : ℕ) (ys : List ℕ) (last : Bool) (alone : last ≡ true → 
   unfolding closing_of job_from
   at-full j xs room h e = sym (append-nil _)
 
-  waits : (n : ℕ) (j : Standing) (xs : List ℕ) → limit - j.counts.begun ≡ n → job_from n j (xs ++ ys) ≡ onward (halt More j) xs
+  waits : (n : ℕ) (j : Standing) (xs : List ℕ) → limit - j.counts.four.begun ≡ n → job_from n j (xs ++ ys) ≡ onward (halt More j) xs
   unfolding closing_of
   waits n j xs i = rw i
 
@@ -81,7 +81,7 @@ module _ (limit : ℕ) (ys : List ℕ) (last : Bool) (alone : last ≡ true → 
       (p : Part) → Onward n (moved how xs j) (drop k xs) (room - length b) p → Onward (suc n) j xs room (after k b p)
   at-took n j xs room h how k b q p ih i =
       let whole : k ≤ length xs = (taken j.state xs how k b q).whole in
-      let one_less : limit - (moved how xs j).counts.begun ≡ n = rw (counted_begun how (row_at xs) j.counts) (omega arith) in
+      let one_less : limit - (moved how xs j).counts.four.begun ≡ n = rw (counted_begun how (row_at xs) j.counts) (omega arith) in
       job_took n j (xs ++ ys) how k b (found_more j.state xs ys (took how k b) q refl)
       ∙ ap (λ (p : ℕ). b ++ job_from n (standing (counts_more how p j.counts) (next_of j.state (xs ++ ys))) (drop k (xs ++ ys)))
       (row_more j.state xs ys (took how k b) q refl)
@@ -90,12 +90,12 @@ module _ (limit : ℕ) (ys : List ℕ) (last : Bool) (alone : last ≡ true → 
       ∙ ap (λ (l : List ℕ). b ++ l) (ih one_less)
       ∙ rw (drop-drop p.used k xs) (sym (append_assoc b p.bytes _))
 
-  records_stream : (j : Standing) (xs : List ℕ) (room : ℕ) → job_with limit j (xs ++ ys) ≡ onward (records_of (limit - j.counts.begun) j xs last room) xs
-  records_stream j xs room = records_by last Onward at_room at-full at_stop at-took (limit - j.counts.begun) j xs room refl
+  records_stream : (j : Standing) (xs : List ℕ) (room : ℕ) → job_with limit j (xs ++ ys) ≡ onward (records_of (limit - j.counts.four.begun) j xs last room) xs
+  records_stream j xs room = records_by last Onward at_room at-full at_stop at-took (limit - j.counts.four.begun) j xs room refl
 
   -- what one call wrote, and then what the job writes for the bytes that it is not done with and all that follow. `last` is said only where nothing follows.
   pub stream :
       (j : Standing) (xs : List ℕ) (room : ℕ) → counts_sound limit j.counts ≡ true →
       (let f = feed_of limit true j xs last room in job_with limit j (xs ++ ys) ≡ f.bytes ++ cond (goes_on f.reason) (job_with limit f.standing (drop f.used xs ++ ys)) [])
   stream j xs room s =
-      rw (feed_good limit true j xs last room s) (records_stream j xs room ∙ sym (append_assoc (records_of (limit - j.counts.begun) j xs last room).bytes _ _))
+      rw (feed_good limit true j xs last room s) (records_stream j xs room ∙ sym (append_assoc (records_of (limit - j.counts.four.begun) j xs last room).bytes _ _))

@@ -12,7 +12,7 @@ use Rattle.outcome.specs.declared.Kind.TheVariants.{Answered, Refused, Unusable}
 use Rattle.job.specs.declared.Counts.{Counts}
 use Rattle.job.specs.declared.Reason.{Reason}
 use Rattle.job.specs.declared.Reason.TheVariants.{More, Room, Full, End, Unknown, Cut}
-use Rattle.job.specs.Counts.{counts_more}
+use Rattle.job.specs.Counts.{counts_more, four_more}
 use Rattle.outcome.specs.Outcome.{longest, Found, took, ended, unknown, cut}
 use Rattle.marks.specs.Marks.{found_of}
 use Rattle.job.specs.Job.{Standing, moved, lost}
@@ -50,8 +50,8 @@ module _ (n : ℕ) (j : Standing) (xs : List ℕ) (last : Bool) (room : ℕ) (h 
 pub after-after : (a k : ℕ) (x y : List ℕ) (p : Part) → after a x (after k y p) ≡ after (a + k) (x ++ y) p
 after-after a k x y p = rw (← (add_assoc a k p.used), ← (append_assoc x y p.bytes))
 
-pub counted_begun : (how : Kind) (r : ℕ) (c : Counts) → (counts_more how r c).begun ≡ c.begun + 1
-unfolding counts_more
+pub counted_begun : (how : Kind) (r : ℕ) (c : Counts) → (counts_more how r c).four.begun ≡ c.four.begun + 1
+unfolding counts_more four_more
 counted_begun Answered r c = refl
 counted_begun Refused r c = refl
 counted_begun Unusable r c = refl

@@ -91,7 +91,7 @@ closed p = record { reason = p.reason; standing = p.standing; used = p.used; byt
 -- one call, with an output of some room, `held` where as many bytes are lent as a state has; else, and with counts that are none of a job's, all is handed back
 unfoldable pub feed_of : ℕ → Bool → Standing → List ℕ → Bool → ℕ → Part
 feed_of limit held j xs last room =
-    cond (held && counts_sound limit j.counts) (closed (records_of (limit - j.counts.begun) j xs last room)) (halt Bad j)
+    cond (held && counts_sound limit j.counts) (closed (records_of (limit - j.counts.four.begun) j xs last room)) (halt Bad j)
 
 -- with the counts c and the bytes m for the state
 abbrev pub fed_of : Counts → List ℕ → List ℕ → Bool → ℕ → Part
@@ -99,7 +99,7 @@ fed_of c m xs last room = feed_of job_limit (holds m) (standing c (state_of m)) 
 
 -- all bytes lent for the state behind that call: none is written where all is handed back
 unfoldable pub fed_mem : Counts → List ℕ → List ℕ → ℕ → List ℕ
-fed_mem c m xs room = cond (holds m && counts_sound job_limit c) (mem_records (job_limit - c.begun) m xs room) m
+fed_mem c m xs room = cond (holds m && counts_sound job_limit c) (mem_records (job_limit - c.four.begun) m xs room) m
 
 -- with the counts of a job each call, whatever its input and its room, leaves counts of a job: the last three of the four add up to the first, and those by mark too
 abbrev pub FeedTheorem : Type 0
@@ -148,6 +148,16 @@ again_by (refused k) = false
 
 abbrev pub goes_on : Reason → Bool
 goes_on r = again_by (reason_told r)
+
+-- whether more is read before the next call
+abbrev pub asks_for : Reason → Bool
+asks_for More = true
+asks_for Room = false
+asks_for Bad = false
+asks_for Full = false
+asks_for End = false
+asks_for Unknown = false
+asks_for Cut = false
 
 -- ---- what the caller of a call provides for: an output with less room than this takes no answer, and of an input that a call waits on fewer bytes than these are left
 abbrev pub answer_room : ℕ

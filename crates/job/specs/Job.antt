@@ -30,7 +30,7 @@ lost xs j = standing (counts_more Refused (row_at xs) j.counts) j.state
 
 -- ZZ, the four counts, and those by mark
 unfoldable pub trailer : Counts → List ℕ
-trailer c = mark_bytes 0x5a 0x5a ++ (count_bytes c.begun ++ (count_bytes c.answered ++ (count_bytes c.refused ++ (count_bytes c.unusable ++ rows_bytes c.rows))))
+trailer c = mark_bytes 0x5a 0x5a ++ (count_bytes c.four.begun ++ (count_bytes c.four.answered ++ (count_bytes c.four.refused ++ (count_bytes c.four.unusable ++ rows_bytes c.rows))))
 
 -- by what stands at the head of xs, and after a record what `go` says of the rest
 unfoldable pub job_on : Found → Standing → List ℕ → (Kind → ℕ → List ℕ) → List ℕ
@@ -69,6 +69,6 @@ counts_of limit xs = counts_from limit standing_none xs
 -- they are what is written last; of no more records than the limit; and on every input the last three of the four add up to the first, and those by mark too
 pub record CountsTheorem : Type 0 where
   pub written : (limit : ℕ) (xs : List ℕ) → (body : List ℕ) × (job_of limit xs ≡ body ++ trailer (counts_of limit xs))
-  pub few : (limit : ℕ) (xs : List ℕ) → (counts_of limit xs).begun ≤ limit
+  pub few : (limit : ℕ) (xs : List ℕ) → (counts_of limit xs).four.begun ≤ limit
   pub adds : (limit : ℕ) (xs : List ℕ) → Adds (counts_of limit xs)
   pub rows : (limit : ℕ) (xs : List ℕ) → RowsAdd (counts_of limit xs)

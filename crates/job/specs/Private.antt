@@ -1,8 +1,7 @@
 -- What the private functions ask for and answer; no public contract cites it.
-use Rattle.std.specs.Prelude.{ℕ, ◌+◌, ◌-◌, ◌*◌, ◌≤◌, ◌≡◌, Bool, cond, List, length, ltb}
+use Rattle.std.specs.Prelude.{ℕ, ◌+◌, ◌-◌, ◌*◌, ◌≤◌, ◌<◌, ◌≡◌, Bool, cond, List, length, ltb, Option, None, Some}
 use Rattle.outcome.specs.Outcome.{longest}
-use Rattle.outcome.specs.declared.Kind.{Kind}
-use Rattle.outcome.specs.declared.Kind.TheVariants.{Answered, Refused, Unusable}
+use Rattle.outcome.specs.declared.Kind.TheVariants.{Refused}
 use Rattle.job.specs.declared.Counts.{Counts}
 use Rattle.job.specs.declared.Four.{Four}
 use Rattle.job.specs.declared.Fed.{Fed}
@@ -10,34 +9,37 @@ use Rattle.job.specs.declared.Reason.{Reason}
 use Rattle.job.specs.declared.Reason.TheVariants.{Room}
 use Rattle.kept.specs.State.{state_of}
 use Rattle.marks.specs.Rows.{row_count}
-use Rattle.job.specs.Counts.{Adds, RowsAdd}
+use Rattle.job.specs.Counts.{Adds, RowsAdd, counts_more}
 use Rattle.job.specs.Job.{standing, job_limit}
 use Rattle.job.specs.Feed.{Part, records_of, mem_records}
 
 -- counts of a job of at most `limit` records
 pub record Sound (limit : ℕ) (c : Counts) : Type 0 where
-  pub few : c.begun ≤ limit
+  pub few : c.four.begun ≤ limit
   pub sum : Adds c
   pub each : RowsAdd c
 
--- the four counts without those by mark; with them; of no more records than the limit, which they add up to; and of one record more
-abbrev pub four_of : Counts → Four
-four_of c = record { begun = c.begun; answered = c.answered; refused = c.refused; unusable = c.unusable }
-
-abbrev pub joined : Four → List ℕ → Counts
-joined f l = record { begun = f.begun; answered = f.answered; refused = f.refused; unusable = f.unusable; rows = l }
-
+-- the four counts are of no more records than the limit, which they add up to
 abbrev pub Small : Four → Type 0
 Small f = (f.begun ≤ job_limit) × (f.answered + f.refused + f.unusable ≡ f.begun)
 
-unfoldable pub four_more : Kind → Four → Four
-four_more Answered f = record { begun = f.begun + 1; answered = f.answered + 1; refused = f.refused; unusable = f.unusable }
-four_more Refused f = record { begun = f.begun + 1; answered = f.answered; refused = f.refused + 1; unusable = f.unusable }
-four_more Unusable f = record { begun = f.begun + 1; answered = f.answered; refused = f.refused; unusable = f.unusable + 1 }
+-- the four counts with those by mark
+abbrev pub joined : Four → List ℕ → Counts
+joined f l = record { four = f; rows = l }
+
+-- the counts beside those of one record more, which is refused and not read, where there is one
+abbrev pub counts_lost : Option ℕ → Counts → Counts
+counts_lost None c = c
+counts_lost (Some row) c = counts_more Refused row c
+
+-- such a record counts in one of the counts by mark
+abbrev pub InRows : Option ℕ → Type 0
+InRows None = Unit {0}
+InRows (Some row) = row < row_count
 
 -- the record loop with the counts c and the bytes m for the state
 abbrev pub looped_of : Counts → List ℕ → List ℕ → Bool → ℕ → Part
-looped_of c m xs last room = records_of (job_limit - c.begun) (standing c (state_of m)) xs last room
+looped_of c m xs last room = records_of (job_limit - c.four.begun) (standing c (state_of m)) xs last room
 
 -- what the loop's function answers: the counts, and how many bytes it wrote in place of the bytes
 abbrev pub part_fed : Part → Fed
@@ -45,7 +47,7 @@ part_fed p = record { reason = p.reason; counts = p.standing.counts; used = p.us
 
 -- and those bytes behind it
 abbrev pub looped_mem : Counts → List ℕ → List ℕ → ℕ → List ℕ
-looped_mem c m xs room = mem_records (job_limit - c.begun) m xs room
+looped_mem c m xs room = mem_records (job_limit - c.four.begun) m xs room
 
 -- the bytes of ZZ, of the four counts and of those by mark
 abbrev pub trailer_length : ℕ

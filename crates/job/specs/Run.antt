@@ -5,7 +5,7 @@ use Rattle.job.specs.Feed.{feed_of, goes_on}
 
 -- the job from the standing j on, where xs is still to be read
 abbrev pub job_with : ℕ → Standing → List ℕ → List ℕ
-job_with limit j xs = job_from (limit - j.counts.begun) j xs
+job_with limit j xs = job_from (limit - j.counts.four.begun) j xs
 
 -- Any run from the standing j, with the bytes `kept` in hand and those `coming` still unread, that writes `out`: it reads some bytes, or feeds what it has, with
 -- any room, and goes on with what was not used, until a reason ends it. `last` is said only where nothing more is coming.

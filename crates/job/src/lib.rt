@@ -5,60 +5,52 @@
 
 ghost use Rattle.std.specs.Prelude.{◌≡◌, true, false, cond, ◌++◌, ◌+◌, ◌*◌, ◌≤◌, ◌<◌, length, drop, eqb};
 ghost use Rattle.std.proofs.lemmas.List.Edits.{sets};
+ghost use Rattle.linalg.specs.Answer.{number};
 ghost use Rattle.wire.specs.Wire.{count_bytes};
 ghost use Rattle.outcome.specs.declared.Kind.{Kind};
 ghost use Rattle.outcome.specs.Outcome.{longest, mark_bytes, no_bytes};
 ghost use Rattle.marks.specs.Rows.{row_count};
-ghost use Rattle.job.specs.Counts.{counts_none, counts_more, counts_sound, rows_bytes, total};
+ghost use Rattle.job.specs.Counts.{counts_none, counts_more, four_more, counts_sound, rows_bytes, total};
 ghost use Rattle.kept.specs.State.{state_none, state_of, memory, holds, fresh_of};
 ghost use Rattle.job.specs.Job.{standing_none, trailer, job_of, job_limit};
 ghost use Rattle.job.specs.Input.{InputTheorem};
-ghost use Rattle.job.specs.Feed.{Part, closing, ends, feed_of, fed_of, fed_mem, fed_told, part_told};
-ghost use Rattle.job.specs.Private.{Sound, Small, four_of, four_more, joined, looped_of, part_fed, looped_mem, stop_of, trailer_length};
+ghost use Rattle.job.specs.Feed.{Part, closing, ends, goes_on, asks_for, feed_of, fed_of, fed_mem, fed_told, part_told};
+ghost use Rattle.job.specs.Private.{Sound, Small, InRows, counts_lost, looped_of, part_fed, looped_mem, stop_of, trailer_length};
 
+use linalg::refusal::Refusal;
 use marks::ROWS;
 use outcome::{Kind, LONGEST, Step};
 
 // No more records than these are begun.
 const LIMIT: u32 = 1_000_000;
 
-// The refusals that end a job: a mark that is not in the table, and an input that ends inside a mark
-// or record.
-const UNKNOWN_MARK: u8 = 6;
-
-const CUT_RECORD: u8 = 7;
-
 // How many bytes the counts take, their mark among them.
 const TRAILER: usize = 2 + 4 * 4 + 4 * ROWS;
 
 // How many records were begun; and how many of them were answered with finite numbers alone, were
 // refused, and were answered with a NaN or an infinity. An unknown mark, a half mark and a cut record
-// count as begun and refused. Then how many were begun of each mark, a cut record among them, and last
-// how many unknown and half marks.
-#[derive(Clone, Copy)]
-pub struct Counts {
+// count as begun and refused.
+#[derive(Clone, Copy, Default)]
+pub struct Four {
     pub begun: u32,
     pub answered: u32,
     pub refused: u32,
     pub unusable: u32,
-    pub rows: [u32; ROWS],
 }
 
-// The counts without those by mark. The record loop keeps the two apart: these four go through a
-// function by value at each record, and those stay where they are.
+// The counts of a job: these four, how many records were begun of each mark, a cut record among them,
+// and last how many unknown and half marks.
 #[derive(Clone, Copy)]
-struct Four {
-    begun: u32,
-    answered: u32,
-    refused: u32,
-    unusable: u32,
+pub struct Counts {
+    pub four: Four,
+    pub rows: [u32; ROWS],
 }
 
 // Why the record loop was left. `More`: the bytes at hand end within a record, or with one, and more
 // may come. `Room`: the output has no room for the longest answer. `Bad`: the counts handed in are
 // not those of a job, or the bytes lent for the state are not as many as it has. The other four end
 // the job: the limit, the end of the input, an unknown mark, a cut record.
-#[derive(Clone, Copy)]
+#[derive(Clone, Copy, PartialEq, Eq)]
 pub enum Reason {
     More,
     Room,
@@ -67,6 +59,22 @@ pub enum Reason {
     End,
     Unknown,
     Cut,
+}
+
+impl Reason {
+    // Whether a call is made again.
+    pub fn goes_on(self) -> bool
+        ensures { result ≡ goes_on self }
+    {
+        matches!(self, Reason::More | Reason::Room)
+    }
+
+    // Whether more is read first.
+    pub fn asks_for(self) -> bool
+        ensures { result ≡ asks_for self }
+    {
+        matches!(self, Reason::More)
+    }
 }
 
 // What a call did: why it stopped, the counts, how many bytes of the input it is done with, and how
@@ -80,65 +88,40 @@ pub struct Fed {
 }
 
 // ---- the record loop
-fn without_rows(c: Counts) -> Four
-    ensures { result ≡ four_of c }
-{
-    Four {
-        begun: c.begun,
-        answered: c.answered,
-        refused: c.refused,
-        unusable: c.unusable,
-    }
-}
-
-fn with_rows(c: Four, rows: [u32; ROWS]) -> Counts
-    ensures { result ≡ joined c rows }
-{
-    Counts {
-        begun: c.begun,
-        answered: c.answered,
-        refused: c.refused,
-        unusable: c.unusable,
-        rows,
-    }
-}
-
 fn counted(c: Four, kind: Kind) -> Four
     requires { Small c }
     ensures { result ≡ four_more kind c }
 {
+    let begun = c.begun + 1;
     match kind {
         Kind::Answered => Four {
-            begun: c.begun + 1,
+            begun,
             answered: c.answered + 1,
-            refused: c.refused,
-            unusable: c.unusable,
+            ..c
         },
         Kind::Refused => Four {
-            begun: c.begun + 1,
-            answered: c.answered,
+            begun,
             refused: c.refused + 1,
-            unusable: c.unusable,
+            ..c
         },
         Kind::Unusable => Four {
-            begun: c.begun + 1,
-            answered: c.answered,
-            refused: c.refused,
+            begun,
             unusable: c.unusable + 1,
+            ..c
         },
     }
 }
 
 // An unknown mark, or a mark or record that is cut.
-fn refused(c: Four, rows: [u32; ROWS], row: usize) -> Counts
-    requires sound { Sound job_limit (joined c rows) }
+fn refused(c: Counts, row: usize) -> Counts
+    requires sound { Sound job_limit c }
     requires row_lt_row_count { row < row_count }
-    ensures { result ≡ counts_more Kind.Refused row (joined c rows) }
+    ensures { result ≡ counts_more Kind.Refused row c }
 {
-    let mut more = rows;
-    let n = more[row];
-    more[row] = n + 1;
-    with_rows(counted(c, Kind::Refused), more)
+    let mut rows = c.rows;
+    rows[row] += 1;
+    let four = counted(c.four, Kind::Refused);
+    Counts { four, rows }
 }
 
 fn leave(reason: Reason, counts: Counts, used: usize, written: usize) -> Fed
@@ -152,49 +135,28 @@ fn leave(reason: Reason, counts: Counts, used: usize, written: usize) -> Fed
     }
 }
 
-// Out of the loop with the counts e, where the output has room for the end: as much as for the longest
-// answer, which is more than a refusal and the counts take. Else for want of room, with the counts c.
-fn stop(reason: Reason, c: Counts, e: Counts, used: usize, written: usize, room: usize) -> Fed
-    ensures { result ≡ stop_of reason c e used written room }
+// Out of the loop, behind a record that is refused and not read where `lost` has its place among the
+// marks, where the output has room for the end: as much as for the longest answer, which is more than a
+// refusal and the counts take. Else for want of room, with the counts as they are.
+fn stop(
+    reason: Reason,
+    c: Counts,
+    lost: Option<usize>,
+    used: usize,
+    written: usize,
+    room: usize,
+) -> Fed
+    requires sound { Sound job_limit c }
+    requires lost_in_rows { InRows lost }
+    ensures { result ≡ stop_of reason c (counts_lost lost c) used written room }
 {
     if room < LONGEST {
         return leave(Reason::Room, c, used, written);
     }
-    leave(reason, e, used, written)
-}
-
-// Without another record.
-fn pause(
-    reason: Reason,
-    c: Four,
-    rows: [u32; ROWS],
-    used: usize,
-    written: usize,
-    room: usize,
-) -> Fed
-    ensures { result ≡ stop_of reason (joined c rows) (joined c rows) used written room }
-{
-    let here = with_rows(c, rows);
-    stop(reason, here, here, used, written, room)
-}
-
-// With one that is refused and not read.
-fn lose(
-    reason: Reason,
-    c: Four,
-    rows: [u32; ROWS],
-    row: usize,
-    used: usize,
-    written: usize,
-    room: usize,
-) -> Fed
-    requires sound { Sound job_limit (joined c rows) }
-    requires row_lt_row_count { row < row_count }
-    ensures { result ≡ stop_of reason (joined c rows) (counts_more Kind.Refused row (joined c rows)) used written room }
-{
-    let here = with_rows(c, rows);
-    let more = refused(c, rows, row);
-    stop(reason, here, more, used, written, room)
+    match lost {
+        None => leave(reason, c, used, written),
+        Some(row) => leave(reason, refused(c, row), used, written),
+    }
 }
 
 // The whole records at hand. A record is asked for room where it is replied to, an end where the loop
@@ -207,42 +169,80 @@ fn records(c0: Counts, mem: &mut [u8], input: &[u8], last: bool, out: &mut [u8])
     ensures mem_after { mem.new ≡ looped_mem c0 mem.old input.now (length out.old) }
     ensures mem_after_2 { state_of mem.new ≡ (looped_of c0 mem.old input.now last (length out.old)).standing.state }
 {
-    let mut c = without_rows(c0);
+    let mut four = c0.four;
     let mut rows = c0.rows;
     let mut at = 0;
     let mut to = 0;
     let left = loop {
-        if c.begun == LIMIT {
-            break pause(Reason::Full, c, rows, at, to, out.len() - to);
+        if four.begun == LIMIT {
+            break stop(
+                Reason::Full,
+                Counts { four, rows },
+                None,
+                at,
+                to,
+                out.len() - to,
+            );
         }
         let heard = marks::reply(&input[at..], mem, &mut out[to..]);
-        let step = heard.step;
         let row = heard.row;
-        match step {
+        match heard.step {
             Step::Took(kind, used, written) => {
-                c = counted(c, kind);
-                let n = rows[row];
-                rows[row] = n + 1;
+                four = counted(four, kind);
+                rows[row] += 1;
                 at += used;
                 to += written;
             }
-            Step::Room => {
-                break leave(Reason::Room, with_rows(c, rows), at, to);
-            }
+            Step::Room => break leave(Reason::Room, Counts { four, rows }, at, to),
             Step::End => {
                 if last {
-                    break pause(Reason::End, c, rows, at, to, out.len() - to);
+                    break stop(
+                        Reason::End,
+                        Counts { four, rows },
+                        None,
+                        at,
+                        to,
+                        out.len() - to,
+                    );
                 }
-                break pause(Reason::More, c, rows, at, to, out.len() - to);
+                break stop(
+                    Reason::More,
+                    Counts { four, rows },
+                    None,
+                    at,
+                    to,
+                    out.len() - to,
+                );
             }
             Step::Unknown => {
-                break lose(Reason::Unknown, c, rows, row, at, to, out.len() - to);
+                break stop(
+                    Reason::Unknown,
+                    Counts { four, rows },
+                    Some(row),
+                    at,
+                    to,
+                    out.len() - to,
+                );
             }
             Step::Cut => {
                 if last {
-                    break lose(Reason::Cut, c, rows, row, at, to, out.len() - to);
+                    break stop(
+                        Reason::Cut,
+                        Counts { four, rows },
+                        Some(row),
+                        at,
+                        to,
+                        out.len() - to,
+                    );
                 }
-                break pause(Reason::More, c, rows, at, to, out.len() - to);
+                break stop(
+                    Reason::More,
+                    Counts { four, rows },
+                    None,
+                    at,
+                    to,
+                    out.len() - to,
+                );
             }
         }
     };
@@ -250,32 +250,25 @@ fn records(c0: Counts, mem: &mut [u8], input: &[u8], last: bool, out: &mut [u8])
 }
 
 // ---- what is written at the end, and the whole
-fn put_no(out: &mut [u8], at: usize, number: u8)
+fn put_no(out: &mut [u8], at: usize, refusal: Refusal)
     requires { at + 3 ≤ length out.old }
-    ensures { out.new ≡ sets out.old at (no_bytes number) }
+    ensures { out.new ≡ sets out.old at (no_bytes (number refusal)) }
 {
-    out[at] = b'N';
-    out[at + 1] = b'O';
-    out[at + 2] = number;
+    out[at..at + 3].copy_from_slice(&[b'N', b'O', refusal.number()]);
 }
 
 fn put_zz(out: &mut [u8], at: usize)
     requires { at + 2 ≤ length out.old }
     ensures { out.new ≡ sets out.old at (mark_bytes 0x5a 0x5a) }
 {
-    out[at] = b'Z';
-    out[at + 1] = b'Z';
+    out[at..at + 2].copy_from_slice(b"ZZ");
 }
 
 fn put_count(out: &mut [u8], at: usize, n: u32)
     requires { at + 4 ≤ length out.old }
     ensures { out.new ≡ sets out.old at (count_bytes n) }
 {
-    let d = wire::count_to_le_bytes(n);
-    out[at] = d[0];
-    out[at + 1] = d[1];
-    out[at + 2] = d[2];
-    out[at + 3] = d[3];
+    out[at..at + 4].copy_from_slice(&wire::count_to_le_bytes(n));
 }
 
 // The counts by mark.
@@ -283,10 +276,8 @@ fn put_rows(out: &mut [u8], at: usize, rows: [u32; ROWS])
     requires { at + 4 * row_count ≤ length out.old }
     ensures { out.new ≡ sets out.old at (rows_bytes rows) }
 {
-    let mut i = 0;
-    while i < ROWS {
-        put_count(out, at + 4 * i, rows[i]);
-        i += 1;
+    for (i, n) in rows.iter().enumerate() {
+        put_count(out, at + 4 * i, *n);
     }
 }
 
@@ -297,22 +288,21 @@ fn put_trailer(out: &mut [u8], at: usize, c: Counts) -> usize
     ensures out_after { out.new ≡ sets out.old at (trailer c) }
 {
     put_zz(out, at);
-    put_count(out, at + 2, c.begun);
-    put_count(out, at + 6, c.answered);
-    put_count(out, at + 10, c.refused);
-    put_count(out, at + 14, c.unusable);
-    let rows = c.rows;
-    put_rows(out, at + 18, rows);
+    put_count(out, at + 2, c.four.begun);
+    put_count(out, at + 6, c.four.answered);
+    put_count(out, at + 10, c.four.refused);
+    put_count(out, at + 14, c.four.unusable);
+    put_rows(out, at + 18, c.rows);
     TRAILER
 }
 
 // The refusal that ends a job, and the counts.
-fn put_refused(out: &mut [u8], at: usize, number: u8, c: Counts) -> usize
+fn put_refused(out: &mut [u8], at: usize, refusal: Refusal, c: Counts) -> usize
     requires { at + (3 + trailer_length) ≤ length out.old }
-    ensures value { result ≡ length (no_bytes number ++ trailer c) }
-    ensures out_after { out.new ≡ sets out.old at (no_bytes number ++ trailer c) }
+    ensures value { result ≡ length (no_bytes (number refusal) ++ trailer c) }
+    ensures out_after { out.new ≡ sets out.old at (no_bytes (number refusal) ++ trailer c) }
 {
-    put_no(out, at, number);
+    put_no(out, at, refusal);
     3 + put_trailer(out, at + 3, c)
 }
 
@@ -323,13 +313,10 @@ fn close(reason: Reason, c: Counts, out: &mut [u8], at: usize) -> usize
     ensures out_after { out.new ≡ sets out.old at (closing reason c) }
 {
     match reason {
-        Reason::Full => put_trailer(out, at, c),
-        Reason::End => put_trailer(out, at, c),
-        Reason::Unknown => put_refused(out, at, UNKNOWN_MARK, c),
-        Reason::Cut => put_refused(out, at, CUT_RECORD, c),
-        Reason::More => 0,
-        Reason::Room => 0,
-        Reason::Bad => 0,
+        Reason::Full | Reason::End => put_trailer(out, at, c),
+        Reason::Unknown => put_refused(out, at, Refusal::UnknownMark, c),
+        Reason::Cut => put_refused(out, at, Refusal::CutInput, c),
+        Reason::More | Reason::Room | Reason::Bad => 0,
     }
 }
 
@@ -339,14 +326,11 @@ fn add_up(rows: [u32; ROWS], n: u32) -> bool
     ensures { result ≡ eqb (total rows) n }
 {
     let mut left = n;
-    let mut i = 0;
-    while i < ROWS {
-        let x = rows[i];
-        if left < x {
+    for x in &rows {
+        if left < *x {
             return false;
         }
-        left -= x;
-        i += 1;
+        left -= *x;
     }
     left == 0
 }
@@ -354,13 +338,12 @@ fn add_up(rows: [u32; ROWS], n: u32) -> bool
 fn sound(c: Counts) -> bool
     ensures { result ≡ counts_sound job_limit c }
 {
-    if c.begun <= LIMIT {
-        if c.answered <= c.begun {
-            let left = c.begun - c.answered;
-            if c.refused <= left {
-                if c.unusable == left - c.refused {
-                    let rows = c.rows;
-                    return add_up(rows, c.begun);
+    if c.four.begun <= LIMIT {
+        if c.four.answered <= c.four.begun {
+            let left = c.four.begun - c.four.answered;
+            if c.four.refused <= left {
+                if c.four.unusable == left - c.four.refused {
+                    return add_up(c.rows, c.four.begun);
                 }
             }
         }
@@ -387,12 +370,11 @@ pub fn feed(c: Counts, mem: &mut [u8], input: &[u8], last: bool, out: &mut [u8])
         return leave(Reason::Bad, c, 0, 0);
     }
     let l = records(c, mem, input, last, out);
-    let reason = l.reason;
-    let counts = l.counts;
-    let used = l.used;
-    let to = l.written;
-    let n = close(reason, counts, out, to);
-    leave(reason, counts, used, to + n)
+    let n = close(l.reason, l.counts, out, l.written);
+    Fed {
+        written: l.written + n,
+        ..l
+    }
 }
 
 // Of a job that has not begun.
@@ -400,10 +382,7 @@ pub fn no_counts() -> Counts
     ensures { result ≡ counts_none }
 {
     Counts {
-        begun: 0,
-        answered: 0,
-        refused: 0,
-        unusable: 0,
+        four: Four::default(),
         rows: [0; ROWS],
     }
 }
@@ -425,7 +404,7 @@ pub fn run(input: &[u8], out: &mut [u8]) -> Fed
     ensures out_after_2 { ends result.reason ≡ true → out.new ≡ job_of job_limit input.now ++ drop result.written out.old }
     ensures input_theorem { InputTheorem job_limit input.now }
 {
-    let mut mem: [u8; kept::MEMORY] = [0; kept::MEMORY];
+    let mut mem = [0; kept::MEMORY];
     fresh(&mut mem);
     feed(no_counts(), &mut mem, input, true, out)
 }

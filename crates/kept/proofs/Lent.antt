@@ -5,16 +5,15 @@ use mathlib.Core.Bool.{Bool, true, false, cond}
 use mathlib.Core.List.{List, [], ◌∷◌, ◌++◌, append-nil}
 use native.Mathlib.Omega.{arith}
 use lib.ListN.{length, take, drop, set, length-append, take-append-drop, drop_of_length-le}
-use lib.Seq.{sets}
+use lib.Seq.{length-sets, length-take-le, sets}
 use lib.Ieee.{Float, Format, binary64}
 use Rattle.linalg.specs.Answer.{Answer, answers, refuses}
 use Rattle.frames.specs.Pose.{framed_renormalized}
 use Rattle.frames.specs.Joins.{framed_mul}
 use Rattle.frames.specs.Floats.{Pose}
-use Rattle.running.specs.Running.{Joint, one_more, due, stands, produced_of, product_on, join_on, join_of, every_of}
-use Rattle.running.specs.declared.Start.{Start}
+use Rattle.running.specs.Running.{Start, Joint, one_more, due, stands, produced_of, product_on, join_on, join_of, every_of}
 use Rattle.running.specs.declared.Running.{Running}
-use Rattle.running.specs.declared.Start.TheVariants.{Unset, Posed}
+use Rattle.std.specs.Prelude.{Some, None}
 use Rattle.layout.specs.Layout.{pose_numbers}
 use Rattle.layout.proofs.Runs.{sets_front, sets-part}
 use Rattle.wire.specs.Wire.{word_of, word_at, word_bytes, number_of, number_at, item_bytes, items_bytes, all_finite, numbers}
@@ -23,13 +22,14 @@ use Rattle.outcome.specs.declared.Kind.TheVariants as kind
 use Rattle.outcome.specs.declared.Step.{Step}
 use Rattle.outcome.specs.declared.Step.TheVariants as step
 use Rattle.outcome.proofs.Never.{never}
-use Rattle.outcome.specs.Outcome.{longest, mark_bytes, no_bytes, kind_of, reply_of, step_told}
+use Rattle.outcome.specs.Outcome.{wrote, longest, mark_bytes, no_bytes, kind_of, reply_of, step_told}
 use Rattle.replies.specs.Table.{framed_in, framed_items}
 use Rattle.replies.proofs.Frames.{framed-length, framed-finite}
 use Rattle.sheets.proofs.Framed.{frame, Fit, short_back, framed_back}
 use Rattle.kept.specs.State.{start_of, running_of, running_size, posed_bytes, state_of, memory}
 use Rattle.kept.specs.Records.{took_of}
 use Rattle.kept.specs.Chain.{ch_size, rn_size, ch_of, ch_reply, rn_reply, ch_step, rn_step, joint_bytes, ch_after, rn_after, ch_asks, rn_asks}
+use Rattle.kept.specs.Records.{IsTaken}
 use Rattle.kept.proofs.Records.{Told, told-whole}
 use Rattle.kept.proofs.State.{front_back}
 
@@ -42,14 +42,14 @@ posed_since : (x : Pose) (n k : ℕ) → word_at 2 (posed_bytes x n k) 2 ≡ wor
 unfolding posed_bytes word_at word_bytes
 posed_since x n k = refl
 
-posed_start : (x : Pose) (n k : ℕ) → start_of (posed_bytes x n k) ≡ Posed (framed_in binary64 (items_bytes binary64 (framed_items x)))
+posed_start : (x : Pose) (n k : ℕ) → start_of (posed_bytes x n k) ≡ Some (framed_in binary64 (items_bytes binary64 (framed_items x)))
 unfolding posed_bytes start_of word_bytes
 posed_start x n k = refl
 
-posed_back : (x : Pose) (n k : ℕ) → n < 65536 → k < 65536 → Fit x → running_of (posed_bytes x n k) ≡ record { pose = Posed x; every = n; since = k }
+posed_back : (x : Pose) (n k : ℕ) → n < 65536 → k < 65536 → Fit x → running_of (posed_bytes x n k) ≡ record { pose = Some x; every = n; since = k }
 unfolding running_of
 posed_back x n k h l f = λ i. record {
-  pose = (posed_start x n k ∙ ap Posed (framed_back x f)) i;
+  pose = (posed_start x n k ∙ ap Some (framed_back x f)) i;
   every = (posed_every x n k ∙ short_back n h) i;
   since = (posed_since x n k ∙ short_back k l) i;
 }
@@ -66,7 +66,7 @@ posed_stores x n k m = refl
 
 pub posed_stored :
     (x : Pose) (n k : ℕ) (m : List ℕ) → length m ≡ running_size → n < 65536 → k < 65536 → Fit x →
-    running_of (sets m 0 (posed_bytes x n k)) ≡ record { pose = Posed x; every = n; since = k }
+    running_of (sets m 0 (posed_bytes x n k)) ≡ record { pose = Some x; every = n; since = k }
 posed_stored x n k m e h l f =
     let b = posed_bytes x n k in
     let z : drop (length b) m ≡ [] = drop_of_length-le m {i = length b} (omega (arith, posed_length x n k)) in
@@ -81,11 +81,11 @@ every_stored n (a ∷ []) e h = absurd (omega arith)
 every_stored n (a ∷ b ∷ m) e h = λ i. record { pose = start_of (a ∷ b ∷ m); every = short_back n h i; since = word_of (take 2 m) }
 
 -- ---- CH: what is answered is the running pose, and a refused one leaves the state
-stood : (y p : Pose) (n k : ℕ) → answers y ≡ answers p → (stands y n k).running ≡ record { pose = Posed p; every = n; since = k }
-stood y p n k e = let q : y ≡ p = cc in λ i. record { pose = Posed (q i); every = n; since = k }
+stood : (y p : Pose) (n k : ℕ) → answers y ≡ answers p → (stands y n k).running ≡ record { pose = Some p; every = n; since = k }
+stood y p n k e = let q : y ≡ p = cc in λ i. record { pose = Some (q i); every = n; since = k }
 
 abbrev pub Stood : Joint → Pose → Type 0
-Stood j p = j.answer ≡ answers p → j.running ≡ record { pose = Posed p; every = j.running.every; since = j.running.since }
+Stood j p = j.answer ≡ answers p → j.running ≡ record { pose = Some p; every = j.running.every; since = j.running.since }
 
 produced_stood : (f : Format) (t : Bool) (y : Pose) (n k : ℕ) (p : Pose) → Stood (cond t (stands (framed_renormalized f y) n 0) (stands y n k)) p
 produced_stood f true y n k p e = stood (framed_renormalized f y) p n 0 e
@@ -98,8 +98,8 @@ product_stood f r (refuses k) p e = never (cc)
 
 joint_stood : (f : Format) (z : Start) (r : Running) (x : Pose) (up : Float) (p : Pose) → Stood (join_on f z r x up) p
 unfolding join_on
-joint_stood f Unset r x up p e = stood x p r.every r.since e
-joint_stood f (Posed q) r x up p e = product_stood f r (framed_mul f q x up) p e
+joint_stood f None r x up p e = stood x p r.every r.since e
+joint_stood f (Some q) r x up p e = product_stood f r (framed_mul f q x up) p e
 
 produced_kept : (f : Format) (t : Bool) (y : Pose) (n k e : ℕ) (r : Running) → let j = cond t (stands (framed_renormalized f y) n 0) (stands y n k) in j.answer ≡ refuses e → j.running ≡ r
 produced_kept f true y n k e r q = never (cc)
@@ -112,8 +112,8 @@ product-kept f r (refuses e) k q = refl
 
 joint_kept : (f : Format) (z : Start) (r : Running) (x : Pose) (up : Float) (k : ℕ) → (join_on f z r x up).answer ≡ refuses k → (join_on f z r x up).running ≡ r
 unfolding join_on
-joint_kept f Unset r x up k e = never (cc)
-joint_kept f (Posed q) r x up k e = product-kept f r (framed_mul f q x up) k e
+joint_kept f None r x up k e = never (cc)
+joint_kept f (Some q) r x up k e = product-kept f r (framed_mul f q x up) k e
 
 pub ch-joined :
     (m b : List ℕ) (x : Pose) (up : Float) (r : Running) (j : Joint) → x ≡ framed_in binary64 b → up ≡ number_of binary64 (take 8 (drop 68 b)) → r ≡ running_of m →
@@ -129,6 +129,11 @@ pub ch-kept : (r : Running) (b : List ℕ) (k : ℕ) → (ch_of r b).answer ≡ 
 unfolding ch_of
 ch-kept r b k = joint_kept binary64 r.pose r _ _ k
 
+joint_same : (m : List ℕ) (w : Running) (a : Answer Pose) → length (joint_bytes m w a) ≡ length m
+unfolding joint_bytes
+joint_same m w (answers p) = length-sets m 0 (posed_bytes p w.every w.since)
+joint_same m w (refuses k) = refl
+
 -- what is written in the running join's part is written in all lent bytes
 pub joint_front : (m : List ℕ) → length m ≡ memory → (w : Running) (a : Answer Pose) → joint_bytes (take running_size m) w a ++ drop running_size m ≡ joint_bytes m w a
 unfolding joint_bytes
@@ -137,22 +142,17 @@ joint_front m l w (refuses k) = take-append-drop running_size m
 
 -- ---- what is told and written: CH, by whether its numbers are finite, and where it is refused; RN
 pub pose_replied :
-    (t : Bool) (x : Pose) (out out' : List ℕ) → all_finite (numbers (pose_numbers x.sim3)) ≡ t →
+    (q : Step) (x : Pose) (out out' : List ℕ) → step_told q ≡ wrote (kind_of (all_finite (numbers (pose_numbers x.sim3)))) ch_size 70 →
     out' ≡ sets (set (set out 0 0x43) 1 0x48) 2 (items_bytes binary64 (framed_items x)) →
-    record { result_value : step_told (step.Took (kind_of t) ch_size 70) ≡ took_of ch_size (ch_reply (answers x)); out_after : out' ≡ sets out 0 (ch_reply (answers x)).bytes }
+    record { result_value : step_told q ≡ took_of ch_size (ch_reply (answers x)); out_after : out' ≡ sets out 0 (ch_reply (answers x)).bytes }
 unfolding ch_reply reply_of mark_bytes
-pose_replied t x out out' e w =
+pose_replied q x out out' e w =
     let n : length (0x43 ∷ 0x48 ∷ items_bytes binary64 (framed_items x)) ≡ 70 = ap (λ (k : ℕ). suc (suc k)) (framed-length binary64 x) in
-    record { result_value = rw (framed-finite x, e, n) refl; out_after = w }
+    record { result_value = rw (framed-finite x, n) e; out_after = w }
 
-pub pose-refused :
-    (k : ℕ) (out : List ℕ) →
-    record {
-      result_value : step_told (step.Took kind.Refused ch_size 3) ≡ took_of ch_size (ch_reply (refuses k));
-      out_after : set (set (set out 0 0x4e) 1 0x4f) 2 k ≡ sets out 0 (ch_reply (refuses k)).bytes;
-    }
+pub ch_refused : (k : ℕ) → (wrote kind.Refused ch_size 3 ≡ took_of ch_size (ch_reply (refuses k))) × (no_bytes k ≡ (ch_reply (refuses k)).bytes)
 unfolding ch_reply reply_of no_bytes
-pose-refused k out = record { result_value = refl; out_after = refl }
+ch_refused k = (refl, refl)
 
 pub every_replied :
     (n : ℕ) (out out' : List ℕ) → out' ≡ sets (set (set out 0 0x52) 1 0x4e) 2 (frame n) →
@@ -160,34 +160,33 @@ pub every_replied :
 unfolding rn_reply reply_of mark_bytes all_finite items_bytes item_bytes word_bytes
 every_replied n out out' w = record { result_value = refl; out_after = w }
 
--- ---- the record's own bytes, as the code lends them
-pub own : (w : ℕ) (s : List ℕ) → 2 + w ≤ length s → drop 2 (take (2 + w) s) ≡ take w (drop 2 s)
-own w [] h = absurd (omega arith)
-own w (a ∷ []) h = absurd (omega arith)
-own w (a ∷ b ∷ s) h = let n : 2 + w ≡ suc (suc w) = omega arith in rw n refl
-
-module _ (m s out : List ℕ) (l : length m ≡ memory) where
+-- ---- whole records, by the bytes b behind their marks
+module _ (m s out b : List ℕ) where
   pub ch-whole :
-      ch_size ≤ length s → longest ≤ length out → (q : Step) (out' R : List ℕ) → let j = ch_of (running_of (take running_size m)) (take 76 (drop 2 s)) in
+      IsTaken ch_size m s out b → (q : Step) (out' R : List ℕ) → let j = ch_of (running_of (take running_size m)) b in
       step_told q ≡ took_of ch_size (ch_reply j.answer) → out' ≡ sets out 0 (ch_reply j.answer).bytes →
-      R ≡ joint_bytes (take running_size m) j.running j.answer → running_of R ≡ j.running → length R ≡ length (take running_size m) →
+      R ≡ joint_bytes (take running_size m) j.running j.answer → running_of R ≡ j.running →
       Told ch_asks m s out q out' (R ++ drop running_size m)
   unfolding ch_step ch_after state_of
-  ch-whole h r q out' R told wrote became left e =
-      let t = told-whole ch_asks m s out l h r in
-      let all = ap (λ (x : List ℕ). x ++ drop running_size m) became ∙ joint_front m l _ _ in
-      rw (t.0, t.1.0, t.1.1.0, t.1.1.1, own 76 s h)
-      (record { result_value = told; out_after = wrote; mem_after = all; mem_after_2 = front_back m l R _ e left })
+  ch-whole k q out' R told put became left =
+      let l = k.state in
+      let e = ap (λ (x : List ℕ). length x) became ∙ joint_same (take running_size m) _ _ ∙ length-take-le running_size m (omega arith) in
+      let t = told-whole ch_asks m s out k.state k.whole k.room in
+      let all = ap (λ (x : List ℕ). x ++ drop running_size m) became ∙ joint_front m k.state _ _ in
+      rw (t.0, t.1.0, t.1.1.0, t.1.1.1, ← k.bytes)
+      (record { result_value = told; out_after = put; mem_after = all; mem_after_2 = front_back m R _ e left })
 
   pub rn-whole :
-      rn_size ≤ length s → longest ≤ length out → (q : Step) (out' R : List ℕ) → let n = word_at 2 (take 2 (drop 2 s)) 0 in
+      IsTaken rn_size m s out b → (q : Step) (out' R : List ℕ) → let n = word_at 2 b 0 in
       step_told q ≡ took_of rn_size (rn_reply n) → out' ≡ sets out 0 (rn_reply n).bytes →
-      R ≡ sets (take running_size m) 0 (word_bytes 2 n) → running_of R ≡ every_of (running_of (take running_size m)) n → length R ≡ length (take running_size m) →
+      R ≡ sets (take running_size m) 0 (word_bytes 2 n) → running_of R ≡ every_of (running_of (take running_size m)) n →
       Told rn_asks m s out q out' (R ++ drop running_size m)
   unfolding rn_step rn_after state_of
-  rn-whole h r q out' R told wrote became left e =
-      let t = told-whole rn_asks m s out l h r in
-      let n = word_at 2 (take 2 (drop 2 s)) 0 in
+  rn-whole k q out' R told put became left =
+      let l = k.state in
+      let e = ap (λ (x : List ℕ). length x) became ∙ length-sets (take running_size m) 0 (word_bytes 2 (word_at 2 b 0)) ∙ length-take-le running_size m (omega arith) in
+      let t = told-whole rn_asks m s out k.state k.whole k.room in
+      let n = word_at 2 b 0 in
       let all = ap (λ (x : List ℕ). x ++ drop running_size m) became ∙ sets-part m (word_bytes 2 n) 0 running_size (omega arith) (omega (arith, word-length 2 n)) in
-      rw (t.0, t.1.0, t.1.1.0, t.1.1.1, own 2 s h)
-      (record { result_value = told; out_after = wrote; mem_after = all; mem_after_2 = front_back m l R _ e left })
+      rw (t.0, t.1.0, t.1.1.0, t.1.1.1, ← k.bytes)
+      (record { result_value = told; out_after = put; mem_after = all; mem_after_2 = front_back m R _ e left })

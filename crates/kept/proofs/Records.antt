@@ -1,18 +1,24 @@
 -- A record by what its mark asks for: what is told, written and left where the lent bytes are no state, where it is cut, without room for its answer, and answered. Assumes nothing.
-use Prim.Native.Nat.{ℕ, ◌≤◌, ◌<◌}
+use Prim.Native.Nat.{ℕ, ◌+◌, ◌≤◌, ◌<◌}
 use mathlib.Core.Path.{◌≡◌, refl, sym, ap}
 use mathlib.Core.Bool.{Bool, true, false, cond}
 use mathlib.Core.List.{List}
 use borrow.Author.Tests.{lt-ltb, le-ltb, eq-eqb, ne_eqb}
-use lib.ListN.{length, take}
-use lib.Seq.{sets}
+use native.Mathlib.Omega.{arith}
+use Rattle.std.proofs.Common.{inl, inr}
+use lib.ListN.{length, take, drop, length-drop}
+use lib.Seq.{sets, length-take-le}
 use lib.Dec.{ltb}
 use Rattle.outcome.specs.declared.Step.{Step}
 use Rattle.outcome.specs.declared.Step.TheVariants as step
 use Rattle.outcome.specs.Outcome.{longest, became_of, written_of, step_told}
 use Rattle.outcome.proofs.Record.{record_whole, reply-cut, reply-roomless}
 use Rattle.kept.specs.State.{State, state_of, memory, holds}
-use Rattle.kept.specs.Records.{Asks, found_by, next_by, behind_by, met_by, bytes_by, state_by, mem_by, took_of}
+use Rattle.kept.specs.Records.{Asks, found_by, next_by, behind_by, met_by, bytes_by, state_by, mem_by, took_of, IsTaken, IsLeft}
+
+-- the bytes behind a mark are the record's but two
+pub own_length : (k : ℕ) (m s out b : List ℕ) → 2 ≤ k → IsTaken k m s out b → 2 + length b ≡ k
+own_length k m s out b h t = omega (arith, ap (λ (l : List ℕ). length l) t.bytes, length-drop 2 (take k s), length-take-le k s t.whole)
 
 pub same : {A : Type 0} (t : Bool) (z : A) → cond t z z ≡ z
 same true z = refl
@@ -90,3 +96,9 @@ module _ (a : Asks) (m s out : List ℕ) where
       let c = le-ltb (length out) longest r in
       let d = le-ltb (length s) a.bytes l in
       rw (u.0, u.1.0, u.1.1.0, u.1.1.1) (rw (f, c) refl, (rw (f, c) refl, (rw (c, d) refl, rw (c, d) refl)))
+
+  -- a record that is left
+  pub told_left : (q : Step) → IsLeft a.bytes m s out q → Told a m s out q out m
+  told_left q (inl e) = rw e.1 (told_unheld e.0)
+  told_left q (inr (inl e)) = rw e.1.1 (told-cut e.0 e.1.0)
+  told_left q (inr (inr e)) = rw e.1.1.1 (told-roomless e.0 e.1.0 e.1.1.0)

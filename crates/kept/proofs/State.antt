@@ -1,38 +1,34 @@
 -- The lent bytes of the state: their two parts, each lent and back again, and the state made fresh. Assumes nothing.
 use Prim.Native.Nat.{ℕ, ◌+◌, ◌-◌}
-use mathlib.Core.Path.{◌≡◌, refl, ap, ◌∙◌}
+use mathlib.Core.Path.{◌≡◌, refl, sym, ap, ◌∙◌}
 use mathlib.Core.Bool.{true, cond}
 use mathlib.Core.List.{List, [], ◌∷◌, ◌++◌, append-nil}
 use native.Mathlib.Omega.{arith}
 use borrow.Author.Tests.{eq-eqb, ne_eqb}
-use lib.ListN.{length, take, drop, set, length-set, length-append, length-drop, drop_of_length-le}
-use lib.Seq.{length-take-le, take_at, drop_at}
+use lib.ListN.{length, take, drop, replicate, length-set, length-append, length-drop, drop_of_length-le}
+use lib.Seq.{sets, length-take-le, take_at, drop_at}
 use Rattle.running.specs.Running.{running_none}
 use Rattle.running.specs.declared.Running.{Running}
+use Rattle.layout.proofs.Runs.{sets_front}
 use Rattle.wire.specs.Wire.{word_of, word_at}
 use Rattle.replies.proofs.Frames.{rest_is}
 use Rattle.sheets.specs.Sheets.{Sheets, no_sheets}
 use Rattle.sheets.specs.Store.{size, sheets_of, holds as store_holds, fresh_bytes}
 use Rattle.kept.specs.State.{state_none, start_of, running_of, running_size, state_of, memory, holds, fresh_of}
 
+-- ---- the running join's part, put back
+pub front_back :
+    (m R : List ℕ) (r : Running) → length R ≡ running_size → running_of R ≡ r →
+    state_of (R ++ drop running_size m) ≡ record { running = r; sheets = sheets_of (drop running_size m) }
+unfolding state_of
+front_back m R r n k = λ i. record {
+  running = (ap running_of (take_at R (drop running_size m) running_size n) ∙ k) i;
+  sheets = sheets_of (drop_at R (drop running_size m) running_size n i);
+}
+
 module _ (m : List ℕ) (l : length m ≡ memory) where
-  -- ---- the running join's part
-  pub front_length : length (take running_size m) ≡ running_size
+  front_length : length (take running_size m) ≡ running_size
   front_length = length-take-le running_size m (omega arith)
-
-  pub front_back :
-      (R : List ℕ) (r : Running) → length R ≡ length (take running_size m) → running_of R ≡ r →
-      state_of (R ++ drop running_size m) ≡ record { running = r; sheets = sheets_of (drop running_size m) }
-  unfolding state_of
-  front_back R r e k =
-      let n : length R ≡ running_size = e ∙ front_length in
-      λ i. record {
-        running = (ap running_of (take_at R (drop running_size m) running_size n) ∙ k) i;
-        sheets = sheets_of (drop_at R (drop running_size m) running_size n i);
-      }
-
-  pub front_same : (R : List ℕ) → length R ≡ length (take running_size m) → length (R ++ drop running_size m) ≡ length m
-  front_same R e = length-append R (drop running_size m) ∙ simp length-drop (omega (arith, e ∙ front_length))
 
   -- ---- the store, as the code lends it
   pub rest_length : length (take (length m - running_size) (drop running_size m)) ≡ size
@@ -59,7 +55,12 @@ module _ (m : List ℕ) (l : length m ≡ memory) where
 
 -- ---- made fresh
 abbrev pub zeroed : List ℕ → List ℕ
-zeroed m = set (set (set (set (set m 0 0) 1 0) 2 0) 3 0) 4 0
+zeroed m = sets m 0 (0 ∷ 0 ∷ 0 ∷ 0 ∷ 0 ∷ [])
+
+pub zeroed_is : (m v : List ℕ) → length m ≡ memory → v ≡ replicate (length (take 5 m)) 0 → v ++ drop 5 m ≡ zeroed m
+zeroed_is m v l w =
+    let n : length (take 5 m) ≡ 5 = length-take-le 5 m (omega arith) in
+    ap (λ (x : List ℕ). x ++ drop 5 m) (w ∙ ap (λ (k : ℕ). replicate k 0) n) ∙ sym (sets_front (0 ∷ 0 ∷ 0 ∷ 0 ∷ 0 ∷ []) m (omega arith))
 
 zeroed_running : (m : List ℕ) → length m ≡ memory → running_of (take running_size (zeroed m)) ≡ running_none
 unfolding running_of start_of word_at word_of

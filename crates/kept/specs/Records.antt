@@ -1,7 +1,9 @@
 -- A record by what its mark asks for: what stands at the head of the input, the state behind it, and what becomes of it.
-use Rattle.std.specs.Prelude.{ℕ, cond, List, [], length, take, ltb}
+use Rattle.std.specs.Prelude.{ℕ, ◌≡◌, ◌≢◌, ◌<◌, ◌≤◌, ◌⊎◌, cond, List, [], length, take, drop, ltb}
 use Rattle.outcome.specs.Outcome.{longest, Reply, Found, record_found, Became, wrote, roomless, became_of, written_of}
-use Rattle.kept.specs.State.{State, state_of, holds}
+use Rattle.outcome.specs.declared.Step.{Step}
+use Rattle.outcome.specs.declared.Step.TheVariants.{Room, Cut}
+use Rattle.kept.specs.State.{State, state_of, holds, memory}
 
 -- the state behind a whole record, and its reply
 pub record Stepped : Type 0 where
@@ -43,3 +45,16 @@ mem_by a m s room = cond (holds m) (cond (ltb room longest) m (behind_by a m s))
 -- a record of k bytes that is replied to so, as it is told
 abbrev pub took_of : ℕ → Reply → Became
 took_of k r = wrote r.kind k (length r.bytes)
+
+-- ---- as the code finds out, where a record of k bytes is asked for: it is taken, and b are the bytes behind its mark; or it is left, and q says why
+pub record IsTaken (k : ℕ) (m s out b : List ℕ) : Type 0 where
+  pub state : length m ≡ memory
+  pub whole : k ≤ length s
+  pub room : longest ≤ length out
+  pub bytes : b ≡ drop 2 (take k s)
+
+abbrev pub IsLeft : ℕ → List ℕ → List ℕ → List ℕ → Step → Type 0
+IsLeft k m s out q =
+    ((length m ≢ memory) × (q ≡ Room))
+    ⊎ (((length m ≡ memory) × ((length s < k) × (q ≡ Cut)))
+    ⊎ ((length m ≡ memory) × ((k ≤ length s) × ((length out < longest) × (q ≡ Room)))))

@@ -4,14 +4,14 @@ use Rattle.std.specs.Float.{binary64}
 use Rattle.linalg.specs.Answer.{Answer, answers, and_then}
 use Rattle.wire.specs.Wire.{word, word_at}
 use Rattle.layout.specs.Layout.{pose_count}
-use Rattle.outcome.specs.Outcome.{mark_bytes, Reply, reply_of, Became, roomless}
+use Rattle.outcome.specs.Outcome.{mark_bytes, Reply, reply_of}
 use Rattle.replies.specs.Table.{framed_items}
 use Rattle.sheets.specs.Sheets.{Sheets, Shelved, Shelf, shelve, ask}
-use Rattle.sheets.specs.Store.{slot_width, shot_in, Lent, lent, storeless, put_bytes}
+use Rattle.sheets.specs.Store.{slot_width, shot_in, put_bytes}
 use Rattle.sheets.specs.declared.Shot.{Shot}
 use Rattle.sheets.specs.Back.{keeps, Bytes, nans_one}
 use Rattle.kept.specs.State.{State, running_size}
-use Rattle.kept.specs.Records.{Stepped, Asks, took_of}
+use Rattle.kept.specs.Records.{Stepped, Asks}
 
 -- their letters as one number, the first times 256 and the second
 abbrev pub sh_letters : ℕ
@@ -55,15 +55,6 @@ sh_asks = record { bytes = sh_size; step = sh_step; after = sh_after }
 
 abbrev pub sq_asks : Asks
 sq_asks = record { bytes = sq_size; step = sq_step; after = λ m r. m }
-
--- ---- a record of k bytes whose answer comes from the store, as it is told, and what is written; lent bytes that are no store are no room
-unfoldable pub lent_became : {A : Type 0} → ℕ → (A → Reply) → Lent A → Became
-lent_became k reply (lent a) = took_of k (reply a)
-lent_became k reply storeless = roomless
-
-unfoldable pub lent_bytes : {A : Type 0} → (A → Reply) → Lent A → List ℕ
-lent_bytes reply (lent a) = (reply a).bytes
-lent_bytes reply storeless = []
 
 -- ---- SH with the bytes b behind its mark, where it is kept, and then SQ for its sheet: take and pose come back as they were sent, but every NaN as the one NaN. Proved as
 -- `asked_back` in proofs/Back.antt.

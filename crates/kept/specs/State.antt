@@ -1,11 +1,9 @@
 -- What a job keeps between records besides its counts, and the lent bytes in which the code keeps it. All bytes of that many are a state.
-use Rattle.std.specs.Prelude.{ℕ, ◌+◌, Bool, cond, List, [], ◌∷◌, ◌++◌, length, take, drop, get_or, eqb}
+use Rattle.std.specs.Prelude.{ℕ, ◌+◌, Bool, cond, List, [], ◌∷◌, ◌++◌, length, take, drop, get_or, eqb, Some, None}
 use Rattle.std.proofs.lemmas.List.Edits.{sets}
 use Rattle.std.specs.Float.{binary64}
 use Rattle.frames.specs.Floats.{Pose}
-use Rattle.running.specs.Running.{running_none}
-use Rattle.running.specs.declared.Start.{Start}
-use Rattle.running.specs.declared.Start.TheVariants.{Unset, Posed}
+use Rattle.running.specs.Running.{Start, running_none}
 use Rattle.running.specs.declared.Running.{Running}
 use Rattle.wire.specs.Wire.{word_at, word_bytes, items_bytes}
 use Rattle.replies.specs.Table.{framed_width, framed_in, framed_items}
@@ -22,7 +20,7 @@ state_none = record { running = running_none; sheets = no_sheets }
 
 -- ---- the bytes of the running join: n, the products since the last renormalisation, 1 where there is a pose, and the pose with its frames
 unfoldable pub start_of : List ℕ → Start
-start_of m = cond (eqb (get_or m 4 0) 1) (Posed (framed_in binary64 (drop 5 m))) Unset
+start_of m = cond (eqb (get_or m 4 0) 1) (Some (framed_in binary64 (drop 5 m))) None
 
 unfoldable pub running_of : List ℕ → Running
 running_of m = record { pose = start_of m; every = word_at 2 m 0; since = word_at 2 m 2 }

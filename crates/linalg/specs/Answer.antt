@@ -32,6 +32,7 @@ number refusal.FramesDiffer = 9
 number refusal.SameTake = 10
 number refusal.NoRoom = 11
 number refusal.NeverKept = 12
+number refusal.ListLength = 100
 
 -- what a result says; h reads the numbers of the code as those of the definitions
 abbrev pub told : {A B : Type 0} → (A → B) → Result A Refusal → Answer B

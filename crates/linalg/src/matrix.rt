@@ -1,8 +1,8 @@
 // A 3x3 matrix of three columns. Every entry of a product is a sum in index order from its first
 // term.
-ghost use Rattle.std.specs.Prelude.{◌≡◌};
-ghost use Rattle.linalg.specs.Answer.{told};
-ghost use Rattle.linalg.specs.Matrix.{mat_of_rows, mat_get, mat_set, mat_col, mat_row, mat_transpose, mat_scale, mat_identity, mat_inverse_adj, mat_add, mat_sub, mat_neg, mat_mul, mat_mul_vec, mat_hat, mat_mul_hat, mat_hat_mul, vec_component, vec_put, vec_hat_mul};
+ghost use Rattle.std.specs.Prelude.{◌≡◌, true};
+ghost use Rattle.linalg.specs.Answer.{answer, told};
+ghost use Rattle.linalg.specs.Matrix.{mat_of_rows, mat_get, mat_set, mat_col, mat_row, mat_transpose, mat_scale, mat_identity, mat_inverse_adj, mat_add, mat_sub, mat_neg, mat_mul, mat_mul_vec, mat_hat, mat_mul_hat, mat_hat_mul, of_three, vec_put, vec_hat_mul};
 ghost use Rattle.linalg.specs.Floats.{as_inverse, as_mat3, as_vec3};
 
 use crate::refusal::Refusal;
@@ -23,30 +23,59 @@ pub struct Inverse<T> {
     pub det: T,
 }
 
-// Component i of v; refused for i above 2.
-fn component<T: Real>(v: Vec3<T>, i: usize) -> Result<T, Refusal>
-    ensures { told T.float result ≡ vec_component (as_vec3 T.float v) i }
+// The one of three with this index; refused above 2.
+fn of_three<A: Copy>(a: A, b: A, c: A, i: usize) -> Result<A, Refusal>
+    ensures { answer result ≡ of_three a b c i }
 {
     match i {
-        0 => Ok(v.x),
-        1 => Ok(v.y),
-        2 => Ok(v.z),
+        0 => Ok(a),
+        1 => Ok(b),
+        2 => Ok(c),
         _ => Err(Refusal::NoSuchEntry),
     }
 }
 
-// v with component i replaced by x where `on`.
-fn put<T: Real>(v: Vec3<T>, on: bool, i: usize, x: T) -> Vec3<T>
-    ensures { as_vec3 T.float result ≡ vec_put (as_vec3 T.float v) on i (T.float x) }
+// v with component i set to x.
+fn with_component<T: Real>(v: Vec3<T>, i: usize, x: T) -> Vec3<T>
+    ensures { as_vec3 T.float result ≡ vec_put (as_vec3 T.float v) true i (T.float x) }
 {
-    Vec3 {
-        x: ieee::pick(on & (i == 0), x, v.x),
-        y: ieee::pick(on & (i == 1), x, v.y),
-        z: ieee::pick(on & (i == 2), x, v.z),
+    match i {
+        0 => Vec3 { x, ..v },
+        1 => Vec3 { y: x, ..v },
+        2 => Vec3 { z: x, ..v },
+        _ => v,
     }
 }
 
 impl<T: Real> Mat3<T> {
+    // f of each column.
+    fn map<F: Fn(Vec3<T>) -> Vec3<T>>(self, f: F) -> Mat3<T>
+        requires { F.IsAlwaysCallable f }
+        ensures c0 { F.post f self.c0 result.c0 }
+        ensures c1 { F.post f self.c1 result.c1 }
+        ensures c2 { F.post f self.c2 result.c2 }
+    {
+        Mat3 {
+            c0: f(self.c0),
+            c1: f(self.c1),
+            c2: f(self.c2),
+        }
+    }
+
+    // f of each column and the same one of o.
+    fn zip_with<F: Fn(Vec3<T>, Vec3<T>) -> Vec3<T>>(self, o: Mat3<T>, f: F) -> Mat3<T>
+        requires { F.IsAlwaysCallable f }
+        ensures c0 { F.post f self.c0 o.c0 result.c0 }
+        ensures c1 { F.post f self.c1 o.c1 result.c1 }
+        ensures c2 { F.post f self.c2 o.c2 result.c2 }
+    {
+        Mat3 {
+            c0: f(self.c0, o.c0),
+            c1: f(self.c1, o.c1),
+            c2: f(self.c2, o.c2),
+        }
+    }
+
     // The matrix with these columns.
     pub fn from_cols(c0: Vec3<T>, c1: Vec3<T>, c2: Vec3<T>) -> Mat3<T>
         ensures { as_mat3 T.float result ≡ record { c0 = (as_vec3 T.float c0); c1 = (as_vec3 T.float c1); c2 = (as_vec3 T.float c2) } }
@@ -81,7 +110,8 @@ impl<T: Real> Mat3<T> {
     pub fn get(self, r: usize, c: usize) -> Result<T, Refusal>
         ensures { told T.float result ≡ mat_get (as_mat3 T.float self) r c }
     {
-        component(self.col(c)?, r)
+        let v = self.col(c)?;
+        of_three(v.x, v.y, v.z, r)
     }
 
     // The matrix with entry (r, c) set to v; refused for r or c above 2.
@@ -91,10 +121,19 @@ impl<T: Real> Mat3<T> {
         let Ok(_) = self.get(r, c) else {
             return Err(Refusal::NoSuchEntry);
         };
-        Ok(Mat3 {
-            c0: put(self.c0, c == 0, r, v),
-            c1: put(self.c1, c == 1, r, v),
-            c2: put(self.c2, c == 2, r, v),
+        Ok(match c {
+            0 => Mat3 {
+                c0: with_component(self.c0, r, v),
+                ..self
+            },
+            1 => Mat3 {
+                c1: with_component(self.c1, r, v),
+                ..self
+            },
+            _ => Mat3 {
+                c2: with_component(self.c2, r, v),
+                ..self
+            },
         })
     }
 
@@ -102,12 +141,7 @@ impl<T: Real> Mat3<T> {
     pub fn col(self, c: usize) -> Result<Vec3<T>, Refusal>
         ensures { told (as_vec3 T.float) result ≡ mat_col (as_mat3 T.float self) c }
     {
-        match c {
-            0 => Ok(self.c0),
-            1 => Ok(self.c1),
-            2 => Ok(self.c2),
-            _ => Err(Refusal::NoSuchEntry),
-        }
+        of_three(self.c0, self.c1, self.c2, c)
     }
 
     // Row r; refused for r above 2.
@@ -127,11 +161,7 @@ impl<T: Real> Mat3<T> {
     pub fn scale(self, s: T) -> Mat3<T>
         ensures { as_mat3 T.float result ≡ mat_scale T.format (as_mat3 T.float self) (T.float s) }
     {
-        Mat3 {
-            c0: self.c0.scale(s),
-            c1: self.c1.scale(s),
-            c2: self.c2.scale(s),
-        }
+        self.map(|v| v.scale(s))
     }
 
     // +1 on the diagonal, +0 elsewhere.
@@ -175,32 +205,20 @@ impl<T: Real> Mat3<T> {
     pub fn add(self, o: Mat3<T>) -> Mat3<T>
         ensures { as_mat3 T.float result ≡ mat_add T.format (as_mat3 T.float self) (as_mat3 T.float o) }
     {
-        Mat3 {
-            c0: self.c0.add(o.c0),
-            c1: self.c1.add(o.c1),
-            c2: self.c2.add(o.c2),
-        }
+        self.zip_with(o, |v, w| v.add(w))
     }
 
     pub fn sub(self, o: Mat3<T>) -> Mat3<T>
         ensures { as_mat3 T.float result ≡ mat_sub T.format (as_mat3 T.float self) (as_mat3 T.float o) }
     {
-        Mat3 {
-            c0: self.c0.sub(o.c0),
-            c1: self.c1.sub(o.c1),
-            c2: self.c2.sub(o.c2),
-        }
+        self.zip_with(o, |v, w| v.sub(w))
     }
 
     // Flips every sign bit.
     pub fn neg(self) -> Mat3<T>
         ensures { as_mat3 T.float result ≡ mat_neg (as_mat3 T.float self) }
     {
-        Mat3 {
-            c0: self.c0.neg(),
-            c1: self.c1.neg(),
-            c2: self.c2.neg(),
-        }
+        self.map(|v| v.neg())
     }
 
     // self * v.
@@ -221,11 +239,7 @@ impl<T: Real> Mat3<T> {
     pub fn mul(self, o: Mat3<T>) -> Mat3<T>
         ensures { as_mat3 T.float result ≡ mat_mul T.format (as_mat3 T.float self) (as_mat3 T.float o) }
     {
-        Mat3 {
-            c0: self.mul_vec(o.c0),
-            c1: self.mul_vec(o.c1),
-            c2: self.mul_vec(o.c2),
-        }
+        o.map(|v| self.mul_vec(v))
     }
 }
 
@@ -284,9 +298,5 @@ fn hat_col<T: Real>(v: Vec3<T>, b: Vec3<T>) -> Vec3<T>
 pub fn hat_mul<T: Real>(v: Vec3<T>, b: Mat3<T>) -> Mat3<T>
     ensures { as_mat3 T.float result ≡ mat_hat_mul T.format (as_vec3 T.float v) (as_mat3 T.float b) }
 {
-    Mat3 {
-        c0: hat_col(v, b.c0),
-        c1: hat_col(v, b.c1),
-        c2: hat_col(v, b.c2),
-    }
+    b.map(|w| hat_col(v, w))
 }

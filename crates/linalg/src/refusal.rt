@@ -1,4 +1,4 @@
-// Why an entry refuses. The papers number the reasons, and C callers and the job's bytes have the numbers.
+// Why an entry refuses. The papers number the first twelve reasons; C callers and the job's bytes have the numbers.
 ghost use Rattle.std.specs.Prelude.{◌≡◌};
 ghost use Rattle.linalg.specs.Answer.{number};
 
@@ -16,6 +16,7 @@ pub enum Refusal {
     SameTake, // a take that the sheet has already
     NoRoom, // no place for another sheet
     NeverKept, // a sheet that was never put
+    ListLength, // a list that a C function is lent, of another length than it takes
 }
 
 impl Refusal {
@@ -35,6 +36,7 @@ impl Refusal {
             Refusal::SameTake => 10,
             Refusal::NoRoom => 11,
             Refusal::NeverKept => 12,
+            Refusal::ListLength => 100,
         }
     }
 }

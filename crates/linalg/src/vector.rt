@@ -13,15 +13,39 @@ pub struct Vec3<T> {
 }
 
 impl<T: Real> Vec3<T> {
+    // f of each component.
+    fn map<F: Fn(T) -> T>(self, f: F) -> Vec3<T>
+        requires { F.IsAlwaysCallable f }
+        ensures x { F.post f self.x result.x }
+        ensures y { F.post f self.y result.y }
+        ensures z { F.post f self.z result.z }
+    {
+        Vec3 {
+            x: f(self.x),
+            y: f(self.y),
+            z: f(self.z),
+        }
+    }
+
+    // f of each component and the same one of o.
+    fn zip_with<F: Fn(T, T) -> T>(self, o: Vec3<T>, f: F) -> Vec3<T>
+        requires { F.IsAlwaysCallable f }
+        ensures x { F.post f self.x o.x result.x }
+        ensures y { F.post f self.y o.y result.y }
+        ensures z { F.post f self.z o.z result.z }
+    {
+        Vec3 {
+            x: f(self.x, o.x),
+            y: f(self.y, o.y),
+            z: f(self.z, o.z),
+        }
+    }
+
     // s * self, componentwise.
     pub fn scale(self, s: T) -> Vec3<T>
         ensures { as_vec3 T.float result ≡ vec_scale T.format (as_vec3 T.float self) (T.float s) }
     {
-        Vec3 {
-            x: self.x * s,
-            y: self.y * s,
-            z: self.z * s,
-        }
+        self.map(|a| a * s)
     }
 
     // The sum of self_i o_i, in index order.
@@ -52,42 +76,26 @@ impl<T: Real> Vec3<T> {
     pub fn add(self, o: Vec3<T>) -> Vec3<T>
         ensures { as_vec3 T.float result ≡ vec_add T.format (as_vec3 T.float self) (as_vec3 T.float o) }
     {
-        Vec3 {
-            x: self.x + o.x,
-            y: self.y + o.y,
-            z: self.z + o.z,
-        }
+        self.zip_with(o, |a, b| a + b)
     }
 
     pub fn sub(self, o: Vec3<T>) -> Vec3<T>
         ensures { as_vec3 T.float result ≡ vec_sub T.format (as_vec3 T.float self) (as_vec3 T.float o) }
     {
-        Vec3 {
-            x: self.x - o.x,
-            y: self.y - o.y,
-            z: self.z - o.z,
-        }
+        self.zip_with(o, |a, b| a - b)
     }
 
     // Flips every sign bit.
     pub fn neg(self) -> Vec3<T>
         ensures { as_vec3 T.float result ≡ vec_neg (as_vec3 T.float self) }
     {
-        Vec3 {
-            x: -self.x,
-            y: -self.y,
-            z: -self.z,
-        }
+        self.map(|a| -a)
     }
 
     // Each component divided by s, zero included.
     pub fn over(self, s: T) -> Vec3<T>
         ensures { as_vec3 T.float result ≡ vec_over T.format (as_vec3 T.float self) (T.float s) }
     {
-        Vec3 {
-            x: self.x / s,
-            y: self.y / s,
-            z: self.z / s,
-        }
+        self.map(|a| a / s)
     }
 }

@@ -1,4 +1,5 @@
 -- CH, RN, SH and SQ behind any records of bytes are answered as the plain history of those says. Assumes nothing.
+use Rattle.std.specs.Prelude.{None, Some}
 use Prim.Native.Nat.{ℕ, ◌<◌}
 use mathlib.Core.Path.{◌≡◌, refl, sym, ap, subst, ◌∙◌}
 use mathlib.Core.Bool.{Bool, true, false}
@@ -12,9 +13,7 @@ use Rattle.linalg.specs.Answer.{Answer, answers, refuses}
 use Rattle.frames.specs.Pose.{framed_renormalized}
 use Rattle.frames.specs.Joins.{framed_mul}
 use Rattle.frames.specs.Floats.{Pose}
-use Rattle.running.specs.Running.{due, Joint, produced_of, product_on, join_on}
-use Rattle.running.specs.declared.Start.{Start}
-use Rattle.running.specs.declared.Start.TheVariants.{Unset, Posed}
+use Rattle.running.specs.Running.{Start, due, Joint, produced_of, product_on, join_on}
 use Rattle.running.specs.declared.Running.{Running}
 use Rattle.wire.specs.Wire.{word_at, word_bytes, number_at, item_bytes, items_bytes}
 use Rattle.outcome.specs.Outcome.{mark_bytes, no_bytes, reply_of}
@@ -59,7 +58,7 @@ kept_more z (x ∷ rs) r = kept_more (next_of z x) rs r
 -- ---- CH
 module _ (r : Running) (x : Pose) (up : Float) where
   abbrev Joined : Joint → Type 0
-  Joined j = (y : Pose) × ((j.running.pose ≡ Posed y) × (j.answer ≡ answers y))
+  Joined j = (y : Pose) × ((j.running.pose ≡ Some y) × (j.answer ≡ answers y))
 
   produced_by : (p : Pose) (n k : ℕ) (t : Bool) → due n k ≡ t → Joined (produced_of binary64 p n k)
   unfolding produced_of
@@ -68,13 +67,13 @@ module _ (r : Running) (x : Pose) (up : Float) where
 
   joined : (s : Start) → Accepts s x → Joined (join_on binary64 s r x up)
   unfolding join_on product_on framed_mul
-  joined Unset a = (x, (refl, refl))
-  joined (Posed p) a = rw (eq-eqb p.from x.to a) (produced_by _ _ _ _ refl)
+  joined None a = (x, (refl, refl))
+  joined (Some p) a = rw (eq-eqb p.from x.to a) (produced_by _ _ _ _ refl)
 
   apart : (s : Start) → (Accepts s x → ⊥) → (join_on binary64 s r x up).answer ≡ refuses 9
   unfolding join_on product_on framed_mul
-  apart Unset n = absurd (n tt)
-  apart (Posed p) n = rw (ne_eqb p.from x.to n) refl
+  apart None n = absurd (n tt)
+  apart (Some p) n = rw (ne_eqb p.from x.to n) refl
 
 abbrev ch_told : Answer Pose → List ℕ
 ch_told a = (ch_reply a).bytes

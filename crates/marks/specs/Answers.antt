@@ -1,10 +1,9 @@
 -- What CH, RN, SH and SQ are answered, by the plain history of the records before them. Proved as `answered` in
 -- proofs/Answered.antt, of any whole records of bytes.
-use Rattle.std.specs.Prelude.{ℕ, ◌<◌, ◌≡◌, List, [], ◌∷◌, ◌++◌}
+use Rattle.std.specs.Prelude.{None, Some, ℕ, ◌<◌, ◌≡◌, List, [], ◌∷◌, ◌++◌}
 use Rattle.std.specs.Float.{binary64}
 use Rattle.frames.specs.Floats.{Pose}
-use Rattle.running.specs.declared.Start.{Start}
-use Rattle.running.specs.declared.Start.TheVariants.{Unset, Posed}
+use Rattle.running.specs.Running.{Start}
 use Rattle.wire.specs.Wire.{word_at, word_bytes, items_bytes}
 use Rattle.outcome.specs.Outcome.{mark_bytes, no_bytes, Found, took, ended, unknown, cut}
 use Rattle.replies.specs.Table.{framed_in, framed_items}
@@ -39,13 +38,13 @@ sq_bytes o = mark_bytes 0x53 0x51 ++ (word_bytes 2 o.take ++ items_bytes binary6
 
 -- ---- CH with the pose x: whether it is accepted where s is the running pose
 abbrev pub Accepts : Start → Pose → Type 0
-Accepts Unset x = Unit {0}
-Accepts (Posed p) x = p.from ≡ x.to
+Accepts None x = Unit {0}
+Accepts (Some p) x = p.from ≡ x.to
 
 -- s is the running pose before it and t behind it
 pub record ChAnswered (s : Start) (x : Pose) (t : Start) (reply : List ℕ) : Type 0 where
   -- the first, and one whose `to` is the running pose's `from`, is answered the running pose behind it, with its frames
-  pub joins : Accepts s x → (y : Pose) × ((t ≡ Posed y) × (reply ≡ ch_bytes y))
+  pub joins : Accepts s x → (y : Pose) × ((t ≡ Some y) × (reply ≡ ch_bytes y))
   -- any other is refused by 9
   pub apart : (Accepts s x → ⊥) → reply ≡ no_bytes 9
 

@@ -1,10 +1,9 @@
 -- The records that came, what each means to the running join and to the retaken sheets, and what is kept after them.
 -- Proved as `kept-after` in proofs/Past.antt, of any records of bytes.
-use Rattle.std.specs.Prelude.{ℕ, ◌+◌, ◌*◌, ◌≤◌, ◌≡◌, cond, List, [], ◌∷◌, length, take, drop, eqb, ltb}
+use Rattle.std.specs.Prelude.{None, ℕ, ◌+◌, ◌*◌, ◌≤◌, ◌≡◌, cond, List, [], ◌∷◌, length, take, drop, eqb, ltb}
 use Rattle.std.specs.Float.{binary64}
+use Rattle.running.specs.Running.{Start}
 use Rattle.running.specs.History.{Event, join, renew, ran}
-use Rattle.running.specs.declared.Start.{Start}
-use Rattle.running.specs.declared.Start.TheVariants.{Unset}
 use Rattle.sheets.specs.Sheets.{Kept, none, kept_below, sheet_numbers, no_sheets, most}
 use Rattle.sheets.specs.Store.{shot_in}
 use Rattle.sheets.specs.History.{Sent, accepted, highest, Highest}
@@ -43,7 +42,7 @@ events_of (r ∷ rs) = event_in r (events_of rs)
 
 -- the running pose after these records, by the plain history of the CH and RN among them
 unfoldable pub pose_after : List (List ℕ) → Start
-pose_after rs = ran binary64 Unset 0 0 (events_of rs)
+pose_after rs = ran binary64 None 0 0 (events_of rs)
 
 -- a whole SH, before what h holds, where k are the record's letters; other records bring no shot
 unfoldable pub shot_is : List ℕ → List Sent → List Sent

@@ -1,5 +1,5 @@
 -- The table of marks, and what stands at the head of the input by it.
-use Rattle.std.specs.Prelude.{ℕ, ◌+◌, ◌*◌, cond, List, [], ◌∷◌, eqb, ltb}
+use Rattle.std.specs.Prelude.{ℕ, ◌+◌, ◌*◌, cond, List, [], ◌∷◌, eqb, ltb, Option, None, Some}
 use Rattle.std.specs.Float.{Format, binary32, binary64}
 use Rattle.linalg.specs.Answer.{Answer, answers, refuses}
 use Rattle.outcome.specs.declared.Entry.{Entry}
@@ -12,8 +12,6 @@ use Rattle.kept.specs.Chain.{ch_letters, rn_letters, ch_asks, rn_asks}
 use Rattle.kept.specs.Retakes.{sh_letters, sq_letters, sh_asks, sq_asks}
 use Rattle.marks.specs.declared.Mark.{Mark}
 use Rattle.marks.specs.declared.Mark.TheVariants.{Double, Single, Ch, Rn, Sh, Sq}
-use Rattle.marks.specs.declared.Look.{Look}
-use Rattle.marks.specs.declared.Look.TheVariants.{Known, Unknown}
 
 -- ---- the table: a row has the two letters as one number, the first times 256 and the second, and what they ask for
 pub record Row : Type 0 where
@@ -72,7 +70,7 @@ look_up k n (r ∷ t) = cond (eqb k r.letters) (answers (listed n r.asks)) (look
 unfoldable pub mark_of : ℕ → ℕ → Answer Listed
 mark_of a b = look_up (a * 256 + b) 0 table
 
--- what each case of `Mark` asks for, and what each case of `Look` says
+-- what each case of `Mark` asks for, and what is said of a mark and its place, or of none
 abbrev pub mark_asks : Mark → Asks
 mark_asks (Double e) = double e
 mark_asks (Single e) = single e
@@ -81,9 +79,9 @@ mark_asks Rn = rn_asks
 mark_asks Sh = sh_asks
 mark_asks Sq = sq_asks
 
-abbrev pub look_told : Look → Answer Listed
-look_told (Known m n) = answers (listed n (mark_asks m))
-look_told Unknown = refuses unknown_mark
+abbrev pub look_told : Option (Mark × ℕ) → Answer Listed
+look_told (Some p) = answers (listed p.1 (mark_asks p.0))
+look_told None = refuses unknown_mark
 
 -- the bytes of the longest record: PA's mark and its numbers
 abbrev pub longest_record : ℕ

@@ -31,13 +31,6 @@ pub enum Mark {
     Sq,
 }
 
-// A mark of the table, with its place among the counts by mark; or none.
-#[derive(Clone, Copy)]
-pub enum Look {
-    Known(Mark, usize),
-    Unknown,
-}
-
 // What stands at the head of the input, and in which of the counts by mark it counts.
 #[derive(Clone, Copy)]
 pub struct Heard {
@@ -45,46 +38,40 @@ pub struct Heard {
     pub row: usize,
 }
 
-// The two bytes as one number.
-fn key(a: u8, b: u8) -> u16
-    ensures { result ≡ a * 256 + b }
-{
-    (a as u16) * 256 + (b as u16)
-}
-
-// The table: what the two bytes of that number are, a line for each mark.
-fn known(k: u16) -> Look
+// The table: the mark of which the two bytes are this number, with its place among the counts by mark, a
+// line for each.
+fn known(k: u16) -> Option<(Mark, usize)>
     ensures { look_told result ≡ look_up k 0 table }
 {
     match k {
-        0x4558 => Look::Known(Mark::Double(Entry::Ex), 0),
-        0x434f => Look::Known(Mark::Double(Entry::Co), 1),
-        0x5041 => Look::Known(Mark::Double(Entry::Pa), 2),
-        0x4143 => Look::Known(Mark::Double(Entry::Ac), 3),
-        0x4d55 => Look::Known(Mark::Double(Entry::Mu), 4),
-        0x494e => Look::Known(Mark::Double(Entry::In), 5),
-        0x4a49 => Look::Known(Mark::Double(Entry::Ji), 6),
-        0x6578 => Look::Known(Mark::Single(Entry::Ex), 7),
-        0x636f => Look::Known(Mark::Single(Entry::Co), 8),
-        0x7061 => Look::Known(Mark::Single(Entry::Pa), 9),
-        0x6163 => Look::Known(Mark::Single(Entry::Ac), 10),
-        0x6d75 => Look::Known(Mark::Single(Entry::Mu), 11),
-        0x696e => Look::Known(Mark::Single(Entry::In), 12),
-        0x6a69 => Look::Known(Mark::Single(Entry::Ji), 13),
-        0x4152 => Look::Known(Mark::Double(Entry::Ar), 14),
-        0x4348 => Look::Known(Mark::Ch, 15),
-        0x524e => Look::Known(Mark::Rn, 16),
-        0x5348 => Look::Known(Mark::Sh, 17),
-        0x5351 => Look::Known(Mark::Sq, 18),
-        _ => Look::Unknown,
+        0x4558 => Some((Mark::Double(Entry::Ex), 0)),
+        0x434f => Some((Mark::Double(Entry::Co), 1)),
+        0x5041 => Some((Mark::Double(Entry::Pa), 2)),
+        0x4143 => Some((Mark::Double(Entry::Ac), 3)),
+        0x4d55 => Some((Mark::Double(Entry::Mu), 4)),
+        0x494e => Some((Mark::Double(Entry::In), 5)),
+        0x4a49 => Some((Mark::Double(Entry::Ji), 6)),
+        0x6578 => Some((Mark::Single(Entry::Ex), 7)),
+        0x636f => Some((Mark::Single(Entry::Co), 8)),
+        0x7061 => Some((Mark::Single(Entry::Pa), 9)),
+        0x6163 => Some((Mark::Single(Entry::Ac), 10)),
+        0x6d75 => Some((Mark::Single(Entry::Mu), 11)),
+        0x696e => Some((Mark::Single(Entry::In), 12)),
+        0x6a69 => Some((Mark::Single(Entry::Ji), 13)),
+        0x4152 => Some((Mark::Double(Entry::Ar), 14)),
+        0x4348 => Some((Mark::Ch, 15)),
+        0x524e => Some((Mark::Rn, 16)),
+        0x5348 => Some((Mark::Sh, 17)),
+        0x5351 => Some((Mark::Sq, 18)),
+        _ => None,
     }
 }
 
 // What two bytes are in the table.
-pub fn look_up(a: u8, b: u8) -> Look
+pub fn look_up(a: u8, b: u8) -> Option<(Mark, usize)>
     ensures { look_told result ≡ mark_of a b }
 {
-    known(key(a, b))
+    known(u16::from_be_bytes([a, b]))
 }
 
 fn tell(step: Step, row: usize) -> Heard
@@ -113,12 +100,12 @@ pub fn reply(s: &[u8], mem: &mut [u8], out: &mut [u8]) -> Heard
         }
         return tell(Step::Cut, UNLISTED);
     }
-    let Look::Known(m, place) = look_up(s[0], s[1]) else {
+    let Some((m, place)) = look_up(s[0], s[1]) else {
         return tell(Step::Unknown, UNLISTED);
     };
     match m {
-        Mark::Double(e) => tell(replies::reply(e, s, out), place),
-        Mark::Single(e) => tell(replies_f32::reply(e, s, out), place),
+        Mark::Double(e) => tell(replies::reply::<f64>(e, s, out), place),
+        Mark::Single(e) => tell(replies::reply::<f32>(e, s, out), place),
         Mark::Ch => tell(ch(s, mem, out), place),
         Mark::Rn => tell(rn(s, mem, out), place),
         Mark::Sh => tell(sh(s, mem, out), place),

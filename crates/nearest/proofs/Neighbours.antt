@@ -6,7 +6,6 @@ use mathlib.Core.Logic.{inl, inr}
 use mathlib.Core.Bool.{Bool, true, false, ◌&&◌}
 use Prim.Native.Nat.{ℕ, zero, suc, ◌+◌, ◌-◌, ◌≤◌, ◌<◌}
 use native.Mathlib.Omega.{arith}
-use lib.IntN.{pos}
 use lib.Dec.{T}
 use lib.Ieee.{Float, nan, inf, fin, Format, of_bits, to_bits, fits, lt, le}
 use lib.Ieee.Bits.{of_bits-to_bits, of_bits-fits}
@@ -22,12 +21,11 @@ use Rattle.ieee.proofs.Values.{value_clear}
 use Rattle.ieee.proofs.Finite.{zero-starts}
 use Rattle.ieee.proofs.Patterns.{rising, pattern_value, pattern_finite}
 use Rattle.ieee.proofs.Neighbours.{strictly_rising}
-use Rattle.linalg.specs.Answer.{answers}
 use Rattle.nearest.specs.Nearest.{Way, down, up, Near, step, none, place, changes}
-use Rattle.nearest.specs.Nearest.{nearest_from, arm_of, arm_at, first_told, nearest_of}
-use Rattle.nearest.specs.Theorem.{Least, OneArm, NearIs}
-use Rattle.nearest.specs.Neighbours.{Permitted, Next, NeighboursTheorem, Beside, Moves, Changed, LeastMoves}
-use Rattle.nearest.specs.Neighbours.{IsNearest, NearestAnswered, NearestArmTheorem}
+use Rattle.nearest.specs.Nearest.{nearest_from, arm_of, arm_at, first_told}
+use Rattle.nearest.specs.Theorem.{OneArm, NearIs}
+use Rattle.nearest.specs.Neighbours.{Permitted, Next, NeighboursTheorem, Beside, Moves, Changed}
+use Rattle.nearest.specs.Neighbours.{IsNearest, NearestArmTheorem}
 use Rattle.nearest.proofs.Starts.{start_below}
 use Rattle.nearest.proofs.Steps.{down-changes, up-changes, down-permitted, up-permitted, another}
 use Rattle.nearest.proofs.Answers.{accepted}

@@ -8,7 +8,7 @@ use Rattle.ieee.specs.Patterns.{patterns}
 use Rattle.ieee.specs.Signs.{plain}
 use Rattle.linalg.specs.Answer.{Answer, answers, refuses, unless_below_zero}
 use Rattle.closed.specs.Limits.{coeffs_delta}
-use Rattle.closed.specs.Arm.{coeffs_arm}
+use Rattle.closed.specs.Arm.{coeffs_arm, arm_number}
 use Rattle.nearest.specs.declared.Direction.{Direction}
 use Rattle.nearest.specs.declared.Direction.TheVariants as toward
 use Rattle.nearest.specs.declared.Step.{Step}
@@ -23,12 +23,12 @@ pub data Near : Type 0 where
   none : Near
 
 -- ---- what each answer says
-unfoldable pub way_told : Direction → Way
+abbrev pub way_told : Direction → Way
 way_told toward.Down = down
 way_told toward.Up = up
 
 unfoldable pub step_told : Step → Near
-step_told s = step s.count (way_told s.direction) s.arm
+step_told s = step s.count (way_told s.direction) (arm_number s.arm)
 
 -- h reads the steps of the code
 abbrev pub near_told : {A : Type 0} → (A → Near) → Option A → Near

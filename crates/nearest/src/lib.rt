@@ -3,20 +3,24 @@
 // the arm does not fall as z grows; so the two ends of z's arm are found by halving the patterns.
 #![tactic(auto)]
 
-ghost use Rattle.std.specs.Prelude.{◌≡◌, ◌&&◌, ◌+◌, ◌-◌, ◌<◌, ◌≤◌};
-ghost use Rattle.std.specs.Float.{binary64};
+ghost use Rattle.std.specs.Prelude.{◌≡◌, true, false, ◌&&◌, ◌<◌, ◌≤◌};
+ghost use Rattle.std.specs.Float.Ieee.{to_bits, lt};
 ghost use Rattle.ieee.specs.Finite.{is_finite};
+ghost use Rattle.ieee.specs.Numbers.{f0};
 ghost use Rattle.ieee.specs.Patterns.{patterns};
-ghost use Rattle.linalg.specs.Answer.{answers, told};
-ghost use Rattle.nearest.specs.Nearest.{step, down, up, step_told, near_told, nearest_from, first_told, arm_at, nearest_of};
+ghost use Rattle.ieee.specs.Signs.{plain};
+ghost use Rattle.linalg.specs.Answer.{told};
+ghost use Rattle.closed.specs.Arm.{arm_number};
+ghost use Rattle.nearest.specs.Nearest.{step, permitted, place, way_told, step_told, near_told, nearest_from, first_told, arm_at, nearest_of};
 ghost use Rattle.nearest.specs.Private.{Parts};
 
-use crate::width::{END, pattern, value};
+use crate::width::Neighbours;
+use closed::limits::Arm;
 use linalg::refusal::Refusal;
 
-mod width; // what the width of the numbers decides
+pub mod width; // what the width of the numbers decides
 
-#[derive(Clone, Copy)]
+#[derive(Clone, Copy, PartialEq, Eq)]
 pub enum Direction {
     Down,
     Up,
@@ -27,26 +31,35 @@ pub enum Direction {
 pub struct Step {
     pub count: u64,
     pub direction: Direction,
-    pub arm: u8,
+    pub arm: Arm,
+}
+
+// The pattern of a finite z from zero up. -0 counts as +0: z + 0 is z without the sign of a zero.
+fn start<T: Neighbours>(z: T) -> u64
+    requires { (lt (T.float z) f0 ≡ false) × (is_finite (T.float z) ≡ true) }
+    ensures { (result ≡ to_bits T.format (plain (T.float z))) × (result < patterns T.format) }
+{
+    (z + T::of(0.0)).place()
 }
 
 // The arm at sigma and the value with the pattern p.
-fn arm_at(sigma: f64, p: u64) -> u8
-    requires { p < patterns binary64 }
-    ensures { (result ≡ arm_at binary64 sigma p) × (1 ≤ result) }
+fn arm_at<T: Neighbours>(sigma: T, p: u64) -> Arm
+    requires { p < patterns T.format }
+    ensures { (arm_number result ≡ arm_at T.format (T.float sigma) p) × (1 ≤ arm_number result) }
 {
-    closed::limits::arm(sigma * sigma + value(p))
+    Arm::at(sigma * sigma + T::value(p))
 }
 
-// The first pattern with an arm above a, or END where there is none: each turn halves what is left.
-fn edge(sigma: f64, a: u8) -> u64
-    ensures { Parts (arm_at binary64 sigma) (patterns binary64) a result }
+// The first pattern with an arm above that of number a, or the end where there is none: each turn halves what
+// is left.
+fn edge<T: Neighbours>(sigma: T, a: u8) -> u64
+    ensures { Parts (arm_at T.format (T.float sigma)) (patterns T.format) a result }
 {
     let mut from: u64 = 0;
-    let mut to: u64 = END;
+    let mut to: u64 = T::end();
     while from < to {
         let middle = from + (to - from) / 2;
-        if arm_at(sigma, middle) <= a {
+        if arm_at(sigma, middle).number() <= a {
             from = middle + 1;
         } else {
             to = middle;
@@ -55,73 +68,71 @@ fn edge(sigma: f64, a: u8) -> u64
     from
 }
 
-// Up from the pattern p to `high`, the first with a higher arm.
-fn upward(sigma: f64, p: u64, high: u64) -> Result<Option<Step>, Refusal>
-    requires { (p < high) × (high < patterns binary64) }
-    ensures { told (near_told step_told) result ≡ answers (step (high - p) up (arm_at binary64 sigma high)) }
+// `count` steps from the pattern p in a direction, and the arm there.
+fn moved<T: Neighbours>(sigma: T, p: u64, direction: Direction, count: u64) -> Step
+    requires { (p < patterns T.format) × (permitted (patterns T.format) (way_told direction) p count ≡ true) }
+    ensures { step_told result
+        ≡ step count (way_told direction) (arm_at T.format (T.float sigma) (place (way_told direction) p count)) }
 {
-    Ok(Some(Step {
-        count: high - p,
-        direction: Direction::Up,
-        arm: arm_at(sigma, high),
-    }))
-}
-
-// Down from the pattern p to the last before `low`, from which on it has p's arm.
-fn downward(sigma: f64, p: u64, low: u64) -> Result<Option<Step>, Refusal>
-    requires { (0 < low) × (low ≤ p) × (p < patterns binary64) }
-    ensures { told (near_told step_told) result ≡ answers (step (p - low + 1) down (arm_at binary64 sigma (low - 1))) }
-{
-    Ok(Some(Step {
-        count: p - low + 1,
-        direction: Direction::Down,
-        arm: arm_at(sigma, low - 1),
-    }))
+    match direction {
+        Direction::Down => Step {
+            count,
+            direction,
+            arm: arm_at(sigma, p - count),
+        },
+        Direction::Up => Step {
+            count,
+            direction,
+            arm: arm_at(sigma, p + count),
+        },
+    }
 }
 
 // The nearest other arm from the pattern p, whose arm has the patterns from `low` up to `high`.
-fn nearest_from(sigma: f64, p: u64) -> Result<Option<Step>, Refusal>
-    requires { p < patterns binary64 }
-    ensures { told (near_told step_told) result ≡ answers (nearest_from (arm_at binary64 sigma) (patterns binary64) first_told p) }
+fn nearest_from<T: Neighbours>(sigma: T, p: u64) -> Option<Step>
+    requires { p < patterns T.format }
+    ensures { near_told step_told result ≡ nearest_from (arm_at T.format (T.float sigma)) (patterns T.format) first_told p }
 {
-    let a = arm_at(sigma, p);
+    let a = arm_at(sigma, p).number();
     let low = edge(sigma, a - 1);
     let high = edge(sigma, a);
+    let end = T::end();
     if low == 0 {
-        if high == END {
-            return Ok(None);
+        if high == end {
+            return None;
         }
-        return upward(sigma, p, high);
+        return Some(moved(sigma, p, Direction::Up, high - p));
     }
-    if high == END {
-        return downward(sigma, p, low);
+    let down = p - low + 1;
+    if high == end {
+        return Some(moved(sigma, p, Direction::Down, down));
     }
-    if high - p <= p - low + 1 {
-        upward(sigma, p, high)
+    if high - p <= down {
+        Some(moved(sigma, p, Direction::Up, high - p))
     } else {
-        downward(sigma, p, low)
+        Some(moved(sigma, p, Direction::Down, down))
     }
 }
 
 // Whether both are finite: 0 times a finite number is a zero, 0 times another is NaN, and NaN stays.
-fn both_finite(x: f64, y: f64) -> bool
-    ensures { result ≡ is_finite x && is_finite y }
+fn both_finite<T: Neighbours>(x: T, y: T) -> bool
+    ensures { result ≡ is_finite (T.float x) && is_finite (T.float y) }
 {
-    let product = 0.0 * x * y;
+    let product = T::of(0.0) * x * y;
     product == product
 }
 
 // How many neighbouring values z must move for the arm at (sigma, z) to change; where both directions
 // need the same count, up is given. None where every permitted z has the same arm. Refusal 1 for z < 0,
 // then 8 where sigma or z is a NaN or an infinity.
-pub fn nearest_arm(sigma: f64, z: f64) -> Result<Option<Step>, Refusal>
-    ensures { told (near_told step_told) result ≡ nearest_of binary64 first_told sigma z }
+pub fn nearest_arm<T: Neighbours>(sigma: T, z: T) -> Result<Option<Step>, Refusal>
+    ensures { told (near_told step_told) result ≡ nearest_of T.format first_told (T.float sigma) (T.float z) }
 {
-    if z < 0.0 {
+    if z.is_below(T::of(0.0)) {
         return Err(Refusal::NegativeAngle);
     }
     if !both_finite(sigma, z) {
         return Err(Refusal::NotFinite);
     }
-    nearest_from(sigma, pattern(z))
+    Ok(nearest_from(sigma, start(z)))
 }

@@ -1,30 +1,52 @@
 // What the width of the numbers decides: how many patterns the finite values from +0 up have, and
 // the ways from a value to its pattern and back.
-ghost use Rattle.std.specs.Prelude.{◌≡◌, true, false, ◌<◌};
-ghost use Rattle.std.specs.Float.{binary64};
-ghost use Rattle.std.specs.Float.Ieee.{of_bits, to_bits, lt};
-ghost use Rattle.ieee.specs.Finite.{is_finite};
-ghost use Rattle.ieee.specs.Numbers.{f0};
+ghost use Rattle.std.specs.Prelude.{◌≡◌, ◌<◌};
+ghost use Rattle.std.specs.Float.Ieee.{of_bits, to_bits};
 ghost use Rattle.ieee.specs.Patterns.{patterns};
-ghost use Rattle.ieee.specs.Signs.{plain};
 
+use closed::limits::Arms;
 use ieee::Real;
 
-// The pattern of +infinity: those of the finite values from +0 up are the numbers below it.
-pub(crate) const END: u64 = 0x7ff0_0000_0000_0000;
+// Numbers whose neighbours are counted: their patterns as whole numbers of one width.
+pub trait Neighbours: Arms {
+    // The pattern of +infinity: those of the finite values from +0 up are the numbers below it.
+    fn end() -> u64
+        ensures { result ≡ patterns Self.format };
 
-// The pattern of a finite z from zero up. -0 counts as +0: z + 0 is z without the sign of a zero.
-pub(crate) fn pattern(z: f64) -> u64
-    requires { (lt z f0 ≡ false) × (is_finite z ≡ true) }
-    ensures { (result ≡ to_bits binary64 (plain z)) × (result < patterns binary64) }
-{
-    (z + 0.0).pattern()
+    // The number's pattern.
+    fn place(self) -> u64
+        ensures { result ≡ to_bits Self.format (Self.float self) };
+
+    // The value with the pattern p.
+    fn value(p: u64) -> Self
+        requires { p < patterns Self.format }
+        ensures { Self.float result ≡ of_bits Self.format p };
 }
 
-// The value with the pattern p.
-pub(crate) fn value(p: u64) -> f64
-    requires { p < patterns binary64 }
-    ensures { result ≡ of_bits binary64 p }
-{
-    f64::from_pattern(p)
+impl Neighbours for f64 {
+    fn end() -> u64 {
+        0x7ff0_0000_0000_0000
+    }
+
+    fn place(self) -> u64 {
+        self.pattern()
+    }
+
+    fn value(p: u64) -> f64 {
+        f64::from_pattern(p)
+    }
+}
+
+impl Neighbours for f32 {
+    fn end() -> u64 {
+        0x7f80_0000
+    }
+
+    fn place(self) -> u64 {
+        self.pattern() as u64
+    }
+
+    fn value(p: u64) -> f32 {
+        f32::from_pattern(p as u32)
+    }
 }

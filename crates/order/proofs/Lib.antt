@@ -2,9 +2,8 @@
 pub mod Magnitudes
 pub mod Keys
 pub mod Tangents
-pub mod Merging
 pub mod Flat
-pub mod Turns
 pub mod Counts
 pub mod Theorem
+pub mod Sorting
 pub mod Examples

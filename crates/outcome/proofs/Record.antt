@@ -1,19 +1,16 @@
 -- A record at the head of the input: it lies within the input, and what follows it does not change it. What is written for it. Assumes nothing.
-use Prim.Native.Nat.{ℕ, suc, ◌+◌, ◌≤◌, ◌<◌}
+use Prim.Native.Nat.{ℕ, suc, ◌≤◌, ◌<◌}
 use mathlib.Core.Path.{◌≡◌, refl, sym, ap, ◌∙◌}
-use mathlib.Core.Bool.{Bool, true, false, cond}
+use mathlib.Core.Bool.{Bool, true, false}
 use mathlib.Core.List.{List, [], ◌∷◌, ◌++◌}
 use native.Mathlib.Omega.{arith}
 use borrow.Author.Tests.{ltb-true, ltb-false, lt-ltb, le-ltb}
 use lib.ListN.{length, take, set, length-append}
 use lib.Seq.{sets, take-append-le}
 use lib.Dec.{ltb}
-use lib.Ieee.{Format}
-use Rattle.linalg.specs.Answer.{Answer, answers, refuses}
-use Rattle.wire.specs.Wire.{Item, items_bytes}
 use Rattle.outcome.specs.declared.Kind.{Kind}
 use Rattle.outcome.specs.declared.Step.TheVariants as step
-use Rattle.outcome.specs.Outcome.{longest, Reply, mark_bytes, no_bytes, reply_of, Found, took, ended, unknown, cut, record_found, became_of, written_of, step_told}
+use Rattle.outcome.specs.Outcome.{longest, Reply, mark_bytes, no_bytes, Found, took, ended, unknown, cut, record_found, became_of, written_of, step_told}
 use Rattle.outcome.proofs.Never.{never, untrue}
 
 pub mark_length : (a b : ℕ) → length (mark_bytes a b) ≡ 2

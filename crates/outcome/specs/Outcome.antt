@@ -6,8 +6,7 @@ use Rattle.layout.specs.Layout.{block_pair_count}
 use Rattle.wire.specs.Wire.{Item, items_bytes, all_finite}
 use Rattle.outcome.specs.declared.Kind.{Kind}
 use Rattle.outcome.specs.declared.Kind.TheVariants as kind
-use Rattle.outcome.specs.declared.Gave.{Gave}
-use Rattle.outcome.specs.declared.Gave.TheVariants as gave
+use Rattle.outcome.specs.declared.Wrote.{Wrote}
 use Rattle.outcome.specs.declared.Step.{Step}
 use Rattle.outcome.specs.declared.Step.TheVariants as step
 
@@ -90,13 +89,12 @@ step_told step.Unknown = refused unknown_mark
 step_told step.Cut = refused cut_record
 
 -- ---- what an entry tells of its answer, and what it writes behind the mark
-abbrev pub gave_as : Bool → ℕ → Gave
-gave_as true n = gave.Wrote n
-gave_as false n = gave.Unusable n
+abbrev pub wrote_as : Bool → ℕ → Wrote
+wrote_as finite n = record { kind = kind_of finite; length = n }
 
-unfoldable pub gave_of : Format → Answer (List Item) → Gave
-gave_of f (answers l) = gave_as (all_finite l) (length (items_bytes f l))
-gave_of f (refuses k) = gave.Refused k
+unfoldable pub gave_of : Format → Answer (List Item) → Answer Wrote
+gave_of f (answers l) = answers (wrote_as (all_finite l) (length (items_bytes f l)))
+gave_of f (refuses k) = refuses k
 
 unfoldable pub gave_bytes : Format → Answer (List Item) → List ℕ
 gave_bytes f (answers l) = items_bytes f l

@@ -2,6 +2,9 @@
 // engine tell it to each other, in either format.
 #![tactic(auto)]
 
+ghost use Rattle.std.specs.Prelude.{◌≡◌};
+ghost use Rattle.outcome.specs.Outcome.{kind_of};
+
 use layout::BLOCK_PAIR;
 
 // No answer has more bytes: the mark and the doubles of PA's.
@@ -29,13 +32,24 @@ pub enum Kind {
     Unusable,
 }
 
-// What an entry did: it wrote an answer of so many bytes behind the mark, all of whose numbers are finite;
-// it wrote one that holds a NaN or an infinity; or it refused with a number and wrote nothing.
+impl Kind {
+    // Of a record that got an answer, by whether its every number is finite.
+    pub fn of_answer(finite: bool) -> Kind
+        ensures { result ≡ kind_of finite }
+    {
+        if finite {
+            Kind::Answered
+        } else {
+            Kind::Unusable
+        }
+    }
+}
+
+// What an entry wrote behind the mark: how the record counts, and how many bytes it is.
 #[derive(Clone, Copy)]
-pub enum Gave {
-    Wrote(usize),
-    Unusable(usize),
-    Refused(u8),
+pub struct Wrote {
+    pub kind: Kind,
+    pub length: usize,
 }
 
 // What stands at the head of the input: a whole record, with how it counts, its length and how many

@@ -1,17 +1,20 @@
 -- Moving the points of a list one after another, for any motion g: after i turns the first i triples are moved and the rest is as it was. Assumes nothing.
-use Prim.Native.Nat.{ℕ, zero, suc, ◌+◌, ◌*◌, ◌-◌, ◌/◌, ◌%◌, ◌≤◌}
+use Prim.Native.Nat.{ℕ, zero, suc, ◌+◌, ◌*◌, ◌/◌, ◌%◌, ◌<◌, ◌≤◌}
 use mathlib.Core.Path.{◌≡◌, refl, sym, ap, subst, ◌∙◌}
 use mathlib.Core.Bool.{true, ◌&&◌}
 use mathlib.Core.List.{List, [], ◌∷◌, ◌++◌, append_assoc, append-nil}
-use native.Mathlib.Numerals.{add-one}
+use native.Mathlib.Nat.{add_comm}
+use native.Mathlib.Numerals.{add-one, unary_clauses}
 use native.Mathlib.Omega.{arith}
 use lib.Dec.{T, eqb, leb, eqb→eq}
-use lib.ListN.{get_or, set, length, take, drop, length-append, length-drop, take-append-drop}
+use lib.ListN.{get_or, set, length, take, drop, length-append, take-append-drop}
 use lib.Seq.{drop_at, length-take-le, drop-cons, drop-length, get_or-drop, drop-drop}
 use lib.Ieee.{Float, nan}
 use lib.Ieee.Fits.{and_l, and_r}
-use borrow.Author.Rules.{part_to_end}
-use Rattle.linalg.specs.Vector.{vec_numbers}
+use Rattle.std.specs.Simd.{first_chunks}
+use Rattle.std.specs.Prelude.{map}
+use Rattle.std.proofs.lemmas.List.{get_or-map, get_or-take, length-map, map-set, map-append, take-map, drop-map}
+use Rattle.linalg.specs.Vector.{vec, vec_numbers}
 use Rattle.linalg.specs.Floats.{Vec3}
 use Rattle.point_lists.specs.Points.{point_at, points_moved, points_accepted}
 use Rattle.point_lists.specs.Private.{put_point}
@@ -66,22 +69,75 @@ moved_last g l out i h = rw (add-one i) (ap (λ (r : List Float). points_moved g
 pub moved_all : (g : Vec3 → Vec3) (l out : List Float) (i : ℕ) → i * 3 ≡ length out → points_moved g l i ++ drop (i * 3) out ≡ points_moved g l i
 moved_all g l out i e = rw (e, drop-length) (append-nil (points_moved g l i))
 
--- ---- reading from what is left of a list: its first triple, and what is left after it
-pub left-first : (l : List Float) (i : ℕ) → point_at (drop (i * 3) l) 0 ≡ point_at l i
+-- ---- the lists of the code, whose numbers h reads
+pub read : {A : Type 0} (h : A → Float) (l : List A) (k : ℕ) (x : A) → k < length l → x ≡ get_or l k x → h x ≡ get_or (map h l) k nan
+read h l k x b e = ap h e ∙ sym (get_or-map h l k x nan b)
+
+pub put_map :
+    {A : Type 0} (h : A → Float) (l : List A) (at : ℕ) (x y z : A) → map h (set (set (set l at x) (at + 1) y) (at + 2) z) ≡ put_point (map h l) at (vec (h x) (h y) (h z))
+unfolding put_point
+put_map h l at x y z = simp map-set
+
+-- the i-th of the chunks of a list, and a triple in it
+pub chunk_at : {A : Type 0} (k n i : ℕ) (l d : List A) → i < n → get_or (first_chunks k n l) i d ≡ take k (drop (k * i) l)
+chunk_at k zero i l d h = absurd (omega (arith, h))
+chunk_at k (suc n) zero l d h = let z : k * 0 ≡ 0 = omega arith in rw z refl
+chunk_at k (suc n) (suc i) l d h =
+    let m : k + k * i ≡ k * suc i = simp unary_clauses (add_comm k (k * i)) in
+    chunk_at k n i (drop k l) d (omega (arith, h)) ∙ ap (take k) (drop-drop (k * i) k l ∙ ap (λ (o : ℕ). drop o l) m)
+
+pub in_chunk :
+    {A : Type 0} (h : A → Float) (l : List A) (k a i : ℕ) → i * 3 + 3 ≤ k → point_at (map h (take k (drop (a * 3) l))) i ≡ point_at (map h l) (a + i)
 unfolding point_at
-left-first l i =
-    let n : i * 3 + 0 ≡ i * 3 = omega arith in
-    simp (get_or-drop, n)
+in_chunk h l k a i b =
+    let x : a * 3 + i * 3 ≡ (a + i) * 3 = omega arith in
+    let y : a * 3 + (i * 3 + 1) ≡ (a + i) * 3 + 1 = omega arith in
+    let z : a * 3 + (i * 3 + 2) ≡ (a + i) * 3 + 2 = omega arith in
+    let x' = get_or-take k (drop (a * 3) (map h l)) (i * 3) nan (omega arith) in
+    let y' = get_or-take k (drop (a * 3) (map h l)) (i * 3 + 1) nan (omega arith) in
+    let z' = get_or-take k (drop (a * 3) (map h l)) (i * 3 + 2) nan (omega arith) in
+    simp (sym (take-map h k (drop (a * 3) l)), sym (drop-map h (a * 3) l), x', y', z', get_or-drop, x, y, z)
 
-pub left-next : (l r : List Float) (i : ℕ) → r ≡ drop (i * 3) l → take (length r - 3) (drop 3 r) ≡ drop ((i + 1) * 3) l
-left-next l r i e =
-    let n : (i + 1) * 3 ≡ i * 3 + 3 = omega arith in
-    rw n (part_to_end r 3 ∙ rw e (drop-drop 3 (i * 3) l))
+pub piece :
+    {A : Type 0} (h : A → Float) (fl : List A → List Float) → ((l : List A) → fl l ≡ map h l) → (l r : List A) (cs : List (List A)) (k n q a i : ℕ) →
+    cs ≡ first_chunks k n l → q < n → r ≡ get_or cs q r → k * q ≡ a * 3 → i * 3 + 3 ≤ k → point_at (fl r) i ≡ point_at (fl l) (a + i)
+piece {A} h fl law l r cs k n q a i ec hq er ea hi =
+    let e : r ≡ take k (drop (a * 3) l) = er ∙ ap (λ (c : List (List A)). get_or c q r) ec ∙ chunk_at k n q l r hq ∙ ap (λ (o : ℕ). take k (drop o l)) ea in
+    ap (λ (m : List Float). point_at m i) (law r ∙ ap (map h) e) ∙ in_chunk h l k a i hi ∙ ap (λ (m : List Float). point_at m (a + i)) (sym (law l))
 
-pub left-length : (l r : List Float) (i : ℕ) → r ≡ drop (i * 3) l → i * 3 + 3 ≤ length l → length (take (length r - 3) (drop 3 r)) + (i + 1) * 3 ≡ length l
-left-length l r i e h =
-    let d : length (drop ((i + 1) * 3) l) ≡ length l - (i + 1) * 3 = length-drop ((i + 1) * 3) l in
-    rw (left-next l r i e) (omega arith)
+pub floats_length : {A : Type 0} (h : A → Float) (fl : List A → List Float) → ((l : List A) → fl l ≡ map h l) → (l : List A) → length (fl l) ≡ length l
+floats_length h fl law l = ap length (law l) ∙ length-map l h
+
+-- ---- a part of a list, and a list whose part was lent and holds r then
+module _ {A : Type 0} (h : A → Float) (fl : List A → List Float) (law : (l : List A) → fl l ≡ map h l) where
+  pub floats_take : (j : ℕ) (l : List A) → fl (take j l) ≡ take j (fl l)
+  floats_take j l = law (take j l) ∙ sym (take-map h j l) ∙ ap (take j) (sym (law l))
+
+  pub floats_part : (j k : ℕ) (l : List A) → fl (take j (drop k l)) ≡ take j (drop k (fl l))
+  floats_part j k l = law (take j (drop k l)) ∙ sym (take-map h j (drop k l)) ∙ ap (take j) (sym (drop-map h k l) ∙ ap (drop k) (sym (law l)))
+
+  pub floats_lent : (j k : ℕ) (l r : List A) → fl (take k l ++ (r ++ drop j (drop k l))) ≡ take k (fl l) ++ (fl r ++ drop j (drop k (fl l)))
+  floats_lent j k l r =
+      law (take k l ++ (r ++ drop j (drop k l))) ∙ map-append h (take k l) (r ++ drop j (drop k l))
+      ∙ ap (λ (m : List Float). map h (take k l) ++ m) (map-append h r (drop j (drop k l)))
+      ∙ (λ i. (sym (take-map h k l) ∙ ap (take k) (sym (law l))) i
+      ++ (sym (law r) i ++ (sym (drop-map h j (drop k l)) ∙ ap (drop j) (sym (drop-map h k l) ∙ ap (drop k) (sym (law l)))) i))
+
+-- the triples of a first part of a list are the list's
+within_part : (l : List Float) (k n : ℕ) → n * 3 + 3 ≤ k → point_at (take k l) n ≡ point_at l n
+unfolding point_at
+within_part l k n b =
+    λ i. vec (get_or-take k l (n * 3) nan (omega (arith, b)) i) (get_or-take k l (n * 3 + 1) nan (omega (arith, b)) i) (get_or-take k l (n * 3 + 2) nan (omega (arith, b)) i)
+
+pub moved_part : (g : Vec3 → Vec3) (l : List Float) (k n : ℕ) → n * 3 ≤ k → points_moved g (take k l) n ≡ points_moved g l n
+unfolding points_moved
+moved_part g l k zero h = refl
+moved_part g l k (suc n) h =
+    λ i. moved_part g l k n (omega (arith, h)) i ++ vec_numbers (g (within_part l k n (omega (arith, h)) i))
+
+-- nothing follows the end
+pub nothing_after : (x out : List Float) (n : ℕ) → n ≡ length out → x ++ drop n out ≡ x
+nothing_after x out n e = rw (e, drop-length) (append-nil x)
 
 -- ---- what the test of the lists says: whole triples, and an output as long
 pub accepted_thirds : (n k : ℕ) → points_accepted n k ≡ true → (n / 3 * 3 ≡ n) × (n / 3 * 3 ≡ k)

@@ -3,14 +3,15 @@
 // point as Sim3::act and the mark AC do. The two differ in the last bits.
 #![tactic(auto)]
 
-ghost use Rattle.std.specs.Prelude.{◌≡◌, ◌+◌, ◌*◌, ◌≤◌, ◌++◌, length, drop};
-ghost use Rattle.std.specs.Float.{binary64};
+ghost use Rattle.std.specs.Prelude.{◌≡◌, ◌+◌, ◌*◌, ◌/◌, ◌≤◌, ◌++◌, length, drop};
 ghost use Rattle.linalg.specs.Answer.{answer};
+ghost use Rattle.linalg.specs.Floats.{Vec3 as Point, as_vec3, as_mat3};
 ghost use Rattle.point_lists.specs.Points.{point_at, points_moved, points_accepted, points_answer, points_out, mat_act, pose_act_many, pose_act_each};
-ghost use Rattle.sim3.specs.Pose.{pose_act};
-ghost use Rattle.point_lists.specs.Private.{put_point};
+ghost use Rattle.sim3.specs.Floats.{as_sim3};
+ghost use Rattle.point_lists.specs.Private.{put_point, Moves};
 
 use crate::many::many;
+use ieee::Real;
 use linalg::matrix::Mat3;
 use linalg::refusal::Refusal;
 use linalg::vector::Vec3;
@@ -18,9 +19,23 @@ use sim3::sim3::Sim3;
 
 mod many; // every point by a matrix
 
-pub(crate) fn point_at(pts: &[f64], i: usize) -> Vec3<f64>
+// Whether a matrix moves the points of a long list by fours: singles, of which four fit in a register
+// for each of x, y and z, and not doubles.
+pub trait PointWidth: Real {
+    const BY_FOURS: bool;
+}
+
+impl PointWidth for f64 {
+    const BY_FOURS: bool = false;
+}
+
+impl PointWidth for f32 {
+    const BY_FOURS: bool = true;
+}
+
+pub(crate) fn point_at<T: Real>(pts: &[T], i: usize) -> Vec3<T>
     requires { i * 3 + 3 ≤ length pts.now }
-    ensures { result ≡ point_at pts.now i }
+    ensures { as_vec3 T.float result ≡ point_at (T.floats pts.now) i }
 {
     let x = pts[i * 3];
     let y = pts[i * 3 + 1];
@@ -28,9 +43,9 @@ pub(crate) fn point_at(pts: &[f64], i: usize) -> Vec3<f64>
     Vec3 { x, y, z }
 }
 
-pub(crate) fn put_point(out: &mut [f64], at: usize, p: Vec3<f64>)
+pub(crate) fn put_point<T: Real>(out: &mut [T], at: usize, p: Vec3<T>)
     requires { at + 3 ≤ length out.old }
-    ensures { out.new ≡ put_point out.old at p }
+    ensures { T.floats out.new ≡ put_point (T.floats out.old) at (as_vec3 T.float p) }
 {
     out[at] = p.x;
     out[at + 1] = p.y;
@@ -38,52 +53,23 @@ pub(crate) fn put_point(out: &mut [f64], at: usize, p: Vec3<f64>)
 }
 
 // m p + t.
-fn mat_act(m: Mat3<f64>, t: Vec3<f64>, p: Vec3<f64>) -> Vec3<f64>
-    ensures { result ≡ mat_act binary64 m t p }
+pub(crate) fn mat_act<T: Real>(m: Mat3<T>, t: Vec3<T>, p: Vec3<T>) -> Vec3<T>
+    ensures { as_vec3 T.float result ≡ mat_act T.format (as_mat3 T.float m) (as_vec3 T.float t) (as_vec3 T.float p) }
 {
     m.mul_vec(p).add(t)
 }
 
-// The first e points, moved into their places. PERF (D122): it reads from what is left of pts, so that
-// the compiler loads two points as three vectors, where an index into the whole list makes it load
-// number by number.
-pub(crate) fn leading(m: Mat3<f64>, t: Vec3<f64>, pts: &[f64], out: &mut [f64], e: usize)
-    requires { (e * 3 ≤ length pts.now) × (length out.old ≡ length pts.now) }
-    ensures { out.new ≡ points_moved (mat_act binary64 m t) pts.now e ++ drop (e * 3) out.old }
+// The points of pts, each moved by f, into the places from the first on. PERF (D122): each point is
+// read from a triple of its own, so that the compiler loads two points as three vectors, where an
+// index into the whole list makes it load number by number.
+pub(crate) fn each<T: Real, F: Fn(Vec3<T>) -> Vec3<T>>(f: &F, pts: &[T], out: &mut [T])
+    requires callable { F.IsAlwaysCallable f.now }
+    requires room { length pts.now ≤ length out.old }
+    ensures moved { (g : Point → Point) → Moves T.float (F.post f.now) g → T.floats out.new ≡ points_moved g (T.floats pts.now) (length pts.now / 3) ++ drop (length pts.now / 3 * 3) (T.floats out.old) }
 {
-    let mut rest = pts;
-    let mut i = 0;
-    while i < e {
-        let p = mat_act(m, t, point_at(rest, 0));
-        rest = &rest[3..];
-        put_point(out, i * 3, p);
-        i += 1;
-    }
-}
-
-// The last point, where e is one less than n: after it e points are left to move.
-pub(crate) fn last(m: Mat3<f64>, t: Vec3<f64>, pts: &[f64], out: &mut [f64], e: usize, n: usize)
-    requires { (e ≤ n) × (n ≤ e + 1) × (n * 3 ≡ length pts.now) × (n * 3 ≡ length out.old) }
-    ensures { points_moved (mat_act binary64 m t) pts.now e ++ drop (e * 3) out.new ≡ points_moved (mat_act binary64 m t) pts.now n }
-{
-    if e == n {
-        return;
-    }
-    put_point(out, e * 3, mat_act(m, t, point_at(pts, e)));
-}
-
-// Reads from what is left of pts, as leading does.
-fn each(x: Sim3<f64>, up: f64, pts: &[f64], out: &mut [f64], n: usize)
-    requires { (n * 3 ≡ length pts.now) × (n * 3 ≡ length out.old) }
-    ensures { out.new ≡ points_moved (pose_act binary64 x up) pts.now n }
-{
-    let mut rest = pts;
-    let mut i = 0;
-    while i < n {
-        let p = x.act(up, point_at(rest, 0));
-        rest = &rest[3..];
-        put_point(out, i * 3, p);
-        i += 1;
+    let (triples, _) = pts.as_chunks::<3>();
+    for (i, p) in triples.iter().enumerate() {
+        put_point(out, i * 3, f(point_at(p, 0)));
     }
 }
 
@@ -91,41 +77,31 @@ fn each(x: Sim3<f64>, up: f64, pts: &[f64], out: &mut [f64], n: usize)
 fn accepted(n: usize, k: usize) -> bool
     ensures { result ≡ points_accepted n k }
 {
-    if n % 3 != 0 {
-        return false;
-    }
-    if 65535 < n {
-        return false;
-    }
-    k == n
+    n % 3 == 0 && n <= 65535 && k == n
 }
 
 // out = s R p + t for every triple p of pts, by the matrix s R; up is e^sigma of x. Refusal 5 for lists
 // that are not accepted, and nothing written.
-pub fn act_many(x: Sim3<f64>, up: f64, pts: &[f64], out: &mut [f64]) -> Result<(), Refusal>
-    ensures result_value { answer result ≡ points_answer pts.now out.old }
-    ensures out_after { out.new ≡ points_out (pose_act_many binary64 x up) pts.now out.old }
+pub fn act_many<T: PointWidth>(x: Sim3<T>, up: T, pts: &[T], out: &mut [T]) -> Result<(), Refusal>
+    ensures result_value { answer result ≡ points_answer (T.floats pts.now) (T.floats out.old) }
+    ensures out_after { T.floats out.new ≡ points_out (pose_act_many T.format (as_sim3 T.float x) (T.float up)) (T.floats pts.now) (T.floats out.old) }
 {
-    let n = pts.len();
-    if accepted(n, out.len()) {
-        let q = x.q;
-        let m = q.to_matrix().scale(up);
-        many(m, x.t, pts, out, n / 3);
-        return Ok(());
+    if !accepted(pts.len(), out.len()) {
+        return Err(Refusal::BadLength);
     }
-    Err(Refusal::BadLength)
+    many(x.q.to_matrix().scale(up), x.t, pts, out);
+    Ok(())
 }
 
 // out = X p for every triple p of pts, each as Sim3::act has it; up is e^sigma of x. Refused as by
 // act_many.
-pub fn act_each(x: Sim3<f64>, up: f64, pts: &[f64], out: &mut [f64]) -> Result<(), Refusal>
-    ensures result_value { answer result ≡ points_answer pts.now out.old }
-    ensures out_after { out.new ≡ points_out (pose_act_each binary64 x up) pts.now out.old }
+pub fn act_each<T: Real>(x: Sim3<T>, up: T, pts: &[T], out: &mut [T]) -> Result<(), Refusal>
+    ensures result_value { answer result ≡ points_answer (T.floats pts.now) (T.floats out.old) }
+    ensures out_after { T.floats out.new ≡ points_out (pose_act_each T.format (as_sim3 T.float x) (T.float up)) (T.floats pts.now) (T.floats out.old) }
 {
-    let n = pts.len();
-    if accepted(n, out.len()) {
-        each(x, up, pts, out, n / 3);
-        return Ok(());
+    if !accepted(pts.len(), out.len()) {
+        return Err(Refusal::BadLength);
     }
-    Err(Refusal::BadLength)
+    each(&|p| x.act(up, p), pts, out);
+    Ok(())
 }

@@ -20,30 +20,14 @@ use Rattle.wire.proofs.Bytes.{numbers-length, items_numbers}
 use Rattle.outcome.specs.declared.Entry.{Entry}
 use Rattle.outcome.specs.declared.Entry.TheVariants.{Ex, Co, Pa, Ac, Mu, In, Ji, Ar}
 use Rattle.outcome.specs.declared.Kind.TheVariants as kind
-use Rattle.outcome.specs.declared.Gave.{Gave}
-use Rattle.outcome.specs.declared.Gave.TheVariants as gave
+use Rattle.outcome.specs.declared.Wrote.{Wrote}
 use Rattle.outcome.specs.declared.Step.TheVariants as step
 use Rattle.layout.proofs.Runs.{sets-part}
-use Rattle.outcome.specs.Outcome.{longest, no_bytes, mark_bytes, Reply, kind_of, reply_of, gave_as, gave_of, gave_bytes, became_of, written_of, step_told}
-use Rattle.outcome.proofs.Never.{never}
+use Rattle.outcome.specs.Outcome.{longest, no_bytes, mark_bytes, Reply, reply_of, wrote_as, gave_of, gave_bytes, became_of, written_of, step_told}
 use Rattle.outcome.proofs.Record.{mark_length, no_length, marked, reply-whole}
 use Rattle.replies.specs.Table.{gives, numbers_of, width_of, framed_width, framed_in, framed_items, ex_of, co_of, pa_of, ac_of, mu_of, in_of, ji_of, armed_items, ar_of, answer_of, entry_reply, entry_found}
 use Rattle.replies.proofs.Arms.{armed-length}
 use Rattle.replies.proofs.Frames.{framed-length}
-
--- ---- an entry that wrote items of k bytes, and told whether they are finite
-pub wrote_items :
-    (f : Format) (l : List Item) (k : ℕ) (b : Bool) (g : Gave) (out out' : List ℕ) → length (items_bytes f l) ≡ k → g ≡ gave_as b k →
-    (b ≡ all_finite l) × (out' ≡ sets out 0 (items_bytes f l)) → (g ≡ gave_of f (answers l)) × (out' ≡ sets out 0 (gave_bytes f (answers l)))
-unfolding gave_of gave_bytes
-wrote_items f l k b g out out' h t q = rw (h, ← q.0) (t, q.1)
-
--- and one that wrote n numbers
-pub wrote :
-    (f : Format) (l : List Float) (n k : ℕ) (b : Bool) (g : Gave) (out out' : List ℕ) → length l ≡ n → k ≡ n * width f → g ≡ gave_as b k →
-    (b ≡ all_finite (numbers l)) × (out' ≡ sets out 0 (numbers_bytes f l)) → (g ≡ gave_of f (gives l)) × (out' ≡ sets out 0 (gave_bytes f (gives l)))
-unfolding gave_of gave_bytes
-wrote f l n k b g out out' h e t q = rw (items_numbers f l, numbers-length f l, h, ← e, ← q.0) (t, q.1)
 
 -- ---- no record is longer than PA's, in doubles
 pub width-most : (f : Format) (e : Entry) → width_of f e ≤ 8 * numbers_of Pa
@@ -65,7 +49,7 @@ width-most binary64 Ji = omega arith
 width-most binary64 Ar = omega arith
 
 -- ---- and no reply than PA's
-widest : (f : Format) (n : ℕ) → n ≤ block_pair_count → 2 + n * width f ≤ longest
+pub widest : (f : Format) (n : ℕ) → n ≤ block_pair_count → 2 + n * width f ≤ longest
 widest binary32 n h = omega arith
 widest binary64 n h = omega arith
 
@@ -81,7 +65,7 @@ from-most f a b n of h m (answers x) = gives-most f a b n (of x) (h x) m
 from-most f a b n of h m (refuses k) = rw (no_length k) (omega arith)
 
 -- the four bytes of the arms and the twenty numbers
-arms_most : (f : Format) → 2 + (4 + 20 * width f) ≤ longest
+pub arms_most : (f : Format) → 2 + (4 + 20 * width f) ≤ longest
 arms_most binary32 = omega arith
 arms_most binary64 = omega arith
 
@@ -91,7 +75,7 @@ armed-most f a b (answers p) = rw (length-append (mark_bytes a b) (items_bytes f
 armed-most f a b (refuses k) = rw (no_length k) (omega arith)
 
 -- the pose and its frames
-poses_most : (f : Format) → 2 + framed_width f ≤ longest
+pub poses_most : (f : Format) → 2 + framed_width f ≤ longest
 poses_most binary32 = omega arith
 poses_most binary64 = omega arith
 
@@ -130,37 +114,27 @@ unfolding no_bytes
 refused_stored n l = refl
 
 -- ---- what an entry gave is what the reply holds
-gave_same : (p q : Bool) (m n : ℕ) → gave_as p m ≡ gave_as q n → (q ≡ p) × (n ≡ m)
-gave_same true true m n e = (refl, cc)
-gave_same false false m n e = (refl, cc)
-gave_same true false m n e = never (cc)
-gave_same false true m n e = never (cc)
-
-gave_apart : {A : Type 0} (p : Bool) (n k : ℕ) → gave_as p n ≡ gave.Refused k → A
-gave_apart true n k e = never (cc)
-gave_apart false n k e = never (cc)
-
 gave_wrote :
-    (f : Format) (a b n : ℕ) (p : Bool) (x : Answer (List Item)) → gave_as p n ≡ gave_of f x →
-    (reply_of f a b x ≡ record { kind = kind_of p; bytes = mark_bytes a b ++ gave_bytes f x }) × (length (gave_bytes f x) ≡ n)
+    (f : Format) (a b : ℕ) (w : Wrote) (x : Answer (List Item)) → answers w ≡ gave_of f x →
+    (reply_of f a b x ≡ record { kind = w.kind; bytes = mark_bytes a b ++ gave_bytes f x }) × (length (gave_bytes f x) ≡ w.length)
 unfolding reply_of gave_of gave_bytes
-gave_wrote f a b n p (answers l) q = let s = gave_same p (all_finite l) n _ q in (rw s.0, s.1)
-gave_wrote f a b n p (refuses k) q = gave_apart p n k q
+gave_wrote f a b w (answers l) q = let e : w ≡ wrote_as (all_finite l) (length (items_bytes f l)) = cc in (rw e refl, rw e refl)
+gave_wrote f a b w (refuses k) q = absurd (cc)
 
 gave_refused :
-    (f : Format) (a b k : ℕ) (x : Answer (List Item)) → gave.Refused k ≡ gave_of f x → (reply_of f a b x ≡ record { kind = kind.Refused; bytes = no_bytes k }) × (gave_bytes f x ≡ [])
+    (f : Format) (a b k : ℕ) (x : Answer (List Item)) → refuses k ≡ gave_of f x → (reply_of f a b x ≡ record { kind = kind.Refused; bytes = no_bytes k }) × (gave_bytes f x ≡ [])
 unfolding reply_of gave_of gave_bytes
-gave_refused f a b k (answers l) q = gave_apart (all_finite l) _ k (sym q)
+gave_refused f a b k (answers l) q = absurd (cc)
 gave_refused f a b k (refuses j) q = let e : j ≡ k = cc in (rw e, refl)
 
 -- the code has lent the entry e the record's bytes behind its mark and the output behind the mark's place: g is its answer, and R what that part of the output holds then
-pub record Given (f : Format) (e : Entry) (s out : List ℕ) (g : Gave) (R : List ℕ) : Type 0 where
+pub record Given (f : Format) (e : Entry) (s out : List ℕ) (g : Answer Wrote) (R : List ℕ) : Type 0 where
   pub whole : 2 + width_of f e ≤ length s
   pub room : longest ≤ length out
   pub told : g ≡ gave_of f (answer_of f e (take (width_of f e) (drop 2 s)))
   pub stored : R ≡ sets (take (length out - 2) (drop 2 out)) 0 (gave_bytes f (answer_of f e (take (width_of f e) (drop 2 s))))
 
-module _ {f : Format} {e : Entry} {s out : List ℕ} {g : Gave} {R : List ℕ} (k : Given f e s out g R) where
+module _ {f : Format} {e : Entry} {s out : List ℕ} {g : Answer Wrote} {R : List ℕ} (k : Given f e s out g R) where
   abbrev asked : Answer (List Item)
   asked = answer_of f e (take (width_of f e) (drop 2 s))
 
@@ -179,32 +153,32 @@ module _ {f : Format} {e : Entry} {s out : List ℕ} {g : Gave} {R : List ℕ} (
       let t : length (take 2 out) ≡ 2 = length-take-le 2 out (omega arith) in
       simp (length-append, length-drop) (omega arith)
 
-  whole-reply : (p : Bool) (n : ℕ) → g ≡ gave_as p n → entry_reply f e (take (2 + width_of f e) s) ≡ record { kind = kind_of p; bytes = mark_bytes (get_or s 0 0) (get_or s 1 0) ++ gave_bytes f asked }
-  whole-reply p n q = own ∙ (gave_wrote f (get_or s 0 0) (get_or s 1 0) n p asked (sym q ∙ k.told)).0
+  whole-reply : (w : Wrote) → g ≡ answers w → entry_reply f e (take (2 + width_of f e) s) ≡ record { kind = w.kind; bytes = mark_bytes (get_or s 0 0) (get_or s 1 0) ++ gave_bytes f asked }
+  whole-reply w q = own ∙ (gave_wrote f (get_or s 0 0) (get_or s 1 0) w asked (sym q ∙ k.told)).0
 
-  body_length : (p : Bool) (n : ℕ) → g ≡ gave_as p n → length (gave_bytes f asked) ≡ n
-  body_length p n q = (gave_wrote f (get_or s 0 0) (get_or s 1 0) n p asked (sym q ∙ k.told)).1
+  body_length : (w : Wrote) → g ≡ answers w → length (gave_bytes f asked) ≡ w.length
+  body_length w q = (gave_wrote f (get_or s 0 0) (get_or s 1 0) w asked (sym q ∙ k.told)).1
 
-  reply-length : (p : Bool) (n : ℕ) → g ≡ gave_as p n → length (mark_bytes (get_or s 0 0) (get_or s 1 0) ++ gave_bytes f asked) ≡ 2 + n
-  reply-length p n q = length-append (mark_bytes (get_or s 0 0) (get_or s 1 0)) (gave_bytes f asked) ∙ rw (mark_length (get_or s 0 0) (get_or s 1 0), body_length p n q)
+  reply-length : (w : Wrote) → g ≡ answers w → length (mark_bytes (get_or s 0 0) (get_or s 1 0) ++ gave_bytes f asked) ≡ 2 + w.length
+  reply-length w q = length-append (mark_bytes (get_or s 0 0) (get_or s 1 0)) (gave_bytes f asked) ∙ rw (mark_length (get_or s 0 0) (get_or s 1 0), body_length w q)
 
-  pub given_most : (p : Bool) (n : ℕ) → g ≡ gave_as p n → 2 + n ≤ longest
-  given_most p n q = rw (whole-reply p n q, reply-length p n q) at (entry-most f e (take (2 + width_of f e) s))
+  pub given_most : (w : Wrote) → g ≡ answers w → 2 + w.length ≤ longest
+  given_most w q = rw (whole-reply w q, reply-length w q) at (entry-most f e (take (2 + width_of f e) s))
 
   -- finite or not
   pub given_wrote :
-      (p : Bool) (n : ℕ) → g ≡ gave_as p n →
-      (step_told (step.Took (kind_of p) (2 + width_of f e) (2 + n)) ≡ became_of (entry_found f e s) (length out))
+      (w : Wrote) → g ≡ answers w →
+      (step_told (step.Took w.kind (2 + width_of f e) (2 + w.length)) ≡ became_of (entry_found f e s) (length out))
       × (set (set (take 2 out ++ (R ++ drop (length out - 2) (drop 2 out))) 0 (get_or s 0 0)) 1 (get_or s 1 0) ≡ sets out 0 (written_of (entry_found f e s) (length out)))
-  given_wrote p n q =
+  given_wrote w q =
       let bytes = mark_bytes (get_or s 0 0) (get_or s 1 0) ++ gave_bytes f asked in
-      let t = reply-whole (length out) (2 + width_of f e) (entry_reply f e) s (kind_of p) bytes k.whole k.room (whole-reply p n q) in
+      let t = reply-whole (length out) (2 + width_of f e) (entry_reply f e) s w.kind bytes k.whole k.room (whole-reply w q) in
       let room : longest ≤ length out = k.room in
-      let body : length (gave_bytes f asked) ≤ length out - 2 = rw (body_length p n q) (omega (arith, given_most p n q)) in
-      rw (behind body, ← (reply-length p n q)) (t.0, marked out (gave_bytes f asked) (get_or s 0 0) (get_or s 1 0) (omega arith) ∙ ap (sets out 0) t.1)
+      let body : length (gave_bytes f asked) ≤ length out - 2 = rw (body_length w q) (omega (arith, given_most w q)) in
+      rw (behind body, ← (reply-length w q)) (t.0, marked out (gave_bytes f asked) (get_or s 0 0) (get_or s 1 0) (omega arith) ∙ ap (sets out 0) t.1)
 
   pub given_refused :
-      (n : ℕ) → g ≡ gave.Refused n →
+      (n : ℕ) → g ≡ refuses n →
       (step_told (step.Took kind.Refused (2 + width_of f e) 3) ≡ became_of (entry_found f e s) (length out))
       × (set (set (set (take 2 out ++ (R ++ drop (length out - 2) (drop 2 out))) 0 0x4e) 1 0x4f) 2 n ≡ sets out 0 (written_of (entry_found f e s) (length out)))
   given_refused n q =

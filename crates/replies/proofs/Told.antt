@@ -2,14 +2,18 @@
 use Prim.Native.Nat.{ℕ, zero, suc, ◌+◌, ◌-◌, ◌*◌, ◌/◌, ◌%◌, ◌≤◌, ◌<◌}
 use mathlib.Core.Path.{◌≡◌, refl, sym, ap, ◌∙◌}
 use mathlib.Core.Bool.{Bool, true, false, cond, ◌&&◌, and_assoc}
-use mathlib.Core.List.{List, [], ◌∷◌, ◌++◌}
+use mathlib.Core.List.{List, [], ◌∷◌, ◌++◌, map}
 use native.Mathlib.Omega.{arith}
 use borrow.Author.Tests.{eq-eqb, ne_eqb}
 use lib.Dec.{T}
-use lib.ListN.{length, take, drop, get_or, length-append, length-drop}
+use lib.ListN.{length, take, drop, get_or, get_or-map, length-append, length-drop}
 use lib.Seq.{sets, length-sets, length-take-le}
 use lib.Ieee.{Float, Format, binary32, binary64}
-use Rattle.linalg.specs.Answer.{Answer, answers, refuses, and_then}
+use Rattle.std.specs.Prelude.{Result, Ok, Err}
+use Rattle.std.proofs.lemmas.List.{length-map, drop-map, take-map}
+use Rattle.linalg.specs.Answer.{Answer, answers, refuses, and_then, number, answer}
+use Rattle.linalg.specs.declared.refusal.Refusal.{Refusal}
+use Rattle.linalg.specs.declared.refusal.Refusal.TheVariants as refusal
 use Rattle.coeffs.specs.Floats.{ArmedPair}
 use Rattle.frames.specs.Floats.{Pose}
 use Rattle.layout.specs.Layout.{pose_count, scaled_pair_count, scaled_pair_numbers, armed_scaled}
@@ -20,8 +24,9 @@ use Rattle.sim3_c_entries.specs.Calls.{ArmLists, arm_lists, arm_bytes, arms_fitt
 use Rattle.wire.specs.Wire.{width, Item, word, word_bytes, item_bytes, items_bytes, item_finite, all_finite, numbers, numbers_bytes, words_bytes, fewer}
 use Rattle.wire.proofs.Bytes.{bytes-all, items_append, items_numbers, numbers-length}
 use Rattle.wire.proofs.Lists.{words-length, encoded}
-use Rattle.outcome.specs.Outcome.{gave_as, gave_of, gave_bytes}
-use Rattle.outcome.specs.declared.Gave.{Gave}
+use Rattle.wire.proofs.Places.{part_stored}
+use Rattle.outcome.specs.Outcome.{wrote_as, gave_of, gave_bytes}
+use Rattle.outcome.specs.declared.Wrote.{Wrote}
 use Rattle.replies.specs.Table.{framed_width, framed_items, arm_items, armed_items}
 use Rattle.replies.specs.Private.{told_as, words, framed_both, armed_both}
 
@@ -62,12 +67,12 @@ pub part-whole : (f : Format) (y : List Float) (p : List ℕ) (n : ℕ) → leng
 part-whole f y p n h e = encoded y p (width f) n h (rw e (counted f n))
 
 pub ending :
-    (f : Format) (out q : List ℕ) (y : List Float) (t : Bool) (r : Gave) →
+    (f : Format) (out q : List ℕ) (y : List Float) (t : Bool) (r : Wrote) →
     let e = length y * width f in
     let p = take (e - 0) (drop 0 out) in
     e ≤ length out → t ≡ all_finite (numbers (take (fewer (length y) (length p / width f)) y)) →
-    q ≡ sets p 0 (numbers_bytes f (take (fewer (length y) (length p / width f)) y)) → r ≡ gave_as t e →
-    (r ≡ gave_of f (answers (numbers y))) × (take 0 out ++ (q ++ drop (e - 0) (drop 0 out)) ≡ sets out 0 (gave_bytes f (answers (numbers y))))
+    q ≡ sets p 0 (numbers_bytes f (take (fewer (length y) (length p / width f)) y)) → r ≡ wrote_as t e →
+    (answers r ≡ gave_of f (answers (numbers y))) × (take 0 out ++ (q ++ drop (e - 0) (drop 0 out)) ≡ sets out 0 (gave_bytes f (answers (numbers y))))
 unfolding gave_of gave_bytes
 ending f out q y t r room s d g =
     let e = length y * width f in
@@ -78,7 +83,7 @@ ending f out q y t r room s d g =
     let l = numbers-length f y in
     let finite : t ≡ all_finite (numbers y) = rw (z, w) at s in
     let stored : q ≡ sets (take e out) 0 (numbers_bytes f y) = rw (z, w) at d in
-    (rw (i, l, ← finite) g, rw (z, i, stored) (sets-part out (numbers_bytes f y) 0 e (omega (arith, room)) (omega (arith, l))))
+    (rw (i, l, ← finite) (ap answers g), rw (z, i, stored) (sets-part out (numbers_bytes f y) 0 e (omega (arith, room)) (omega (arith, l))))
 
 -- ---- what a call tells, where it reads its lists: the answer of the engine
 abbrev pub call : {S : Type 0} → Answer S → (S → List Float) → List Float → Answer (List Float)
@@ -102,6 +107,45 @@ told-number n k l e h g =
     let d : n ≡ 0 → ⊥ = λ z. omega (arith, e, h, z) in
     rw (ne_eqb n 0 d) (ap refuses q)
 
+-- the refusal of a call is told by its own number
+pub told_refused : (r : Refusal) (l : List Item) → told_as (number r) l ≡ refuses (number r)
+told_refused refusal.NegativeAngle l = refl
+told_refused refusal.ZeroScale l = refl
+told_refused refusal.NoSuchEntry l = refl
+told_refused refusal.TooManyTerms l = refl
+told_refused refusal.BadLength l = refl
+told_refused refusal.UnknownMark l = refl
+told_refused refusal.CutInput l = refl
+told_refused refusal.NotFinite l = refl
+told_refused refusal.FramesDiffer l = refl
+told_refused refusal.SameTake l = refl
+told_refused refusal.NoRoom l = refl
+told_refused refusal.NeverKept l = refl
+told_refused refusal.ListLength l = refl
+
+pub told_done : (called : Result (Unit {0}) Refusal) (l : List Item) → called ≡ Ok tt → told_as (status (answer called)) l ≡ answers l
+unfolding status
+told_done called l e = rw e refl
+
+pub told_not : (called : Result (Unit {0}) Refusal) (r : Refusal) (l : List Item) → called ≡ Err r → told_as (status (answer called)) l ≡ refuses (number r)
+unfolding status
+told_not called r l e = rw e (told_refused r l)
+
+-- ---- numbers of a type, by what each is
+module _ {X : Type 0} (floats : List X → List Float) (float : X → Float) (law : (l : List X) → floats l ≡ map float l) where
+  pub floats-length : (l : List X) → length (floats l) ≡ length l
+  floats-length l = ap length (law l) ∙ length-map l float
+
+  pub floats-part : (x : List X) (v : List Float) (a n : ℕ) → floats x ≡ v → floats (take n (drop a x)) ≡ take n (drop a v)
+  floats-part x v a n e =
+      law (take n (drop a x))
+      ∙ sym (take-map float n (drop a x))
+      ∙ ap (take n) (sym (drop-map float a x))
+      ∙ ap (λ (l : List Float). take n (drop a l)) (sym (law x) ∙ e)
+
+  pub floats-one : (x : List X) (v : List Float) (i : ℕ) (y : X) → floats x ≡ v → y ≡ get_or x i y → float y ≡ get_or v i (float y)
+  floats-one x v i y e h = sym (rw (sym (law x) ∙ e) at (get_or-map float x i y ∙ ap float (sym h)))
+
 pub told_call :
     {S : Type 0} (a : Answer S) (num : S → List Float) (y z : List Float) (n : ℕ) → n ≡ status (call a num y) → z ≡ written (call a num y) y → Small a →
     ((s : S) → length y ≡ length (num s)) → told_as n (numbers z) ≡ and_then a (λ s. answers (numbers (num s)))
@@ -113,15 +157,15 @@ told_call (refuses k) num y z n e q small fits = let s = small in told-number n 
 
 -- ---- a pose and its frames, at the front of an output
 pub ending_framed :
-    (f : Format) (out q u : List ℕ) (y : List Float) (k : List ℕ) (t : Bool) (r : Gave) →
+    (f : Format) (out q u : List ℕ) (y : List Float) (k : List ℕ) (t : Bool) (r : Wrote) →
     let a = pose_count * width f in
     let p = take a (drop 0 out) in
     let m = take 0 out ++ (q ++ drop a (drop 0 out)) in
     let s = take 4 (drop a m) in
     length y ≡ pose_count → length k ≡ 2 → framed_width f ≤ length out → t ≡ all_finite (numbers (take (fewer (length y) (length p / width f)) y)) →
     q ≡ sets p 0 (numbers_bytes f (take (fewer (length y) (length p / width f)) y)) → u ≡ sets s 0 (words_bytes 2 (take (fewer (length k) (length s / 2)) k)) →
-    r ≡ gave_as t (framed_width f) →
-    (r ≡ gave_of f (answers (framed_both y k))) × (take a m ++ (u ++ drop 4 (drop a m)) ≡ sets out 0 (gave_bytes f (answers (framed_both y k))))
+    r ≡ wrote_as t (framed_width f) →
+    (answers r ≡ gave_of f (answers (framed_both y k))) × (take a m ++ (u ++ drop 4 (drop a m)) ≡ sets out 0 (gave_bytes f (answers (framed_both y k))))
 unfolding gave_of gave_bytes
 ending_framed f out q u y k t r h g room finite d e told =
     let a = pose_count * width f in
@@ -141,7 +185,7 @@ ending_framed f out q u y k t r h g room finite d e told =
     let bytes : items_bytes f (framed_both y k) ≡ A ++ B = items_append f (numbers y) (words 2 k) ∙ rw (items_numbers f y, items_words f 2 k) refl in
     let size : length (items_bytes f (framed_both y k)) ≡ framed_width f = ap length bytes ∙ length-append A B ∙ omega (arith, l, j) in
     let all : t ≡ all_finite (framed_both y k) = rw w at finite ∙ sym (behind_finite y 2 k) in
-    (rw (size, ← all) told, second ∙ ap (λ (x : List ℕ). sets x a B) first ∙ run_behind A B out 0 a (omega (arith, l)) ∙ ap (sets out 0) (sym bytes))
+    (rw (size, ← all) (ap answers told), second ∙ ap (λ (x : List ℕ). sets x a B) first ∙ run_behind A B out 0 a (omega (arith, l)) ∙ ap (sets out 0) (sym bytes))
 
 framed_fits : (o : PoseLists) (x : Pose) → length o.numbers ≡ pose_count → length o.frames ≡ frames_count → framed_fitting o x ≡ answers (framed_numbers x)
 unfolding framed_fitting
@@ -163,45 +207,38 @@ told-framed (answers x) o w n e q small h g =
 told-framed (refuses k) o w n e q small h g = let s = small in told-number n k _ e s.0 s.1
 
 -- ---- the arms, and behind them the scaled pair
-arms_stored :
-    (f : Format) (out a : List ℕ) → length a ≡ 4 →
-    sets
-    (sets (sets (sets out 0 (item_bytes f (word 1 (get_or a 0 0)))) 1 (item_bytes f (word 1 (get_or a 1 0)))) 2 (item_bytes f (word 1 (get_or a 2 0))))
-    3
-    (item_bytes f (word 1 (get_or a 3 0)))
-    ≡ sets out 0 (words_bytes 1 a)
-unfolding item_bytes word_bytes words_bytes
-arms_stored f out a h = sym (ap (λ (l : List ℕ). sets out 0 (words_bytes 1 l)) (bytes-all a 4 h))
+bytes_kept : (a : List ℕ) → ((i : ℕ) → get_or a i 0 < 256) → words_bytes 1 a ≡ a
+unfolding words_bytes word_bytes
+bytes_kept [] h = refl
+bytes_kept (n ∷ a) h =
+    let e : n % 256 ≡ n = omega (arith, h 0) in
+    rw (e, bytes_kept a (λ i. h (suc i)))
 
 pub ending_armed :
-    (f : Format) (out m q : List ℕ) (a : List ℕ) (y : List Float) (t : Bool) (r : Gave) →
+    (f : Format) (out m q : List ℕ) (a : List ℕ) (y : List Float) (t : Bool) (r : Wrote) →
     let e = scaled_pair_count * width f in
     let p = take e (drop 4 m) in
     length a ≡ 4 → length y ≡ scaled_pair_count → 4 + scaled_pair_count * width f ≤ length out →
-    m
-    ≡ sets
-    (sets (sets (sets out 0 (item_bytes f (word 1 (get_or a 0 0)))) 1 (item_bytes f (word 1 (get_or a 1 0)))) 2 (item_bytes f (word 1 (get_or a 2 0))))
-    3
-    (item_bytes f (word 1 (get_or a 3 0))) →
+    ((i : ℕ) → get_or a i 0 < 256) → m ≡ take 0 out ++ (a ++ drop 4 (drop 0 out)) →
     t ≡ all_finite (numbers (take (fewer (length y) (length p / width f)) y)) → q ≡ sets p 0 (numbers_bytes f (take (fewer (length y) (length p / width f)) y)) →
-    r ≡ gave_as t (4 + e) →
-    (r ≡ gave_of f (answers (armed_both a y))) × (take 4 m ++ (q ++ drop e (drop 4 m)) ≡ sets out 0 (gave_bytes f (answers (armed_both a y))))
+    r ≡ wrote_as t (4 + e) →
+    (answers r ≡ gave_of f (answers (armed_both a y))) × (take 4 m ++ (q ++ drop e (drop 4 m)) ≡ sets out 0 (gave_bytes f (answers (armed_both a y))))
 unfolding gave_of gave_bytes
-ending_armed f out m q a y t r h g room four finite d told =
+ending_armed f out m q a y t r h g room small lent finite d told =
     let e = scaled_pair_count * width f in
     let A = words_bytes 1 a in
     let B = numbers_bytes f y in
-    let first : m ≡ sets out 0 A = four ∙ arms_stored f out a h in
+    let l : length A ≡ 4 = words-length 1 a ∙ ap (λ (n : ℕ). n * 1) h in
+    let first : m ≡ sets out 0 A = lent ∙ part_stored out a A 0 4 (sym (bytes_kept a small)) l (omega (arith, room)) in
     let same : length m ≡ length out = ap length first ∙ length-sets out 0 A in
     let p : length (take e (drop 4 m)) ≡ e = length-take-le e (drop 4 m) (rw (length-drop 4 m) (omega (arith, same, room))) in
     let w = part-whole f y (take e (drop 4 m)) scaled_pair_count g p in
-    let l : length A ≡ 4 = words-length 1 a ∙ ap (λ (n : ℕ). n * 1) h in
     let j : length B ≡ e = numbers-length f y ∙ ap (λ (n : ℕ). n * width f) g in
     let second : take 4 m ++ (q ++ drop e (drop 4 m)) ≡ sets m 4 B = rw (d, w) (sets-part m B 4 e (omega (arith, same, room)) (omega (arith, j))) in
     let bytes : items_bytes f (armed_both a y) ≡ A ++ B = items_append f (words 1 a) (numbers y) ∙ rw (items_numbers f y, items_words f 1 a) refl in
     let size : length (items_bytes f (armed_both a y)) ≡ 4 + e = ap length bytes ∙ length-append A B ∙ omega (arith, l, j) in
     let all : t ≡ all_finite (armed_both a y) = rw w at finite ∙ sym (before-finite y 1 a) in
-    (rw (size, ← all) told, second ∙ ap (λ (x : List ℕ). sets x 4 B) first ∙ run_behind A B out 0 4 (omega (arith, l)) ∙ ap (sets out 0) (sym bytes))
+    (rw (size, ← all) (ap answers told), second ∙ ap (λ (x : List ℕ). sets x 4 B) first ∙ run_behind A B out 0 4 (omega (arith, l)) ∙ ap (sets out 0) (sym bytes))
 
 arms-fit : (o : ArmLists) (p : ArmedPair) → length o.arms ≡ 4 → length o.numbers ≡ scaled_pair_count → arms_fitting o p ≡ answers (arm_lists (arm_bytes p) (scaled_pair_numbers (armed_scaled p)))
 unfolding arms_fitting

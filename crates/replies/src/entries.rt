@@ -1,242 +1,245 @@
-// What each entry answers: the numbers behind the mark are decoded to lists, the function that C callers have is
-// called, and the lists that it wrote are encoded from the front of `out` on.
-ghost use Rattle.std.specs.Prelude.{◌≡◌, ◌+◌, ◌*◌, ◌≤◌, length};
-ghost use Rattle.std.specs.Float.{binary64};
+// What each entry answers: the numbers behind the mark are read to arrays, the function that C callers have is called,
+// and the lists that it wrote are encoded from the front of `out` on.
+ghost use Rattle.std.specs.Prelude.{◌≡◌, ◌+◌, ◌*◌, ◌≤◌, length, take, drop};
 ghost use Rattle.std.proofs.lemmas.List.Edits.{sets};
+ghost use Rattle.linalg.specs.Answer.{answer};
 ghost use Rattle.layout.specs.Layout.{pose_count, scaled_pair_count};
-ghost use Rattle.wire.specs.Wire.{width, word, numbers, item_bytes};
-ghost use Rattle.outcome.specs.Outcome.{longest, gave_as, gave_of, gave_bytes};
+ghost use Rattle.wire.specs.Wire.{width, numbers, number_of, numbers_at, words_at};
+ghost use Rattle.to_lists.specs.Written.{status};
+ghost use Rattle.outcome.specs.Outcome.{longest, gave_of, gave_bytes};
 ghost use Rattle.outcome.specs.declared.Entry.{Entry};
 ghost use Rattle.replies.specs.Table.{width_of, framed_width, ex_of, co_of, pa_of, ac_of, mu_of, in_of, ji_of, ar_of};
 ghost use Rattle.replies.specs.Private.{told_as, framed_both, armed_both};
 
-use crate::{FRAME, FRAMED};
-use from_lists::FRAMES;
+use crate::framed;
+use coeffs::width::Width;
 use layout::{BLOCK, BLOCK_PAIR, MAT, POSE, SCALED_PAIR, TANGENT, VALUES, VEC};
-use outcome::Gave;
+use linalg::refusal::Refusal;
+use outcome::{Kind, Wrote};
 use sim3_c_entries::{
     ARMS, act_point, armed_pair, sim3_block_inverse, sim3_block_pair, sim3_exp, sim3_inverse,
     sim3_mul, sim3_scaled_pair,
 };
-use wire::{NUMBER, decode, decode_shorts, encode, encode_shorts};
+use wire::{Number, decode, encode, encode_shorts, short_from_le_bytes};
 
-// Where the frames begin behind a pose.
-const AT: usize = NUMBER * POSE;
-
-// What is told of an answer of n bytes, by whether it is finite.
-fn gave(finite: bool, n: usize) -> Gave
-    ensures { result ≡ gave_as finite n }
+// ---- what is read
+// N numbers at the front of the bytes.
+fn read<T: Number, const N: usize>(b: &[u8]) -> [T; N]
+    requires few { N ≤ 40 }
+    requires bytes { N * width T.format ≤ length b.now }
+    ensures { T.floats result ≡ numbers_at T.format b.now N }
 {
-    if finite {
-        Gave::Wrote(n)
-    } else {
-        Gave::Unusable(n)
-    }
+    let mut x = [T::of(0.0); N];
+    decode(b, &mut x);
+    x
 }
 
-// What a call wrote to a list, or the refusal that it returned.
-fn told(status: u32, y: &[f64], out: &mut [u8]) -> Gave
-    requires { length y.now * width binary64 ≤ length out.old }
-    ensures value { result ≡ gave_of binary64 (told_as status (numbers y.now)) }
-    ensures out_after { out.new ≡ sets out.old 0 (gave_bytes binary64 (told_as status (numbers y.now))) }
+// From and to at the front of the bytes.
+fn frames(b: &[u8]) -> [u16; 2]
+    requires { 4 ≤ length b.now }
+    ensures { result ≡ words_at 2 b.now 2 }
 {
-    if status != 0 {
-        return Gave::Refused((status % 256) as u8);
-    }
-    let end = y.len() * NUMBER;
-    let finite = encode(y, &mut out[0..end]);
-    gave(finite, end)
+    [
+        short_from_le_bytes([b[0], b[1]]),
+        short_from_le_bytes([b[2], b[3]]),
+    ]
+}
+
+// One number at a place of the bytes; every NaN pattern reads as NaN.
+fn number_at<T: Number>(b: &[u8], at: usize) -> T
+    requires { at + width T.format ≤ length b.now }
+    ensures { T.float result ≡ number_of T.format (take (width T.format) (drop at b.now)) }
+{
+    T::from_pattern(T::word(&b[at..at + T::BYTES]))
+}
+
+// ---- what is written
+// What a call wrote to a list, or the refusal that it returned.
+fn told<T: Number>(called: Result<(), Refusal>, y: &[T], out: &mut [u8]) -> Result<Wrote, Refusal>
+    requires { length y.now * width T.format ≤ length out.old }
+    ensures value { answer result
+        ≡ gave_of T.format (told_as (status (answer called)) (numbers (T.floats y.now))) }
+    ensures out_after { out.new
+        ≡ sets out.old 0 (gave_bytes T.format (told_as (status (answer called)) (numbers (T.floats y.now)))) }
+{
+    called?;
+    let length = y.len() * T::BYTES;
+    let kind = Kind::of_answer(encode(y, &mut out[0..length]));
+    Ok(Wrote { kind, length })
 }
 
 // The same of a pose and its frames.
-fn told_framed(status: u32, y: &[f64], k: &[u16], out: &mut [u8]) -> Gave
+fn told_framed<T: Number>(
+    called: Result<(), Refusal>,
+    y: &[T],
+    k: &[u16],
+    out: &mut [u8],
+) -> Result<Wrote, Refusal>
     requires y_len { length y.now ≡ pose_count }
     requires k_len { length k.now ≡ 2 }
-    requires binary64_in_bounds { framed_width binary64 ≤ length out.old }
-    ensures value { result ≡ gave_of binary64 (told_as status (framed_both y.now k.now)) }
-    ensures out_after { out.new ≡ sets out.old 0 (gave_bytes binary64 (told_as status (framed_both y.now k.now))) }
+    requires bytes { framed_width T.format ≤ length out.old }
+    ensures value { answer result
+        ≡ gave_of T.format (told_as (status (answer called)) (framed_both (T.floats y.now) k.now)) }
+    ensures out_after { out.new
+        ≡ sets out.old 0 (gave_bytes T.format (told_as (status (answer called)) (framed_both (T.floats y.now) k.now))) }
 {
-    if status != 0 {
-        return Gave::Refused((status % 256) as u8);
-    }
-    let finite = encode(y, &mut out[0..AT]);
-    encode_shorts(k, &mut out[AT..FRAMED]);
-    gave(finite, FRAMED)
-}
-
-fn put_byte(out: &mut [u8], at: usize, n: u8)
-    requires { at + 1 ≤ length out.old }
-    ensures { out.new ≡ sets out.old at (item_bytes binary64 (word 1 n)) }
-{
-    out[at] = n;
+    called?;
+    let at = T::BYTES * POSE;
+    let length = framed::<T>();
+    let kind = Kind::of_answer(encode(y, &mut out[0..at]));
+    encode_shorts(k, &mut out[at..length]);
+    Ok(Wrote { kind, length })
 }
 
 // The same of the scaled pair with the arms before it.
-fn told_armed(status: u32, arms: &[u8], y: &[f64], out: &mut [u8]) -> Gave
+fn told_armed<T: Number>(
+    called: Result<(), Refusal>,
+    arms: &[u8],
+    y: &[T],
+    out: &mut [u8],
+) -> Result<Wrote, Refusal>
     requires arms_len { length arms.now ≡ 4 }
     requires y_len { length y.now ≡ scaled_pair_count }
-    requires binary64_in_bounds { 4 + scaled_pair_count * width binary64 ≤ length out.old }
-    ensures value { result ≡ gave_of binary64 (told_as status (armed_both arms.now y.now)) }
-    ensures out_after { out.new ≡ sets out.old 0 (gave_bytes binary64 (told_as status (armed_both arms.now y.now))) }
+    requires bytes { 4 + scaled_pair_count * width T.format ≤ length out.old }
+    ensures value { answer result
+        ≡ gave_of T.format (told_as (status (answer called)) (armed_both arms.now (T.floats y.now))) }
+    ensures out_after { out.new
+        ≡ sets out.old 0 (gave_bytes T.format
+        (told_as (status (answer called)) (armed_both arms.now (T.floats y.now)))) }
 {
-    if status != 0 {
-        return Gave::Refused((status % 256) as u8);
-    }
-    put_byte(out, 0, arms[0]);
-    put_byte(out, 1, arms[1]);
-    put_byte(out, 2, arms[2]);
-    put_byte(out, 3, arms[3]);
-    let finite = encode(y, &mut out[ARMS..ARMS + NUMBER * SCALED_PAIR]);
-    gave(finite, ARMS + NUMBER * SCALED_PAIR)
+    called?;
+    let length = ARMS + T::BYTES * SCALED_PAIR;
+    out[0..ARMS].copy_from_slice(arms);
+    let kind = Kind::of_answer(encode(y, &mut out[ARMS..length]));
+    Ok(Wrote { kind, length })
 }
 
+// ---- the entries
 // The exponential of a tangent.
-pub(crate) fn ex(b: &[u8], out: &mut [u8]) -> Gave
-    requires b_len { length b.now ≡ width_of binary64 Entry.Ex }
+pub(crate) fn ex<T: Width + Number>(b: &[u8], out: &mut [u8]) -> Result<Wrote, Refusal>
+    requires b_len { length b.now ≡ width_of T.format Entry.Ex }
     requires longest_bound { longest ≤ 2 + length out.old }
-    ensures value { result ≡ gave_of binary64 (ex_of binary64 b.now) }
-    ensures out_after { out.new ≡ sets out.old 0 (gave_bytes binary64 (ex_of binary64 b.now)) }
+    ensures value { answer result ≡ gave_of T.format (ex_of T.format b.now) }
+    ensures out_after { out.new ≡ sets out.old 0 (gave_bytes T.format (ex_of T.format b.now)) }
 {
-    let mut x = [0.0; TANGENT + VALUES];
-    let mut k = [0; FRAMES];
-    let mut y = [0.0; POSE];
-    let mut l = [0; FRAMES];
-    let end = NUMBER * (TANGENT + VALUES);
-    decode(&b[0..end], &mut x);
-    decode_shorts(&b[end..end + 2 * FRAME], &mut k);
+    let x: [T; TANGENT + VALUES] = read(b);
+    let k = frames(&b[T::BYTES * (TANGENT + VALUES)..]);
+    let mut y = [T::of(0.0); POSE];
+    let mut l = [0; 2];
     let p = &x[..];
-    let n = sim3_exp(
+    let called = sim3_exp(
         &p[0..TANGENT],
         &p[TANGENT..TANGENT + VALUES],
         &k,
         &mut y,
         &mut l,
     );
-    told_framed(n, &y, &l, out)
+    told_framed(called, &y, &l, out)
 }
 
 // The scaled pair of coefficients; refusal 1 for z < 0.
-pub(crate) fn co(b: &[u8], out: &mut [u8]) -> Gave
-    requires b_len { length b.now ≡ width_of binary64 Entry.Co }
+pub(crate) fn co<T: Width + Number>(b: &[u8], out: &mut [u8]) -> Result<Wrote, Refusal>
+    requires b_len { length b.now ≡ width_of T.format Entry.Co }
     requires longest_bound { longest ≤ 2 + length out.old }
-    ensures value { result ≡ gave_of binary64 (co_of binary64 b.now) }
-    ensures out_after { out.new ≡ sets out.old 0 (gave_bytes binary64 (co_of binary64 b.now)) }
+    ensures value { answer result ≡ gave_of T.format (co_of T.format b.now) }
+    ensures out_after { out.new ≡ sets out.old 0 (gave_bytes T.format (co_of T.format b.now)) }
 {
-    let mut x = [0.0; 2 + VALUES];
-    let mut y = [0.0; SCALED_PAIR];
-    decode(&b[0..NUMBER * (2 + VALUES)], &mut x);
-    let sigma = x[0];
-    let z = x[1];
+    let x: [T; 2 + VALUES] = read(b);
+    let mut y = [T::of(0.0); SCALED_PAIR];
     let p = &x[..];
-    let n = sim3_scaled_pair(sigma, z, &p[2..2 + VALUES], &mut y);
-    told(n, &y, out)
+    let called = sim3_scaled_pair(x[0], x[1], &p[2..2 + VALUES], &mut y);
+    told(called, &y, out)
 }
 
 // The block pair of a tangent.
-pub(crate) fn pa(b: &[u8], out: &mut [u8]) -> Gave
-    requires b_len { length b.now ≡ width_of binary64 Entry.Pa }
+pub(crate) fn pa<T: Width + Number>(b: &[u8], out: &mut [u8]) -> Result<Wrote, Refusal>
+    requires b_len { length b.now ≡ width_of T.format Entry.Pa }
     requires longest_bound { longest ≤ 2 + length out.old }
-    ensures value { result ≡ gave_of binary64 (pa_of binary64 b.now) }
-    ensures out_after { out.new ≡ sets out.old 0 (gave_bytes binary64 (pa_of binary64 b.now)) }
+    ensures value { answer result ≡ gave_of T.format (pa_of T.format b.now) }
+    ensures out_after { out.new ≡ sets out.old 0 (gave_bytes T.format (pa_of T.format b.now)) }
 {
-    let mut x = [0.0; TANGENT + VALUES + 2 * MAT];
-    let mut y = [0.0; BLOCK_PAIR];
-    decode(&b[0..NUMBER * (TANGENT + VALUES + 2 * MAT)], &mut x);
+    let x: [T; TANGENT + VALUES + 2 * MAT] = read(b);
+    let mut y = [T::of(0.0); BLOCK_PAIR];
     let p = &x[..];
-    let n = sim3_block_pair(&p[0..7], &p[7..17], &p[17..26], &p[26..35], &mut y);
-    told(n, &y, out)
+    let called = sim3_block_pair(&p[0..7], &p[7..17], &p[17..26], &p[26..35], &mut y);
+    told(called, &y, out)
 }
 
 // A pose's action on a point.
-pub(crate) fn ac(b: &[u8], out: &mut [u8]) -> Gave
-    requires b_len { length b.now ≡ width_of binary64 Entry.Ac }
+pub(crate) fn ac<T: Width + Number>(b: &[u8], out: &mut [u8]) -> Result<Wrote, Refusal>
+    requires b_len { length b.now ≡ width_of T.format Entry.Ac }
     requires longest_bound { longest ≤ 2 + length out.old }
-    ensures value { result ≡ gave_of binary64 (ac_of binary64 b.now) }
-    ensures out_after { out.new ≡ sets out.old 0 (gave_bytes binary64 (ac_of binary64 b.now)) }
+    ensures value { answer result ≡ gave_of T.format (ac_of T.format b.now) }
+    ensures out_after { out.new ≡ sets out.old 0 (gave_bytes T.format (ac_of T.format b.now)) }
 {
-    let mut x = [0.0; POSE];
-    let mut p = [0.0; 1 + VEC];
-    let mut y = [0.0; VEC];
-    decode(&b[0..AT], &mut x);
-    decode(&b[FRAMED..FRAMED + NUMBER * (1 + VEC)], &mut p);
-    let up = p[0];
+    let x: [T; POSE] = read(b);
+    let p: [T; 1 + VEC] = read(&b[framed::<T>()..]);
+    let mut y = [T::of(0.0); VEC];
     let q = &p[..];
-    let n = act_point(&x, up, &q[1..1 + VEC], &mut y);
-    told(n, &y, out)
+    let called = act_point(&x, p[0], &q[1..1 + VEC], &mut y);
+    told(called, &y, out)
 }
 
 // The product of two poses; refusal 9 where their frames do not meet.
-pub(crate) fn mu(b: &[u8], out: &mut [u8]) -> Gave
-    requires b_len { length b.now ≡ width_of binary64 Entry.Mu }
+pub(crate) fn mu<T: Width + Number>(b: &[u8], out: &mut [u8]) -> Result<Wrote, Refusal>
+    requires b_len { length b.now ≡ width_of T.format Entry.Mu }
     requires longest_bound { longest ≤ 2 + length out.old }
-    ensures value { result ≡ gave_of binary64 (mu_of binary64 b.now) }
-    ensures out_after { out.new ≡ sets out.old 0 (gave_bytes binary64 (mu_of binary64 b.now)) }
+    ensures value { answer result ≡ gave_of T.format (mu_of T.format b.now) }
+    ensures out_after { out.new ≡ sets out.old 0 (gave_bytes T.format (mu_of T.format b.now)) }
 {
-    let mut x = [0.0; POSE];
-    let mut k = [0; FRAMES];
-    let mut y = [0.0; POSE];
-    let mut l = [0; FRAMES];
-    let mut u = [0.0; 1];
-    let mut z = [0.0; POSE];
-    let mut m = [0; FRAMES];
-    decode(&b[0..AT], &mut x);
-    decode_shorts(&b[AT..FRAMED], &mut k);
-    decode(&b[FRAMED..FRAMED + AT], &mut y);
-    decode_shorts(&b[FRAMED + AT..2 * FRAMED], &mut l);
-    decode(&b[2 * FRAMED..2 * FRAMED + NUMBER], &mut u);
-    let up = u[0];
-    let n = sim3_mul(&x, &k, &y, &l, up, &mut z, &mut m);
-    told_framed(n, &z, &m, out)
+    let at = T::BYTES * POSE;
+    let end = framed::<T>();
+    let x: [T; POSE] = read(b);
+    let k = frames(&b[at..]);
+    let y: [T; POSE] = read(&b[end..]);
+    let l = frames(&b[end + at..]);
+    let up: T = number_at(b, 2 * end);
+    let mut z = [T::of(0.0); POSE];
+    let mut m = [0; 2];
+    let called = sim3_mul(&x, &k, &y, &l, up, &mut z, &mut m);
+    told_framed(called, &z, &m, out)
 }
 
 // The inverse of a pose.
-pub(crate) fn inv(b: &[u8], out: &mut [u8]) -> Gave
-    requires b_len { length b.now ≡ width_of binary64 Entry.In }
+pub(crate) fn inv<T: Width + Number>(b: &[u8], out: &mut [u8]) -> Result<Wrote, Refusal>
+    requires b_len { length b.now ≡ width_of T.format Entry.In }
     requires longest_bound { longest ≤ 2 + length out.old }
-    ensures value { result ≡ gave_of binary64 (in_of binary64 b.now) }
-    ensures out_after { out.new ≡ sets out.old 0 (gave_bytes binary64 (in_of binary64 b.now)) }
+    ensures value { answer result ≡ gave_of T.format (in_of T.format b.now) }
+    ensures out_after { out.new ≡ sets out.old 0 (gave_bytes T.format (in_of T.format b.now)) }
 {
-    let mut x = [0.0; POSE];
-    let mut k = [0; FRAMES];
-    let mut d = [0.0; 1];
-    let mut z = [0.0; POSE];
-    let mut m = [0; FRAMES];
-    decode(&b[0..AT], &mut x);
-    decode_shorts(&b[AT..FRAMED], &mut k);
-    decode(&b[FRAMED..FRAMED + NUMBER], &mut d);
-    let down = d[0];
-    let n = sim3_inverse(&x, &k, down, &mut z, &mut m);
-    told_framed(n, &z, &m, out)
+    let x: [T; POSE] = read(b);
+    let k = frames(&b[T::BYTES * POSE..]);
+    let down: T = number_at(b, framed::<T>());
+    let mut z = [T::of(0.0); POSE];
+    let mut m = [0; 2];
+    let called = sim3_inverse(&x, &k, down, &mut z, &mut m);
+    told_framed(called, &z, &m, out)
 }
 
 // The inverse of a block; refusal 2 where e is a zero.
-pub(crate) fn ji(b: &[u8], out: &mut [u8]) -> Gave
-    requires b_len { length b.now ≡ width_of binary64 Entry.Ji }
+pub(crate) fn ji<T: Width + Number>(b: &[u8], out: &mut [u8]) -> Result<Wrote, Refusal>
+    requires b_len { length b.now ≡ width_of T.format Entry.Ji }
     requires longest_bound { longest ≤ 2 + length out.old }
-    ensures value { result ≡ gave_of binary64 (ji_of binary64 b.now) }
-    ensures out_after { out.new ≡ sets out.old 0 (gave_bytes binary64 (ji_of binary64 b.now)) }
+    ensures value { answer result ≡ gave_of T.format (ji_of T.format b.now) }
+    ensures out_after { out.new ≡ sets out.old 0 (gave_bytes T.format (ji_of T.format b.now)) }
 {
-    let mut x = [0.0; BLOCK];
-    let mut y = [0.0; BLOCK];
-    decode(&b[0..NUMBER * BLOCK], &mut x);
-    let n = sim3_block_inverse(&x, &mut y);
-    told(n, &y, out)
+    let x: [T; BLOCK] = read(b);
+    let mut y = [T::of(0.0); BLOCK];
+    let called = sim3_block_inverse(&x, &mut y);
+    told(called, &y, out)
 }
 
 // The scaled pair of coefficients with the arms that formed it; refusal 1 for z < 0.
-pub(crate) fn ar(b: &[u8], out: &mut [u8]) -> Gave
-    requires b_len { length b.now ≡ width_of binary64 Entry.Ar }
+pub(crate) fn ar<T: Width + Number>(b: &[u8], out: &mut [u8]) -> Result<Wrote, Refusal>
+    requires b_len { length b.now ≡ width_of T.format Entry.Ar }
     requires longest_bound { longest ≤ 2 + length out.old }
-    ensures value { result ≡ gave_of binary64 (ar_of binary64 b.now) }
-    ensures out_after { out.new ≡ sets out.old 0 (gave_bytes binary64 (ar_of binary64 b.now)) }
+    ensures value { answer result ≡ gave_of T.format (ar_of T.format b.now) }
+    ensures out_after { out.new ≡ sets out.old 0 (gave_bytes T.format (ar_of T.format b.now)) }
 {
-    let mut x = [0.0; 2 + VALUES];
+    let x: [T; 2 + VALUES] = read(b);
     let mut arms = [0; ARMS];
-    let mut y = [0.0; SCALED_PAIR];
-    decode(&b[0..NUMBER * (2 + VALUES)], &mut x);
-    let sigma = x[0];
-    let z = x[1];
+    let mut y = [T::of(0.0); SCALED_PAIR];
     let p = &x[..];
-    let n = armed_pair(sigma, z, &p[2..2 + VALUES], &mut arms, &mut y);
-    told_armed(n, &arms, &y, out)
+    let called = armed_pair(x[0], x[1], &p[2..2 + VALUES], &mut arms, &mut y);
+    told_armed(called, &arms, &y, out)
 }

@@ -1,5 +1,6 @@
 -- The answer for each kind of double, by the tests that the code makes: below zero, equal to zero, and the pattern. Assumes nothing.
-use mathlib.Core.Path.{◌≡◌, refl, sym, ap, ◌∙◌, subst}
+use Rattle.std.proofs.lemmas.Bool.{true≢false}
+use mathlib.Core.Path.{◌≡◌, refl, sym, ap, ◌∙◌}
 use Prim.Native.Nat.{ℕ, zero, suc, ◌+◌, ◌*◌, ◌≤◌, ◌<◌}
 use native.Mathlib.Nat.{zero-mul, zero-lt-suc, mul-pos, not-le_of_lt}
 use native.Mathlib.Omega.{arith}
@@ -14,9 +15,6 @@ use Rattle.ieee.specs.Patterns.{patterns, pattern_units}
 use Rattle.ieee.proofs.Patterns.{pattern_below, pattern_pos, pattern_units_lem}
 use Rattle.linalg.specs.Answer.{answers, refuses}
 use Rattle.root.specs.Root.{root_of, root_from, root_parts, root_zero}
-
-clash : {X : Type 0} → true ≡ false → X
-clash e = absurd (subst T e tt)
 
 size_pos : (m : ℕ) (e : ℤ) → 0 < suc m * up e
 size_pos m e = mul-pos (zero-lt-suc m) (up_pos e)
@@ -39,10 +37,10 @@ not_zero m e q = omega (arith, size_pos m e, q, zero-mul (down e))
 
 pub zeros : (z : Float) → eq z f0 ≡ true → answers (root_zero z) ≡ root_from z
 unfolding eq root_from
-zeros nan h = clash (sym h)
-zeros (inf s) h = clash (sym h)
+zeros nan h = absurd (true≢false (sym h))
+zeros (inf s) h = absurd (true≢false (sym h))
 zeros (fin s zero e) h = refl
-zeros (fin s (suc m) e) h = clash (sym h ∙ no_zero (suc m * up e * 1) (0 * 1 * down e) _ (not_zero m e))
+zeros (fin s (suc m) e) h = absurd (true≢false (sym h ∙ no_zero (suc m * up e * 1) (0 * 1 * down e) _ (not_zero m e)))
 
 -- ---- neither
 zero-eq : (s : Bool) (e : ℤ) → eq (fin s zero e) f0 ≡ true
@@ -59,8 +57,8 @@ pub other : (z : Float) → T (fits binary64 z) → lt z f0 ≡ false → eq z f
 unfolding root_from
 other nan t l q h = refl
 other (inf s) t l q h = refl
-other (fin s zero e) t l q h = clash (sym (zero-eq s e) ∙ q)
-other (fin true (suc m) e) t l q h = clash (sym (minus-lt m e) ∙ l)
+other (fin s zero e) t l q h = absurd (true≢false (sym (zero-eq s e) ∙ q))
+other (fin true (suc m) e) t l q h = absurd (true≢false (sym (minus-lt m e) ∙ l))
 other (fin false (suc m) e) t l q h = absurd (not-le_of_lt (pattern_below binary64 (suc m) e t) h)
 
 nan_bits : patterns binary64 ≤ to_bits binary64 nan
@@ -78,6 +76,6 @@ pub good : (z : Float) → T (fits binary64 z) → lt z f0 ≡ false → eq z f0
 unfolding root_from
 good nan t l q h = absurd (not-le_of_lt h nan_bits)
 good (inf s) t l q h = absurd (not-le_of_lt h (inf_bits s))
-good (fin s zero e) t l q h = clash (sym (zero-eq s e) ∙ q)
-good (fin true (suc m) e) t l q h = clash (sym (minus-lt m e) ∙ l)
+good (fin s zero e) t l q h = absurd (true≢false (sym (zero-eq s e) ∙ q))
+good (fin true (suc m) e) t l q h = absurd (true≢false (sym (minus-lt m e) ∙ l))
 good (fin false (suc m) e) t l q h = (pattern_pos binary64 m e t, ap (λ (x : ℕ). answers (root_parts x)) (sym (pattern_units_lem binary64 (suc m) e t)))

@@ -1,7 +1,7 @@
 -- Where the remainder is the root: m = r × (r + 1), and m is a multiple of 2 ^ 52, so one of r and r + 1 is; there are two
 -- such r. Assumes nothing.
 use mathlib.Core.Path.{◌≡◌, sym, ap, ◌∙◌}
-use mathlib.Core.Logic.{◌⊎◌, inl, inr}
+use mathlib.Core.Logic.{inl, inr}
 use Prim.Native.Nat.{ℕ, zero, suc, ◌+◌, ◌-◌, ◌*◌, ◌/◌, ◌%◌, ◌^◌, ◌≤◌, ◌<◌}
 use native.Mathlib.Nat.{mul-one, mul_assoc, pow-suc}
 use native.Mathlib.Omega.{arith}

@@ -10,10 +10,9 @@ use lib.Ieee.{Float, Format}
 use Rattle.frames.specs.Pose.{framed_renormalized}
 use Rattle.frames.specs.Joins.{framed_mul}
 use Rattle.frames.specs.Floats.{Pose}
-use Rattle.running.specs.declared.Start.{Start}
-use Rattle.running.specs.declared.Start.TheVariants.{Unset, Posed}
+use Rattle.std.specs.Prelude.{Some, None}
 use Rattle.running.specs.declared.Running.{Running}
-use Rattle.running.specs.Running.{running_none, one_more, due, stands, produced_of, product_on, join_on, join_of, every_of}
+use Rattle.running.specs.Running.{Start, running_none, one_more, due, stands, produced_of, product_on, join_on, join_of, every_of}
 use Rattle.running.specs.History.{Event, join, renew, after, product, renormalized_product, ran, Small, HistoryTheorem}
 
 -- ---- the count that is held at 65535
@@ -60,10 +59,10 @@ abbrev Follows : Format → List Event → Type 0
 Follows f h = (r : Running) (k : ℕ) → r.since ≡ cap k → r.every < 65536 → Small h → (after f r h).pose ≡ ran f r.pose r.every k h
 
 product_on_lem :
-    (f : Format) (p x : Pose) (up : Float) (h : List Event) → Follows f h → (r : Running) (k : ℕ) → r.pose ≡ Posed p → r.since ≡ cap k → r.every < 65536 → Small h →
+    (f : Format) (p x : Pose) (up : Float) (h : List Event) → Follows f h → (r : Running) (k : ℕ) → r.pose ≡ Some p → r.since ≡ cap k → r.every < 65536 → Small h →
     (t d : Bool) → eqb p.from x.to ≡ t → due r.every (k + 1) ≡ d →
     (after f (product_on f r (framed_mul f p x up)).running h).pose
-    ≡ cond t (cond d (ran f (Posed (renormalized_product f p x up)) r.every 0 h) (ran f (Posed (product f p x up)) r.every (k + 1) h)) (ran f (Posed p) r.every k h)
+    ≡ cond t (cond d (ran f (Some (renormalized_product f p x up)) r.every 0 h) (ran f (Some (product f p x up)) r.every (k + 1) h)) (ran f (Some p) r.every k h)
 unfolding framed_mul product_on produced_of framed_renormalized
 product_on_lem f p x up h go r k e c v m true true q d = rw (q, c, due_more r.every k v, d) (go _ 0 cap_none v m)
 product_on_lem f p x up h go r k e c v m true false q d = rw (q, c, due_more r.every k v, d) (go _ (k + 1) (more_cap k) v m)
@@ -73,8 +72,8 @@ join_on_lem :
     (f : Format) (s : Start) (x : Pose) (up : Float) (h : List Event) → Follows f h → (r : Running) (k : ℕ) → r.pose ≡ s → r.since ≡ cap k → r.every < 65536 → Small h →
     (after f (join_on f s r x up).running h).pose ≡ ran f s r.every k (join x up ∷ h)
 unfolding join_on ran
-join_on_lem f Unset x up h go r k e c v m = go _ k c v m
-join_on_lem f (Posed p) x up h go r k e c v m = product_on_lem f p x up h go r k e c v m (eqb p.from x.to) (due r.every (k + 1)) refl refl
+join_on_lem f None x up h go r k e c v m = go _ k c v m
+join_on_lem f (Some p) x up h go r k e c v m = product_on_lem f p x up h go r k e c v m (eqb p.from x.to) (due r.every (k + 1)) refl refl
 
 follows : (f : Format) (h : List Event) → Follows f h
 unfolding after ran Small

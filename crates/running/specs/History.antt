@@ -1,13 +1,11 @@
 -- Any history of the running join, plainly: the products and renormalisations in its order, with a count that has no bound. Proved as `history` in proofs/Past.antt.
-use Rattle.std.specs.Prelude.{ℕ, ◌+◌, ◌<◌, ◌≡◌, cond, List, [], ◌∷◌, eqb, Float}
+use Rattle.std.specs.Prelude.{Some, None, ℕ, ◌+◌, ◌<◌, ◌≡◌, cond, List, [], ◌∷◌, eqb, Float}
 use Rattle.std.specs.Float.{Format}
 use Rattle.sim3.specs.Pose.{pose_mul, pose_renormalized}
 use Rattle.frames.specs.Pose.{framed}
 use Rattle.frames.specs.Floats.{Pose}
-use Rattle.running.specs.declared.Start.{Start}
-use Rattle.running.specs.declared.Start.TheVariants.{Unset, Posed}
 use Rattle.running.specs.declared.Running.{Running}
-use Rattle.running.specs.Running.{running_none, due, join_of, every_of}
+use Rattle.running.specs.Running.{Start, running_none, due, join_of, every_of}
 
 pub data Event : Type 0 where
   -- a pose, and up of the running pose
@@ -32,11 +30,11 @@ renormalized_product f p x up = framed (pose_renormalized f (pose_mul f p.sim3 x
 unfoldable pub ran : Format → Start → ℕ → ℕ → List Event → Start
 ran f s n k [] = s
 ran f s n k (renew m ∷ h) = ran f s m k h
-ran f Unset n k (join x up ∷ h) = ran f (Posed x) n k h
-ran f (Posed p) n k (join x up ∷ h) =
+ran f None n k (join x up ∷ h) = ran f (Some x) n k h
+ran f (Some p) n k (join x up ∷ h) =
     cond (eqb p.from x.to)
-    (cond (due n (k + 1)) (ran f (Posed (renormalized_product f p x up)) n 0 h) (ran f (Posed (product f p x up)) n (k + 1) h))
-    (ran f (Posed p) n k h)
+    (cond (due n (k + 1)) (ran f (Some (renormalized_product f p x up)) n 0 h) (ran f (Some (product f p x up)) n (k + 1) h))
+    (ran f (Some p) n k h)
 
 -- every n has 16 bits
 unfoldable pub Small : List Event → Type 0
@@ -45,4 +43,4 @@ Small (join x up ∷ h) = Small h
 Small (renew n ∷ h) = (n < 65536) × Small h
 
 abbrev pub HistoryTheorem : Type 0
-HistoryTheorem = (f : Format) (h : List Event) → Small h → (after f running_none h).pose ≡ ran f Unset 0 0 h
+HistoryTheorem = (f : Format) (h : List Event) → Small h → (after f running_none h).pose ≡ ran f None 0 0 h

@@ -1,19 +1,21 @@
 -- The running join: what a pose and a new n do to the running pose, in any format.
-use Rattle.std.specs.Prelude.{ℕ, ◌+◌, Bool, cond, ◌&&◌, List, map, ltb, leb, Float}
+use Rattle.std.specs.Prelude.{Option, Some, None, ℕ, ◌+◌, Bool, cond, ◌&&◌, List, map, ltb, leb, Float}
 use Rattle.std.specs.Float.{Format}
 use Rattle.linalg.specs.Answer.{Answer, answers, refuses}
 use Rattle.frames.specs.Pose.{framed_renormalized}
 use Rattle.frames.specs.Joins.{framed_mul}
 use Rattle.linalg.specs.Answer.{answer}
 use Rattle.frames.specs.Floats.{Pose}
-use Rattle.running.specs.declared.Start.{Start}
-use Rattle.running.specs.declared.Start.TheVariants.{Unset, Posed}
 use Rattle.running.specs.declared.Running.{Running}
 use Rattle.running.specs.declared.Joined.{Joined}
 
+-- the running pose, none before the first pose comes
+abbrev pub Start : Type 0
+Start = Option Pose
+
 -- before any pose
 abbrev pub running_none : Running
-running_none = record { pose = Unset; every = 0; since = 0 }
+running_none = record { pose = None; every = 0; since = 0 }
 
 -- one product more; 65535 are that many or more
 unfoldable pub one_more : ℕ → ℕ
@@ -32,7 +34,7 @@ abbrev pub joint_told : Joined → Joint
 joint_told j = record { running = j.running; answer = answer j.answer }
 
 abbrev pub stands : Pose → ℕ → ℕ → Joint
-stands p n k = record { running = record { pose = Posed p; every = n; since = k }; answer = answers p }
+stands p n k = record { running = record { pose = Some p; every = n; since = k }; answer = answers p }
 
 -- p is a product, and the kth since the last renormalisation
 unfoldable pub produced_of : Format → Pose → ℕ → ℕ → Joint
@@ -45,8 +47,8 @@ product_on f r (refuses e) = record { running = r; answer = refuses e }
 
 -- the first pose is no product: its frames are not tested, and up is not used
 unfoldable pub join_on : Format → Start → Running → Pose → Float → Joint
-join_on f Unset r x up = stands x r.every r.since
-join_on f (Posed p) r x up = product_on f r (framed_mul f p x up)
+join_on f None r x up = stands x r.every r.since
+join_on f (Some p) r x up = product_on f r (framed_mul f p x up)
 
 abbrev pub join_of : Format → Running → Pose → Float → Joint
 join_of f r x up = join_on f r.pose r x up

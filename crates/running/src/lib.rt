@@ -12,19 +12,13 @@ ghost use Rattle.running.specs.Running.{running_none, one_more, due, joint_told,
 use frames::Pose;
 use linalg::refusal::Refusal;
 use sim3::sim3::Sim3;
+use so3::quat::Renormalize;
 
-// The running pose; none before the first pose comes.
-#[derive(Clone, Copy)]
-pub enum Start {
-    Unset,
-    Posed(Pose<f64>),
-}
-
-// The running pose; n, after every how many products it is renormalised, 0 for never; and how many
-// products there were since it was. 65535 of them are that many or more.
-#[derive(Clone, Copy)]
+// The running pose, none before the first pose comes; n, after every how many products it is renormalised,
+// 0 for never; and how many products there were since it was. 65535 of them are that many or more.
+#[derive(Clone, Copy, Default)]
 pub struct Running {
-    pub pose: Start,
+    pub pose: Option<Pose<f64>>,
     pub every: u16,
     pub since: u16,
 }
@@ -77,40 +71,36 @@ fn product(p: Pose<f64>, x: Pose<f64>, up: f64) -> Result<Pose<f64>, Refusal>
     })
 }
 
-// The running pose p, which is answered too.
-fn stand(p: Pose<f64>, n: u16, k: u16) -> Joined
-    ensures { joint_told result ≡ stands p n k }
-{
-    Joined {
-        running: Running {
-            pose: Start::Posed(p),
-            every: n,
-            since: k,
-        },
-        answer: Ok(p),
-    }
-}
-
-// The product p, which is the kth since the last renormalisation.
-fn produced(p: Pose<f64>, n: u16, k: u16) -> Joined
-    ensures { joint_told result ≡ produced_of binary64 p n k }
-{
-    if due(n, k) {
-        return stand(p.renormalized(), n, 0);
-    }
-    stand(p, n, k)
-}
-
 impl Running {
     // No pose yet, and none will be renormalised.
     pub fn new() -> Running
         ensures { result ≡ running_none }
     {
-        Running {
-            pose: Start::Unset,
-            every: 0,
-            since: 0,
+        Running::default()
+    }
+
+    // p becomes the running pose, and is answered too.
+    fn stand(self, p: Pose<f64>) -> Joined
+        ensures { joint_told result ≡ stands p self.every self.since }
+    {
+        Joined {
+            running: Running {
+                pose: Some(p),
+                ..self
+            },
+            answer: Ok(p),
         }
+    }
+
+    // The product p becomes the running pose, renormalised where it is due.
+    fn produced(self, p: Pose<f64>) -> Joined
+        ensures { joint_told result ≡ produced_of binary64 p self.every (one_more self.since) }
+    {
+        let since = one_more(self.since);
+        if due(self.every, since) {
+            return Running { since: 0, ..self }.stand(p.renormalized());
+        }
+        Running { since, ..self }.stand(p)
     }
 
     // The first pose is the running pose, and is no product; a further one is multiplied by it from the
@@ -118,11 +108,10 @@ impl Running {
     pub fn join(self, x: Pose<f64>, up: f64) -> Joined
         ensures { joint_told result ≡ join_of binary64 self x up }
     {
-        let start = self.pose;
-        match start {
-            Start::Unset => stand(x, self.every, self.since),
-            Start::Posed(p) => match product(p, x, up) {
-                Ok(y) => produced(y, self.every, one_more(self.since)),
+        match self.pose {
+            None => self.stand(x),
+            Some(p) => match product(p, x, up) {
+                Ok(y) => self.produced(y),
                 Err(refusal) => Joined {
                     running: self,
                     answer: Err(refusal),
@@ -135,13 +124,7 @@ impl Running {
     pub fn set_every(self, n: u16) -> Running
         ensures { result ≡ every_of self n }
     {
-        let pose = self.pose;
-        let since = self.since;
-        Running {
-            pose,
-            every: n,
-            since,
-        }
+        Running { every: n, ..self }
     }
 }
 
@@ -149,9 +132,7 @@ impl Running {
 pub fn renormalize_all(poses: &mut [Pose<f64>])
     ensures { poses.new ≡ all_renormalized binary64 poses.old }
 {
-    let mut i = 0;
-    while i < poses.len() {
-        poses[i] = poses[i].renormalized();
-        i += 1;
+    for p in poses.iter_mut() {
+        *p = p.renormalized();
     }
 }

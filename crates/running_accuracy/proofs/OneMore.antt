@@ -4,10 +4,9 @@ use mathlib.Core.List.{List, [], ◌∷◌, ◌++◌}
 use Prim.Native.Nat.{ℕ}
 use lib.Ieee.{Float, Format, binary64}
 use Rattle.frames.specs.Floats.{Pose}
-use Rattle.running.specs.Running.{running_none, join_of, every_of}
+use Rattle.running.specs.Running.{Start, running_none, join_of, every_of}
 use Rattle.running.specs.History.{Event, join, renew, after}
 use Rattle.running.specs.declared.Running.{Running}
-use Rattle.running.specs.declared.Start.{Start}
 use Rattle.rounding.specs.Value.{Value}
 use Rattle.running_accuracy.specs.Running.{Step, joins, renews, events, history_of, pose_after, RunningAccurate, PageAccurate}
 use Rattle.running_accuracy.specs.Join.{JoinAccurate}

@@ -15,11 +15,10 @@ use Rattle.so3.specs.Floats.{Quat}
 use Rattle.sim3.specs.Pose.{pose_act, pose_mul, pose_renormalized}
 use Rattle.sim3.specs.Floats.{Sim3}
 use Rattle.frames.specs.Floats.{Pose}
-use Rattle.running.specs.Running.{due}
+use Rattle.running.specs.Running.{Start, due}
 use Rattle.running.specs.History.{ran, Small}
 use Rattle.running.proofs.Past.{history}
-use Rattle.running.specs.declared.Start.{Start}
-use Rattle.running.specs.declared.Start.TheVariants.{Unset, Posed}
+use Rattle.std.specs.Prelude.{Some, None}
 use Rattle.rounding.specs.Value.{Value, minus, times, value_of, AtMost, AbsoluteError}
 use Rattle.rounding.specs.Tree.{Bound, upward, bound, no_overflow}
 use Rattle.rounding.specs.Leaves.{sizes, error_at_most, nth, no_bound, plain}
@@ -468,11 +467,11 @@ plus_one : (k : ℕ) → k + 1 ≡ suc k
 plus_one k = omega arith
 
 module _ (f : Format) (L : JoinBox) (F : Fine L) (e : PoseBound → Bool) (P : Start → Exact → Type 0)
-    (done : (d : ℕ) (w : Bound) (k : ℕ) (p : Pose) (X : Exact) → k ≤ away L → T (e (bound_at L d w)) → PoseTurn L d w k p.sim3 X → P (Posed p) X)
+    (done : (d : ℕ) (w : Bound) (k : ℕ) (p : Pose) (X : Exact) → k ≤ away L → T (e (bound_at L d w)) → PoseTurn L d w k p.sim3 X → P (Some p) X)
   where
     running : (l : List Step) (N n k d : ℕ) (w : Bound) (p : Pose) (X : Exact) → count l ≤ N → T (run_holds f L e (bound_at L d w) N) → AllStepsIn L l
         → 0 < n → n ≤ L.every → k < L.every → PoseTurn L d w (L.drift * suc k) p.sim3 X
-        → P (ran f (Posed p) n k (events l)) (exact_ran n k p.from X l)
+        → P (ran f (Some p) n k (events l)) (exact_ran n k p.from X l)
     unfolding events count exact_ran AllStepsIn ran run_holds step_bound next
     running [] zero n k d w p X h t a nz nm km q = done d w (L.drift * suc k) p X (mul-le-mul_left L.drift (suc_le k L.every km)) t q
     running [] (suc N) n k d w p X h t a nz nm km q = done d w (L.drift * suc k) p X (mul-le-mul_left L.drift (suc_le k L.every km))
@@ -539,7 +538,7 @@ starts L F p h =
     more u c m = let a : c * suc 0 ≤ c * suc m = mul-le-mul_left c (omega arith) in omega arith
 
 module _ (f : Format) (L : JoinBox) (e : PoseBound → Bool) (P : Start → Exact → Type 0)
-    (done : (d : ℕ) (w : Bound) (k : ℕ) (p : Pose) (X : Exact) → k ≤ away L → T (e (bound_at L d w)) → PoseTurn L d w k p.sim3 X → P (Posed p) X)
+    (done : (d : ℕ) (w : Bound) (k : ℕ) (p : Pose) (X : Exact) → k ≤ away L → T (e (bound_at L d w)) → PoseTurn L d w k p.sim3 X → P (Some p) X)
   where
     told : (N n : ℕ) (p : Pose) (up : Float) (l : List Step) → T (box_holds L) → T (ltb L.every 65536) → T
         (run_holds f L e (bound_at L 0 (plain L.translation)) N) → count l ≤ N → 0 < n → n ≤ L.every → FirstIn L p → AllStepsIn L l
@@ -550,7 +549,7 @@ module _ (f : Format) (L : JoinBox) (e : PoseBound → Bool) (P : Start → Exac
         subst (λ (s : Start). P s (exact_ran n 0 p.from (exact_pose p.sim3) l)) (sym (history f (history_of n p up l) (small_story n L.every nm lm (small_events L l lm a))))
         (through (running f L F e P done l N n 0 0 (plain L.translation) p (exact_pose p.sim3) h t a nz nm (le_trans nz nm) (starts L F p hp)))
       where
-        through : P (ran f (Posed p) n 0 (events l)) (exact_ran n 0 p.from (exact_pose p.sim3) l) → P (ran f Unset 0 0 (history_of n p up l)) (exact_ran n 0 p.from (exact_pose p.sim3) l)
+        through : P (ran f (Some p) n 0 (events l)) (exact_ran n 0 p.from (exact_pose p.sim3) l) → P (ran f None 0 0 (history_of n p up l)) (exact_ran n 0 p.from (exact_pose p.sim3) l)
         through h = unfold ran in h
 
         small_story : (n m : ℕ) → n ≤ m → m < 65536 → Small (events l) → Small (history_of n p up l)
@@ -571,7 +570,7 @@ running_accurate f n p up l L c g N tl tm t h nz nm hp a =
 act_done : (f : Format) (L : JoinBox) (b s h e : ℕ) (d : ℕ) (w : Bound) (k : ℕ) (q : Pose) (X : Exact) (up : Float) (z : Value) (pt : Vec3)
     → 0 < L.unit → VecIn L.unit b pt → AbsoluteError L.unit up z h → AtMost L.unit z s → 0 < z.d → T
     (act_test f L.unit b s h e (bound_at L d w)) → PoseTurn L d w k q.sim3 X
-    → ActionError f L.unit e up z pt (Posed q) X
+    → ActionError f L.unit e up z pt (Some q) X
 unfolding ActionError exact_act_by act_test exact_join
 act_done f L b s h e d w k q X up z pt uz hb hu hs ha o r =
     let u = L.unit in

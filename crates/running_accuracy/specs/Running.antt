@@ -1,13 +1,11 @@
 -- The running join with its renormalisations: exactly, and a bound of the difference after each product.
-use Rattle.std.specs.Prelude.{Bool, cond, ◌&&◌, List, [], ◌∷◌, ℕ, zero, suc, ◌+◌, ◌*◌, ◌^◌, ◌≤◌, ◌<◌, T, leb, ltb, eqb, Float}
+use Rattle.std.specs.Prelude.{Some, None, Bool, cond, ◌&&◌, List, [], ◌∷◌, ℕ, zero, suc, ◌+◌, ◌*◌, ◌^◌, ◌≤◌, ◌<◌, T, leb, ltb, eqb, Float}
 use Rattle.std.specs.Float.{Format, binary32, binary64}
 use Rattle.linalg.specs.Floats.{Vec3}
 use Rattle.sim3.specs.Pose.{pose_act}
 use Rattle.frames.specs.Floats.{Pose}
-use Rattle.running.specs.Running.{due, running_none}
+use Rattle.running.specs.Running.{Start, due, running_none}
 use Rattle.running.specs.History.{Event, join, renew, after}
-use Rattle.running.specs.declared.Start.{Start}
-use Rattle.running.specs.declared.Start.TheVariants.{Unset, Posed}
 use Rattle.rounding.specs.Value.{Value, AtMost, AbsoluteError}
 use Rattle.rounding.specs.Tree.{Bound, upward, bound, no_overflow}
 use Rattle.rounding.specs.Leaves.{sizes, nth, no_bound, plain}
@@ -150,8 +148,8 @@ bound_at L d w = record { rotation = record { magnitude = L.longest; error = d }
 
 -- the running pose is there, finite, and its numbers within c and g
 unfoldable pub RunningError : ℕ → ℕ → ℕ → Start → Exact → Type 0
-RunningError u c g Unset X = ⊥
-RunningError u c g (Posed p) X = QuatError u p.sim3.q X.q c × VecError u p.sim3.t X.t g
+RunningError u c g None X = ⊥
+RunningError u c g (Some p) X = QuatError u p.sim3.q X.q c × VecError u p.sim3.t X.t g
 
 -- s R p + t, exactly
 unfoldable pub exact_act_by : Exact → Value → Vec3 → Three Value
@@ -160,8 +158,8 @@ exact_act_by X s p = exact_scaled_sum (exact_rotate X.q.w (vector_part X.q) (exa
 
 -- the running pose is there, and acts on the point p within e
 unfoldable pub ActionError : Format → ℕ → ℕ → Float → Value → Vec3 → Start → Exact → Type 0
-ActionError f u e up s p Unset X = ⊥
-ActionError f u e up s p (Posed x) X = VecError u (pose_act f x.sim3 up p) (exact_act_by X s p) e
+ActionError f u e up s p None X = ⊥
+ActionError f u e up s p (Some x) X = VecError u (pose_act f x.sim3 up p) (exact_act_by X s p) e
 
 -- what is known of the first pose
 pub record FirstIn (L : JoinBox) (p : Pose) : Type 0 where

@@ -6,3 +6,4 @@ pub mod Solo
 pub mod Asked
 pub mod Pairs
 pub mod Minus
+pub mod Guard

@@ -12,10 +12,10 @@ use Rattle.ieee.proofs.Clear.{add-is-same}
 use Rattle.ieee.proofs.Exact.{add-zero-same}
 use Rattle.ieee.proofs.Product.{mul-same}
 use Rattle.tables.specs.Tables.{recip_fact}
-use Rattle.series.specs.Series.{g_series, g_series_pair}
-use Rattle.series.specs.Pass.{g_stopped, both_stopped}
+use Rattle.series.specs.Series.{g_series, g_series_pair, w0_terms}
+use Rattle.series.specs.Pass.{g_stopped, both_stopped, entries_read, horner_stopped}
 use Rattle.series.specs.Private.{g_term}
-use Rattle.series.specs.Floats.{GPair}
+use Rattle.series.specs.Floats.{Signs, Horner, Stopped}
 use Rattle.tables.proofs.Every.{recip_fits, recip_clear}
 
 -- ---- one entry more, as a loop counts
@@ -32,9 +32,26 @@ pub both_more :
 unfolding g_term
 both_more f sigma l terms n j e = λ i. record { pos = stopped_more f sigma l terms n j e i; neg = stopped_more f (neg sigma) l terms n j e i }
 
+-- v0 and w0 of k terms at a stop, from the entries read then
+pub stopped_at :
+    (f : Format) (sigma : Float) (k n stop : ℕ) (h : Horner) →
+    n ≡ entries_read stop k → h ≡ record { v0 = both_stopped f sigma 1 k n; w0 = both_stopped f sigma 2 k n } → h ≡ horner_stopped f sigma k k stop
+unfolding horner_stopped
+stopped_at f sigma k n stop h e p = rw (← e) p
+
+-- both arms at a stop, from the pass and from each sign alone
+abbrev pub whole : Format → Float → ℕ → ℕ → Stopped
+whole f sigma stop k =
+    record {
+      series = horner_stopped f sigma k k stop;
+      series_alone = horner_stopped f sigma k k stop;
+      closed = horner_stopped f sigma (w0_terms f + 1) (w0_terms f) stop;
+      closed_alone = horner_stopped f sigma (w0_terms f + 1) (w0_terms f) stop;
+    }
+
 -- -sigma + 0 is -sigma up to the sign of a zero, which a sum with a reciprocal does not see
 pub minus_or_zero :
-    (f : Format) (sigma : Float) → T (fits f (neg sigma)) → (j : ℕ) (g : GPair) →
+    (f : Format) (sigma : Float) → T (fits f (neg sigma)) → (j : ℕ) (g : Signs Float) →
     g_term f sigma (add f (neg sigma) f0) (recip_fact f j) g ≡ g_term f sigma (neg sigma) (recip_fact f j) g
 unfolding g_term
 minus_or_zero f sigma s j g =

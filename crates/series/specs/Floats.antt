@@ -6,11 +6,9 @@ use Rattle.series.specs.declared.recurrence.Tail as CodeTail
 use Rattle.series.specs.declared.recurrence.Turns as CodeTurns
 use Rattle.series.specs.declared.recurrence.TurnsV as CodeTurnsV
 use Rattle.series.specs.declared.recurrence.TurnsPair as CodeTurnsPair
-use Rattle.series.specs.declared.recurrence.SumsPair as CodeSumsPair
 use Rattle.series.specs.declared.sim3.Sim3Coeffs as CodeSim3Coeffs
 use Rattle.series.specs.declared.sim3.Coeffs4 as CodeCoeffs4
-use Rattle.series.specs.declared.sim3.CoeffsPair as CodeCoeffsPair
-use Rattle.series.specs.declared.sim3.GPair as CodeGPair
+use Rattle.series.specs.declared.sim3.Signs as CodeSigns
 use Rattle.series.specs.declared.sim3.Horner as CodeHorner
 use Rattle.series.specs.declared.stopped.Stopped as CodeStopped
 
@@ -50,12 +48,6 @@ TurnsPair = CodeTurnsPair.TurnsPair Float
 abbrev pub as_turns_pair : {T : Type 0} → (T → Float) → CodeTurnsPair.TurnsPair T → TurnsPair
 as_turns_pair h a = record { level = as_level h a.level; pos = as_sums h a.pos; neg = as_sums h a.neg }
 
-abbrev pub SumsPair : Type 0
-SumsPair = CodeSumsPair.SumsPair Float
-
-abbrev pub as_sums_pair : {T : Type 0} → (T → Float) → CodeSumsPair.SumsPair T → SumsPair
-as_sums_pair h a = record { pos = as_sums h a.pos; neg = as_sums h a.neg }
-
 abbrev pub Sim3Coeffs : Type 0
 Sim3Coeffs = CodeSim3Coeffs.Sim3Coeffs Float
 
@@ -68,23 +60,24 @@ Coeffs4 = CodeCoeffs4.Coeffs4 Float
 abbrev pub as_coeffs4 : {T : Type 0} → (T → Float) → CodeCoeffs4.Coeffs4 T → Coeffs4
 as_coeffs4 h a = record { v0 = h a.v0; v1 = h a.v1; v2 = h a.v2; chi_delta = h a.chi_delta }
 
+-- what is at sigma and at -sigma
+abbrev pub Signs : Type 0 → Type 0
+Signs X = CodeSigns.Signs X
+
+abbrev pub as_signs : {X Y : Type 0} → (X → Y) → CodeSigns.Signs X → Signs Y
+as_signs h a = record { pos = h a.pos; neg = h a.neg }
+
 abbrev pub CoeffsPair : Type 0
-CoeffsPair = CodeCoeffsPair.CoeffsPair Float
+CoeffsPair = Signs Sim3Coeffs
 
-abbrev pub as_coeffs_pair : {T : Type 0} → (T → Float) → CodeCoeffsPair.CoeffsPair T → CoeffsPair
-as_coeffs_pair h a = record { pos = as_sim3_coeffs h a.pos; neg = as_sim3_coeffs h a.neg }
-
-abbrev pub GPair : Type 0
-GPair = CodeGPair.GPair Float
-
-abbrev pub as_g_pair : {T : Type 0} → (T → Float) → CodeGPair.GPair T → GPair
-as_g_pair h a = record { pos = h a.pos; neg = h a.neg }
+abbrev pub as_coeffs_pair : {T : Type 0} → (T → Float) → CodeSigns.Signs (CodeSim3Coeffs.Sim3Coeffs T) → CoeffsPair
+as_coeffs_pair h a = as_signs (as_sim3_coeffs h) a
 
 abbrev pub Horner : Type 0
 Horner = CodeHorner.Horner Float
 
 abbrev pub as_horner : {T : Type 0} → (T → Float) → CodeHorner.Horner T → Horner
-as_horner h a = record { v0 = as_g_pair h a.v0; w0 = as_g_pair h a.w0 }
+as_horner h a = record { v0 = as_signs h a.v0; w0 = as_signs h a.w0 }
 
 abbrev pub Stopped : Type 0
 Stopped = CodeStopped.Stopped Float

@@ -9,7 +9,7 @@ use Rattle.ieee.specs.Infix.{operations}
 use Rattle.linalg.specs.Answer.{Answer, answers, refuses}
 use Rattle.tables.specs.Tables.{recip_fact}
 use Rattle.series.specs.Series.{w0_terms, series_most}
-use Rattle.series.specs.Floats.{GPair}
+use Rattle.series.specs.Floats.{Signs}
 use Rattle.series.specs.Floats.{Horner}
 use Rattle.series.specs.Floats.{Stopped}
 
@@ -25,7 +25,7 @@ module _ (f : Format) where
   g_stopped sigma l terms (suc n) = recip_fact f (terms - suc n + l) ⊕ sigma ⊗ g_stopped sigma l terms n
 
 -- sigma alone, and -sigma alone
-abbrev pub both_stopped : Format → Float → ℕ → ℕ → ℕ → GPair
+abbrev pub both_stopped : Format → Float → ℕ → ℕ → ℕ → Signs Float
 both_stopped f sigma l terms n = record { pos = g_stopped f sigma l terms n; neg = g_stopped f (neg sigma) l terms n }
 
 -- how many entries a sum of `terms` terms has read at a stop: behind its last entry it stays as it is

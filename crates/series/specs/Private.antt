@@ -12,9 +12,8 @@ use Rattle.series.specs.Floats.{Tail}
 use Rattle.series.specs.Floats.{Turns}
 use Rattle.series.specs.Floats.{TurnsV}
 use Rattle.series.specs.Floats.{TurnsPair}
-use Rattle.series.specs.Floats.{SumsPair}
 use Rattle.series.specs.Floats.{CoeffsPair}
-use Rattle.series.specs.Floats.{GPair}
+use Rattle.series.specs.Floats.{Signs}
 
 -- the sums of one sign before the first term, and v alone before the first level
 unfoldable pub sums_none : Sums
@@ -107,7 +106,7 @@ module _ (f : Format) where
       }
 
   -- ---- Horner's sums at both signs: a term in front, with the reciprocal r
-  unfoldable pub g_term : Float → Float → Float → GPair → GPair
+  unfoldable pub g_term : Float → Float → Float → Signs Float → Signs Float
   g_term sigma minus r g = record { pos = r ⊕ sigma ⊗ g.pos; neg = r ⊕ minus ⊗ g.neg }
 
 -- ---- one sign: a turn, and n turns
@@ -144,7 +143,7 @@ level_minus l = record { xi = l.xi; dxi = l.dxi; zeta = l.zeta; dzeta = l.dzeta;
 unfoldable pub turns_minus : TurnsPair → TurnsPair
 turns_minus s = record { level = level_minus s.level; pos = s.pos; neg = s.neg }
 
-unfoldable pub pair_sums : Format → Float → Float → ℕ → SumsPair
+unfoldable pub pair_sums : Format → Float → Float → ℕ → Signs Sums
 pair_sums f sigma z k =
     let s = pair_turns f sigma z (k + 1) in
     let t = tail_terms f sigma z s.level (recip_fact f (k + 2)) (recip_fact f (k + 3)) (recip_fact f (k + 4)) in

@@ -12,7 +12,7 @@ use Rattle.series.specs.Floats.{Sums}
 use Rattle.series.specs.Floats.{Sim3Coeffs}
 use Rattle.series.specs.Floats.{Coeffs4}
 use Rattle.series.specs.Floats.{CoeffsPair}
-use Rattle.series.specs.Floats.{GPair}
+use Rattle.series.specs.Floats.{Signs}
 
 -- ---- level 0 of the recurrence: level j has p = σʲ, ξ, ζ and the z-derivatives ξ', ζ'
 unfoldable pub series_first : Level
@@ -82,7 +82,7 @@ module _ (f : Format) where
   g_series sigma l zero = f0
   g_series sigma l (suc n) = recip_fact f l ⊕ sigma ⊗ g_series sigma (suc l) n
 
-  unfoldable pub g_series_pair : Float → ℕ → ℕ → GPair
+  unfoldable pub g_series_pair : Float → ℕ → ℕ → Signs Float
   g_series_pair sigma l terms = record { pos = g_series sigma l terms; neg = g_series (neg sigma) l terms }
 
   -- ---- the coefficients
@@ -122,8 +122,11 @@ abbrev pub series_v_most : ℕ
 series_v_most = 30
 
 -- ---- what the entries answer: refusal 1 for z below zero, then refusal 4 for k above the most terms
+abbrev pub terms_guard : {A : Type 0} → ℕ → ℕ → A → Answer A
+terms_guard most k a = cond (ltb most k) (refuses 4) (answers a)
+
 abbrev pub series_guard : {A : Type 0} → ℕ → Float → ℕ → A → Answer A
-series_guard most z k a = unless_below_zero z (cond (ltb most k) (refuses 4) (answers a))
+series_guard most z k a = unless_below_zero z (terms_guard most k a)
 
 unfoldable pub series_answer : Format → Float → Float → ℕ → Answer Sim3Coeffs
 series_answer f sigma z k = series_guard series_most z k (series_full f sigma z k)

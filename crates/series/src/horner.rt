@@ -3,10 +3,10 @@ ghost use Rattle.std.specs.Prelude.{◌≡◌, ◌≤◌};
 ghost use Rattle.series.specs.Series.{g_series};
 ghost use Rattle.series.specs.Pass.{g_stopped, both_stopped, entries_read};
 ghost use Rattle.series.specs.Private.{g_term};
-ghost use Rattle.series.specs.Floats.{as_g_pair, as_horner};
+ghost use Rattle.series.specs.Floats.{as_signs, as_horner};
 
 use crate::reciprocal::recip;
-use crate::sim3::{GPair, Horner};
+use crate::sim3::{Horner, Signs};
 use tables::Tables;
 
 // The sum of sigma^i/(i + l)! over i < terms, by Horner from the last term.
@@ -53,8 +53,8 @@ pub fn horner_stopped<T: Tables>(sigma: T, k: usize, n: usize) -> Horner<T>
         w_neg = r2 + minus * w_neg;
     }
     Horner {
-        v0: GPair { pos: v, neg: v_neg },
-        w0: GPair { pos: w, neg: w_neg },
+        v0: Signs { pos: v, neg: v_neg },
+        w0: Signs { pos: w, neg: w_neg },
     }
 }
 
@@ -62,18 +62,15 @@ pub fn horner_stopped<T: Tables>(sigma: T, k: usize, n: usize) -> Horner<T>
 pub fn entries_read(stop: usize, terms: usize) -> usize
     ensures { (result ≡ entries_read stop terms) × (result ≤ terms) }
 {
-    if terms < stop {
-        return terms;
-    }
-    stop
+    stop.min(terms)
 }
 
 // One more term in front, with the reciprocal r.
-pub fn g_term<T: Tables>(sigma: T, minus: T, r: T, g: GPair<T>) -> GPair<T>
-    ensures { as_g_pair T.float result
-        ≡ g_term T.format (T.float sigma) (T.float minus) (T.float r) (as_g_pair T.float g) }
+pub fn g_term<T: Tables>(sigma: T, minus: T, r: T, g: Signs<T>) -> Signs<T>
+    ensures { as_signs T.float result
+        ≡ g_term T.format (T.float sigma) (T.float minus) (T.float r) (as_signs T.float g) }
 {
-    GPair {
+    Signs {
         pos: r + sigma * g.pos,
         neg: r + minus * g.neg,
     }

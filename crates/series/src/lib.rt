@@ -7,6 +7,8 @@ pub mod pair; // the series at both signs: the pair of coeffs/sim3.rs
 pub mod stopped; // one pass over the reciprocals, stopped after any number of entries
 pub mod terms; // the term counts of each width
 pub mod small; // v0 and w0 of the closed arm at small sigma
+pub mod count; // a number of terms that the table serves
+mod admitted; // what a series refuses
 mod horner; // Horner's sums
 mod reciprocal; // the reciprocals that the series read
 mod recurrence; // the levels, their terms and the sums, for both

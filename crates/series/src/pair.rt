@@ -7,14 +7,16 @@ ghost use Rattle.series.specs.Series.{series_next, g_series_pair, series_full, s
 ghost use Rattle.series.specs.Private.{sums_gain_mirrored, sums_last_mirrored, level_minus, turns_minus};
 ghost use Rattle.series.specs.Private.{pair_turn, pair_turns, pair_sums};
 ghost use Rattle.linalg.specs.Answer.{told};
-ghost use Rattle.series.specs.Floats.{as_coeffs_pair, as_horner, as_level, as_sums, as_sums_pair, as_tail};
+ghost use Rattle.series.specs.Floats.{as_coeffs_pair, as_horner, as_level, as_sums, as_signs, as_tail};
 ghost use Rattle.series.specs.Floats.{as_turns_pair};
 
+use crate::admitted::admitted;
+use crate::count::{Count, FULL};
 use crate::horner::horner_stopped;
 use crate::reciprocal::recip;
 use crate::recurrence;
-use crate::recurrence::{Level, Sums, SumsPair, Tail, TurnsPair};
-use crate::sim3::{CoeffsPair, Horner};
+use crate::recurrence::{Level, Sums, Tail, TurnsPair};
+use crate::sim3::{CoeffsPair, Horner, Signs};
 use linalg::refusal::Refusal;
 use tables::Tables;
 
@@ -22,42 +24,36 @@ use tables::Tables;
 pub fn series_pair<T: Tables>(sigma: T, z: T, k: usize) -> Result<CoeffsPair<T>, Refusal>
     ensures { told (as_coeffs_pair T.float) result ≡ series_pair_answer T.format (T.float sigma) (T.float z) k }
 {
-    if z < T::of(0.0) {
-        return Err(Refusal::NegativeAngle);
-    }
-    if 28 < k {
-        return Err(Refusal::TooManyTerms);
-    }
+    let k = admitted::<T, FULL>(z, k)?;
     Ok(series_pair_at(sigma, z, k))
 }
 
-// `series_pair` for a k that is not refused.
-fn series_pair_at<T: Tables>(sigma: T, z: T, k: usize) -> CoeffsPair<T>
-    requires { k ≤ 28 }
+// `series_pair` for a k that is not refused, at any z: for a caller that has refused z already.
+pub fn series_pair_at<T: Tables>(sigma: T, z: T, k: Count<FULL>) -> CoeffsPair<T>
     ensures { as_coeffs_pair T.float result
         ≡ record {
-          pos = series_full T.format (T.float sigma) (T.float z) k;
-          neg = series_full T.format (neg (T.float sigma)) (T.float z) k;
+          pos = series_full T.format (T.float sigma) (T.float z) k.terms;
+          neg = series_full T.format (neg (T.float sigma)) (T.float z) k.terms;
         } }
 {
     let h = horner_at(sigma, k);
     let v0 = h.v0;
     let w0 = h.w0;
     let s = sums_pair_at(sigma, z, k);
-    CoeffsPair {
+    Signs {
         pos: recurrence::coeffs(sigma, z, v0.pos, w0.pos, s.pos),
         neg: recurrence::coeffs(sigma, z, v0.neg, w0.neg, s.neg),
     }
 }
 
 // The six sums at each sign, each to its own last level.
-fn sums_pair_at<T: Tables>(sigma: T, z: T, k: usize) -> SumsPair<T>
-    requires { k ≤ 28 }
-    ensures { as_sums_pair T.float result ≡ pair_sums T.format (T.float sigma) (T.float z) k }
+fn sums_pair_at<T: Tables>(sigma: T, z: T, k: Count<FULL>) -> Signs<Sums<T>>
+    ensures { as_signs (as_sums T.float) result ≡ pair_sums T.format (T.float sigma) (T.float z) k.terms }
 {
+    let k = k.terms;
     let s = turns_at(sigma, z, k);
     let t = recurrence::tail_terms(sigma, z, s.level, recip(k + 2), recip(k + 3), recip(k + 4));
-    SumsPair {
+    Signs {
         pos: recurrence::last(s.pos, t),
         neg: last_mirrored((k + 1) % 2 == 1, s.neg, t),
     }
@@ -100,18 +96,9 @@ fn turns_minus<T: Tables>(s: TurnsPair<T>) -> TurnsPair<T>
     ensures { as_turns_pair T.float result ≡ turns_minus (as_turns_pair T.float s) }
 {
     let l = s.level;
-    let pos = s.pos;
-    let neg = s.neg;
     TurnsPair {
-        level: Level {
-            xi: l.xi,
-            dxi: l.dxi,
-            zeta: l.zeta,
-            dzeta: l.dzeta,
-            p: -l.p,
-        },
-        pos,
-        neg,
+        level: Level { p: -l.p, ..l },
+        ..s
     }
 }
 
@@ -215,13 +202,12 @@ fn last_mirrored<T: Tables>(odd: bool, s: Sums<T>, t: Tail<T>) -> Sums<T>
 
 // The sums over i < k of sigma^i/(i + 1)! and of sigma^i/(i + 2)!, by Horner from the last term, at
 // both signs in one pass over the reciprocals.
-fn horner_at<T: Tables>(sigma: T, k: usize) -> Horner<T>
-    requires { k ≤ 28 }
+fn horner_at<T: Tables>(sigma: T, k: Count<FULL>) -> Horner<T>
     ensures { as_horner T.float result
         ≡ record {
-          v0 = g_series_pair T.format (T.float sigma) 1 k;
-          w0 = g_series_pair T.format (T.float sigma) 2 k;
+          v0 = g_series_pair T.format (T.float sigma) 1 k.terms;
+          w0 = g_series_pair T.format (T.float sigma) 2 k.terms;
         } }
 {
-    horner_stopped(sigma, k, k)
+    horner_stopped(sigma, k.terms, k.terms)
 }

@@ -66,13 +66,6 @@ pub struct TurnsPair<T> {
     pub neg: Sums<T>,
 }
 
-// The sums at sigma and at -sigma.
-#[derive(Clone, Copy)]
-pub struct SumsPair<T> {
-    pub pos: Sums<T>,
-    pub neg: Sums<T>,
-}
-
 // Level 0.
 pub fn first<T: Tables>() -> Level<T>
     ensures { as_level T.float result ≡ series_first }

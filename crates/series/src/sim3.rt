@@ -7,6 +7,8 @@ ghost use Rattle.series.specs.Private.{solo_turn, solo_turns, v_turns};
 ghost use Rattle.linalg.specs.Answer.{told};
 ghost use Rattle.series.specs.Floats.{as_coeffs4, as_sim3_coeffs, as_sums, as_turns, as_turns_v};
 
+use crate::admitted::admitted;
+use crate::count::{Count, FULL, V_ALONE};
 use crate::horner::g_series;
 use crate::reciprocal::recip;
 use crate::recurrence;
@@ -39,37 +41,28 @@ pub struct Coeffs4<T> {
     pub chi_delta: T,
 }
 
-// The coefficients at sigma and at -sigma.
+// What is at sigma, and the same at -sigma.
 #[derive(Clone, Copy)]
-pub struct CoeffsPair<T> {
-    pub pos: Sim3Coeffs<T>,
-    pub neg: Sim3Coeffs<T>,
+pub struct Signs<X> {
+    pub pos: X,
+    pub neg: X,
 }
 
-// A Horner sum at sigma and at -sigma.
-#[derive(Clone, Copy)]
-pub struct GPair<T> {
-    pub pos: T,
-    pub neg: T,
-}
+// The coefficients at sigma and at -sigma.
+pub type CoeffsPair<T> = Signs<Sim3Coeffs<T>>;
 
 // v0 and w0, each at sigma and at -sigma.
 #[derive(Clone, Copy)]
 pub struct Horner<T> {
-    pub v0: GPair<T>,
-    pub w0: GPair<T>,
+    pub v0: Signs<T>,
+    pub w0: Signs<T>,
 }
 
 // The series at k terms; refusal 1 for z below zero, then 4 for k above 28.
 pub fn series<T: Tables>(sigma: T, z: T, k: usize) -> Result<Sim3Coeffs<T>, Refusal>
     ensures { told (as_sim3_coeffs T.float) result ≡ series_answer T.format (T.float sigma) (T.float z) k }
 {
-    if z < T::of(0.0) {
-        return Err(Refusal::NegativeAngle);
-    }
-    if 28 < k {
-        return Err(Refusal::TooManyTerms);
-    }
+    let k = admitted::<T, FULL>(z, k)?;
     Ok(series_at(sigma, z, k))
 }
 
@@ -77,31 +70,25 @@ pub fn series<T: Tables>(sigma: T, z: T, k: usize) -> Result<Sim3Coeffs<T>, Refu
 pub fn series_v<T: Terms>(sigma: T, z: T, k: usize) -> Result<Coeffs4<T>, Refusal>
     ensures { told (as_coeffs4 T.float) result ≡ series_v_answer T.format (T.float sigma) (T.float z) k }
 {
-    if z < T::of(0.0) {
-        return Err(Refusal::NegativeAngle);
-    }
-    if 30 < k {
-        return Err(Refusal::TooManyTerms);
-    }
+    let k = admitted::<T, V_ALONE>(z, k)?;
     Ok(series_v_at(sigma, z, k))
 }
 
-// `series` for a k that is not refused.
-fn series_at<T: Tables>(sigma: T, z: T, k: usize) -> Sim3Coeffs<T>
-    requires { k ≤ 28 }
-    ensures { as_sim3_coeffs T.float result ≡ series_full T.format (T.float sigma) (T.float z) k }
+// `series` for a k that is not refused, at any z: for a caller that has refused z already.
+pub fn series_at<T: Tables>(sigma: T, z: T, k: Count<FULL>) -> Sim3Coeffs<T>
+    ensures { as_sim3_coeffs T.float result ≡ series_full T.format (T.float sigma) (T.float z) k.terms }
 {
-    let v0 = g_series(sigma, 1, k);
-    let w0 = g_series(sigma, 2, k);
+    let v0 = g_series(sigma, 1, k.terms);
+    let w0 = g_series(sigma, 2, k.terms);
     let s = sums_at(sigma, z, k);
     recurrence::coeffs(sigma, z, v0, w0, s)
 }
 
 // The six sums, each to its own last level.
-fn sums_at<T: Tables>(sigma: T, z: T, k: usize) -> Sums<T>
-    requires { k ≤ 28 }
-    ensures { as_sums T.float result ≡ series_sums T.format (T.float sigma) (T.float z) k }
+fn sums_at<T: Tables>(sigma: T, z: T, k: Count<FULL>) -> Sums<T>
+    ensures { as_sums T.float result ≡ series_sums T.format (T.float sigma) (T.float z) k.terms }
 {
+    let k = k.terms;
     let s = turns_at(sigma, z, k);
     let t = recurrence::tail_terms(sigma, z, s.level, recip(k + 2), recip(k + 3), recip(k + 4));
     recurrence::last(s.sums, t)
@@ -134,11 +121,11 @@ fn turn<T: Tables>(sigma: T, z: T, r1: T, r2: T, s: Turns<T>) -> Turns<T>
     }
 }
 
-// `series_v` for a k that is not refused. v2 takes one level more than v1.
-fn series_v_at<T: Terms>(sigma: T, z: T, k: usize) -> Coeffs4<T>
-    requires { k ≤ 30 }
-    ensures { as_coeffs4 T.float result ≡ series_v T.format (T.float sigma) (T.float z) k }
+// `series_v` for a k that is not refused, at any z, likewise. v2 takes one level more than v1.
+pub fn series_v_at<T: Terms>(sigma: T, z: T, k: Count<V_ALONE>) -> Coeffs4<T>
+    ensures { as_coeffs4 T.float result ≡ series_v T.format (T.float sigma) (T.float z) k.terms }
 {
+    let k = k.terms;
     let s = turns_v_at(sigma, z, k);
     let v0 = g_series(sigma, 1, k);
     let v2 = s.v2 + s.zeta * recip(k + 2);

@@ -2,11 +2,11 @@
 ghost use Rattle.std.specs.Prelude.{◌≡◌, ◌+◌, ◌≤◌};
 ghost use Rattle.series.specs.Series.{g_series, g_series_pair, w0_terms};
 ghost use Rattle.series.specs.Pass.{both_stopped, horner_stopped};
-ghost use Rattle.series.specs.Floats.{as_g_pair, as_horner};
+ghost use Rattle.series.specs.Floats.{as_signs, as_horner};
 
 use crate::horner::{entries_read, g_series, g_term};
 use crate::reciprocal::table_entry;
-use crate::sim3::{GPair, Horner};
+use crate::sim3::{Horner, Signs};
 use crate::terms::Terms;
 
 // v0 of the closed arm at small sigma: the first term, and sigma times the sum of `g2`.
@@ -26,13 +26,14 @@ pub fn g2<T: Terms>(sigma: T) -> T
 // The pass for both signs stopped after n of v0's entries, the reciprocals from the highest down to 1:
 // it holds what each sign alone has then. PERF (D122): `minus` is -sigma but +0 for a zero, which no sum
 // sees, so that the compiler works both signs as one vector; and it writes out two loops of 8 turns,
-// with constant reciprocals, but not one of 15.
-fn pass<T: Terms>(sigma: T, n: usize) -> GPair<T>
+// with constant reciprocals, but not one of 15: so the pass is written out where its count is a constant.
+#[inline(always)]
+fn pass<T: Terms>(sigma: T, n: usize) -> Signs<T>
     requires { n ≤ w0_terms T.format + 1 }
-    ensures { as_g_pair T.float result ≡ both_stopped T.format (T.float sigma) 1 (w0_terms T.format + 1) n }
+    ensures { as_signs T.float result ≡ both_stopped T.format (T.float sigma) 1 (w0_terms T.format + 1) n }
 {
     let minus = -sigma + T::of(0.0);
-    let mut g = GPair {
+    let mut g = Signs {
         pos: T::of(0.0),
         neg: T::of(0.0),
     };

@@ -5,8 +5,10 @@ ghost use Rattle.series.specs.Pass.{horner_stopped, pass_stopped};
 ghost use Rattle.linalg.specs.Answer.{told};
 ghost use Rattle.series.specs.Floats.{as_horner, as_stopped};
 
+use crate::admitted::count;
+use crate::count::FULL;
 use crate::horner::{entries_read, g_stopped, horner_stopped};
-use crate::sim3::{GPair, Horner};
+use crate::sim3::{Horner, Signs};
 use crate::small;
 use crate::terms::Terms;
 use linalg::refusal::Refusal;
@@ -26,10 +28,9 @@ pub struct Stopped<T> {
 pub fn pass_stopped<T: Terms>(sigma: T, k: usize, stop: usize) -> Result<Stopped<T>, Refusal>
     ensures { told (as_stopped T.float) result ≡ pass_stopped T.format (T.float sigma) k stop }
 {
-    if 28 < k {
-        return Err(Refusal::TooManyTerms);
-    }
-    let series = series_at(sigma, k, stop);
+    let k = count::<FULL>(k)?;
+    let k = k.terms;
+    let series = horner_stopped(sigma, k, entries_read(stop, k));
     let series_alone = alone(sigma, k, k, stop);
     let closed = small::horner_small_stopped(sigma, stop);
     let closed_alone = alone(sigma, T::w0_terms() + 1, T::w0_terms(), stop);
@@ -41,14 +42,6 @@ pub fn pass_stopped<T: Terms>(sigma: T, k: usize, stop: usize) -> Result<Stopped
     })
 }
 
-// The pass of the series arm.
-fn series_at<T: Terms>(sigma: T, k: usize, stop: usize) -> Horner<T>
-    requires { k ≤ 28 }
-    ensures { as_horner T.float result ≡ horner_stopped T.format (T.float sigma) k k stop }
-{
-    horner_stopped(sigma, k, entries_read(stop, k))
-}
-
 // The four sums of v0 and w0 by the code of one sign.
 fn alone<T: Terms>(sigma: T, v_terms: usize, w_terms: usize, stop: usize) -> Horner<T>
     requires { (v_terms ≤ 30) × (w_terms ≤ 30) }
@@ -58,11 +51,11 @@ fn alone<T: Terms>(sigma: T, v_terms: usize, w_terms: usize, stop: usize) -> Hor
     let v = entries_read(stop, v_terms);
     let w = entries_read(stop, w_terms);
     Horner {
-        v0: GPair {
+        v0: Signs {
             pos: g_stopped(sigma, 1, v_terms, v),
             neg: g_stopped(minus, 1, v_terms, v),
         },
-        w0: GPair {
+        w0: Signs {
             pos: g_stopped(sigma, 2, w_terms, w),
             neg: g_stopped(minus, 2, w_terms, w),
         },

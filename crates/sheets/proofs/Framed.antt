@@ -1,10 +1,10 @@
 -- The bytes of a pose with its frames at a place of a list: as code reads and stores them, and that what is stored reads back. Assumes nothing.
 use Prim.Native.Nat.{ℕ, ◌+◌, ◌≤◌, ◌<◌}
-use mathlib.Core.Path.{◌≡◌, ap}
+use native.Mathlib.Omega.{arith}
+use mathlib.Core.Path.{◌≡◌, refl, sym, ap, ◌∙◌}
 use mathlib.Core.List.{List, [], ◌∷◌, ◌++◌, append-nil}
 use native.Mathlib.Nat.{add_assoc}
-use native.Mathlib.Numerals.{towards_suc}
-use lib.ListN.{length, take, drop, get_or}
+use lib.ListN.{length, take, drop, length-drop}
 use lib.Seq.{sets, drop-drop}
 use lib.Dec.{T}
 use lib.Ieee.{Float, binary64, fits}
@@ -15,29 +15,14 @@ use Rattle.frames.specs.Pose.{framed}
 use Rattle.frames.specs.Floats.{Pose}
 use Rattle.layout.specs.Layout.{vec_in, quat_in, pose_in, quat_numbers, pose_numbers}
 use Rattle.layout.proofs.Runs.{sets_split}
-use Rattle.wire.specs.Wire.{word, word_of, word_at, word_bytes, number_of, number_at, number_bytes, item_bytes, items_bytes, numbers}
-use Rattle.wire.proofs.Bytes.{word-length, number-length, bytes-at, word_back, number_back}
+use Rattle.wire.specs.Wire.{word_of, word_at, word_bytes, number_of, number_at, number_bytes, item_bytes, items_bytes, numbers}
+use Rattle.wire.proofs.Places.{within}
+use Rattle.wire.proofs.Bytes.{word-length, number-length, word_back, number_back}
 use Rattle.replies.specs.Table.{framed_in, framed_items}
 
 -- ---- read
 abbrev pub number_from : List ℕ → ℕ → Float
 number_from b at = number_of binary64 (take 8 (drop at b))
-
-pub number_read :
-    (b : List ℕ) (at : ℕ) → at + 8 ≤ length b →
-    number_of
-    binary64
-    (get_or b at 0
-    ∷ get_or b (at + 1) 0
-    ∷ get_or b (at + 2) 0
-    ∷ get_or b (at + 3) 0
-    ∷ get_or b (at + 4) 0
-    ∷ get_or b (at + 5) 0
-    ∷ get_or b (at + 6) 0
-    ∷ get_or b (at + 7) 0
-    ∷ [])
-    ≡ number_from b at
-number_read b at h = rw (bytes-at b at 8 h) (simp towards_suc)
 
 pub framed_read :
     (b : List ℕ) (at : ℕ) →
@@ -64,12 +49,32 @@ framed_read b at =
       to = w 66 i;
     }
 
+-- what stands behind the pose is not read
+pub framed_front : (b : List ℕ) (at : ℕ) → at + 68 ≤ length b → framed_in binary64 (take 68 (drop at b)) ≡ framed_in binary64 (drop at b)
+unfolding framed_in pose_in quat_in vec_in number_at word_at
+framed_front b at h =
+    let in_front : (k s t : ℕ) → 68 ≡ k + t → s ≤ t → take s (drop k (take 68 (drop at b))) ≡ take s (drop k (drop at b)) =
+    λ k s t e g. within b at k s t 68 e (rw (length-drop at b) (omega (arith, h, e))) g ∙ sym (ap (take s) (drop-drop k at b)) in
+    let n : (k t : ℕ) → 68 ≡ k + t → 8 ≤ t → number_of binary64 (take 8 (drop k (take 68 (drop at b)))) ≡ number_of binary64 (take 8 (drop k (drop at b))) =
+    λ k t e g. ap (number_of binary64) (in_front k 8 t e g) in
+    let w : (k t : ℕ) → 68 ≡ k + t → 2 ≤ t → word_of (take 2 (drop k (take 68 (drop at b)))) ≡ word_of (take 2 (drop k (drop at b))) =
+    λ k t e g. ap word_of (in_front k 2 t e g) in
+    λ i. record {
+      sim3 =
+          record {
+            q = record { w = n 0 68 refl (omega arith) i; x = n 8 60 refl (omega arith) i; y = n 16 52 refl (omega arith) i; z = n 24 44 refl (omega arith) i };
+            t = record { x = n 32 36 refl (omega arith) i; y = n 40 28 refl (omega arith) i; z = n 48 20 refl (omega arith) i };
+            sigma = n 56 12 refl (omega arith) i;
+          };
+      from = w 64 4 refl (omega arith) i;
+      to = w 66 2 refl (omega arith) i;
+    }
+
 -- ---- stored
 abbrev pub frame : ℕ → List ℕ
-frame n = item_bytes binary64 (word 2 n)
+frame n = word_bytes 2 n
 
 pub frame_length : (n : ℕ) → length (frame n) ≡ 2
-unfolding item_bytes
 frame_length n = word-length 2 n
 
 items_are :

@@ -8,16 +8,17 @@ use borrow.Author.Tests.{eq-eqb, ne_eqb, lt-ltb, le-ltb, ltb-true, ltb-false}
 use lib.ListN.{length, take, drop}
 use lib.Seq.{sets}
 use lib.Dec.{ltb}
-use Rattle.linalg.specs.Answer.{Answer, answers, refuses}
+use Rattle.std.specs.Prelude.{Result, Ok, Err}
+use Rattle.linalg.specs.Answer.{Answer, answers, refuses, answer, told}
+use Rattle.linalg.specs.declared.refusal.Refusal.{Refusal}
+use Rattle.linalg.specs.declared.refusal.Refusal.TheVariants as refusal
 use Rattle.wire.specs.Wire.{word_at, word_bytes}
-use Rattle.sheets.specs.Sheets.{no_sheets, most, shelve, ask}
+use Rattle.sheets.specs.Sheets.{no_sheets, most, shelved, shelve, ask}
 use Rattle.sheets.specs.Store.{slot_width, slots, tail, size, holds, used_of, slot_of, slot_at, shot_in, held_at, sheets_of, free_slot, next_slot, assign_of, add_of, Lent, lent, storeless}
-use Rattle.sheets.specs.Store.{put_told, put_answer, put_sheets, get_told, get_answer, retake_told, retake_bytes, add_told, add_bytes, put_bytes, fresh_bytes}
+use Rattle.sheets.specs.Store.{shelved_of, of_store, put_answer, put_sheets, get_answer, retake_told, retake_bytes, add_told, add_bytes, put_bytes, fresh_bytes}
 use Rattle.sheets.specs.declared.Shot.{Shot}
-use Rattle.sheets.specs.declared.PutAnswer.{PutAnswer}
-use Rattle.sheets.specs.declared.PutAnswer.TheVariants as put
-use Rattle.sheets.specs.declared.GetAnswer.{GetAnswer}
-use Rattle.sheets.specs.declared.GetAnswer.TheVariants as get
+use Rattle.sheets.specs.declared.Shelved as code
+use Rattle.sheets.specs.declared.Shelved.TheVariants as became
 use Rattle.sheets.proofs.Framed.{Fit}
 use Rattle.sheets.proofs.Stored.{took-new, took_free, took-full, took_again, found, missed, emptied}
 
@@ -53,21 +54,21 @@ module _ (m : List ℕ) where
     next_free k = rw (← v, le-ltb u most k) refl
 
     module _ (i : ℕ) (e : i ≡ next_slot m) (n : ℕ) (x : Shot) where
-      abbrev Add : PutAnswer → List ℕ → Type 0
-      Add r m' = record { result_value : put_told r ≡ add_told m; store_after : m' ≡ add_bytes m n x }
+      abbrev Add : Result code.Shelved Refusal → List ℕ → Type 0
+      Add r m' = record { result_value : lent (told shelved_of r) ≡ add_told m; store_after : m' ≡ add_bytes m n x }
 
-      told-new : i < most → put_told put.New ≡ add_told m
-      unfolding put_told add_told
+      told-new : i < most → lent (shelved 1 0) ≡ add_told m
+      unfolding add_told
       told-new h = rw (← e, lt-ltb i most h) refl
 
       pub add-next :
-          i < most → u < most → (m' : List ℕ) → m' ≡ sets (assign_of m n i x) tail (word_bytes 2 (u + 1)) → Add put.New m'
+          i < most → u < most → (m' : List ℕ) → m' ≡ sets (assign_of m n i x) tail (word_bytes 2 (u + 1)) → Add (Ok became.New) m'
       unfolding add_bytes add_of
       add-next h k m' w =
           let same : i ≡ u = e ∙ sym (next-used k) in
           record { result_value = told-new h; store_after = rw (← v, lt-ltb u most k) (rw same at w) }
 
-      pub add_free : i < most → most ≤ u → (m' : List ℕ) → m' ≡ assign_of m n i x → Add put.New m'
+      pub add_free : i < most → most ≤ u → (m' : List ℕ) → m' ≡ assign_of m n i x → Add (Ok became.New) m'
       unfolding add_bytes
       add_free h k m' w =
           let same : i ≡ free_slot m = e ∙ sym (next_free k) in
@@ -80,39 +81,37 @@ module _ (m : List ℕ) where
           let same : i ≡ free_slot m = e ∙ sym (next_free (ltb-false u most b)) in
           rw (← v, b, ← same, le-ltb i most h) refl
 
-      pub add-full : most ≤ i → Add (put.Refused 11) m
-      unfolding put_told add_told
+      pub add-full : most ≤ i → Add (Err refusal.NoRoom) m
+      unfolding add_told
       add-full h = record { result_value = rw (← e, le-ltb i most h) refl; store_after = full-bytes h (ltb u most) refl }
 
   module _ (n : ℕ) where
     -- ---- a question
-    pub get_storeless : (length m ≡ size → ⊥) → get_told get.Storeless ≡ get_answer m n
-    unfolding get_told get_answer
+    pub get_storeless : (length m ≡ size → ⊥) → answer {A = Shot} (Err refusal.ListLength) ≡ of_store (get_answer m n)
+    unfolding get_answer of_store
     get_storeless l = rw (unholding l) refl
 
     module _ (i : ℕ) (q : n < 65536) (o : i ≡ slot_of m n) (l : length m ≡ size) where
       pub get_kept :
-          held_at m n i ≡ true → let at = slots + slot_width * i in (x : Shot) → x ≡ shot_in (take (at + slot_width - at) (drop at m)) → get_told (get.Kept x) ≡ get_answer m n
-      unfolding get_told get_answer slot_at
-      get_kept h x e =
-          let w : slots + slot_width * i + slot_width - (slots + slot_width * i) ≡ slot_width = omega arith in
-          rw (holding l, found m n i q o l h, e, w) refl
+          held_at m n i ≡ true → (x : Shot) → x ≡ shot_in (slot_at m i) → answer (Ok x) ≡ of_store (get_answer m n)
+      unfolding get_answer of_store
+      get_kept h x e = rw (holding l, found m n i q o l h, e) refl
 
-      pub get_none : held_at m n i ≡ false → get_told (get.Refused 12) ≡ get_answer m n
-      unfolding get_told get_answer
-      get_none h = rw (holding l) (ap lent (sym (missed m n i q o l h)))
+      pub get_none : held_at m n i ≡ false → answer {A = Shot} (Err refusal.NeverKept) ≡ of_store (get_answer m n)
+      unfolding get_answer of_store
+      get_none h = rw (holding l) (sym (missed m n i q o l h))
 
     -- ---- a shot
     module _ (x : Shot) where
-      abbrev Put : PutAnswer → List ℕ → Type 0
+      abbrev Put : Result code.Shelved Refusal → List ℕ → Type 0
       Put r m' = record {
-        result_value : put_told r ≡ put_answer m n x;
+        result_value : told shelved_of r ≡ of_store (put_answer m n x);
         store_after : m' ≡ put_bytes m n x;
         store_after_2 : sheets_of m' ≡ put_sheets m n x;
       }
 
-      pub put_storeless : (length m ≡ size → ⊥) → Put put.Storeless m
-      unfolding put_told put_answer put_sheets put_bytes
+      pub put_storeless : (length m ≡ size → ⊥) → Put (Err refusal.ListLength) m
+      unfolding of_store put_answer put_sheets put_bytes
       put_storeless l = record {
         result_value = rw (unholding l) refl;
         store_after = rw (unholding l) refl;
@@ -135,23 +134,23 @@ module _ (m : List ℕ) where
           added h false b = added_full h b (ltb (free_slot m) most) refl
 
           pub put_added :
-              held_at m n i ≡ false → (r : PutAnswer) (m' : List ℕ) → put_told r ≡ add_told m → m' ≡ add_bytes m n x → Put r m'
-          unfolding put_answer put_sheets put_bytes
+              held_at m n i ≡ false → (r : Result code.Shelved Refusal) (m' : List ℕ) → lent (told shelved_of r) ≡ add_told m → m' ≡ add_bytes m n x → Put r m'
+          unfolding of_store put_answer put_sheets put_bytes
           put_added h r m' z w =
               let s = added h (ltb (used_of m) most) refl in
               record {
-                result_value = rw (holding l) (z ∙ s.0);
+                result_value = rw (holding l) (ap of_store (z ∙ s.0));
                 store_after = rw (holding l, ← o, h) w;
                 store_after_2 = rw (holding l) (ap sheets_of w ∙ s.1);
               }
 
           pub put_again :
-              held_at m n i ≡ true → (r : PutAnswer) (m' : List ℕ) → put_told r ≡ retake_told m i x → m' ≡ retake_bytes m i n x → Put r m'
-          unfolding put_answer put_sheets put_bytes
+              held_at m n i ≡ true → (r : Result code.Shelved Refusal) (m' : List ℕ) → lent (told shelved_of r) ≡ retake_told m i x → m' ≡ retake_bytes m i n x → Put r m'
+          unfolding of_store put_answer put_sheets put_bytes
           put_again h r m' z w =
               let s = took_again m n i q o l x t f h in
               record {
-                result_value = rw (holding l) (z ∙ s.0);
+                result_value = rw (holding l) (ap of_store (z ∙ s.0));
                 store_after = rw (holding l, ← o, h) w;
                 store_after_2 = rw (holding l) (ap sheets_of w ∙ s.1);
               }

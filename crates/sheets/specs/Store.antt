@@ -1,18 +1,18 @@
 -- The lent bytes in which the code keeps the sheets: for each sheet number two bytes that name a slot; 512 slots, each with a sheet number, a take and a pose with its frames; and
 -- how many slots are in use. All bytes of that many are a store: a slot is a sheet's if it is in use, holds that
 -- sheet's number and is named for it.
-use Rattle.std.specs.Prelude.{ℕ, zero, suc, ◌+◌, ◌*◌, ◌%◌, ◌≤◌, ◌≡◌, Bool, cond, ◌&&◌, List, ◌++◌, length, take, drop, ltb, eqb}
+use Rattle.std.specs.Prelude.{ℕ, zero, suc, ◌+◌, ◌*◌, ◌%◌, ◌≤◌, ◌≡◌, Bool, cond, ◌&&◌, List, ◌++◌, length, take, drop, ltb, eqb, Option, Some, None}
 use Rattle.std.proofs.lemmas.List.Edits.{sets}
 use Rattle.std.specs.Float.{binary64}
-use Rattle.linalg.specs.Answer.{Answer, answers, refuses}
+use Rattle.linalg.specs.Answer.{Answer, answers, refuses, number}
+use Rattle.linalg.specs.declared.refusal.Refusal.TheVariants.{ListLength}
 use Rattle.wire.specs.Wire.{word_at, word_bytes, items_bytes}
 use Rattle.replies.specs.Table.{framed_width, framed_in, framed_items}
 use Rattle.sheets.specs.Sheets.{Kept, none, kept, Sheets, kept_below, sheet_numbers, most, same_take, no_room, Shelved, shelved, shelve, ask}
 use Rattle.sheets.specs.declared.Shot.{Shot}
-use Rattle.sheets.specs.declared.PutAnswer.{PutAnswer}
-use Rattle.sheets.specs.declared.PutAnswer.TheVariants as put
-use Rattle.sheets.specs.declared.GetAnswer.{GetAnswer}
-use Rattle.sheets.specs.declared.GetAnswer.TheVariants as get
+use Rattle.sheets.specs.declared.Shelved as code
+use Rattle.sheets.specs.declared.Shelved.TheVariants as became
+use Rattle.sheets.specs.declared.slot.Slot.{Slot}
 
 -- ---- the parts: how many bytes a slot has, where the slots begin, where their number stands, and how many bytes there are
 abbrev pub slot_width : ℕ
@@ -102,17 +102,21 @@ pub data Lent (A : Type 0) : Type 0 where
   lent : A → Lent A
   storeless : Lent A
 
-unfoldable pub put_told : PutAnswer → Lent (Answer Shelved)
-put_told put.New = lent (shelved 1 0)
-put_told (put.Replaced t) = lent (shelved 2 t)
-put_told (put.Older t) = lent (shelved 3 t)
-put_told (put.Refused k) = lent (refuses k)
-put_told put.Storeless = storeless
+-- as a result tells it: bytes that are no store are a list of a wrong length
+unfoldable pub of_store : {A : Type 0} → Lent (Answer A) → Answer A
+of_store (lent a) = a
+of_store storeless = refuses (number ListLength)
 
-unfoldable pub get_told : GetAnswer → Lent (Answer Shot)
-get_told (get.Kept x) = lent (answers x)
-get_told (get.Refused k) = lent (refuses k)
-get_told get.Storeless = storeless
+-- what a shot that is not refused is answered
+abbrev pub shelved_of : code.Shelved → Shelved
+shelved_of became.New = record { how = 1; before = 0 }
+shelved_of (became.Replaced t) = record { how = 2; before = t }
+shelved_of (became.Older t) = record { how = 3; before = t }
+
+-- the slot that is found; their number where there is none
+abbrev pub slot_told : Option Slot → ℕ
+slot_told (Some s) = s.number
+slot_told None = most
 
 -- a shot x of the sheet n: what is told, and what is kept then
 unfoldable pub put_answer : List ℕ → ℕ → Shot → Lent (Answer Shelved)

@@ -6,32 +6,28 @@
 // sheet's own, which bytes that no store of ours left may have.
 #![tactic(auto)]
 
-ghost use Rattle.std.specs.Prelude.{◌≡◌, cond, ◌+◌, ◌*◌, ◌≤◌, ◌<◌, length};
+ghost use Rattle.std.specs.Prelude.{◌≡◌, cond, ◌+◌, ◌*◌, ◌≤◌, length};
 ghost use Rattle.std.proofs.lemmas.List.Edits.{sets};
+ghost use Rattle.linalg.specs.Answer.{answer, told};
 ghost use Rattle.sheets.specs.Sheets.{no_sheets, most};
-ghost use Rattle.sheets.specs.Store.{slot_width, slots, size, used_of, slot_of, shot_in, slot_bytes, held_at};
-ghost use Rattle.sheets.specs.Store.{free_slot, next_slot, assign_of, add_told, add_bytes, sheets_of, holds};
-ghost use Rattle.sheets.specs.Store.{put_told, put_answer, put_sheets, get_told, get_answer, retake_told, retake_bytes, put_bytes, fresh_bytes};
+ghost use Rattle.sheets.specs.Store.{slot_width, slots, used_of, slot_of, shot_in, slot_bytes, held_at};
+ghost use Rattle.sheets.specs.Store.{free_slot, slot_told, next_slot, assign_of, add_told, add_bytes, sheets_of, holds};
+ghost use Rattle.sheets.specs.Store.{shelved_of, lent, of_store, put_answer, put_sheets, get_answer, retake_told, retake_bytes};
+ghost use Rattle.sheets.specs.Store.{put_bytes, fresh_bytes};
 
 use crate::bytes::{framed_at, put_framed, put_short, short_at};
+use crate::slot::{MOST, SLOT, Slot, TAIL};
 use frames::Pose;
+use linalg::refusal::Refusal;
 
-mod bytes; // numbers and poses at a place of the bytes
-
-// How many sheets are kept at most.
-const MOST: u16 = 512;
-
-// Sheet, take, and the pose with its frames.
-const SLOT: usize = 2 + 2 + 8 * 8 + 2 * 2;
-
-// Where the slots begin: two bytes for each sheet number stand before them.
-const SLOTS: usize = 65_536 * 2;
-
-// Where the number of slots in use stands.
-const TAIL: usize = SLOTS + 512 * SLOT;
+pub mod bytes; // poses at a place of the bytes
+mod slot; // one of the 512 slots
 
 // How many bytes are lent for a store.
 pub const STORE: usize = TAIL + 2;
+
+// The lent bytes, where they are that many.
+type Store = [u8; STORE];
 
 // A sheet as it was photographed: the number of the take, and its pose.
 #[derive(Clone, Copy)]
@@ -40,47 +36,58 @@ pub struct Shot {
     pub pose: Pose<f64>,
 }
 
-// What became of a shot: the first of its sheet; kept instead of the take named; not kept, being older
-// than the take named; refused, with 10 where its take is the one kept, with 11 where its sheet would
-// be the 513th; or the bytes lent are no store.
-#[derive(Clone, Copy)]
-pub enum PutAnswer {
+// What became of a shot that is not refused: the first of its sheet; kept instead of the take named; not
+// kept, being older than the take named.
+#[derive(Clone, Copy, PartialEq, Eq)]
+pub enum Shelved {
     New,
     Replaced(u16),
     Older(u16),
-    Refused(u8),
-    Storeless,
 }
 
-// What is kept of a sheet; refusal 12 where nothing is; or the bytes lent are no store.
-#[derive(Clone, Copy)]
-pub enum GetAnswer {
-    Kept(Shot),
-    Refused(u8),
-    Storeless,
+impl Shelved {
+    // 1, 2 and 3, in this order.
+    pub fn number(self) -> u8
+        ensures { result ≡ (shelved_of self).how }
+    {
+        match self {
+            Shelved::New => 1,
+            Shelved::Replaced(_) => 2,
+            Shelved::Older(_) => 3,
+        }
+    }
+
+    // The take that stood before; 0 with a new sheet.
+    pub fn before(self) -> u16
+        ensures { result ≡ (shelved_of self).before }
+    {
+        match self {
+            Shelved::New => 0,
+            Shelved::Replaced(take) => take,
+            Shelved::Older(take) => take,
+        }
+    }
 }
 
 // ---- slots
 // The slot that the index names for a sheet.
-fn slot_of(store: &[u8], sheet: u16) -> usize
-    requires { length store.now ≡ size }
-    ensures { (result ≡ slot_of store.now sheet) × (result < most) }
+fn slot_of(store: &Store, sheet: u16) -> Slot
+    ensures { result.number ≡ slot_of store.now sheet }
 {
-    (short_at(store, 2 * (sheet as usize)) % MOST) as usize
+    Slot {
+        number: short_at(store, 2 * (sheet as usize)) % MOST,
+    }
 }
 
 // Whether that slot is the sheet's.
-fn held(store: &[u8], sheet: u16, slot: usize) -> bool
-    requires store_len { length store.now ≡ size }
-    requires slot_lt_most { slot < most }
-    ensures { result ≡ held_at store.now sheet slot }
+fn held(store: &Store, sheet: u16, slot: Slot) -> bool
+    ensures { result ≡ held_at store.now sheet slot.number }
 {
-    (slot < short_at(store, TAIL) as usize) & (short_at(store, SLOTS + SLOT * slot) == sheet)
+    (slot.number < short_at(store, TAIL)) & (short_at(store, slot.start()) == sheet)
 }
 
 // The shot in the bytes of a slot.
-fn shot_in(b: &[u8]) -> Shot
-    requires { length b.now ≡ slot_width }
+fn shot_in(b: &[u8; SLOT]) -> Shot
     ensures { result ≡ shot_in b.now }
 {
     Shot {
@@ -90,12 +97,10 @@ fn shot_in(b: &[u8]) -> Shot
 }
 
 // A shot, into a slot.
-fn put_slot(store: &mut [u8], slot: usize, sheet: u16, shot: Shot)
-    requires store_len { length store.old ≡ size }
-    requires slot_lt_most { slot < most }
-    ensures { store.new ≡ sets store.old (slots + slot_width * slot) (slot_bytes sheet shot) }
+fn put_slot(store: &mut Store, slot: Slot, sheet: u16, shot: Shot)
+    ensures { store.new ≡ sets store.old (slots + slot_width * slot.number) (slot_bytes sheet shot) }
 {
-    let at = SLOTS + SLOT * slot;
+    let at = slot.start();
     let take = shot.take;
     let pose = shot.pose;
     put_short(store, at, sheet);
@@ -105,83 +110,69 @@ fn put_slot(store: &mut [u8], slot: usize, sheet: u16, shot: Shot)
 
 // ---- shots
 // A slot becomes the sheet's own: it is named for it, and holds its shot.
-fn assign(store: &mut [u8], sheet: u16, slot: u16, shot: Shot)
-    requires store_len { length store.old ≡ size }
-    requires slot_lt_most { slot < most }
-    ensures { store.new ≡ assign_of store.old sheet slot shot }
+fn assign(store: &mut Store, sheet: u16, slot: Slot, shot: Shot)
+    ensures { store.new ≡ assign_of store.old sheet slot.number shot }
 {
-    put_short(store, 2 * (sheet as usize), slot);
-    put_slot(store, slot as usize, sheet, shot);
+    put_short(store, 2 * (sheet as usize), slot.number);
+    put_slot(store, slot, sheet, shot);
 }
 
-// Where all slots are in use, the first that is no sheet's own; their number where each is.
-fn free_slot(store: &[u8]) -> u16
-    requires store_len { length store.now ≡ size }
-    requires most_bound { most ≤ used_of store.now }
-    ensures { result ≡ free_slot store.now }
+// Where all slots are in use, the first that is no sheet's own.
+fn free_slot(store: &Store) -> Option<Slot>
+    requires { most ≤ used_of store.now }
+    ensures { slot_told result ≡ free_slot store.now }
 {
-    let mut slot: u16 = 0;
-    while slot < MOST {
-        let at = slot as usize;
-        let sheet = short_at(store, SLOTS + SLOT * at);
-        if slot_of(store, sheet) != at {
-            return slot;
+    for number in 0..MOST {
+        let slot = Slot { number };
+        let sheet = short_at(store, slot.start());
+        if slot_of(store, sheet).number != number {
+            return Some(slot);
         }
-        slot += 1;
     }
-    slot
+    None
 }
 
-// The slot for a sheet of which none is kept: the next, or where all are in use one that is no sheet's
-// own; their number where there is none.
-fn next_slot(store: &[u8], used: u16) -> u16
-    requires store_len { length store.now ≡ size }
-    requires used_value { used ≡ used_of store.now }
-    ensures { result ≡ next_slot store.now }
+// The slot for a sheet of which none is kept: the next, or where all are in use one that is no sheet's own.
+fn next_slot(store: &Store, used: u16) -> Option<Slot>
+    requires { used ≡ used_of store.now }
+    ensures { slot_told result ≡ next_slot store.now }
 {
     if used < MOST {
-        return used;
+        return Some(Slot { number: used });
     }
     free_slot(store)
 }
 
 // Of a sheet of which none is kept: a slot becomes its own. Where there is none, 512 sheets are kept.
 // PERF (D122): one place that writes a slot for a new sheet, whichever slot it is.
-fn add(store: &mut [u8], sheet: u16, shot: Shot) -> PutAnswer
-    requires { length store.old ≡ size }
-    ensures result_value { put_told result ≡ add_told store.old }
+fn add(store: &mut Store, sheet: u16, shot: Shot) -> Result<Shelved, Refusal>
+    ensures result_value { lent (told shelved_of result) ≡ add_told store.old }
     ensures store_after { store.new ≡ add_bytes store.old sheet shot }
 {
     let used = short_at(store, TAIL);
-    let slot = next_slot(store, used);
-    if MOST <= slot {
-        return PutAnswer::Refused(11);
-    }
+    let slot = next_slot(store, used).ok_or(Refusal::NoRoom)?;
     assign(store, sheet, slot, shot);
     if used < MOST {
         put_short(store, TAIL, used + 1);
-        return PutAnswer::New;
     }
-    PutAnswer::New
+    Ok(Shelved::New)
 }
 
 // Of a sheet of which that slot holds one: the higher take stays.
-fn retake(store: &mut [u8], sheet: u16, slot: usize, shot: Shot) -> PutAnswer
-    requires store_len { length store.old ≡ size }
-    requires slot_lt_most { slot < most }
-    ensures result_value { put_told result ≡ retake_told store.old slot shot }
-    ensures store_after { store.new ≡ retake_bytes store.old slot sheet shot }
+fn retake(store: &mut Store, sheet: u16, slot: Slot, shot: Shot) -> Result<Shelved, Refusal>
+    ensures result_value { lent (told shelved_of result) ≡ retake_told store.old slot.number shot }
+    ensures store_after { store.new ≡ retake_bytes store.old slot.number sheet shot }
 {
-    let before = short_at(store, SLOTS + SLOT * slot + 2);
+    let before = short_at(store, slot.start() + 2);
     let take = shot.take;
     if take == before {
-        return PutAnswer::Refused(10);
+        return Err(Refusal::SameTake);
     }
     if before < take {
         put_slot(store, slot, sheet, shot);
-        return PutAnswer::Replaced(before);
+        return Ok(Shelved::Replaced(before));
     }
-    PutAnswer::Older(before)
+    Ok(Shelved::Older(before))
 }
 
 // Makes the lent bytes a store in which nothing is kept, if they are as many as a store has.
@@ -194,16 +185,16 @@ pub fn fresh(store: &mut [u8])
     }
 }
 
-// A shot of a sheet: it is kept if none of that sheet is, or one of a lower take. Refused with 11 where
-// none of that sheet is and 512 others are, whatever bytes are lent.
-pub fn put(store: &mut [u8], sheet: u16, shot: Shot) -> PutAnswer
-    ensures result_value { put_told result ≡ put_answer store.old sheet shot }
+// A shot of a sheet: it is kept if none of that sheet is, or one of a lower take. Refused with NoRoom where
+// none of that sheet is and 512 others are, whatever bytes are lent; with ListLength where these are no store.
+pub fn put(store: &mut [u8], sheet: u16, shot: Shot) -> Result<Shelved, Refusal>
+    ensures result_value { told shelved_of result ≡ of_store (put_answer store.old sheet shot) }
     ensures store_after { store.new ≡ put_bytes store.old sheet shot }
     ensures store_after_2 { sheets_of store.new ≡ put_sheets store.old sheet shot }
 {
-    if store.len() != STORE {
-        return PutAnswer::Storeless;
-    }
+    let Some(store) = store.as_mut_array() else {
+        return Err(Refusal::ListLength);
+    };
     let slot = slot_of(store, sheet);
     if held(store, sheet, slot) {
         return retake(store, sheet, slot, shot);
@@ -212,16 +203,14 @@ pub fn put(store: &mut [u8], sheet: u16, shot: Shot) -> PutAnswer
 }
 
 // The shot that is kept of a sheet.
-pub fn get(store: &[u8], sheet: u16) -> GetAnswer
-    ensures { get_told result ≡ get_answer store.now sheet }
+pub fn get(store: &[u8], sheet: u16) -> Result<Shot, Refusal>
+    ensures { answer result ≡ of_store (get_answer store.now sheet) }
 {
-    if store.len() != STORE {
-        return GetAnswer::Storeless;
-    }
+    let store: &Store = store.as_array().ok_or(Refusal::ListLength)?;
     let slot = slot_of(store, sheet);
     if held(store, sheet, slot) {
-        let at = SLOTS + SLOT * slot;
-        return GetAnswer::Kept(shot_in(&store[at..at + SLOT]));
+        let at = slot.start();
+        return Ok(shot_in(store[at..].first_chunk().unwrap()));
     }
-    GetAnswer::Refused(12)
+    Err(Refusal::NeverKept)
 }

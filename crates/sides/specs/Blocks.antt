@@ -13,14 +13,12 @@ use Rattle.series.specs.Floats.{Sim3Coeffs}
 use Rattle.coeffs.specs.Group.{coeffs_scaled, coeffs_unscale, coeffs_plain}
 use Rattle.closed.specs.Floats.{Values}
 use Rattle.coeffs.specs.Floats.{Scaled}
+use Rattle.sim3.specs.Exp.{combined, three_v}
 use Rattle.sim3.specs.Floats.{Sim3Tangent}
+use Rattle.sim3.specs.Floats.{Three}
 use Rattle.jacobian.specs.Jac.{blocks}
 use Rattle.jacobian.specs.Floats.{Sim3Jac}
-use Rattle.sides.specs.Floats.{Three}
 use Rattle.sides.specs.Floats.{JacAndInverse}
-
-abbrev pub three_v : Sim3Coeffs → Three
-three_v c = record { x0 = c.v0; x1 = c.v1; x2 = c.v2 }
 
 module _ (f : Format) where
   infixl 60 ◌⊕◌ ◌⊖◌ ◌⊞◌ ◌⊞ᵐ◌ ◌⊟ᵐ◌
@@ -51,10 +49,6 @@ module _ (f : Format) where
         x2 = (v.x1 ⊗ v.x1 ⊖ v.x2 ⊗ chi) ⊘ (v.x0 ⊗ lambda);
       }
 
-  -- x₀ ρ + x₁ μ + x₂ ν
-  abbrev pub combined : Vec3 → Vec3 → Vec3 → Float → Float → Float → Vec3
-  combined rho mu nu x0 x1 x2 = rho ⊡ x0 ⊞ mu ⊡ x1 ⊞ nu ⊡ x2
-
   -- Q = hat(Vρ) J_l(φ) + 2(∂v₁ μ + ∂v₂ ν) φᵀ − v₁ Ξ + v₂ (Ξ W − 2 W Ξ), with μ = φ×ρ, ν = φ×μ, Ξ = hat ρ
   unfoldable pub jl_q : Vec3 → Vec3 → Sim3Coeffs → Mat3 → Mat3
   jl_q phi rho c jl =
@@ -62,7 +56,7 @@ module _ (f : Format) where
       let xi = mat_hat rho in
       let mu = phi ⨯ rho in
       let nu = phi ⨯ mu in
-      let y = combined rho mu nu c.v0 c.v1 c.v2 in
+      let y = combined f rho mu nu c.v0 c.v1 c.v2 in
       let dy = mu ⊡ (f2 ⊗ c.dv1) ⊞ nu ⊡ (f2 ⊗ c.dv2) in
       mat_hat_mul f y jl ⊞ᵐ mat_outer dy phi ⊟ᵐ xi ⊡ᵐ c.v1 ⊞ᵐ (xi ⊠ w ⊟ᵐ w ⊠ xi ⊡ᵐ f2) ⊡ᵐ c.v2
 
@@ -71,7 +65,7 @@ module _ (f : Format) where
   jl_blocks phi rho c jl =
       let mu = phi ⨯ rho in
       let nu = phi ⨯ mu in
-      blocks jl (jl_q phi rho c jl) (poly_matrix phi (three_v c)) (vec_neg (combined rho mu nu c.w0 c.w1 c.w2)) f1
+      blocks jl (jl_q phi rho c jl) (poly_matrix phi (three_v c)) (vec_neg (combined f rho mu nu c.w0 c.w1 c.w2)) f1
 
   -- J_l(τ) and its inverse from the scaled coefficients s at z, J_l(φ) and its inverse, e^σ and e^-σ. The inverse's c is
   -- formed from the scaled v and e^-σ last, so that nothing overflows before the answer does; its b and f from the

@@ -1,6 +1,5 @@
 -- The structs over the floats that the definitions speak of, and each struct of the code as one of them: `h` gives the float of a number.
 use Rattle.std.specs.Prelude.{Float}
-use Rattle.sides.specs.declared.blocks.Three as CodeThree
 use Rattle.sides.specs.declared.blocks.JacAndInverse as CodeJacAndInverse
 use Rattle.sides.specs.declared.pair.BlockPair as CodeBlockPair
 use Rattle.sides.specs.declared.side.ActJacobians as CodeActJacobians
@@ -8,13 +7,8 @@ use Rattle.sides.specs.declared.side.TwoJacobians as CodeTwoJacobians
 use Rattle.sides.specs.declared.side.ExpAndJl as CodeExpAndJl
 use Rattle.jacobian.specs.Floats.{as_sim3_jac}
 use Rattle.linalg.specs.Floats.{as_mat3, as_vec3}
-use Rattle.sim3.specs.Floats.{as_sim3}
-
-abbrev pub Three : Type 0
-Three = CodeThree.Three Float
-
-abbrev pub as_three : {T : Type 0} → (T → Float) → CodeThree.Three T → Three
-as_three h a = record { x0 = h a.x0; x1 = h a.x1; x2 = h a.x2 }
+use Rattle.sim3.specs.declared.sim3.Sim3 as CodeSim3
+use Rattle.sim3.specs.Floats.{Sim3, as_sim3}
 
 abbrev pub JacAndInverse : Type 0
 JacAndInverse = CodeJacAndInverse.JacAndInverse Float
@@ -41,7 +35,7 @@ abbrev pub as_two_jacobians : {T : Type 0} → (T → Float) → CodeTwoJacobian
 as_two_jacobians h a = record { first = as_sim3_jac h a.first; second = as_sim3_jac h a.second }
 
 abbrev pub ExpAndJl : Type 0
-ExpAndJl = CodeExpAndJl.ExpAndJl Float
+ExpAndJl = CodeExpAndJl.ExpAndJl Sim3 Float
 
-abbrev pub as_exp_and_jl : {T : Type 0} → (T → Float) → CodeExpAndJl.ExpAndJl T → ExpAndJl
+abbrev pub as_exp_and_jl : {T : Type 0} → (T → Float) → CodeExpAndJl.ExpAndJl (CodeSim3.Sim3 T) T → ExpAndJl
 as_exp_and_jl h a = record { x = as_sim3 h a.x; jl = as_sim3_jac h a.jl }

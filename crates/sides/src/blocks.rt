@@ -1,13 +1,13 @@
 // J_l of the exponential and its inverse by blocks, from the coefficients at (sigma, |phi|^2), the
 // rotation Jacobian of phi and its inverse.
 ghost use Rattle.std.specs.Prelude.{◌≡◌};
-ghost use Rattle.linalg.specs.Vector.{vec_norm_sq};
-ghost use Rattle.sides.specs.Blocks.{mat_outer, poly_matrix, inv_coeffs, combined, jl_q, jl_blocks, jl_and_inverse_from};
+ghost use Rattle.sides.specs.Blocks.{mat_outer, poly_matrix, inv_coeffs, jl_q, jl_blocks, jl_and_inverse_from};
 ghost use Rattle.linalg.specs.Floats.{as_mat3, as_vec3};
 ghost use Rattle.series.specs.Floats.{as_sim3_coeffs};
 ghost use Rattle.jacobian.specs.Floats.{as_sim3_jac};
 ghost use Rattle.coeffs.specs.Floats.{as_scaled};
-ghost use Rattle.sides.specs.Floats.{as_jac_and_inverse, as_three};
+ghost use Rattle.sim3.specs.Floats.{as_three};
+ghost use Rattle.sides.specs.Floats.{as_jac_and_inverse};
 
 use coeffs::sim3::Scaled;
 use coeffs::width::Width;
@@ -16,14 +16,8 @@ use jacobian::jac::Sim3Jac;
 use linalg::matrix::{Mat3, hat, hat_mul, mul_hat};
 use linalg::vector::Vec3;
 use series::sim3::Sim3Coeffs;
-
-// The coefficients of I, W and W^2.
-#[derive(Clone, Copy)]
-pub struct Three<T> {
-    pub x0: T,
-    pub x1: T,
-    pub x2: T,
-}
+use sim3::sim3::{Three, combine};
+use sim3::tangent::Sim3Tangent;
 
 #[derive(Clone, Copy)]
 pub struct JacAndInverse<T> {
@@ -69,25 +63,19 @@ fn inv_coeffs<T: Real>(v: Three<T>, z: T) -> Three<T>
     }
 }
 
-// rho x0 + mu x1 + nu x2.
-fn combine<T: Real>(rho: Vec3<T>, mu: Vec3<T>, nu: Vec3<T>, x0: T, x1: T, x2: T) -> Vec3<T>
-    ensures { as_vec3 T.float result
-        ≡ combined T.format (as_vec3 T.float rho) (as_vec3 T.float mu) (as_vec3 T.float nu) (T.float x0) (T.float x1)
-        (T.float x2) }
-{
-    rho.scale(x0).add(mu.scale(x1)).add(nu.scale(x2))
-}
-
 // The block b of J_l: Q = hat(V rho) J_l(phi) + 2 (dv1 mu + dv2 nu) phi^T - v1 Xi + v2 (Xi W - 2 W Xi).
-fn q_block<T: Real>(phi: Vec3<T>, rho: Vec3<T>, c: Sim3Coeffs<T>, jl: Mat3<T>) -> Mat3<T>
+fn q_block<T: Real>(tau: Sim3Tangent<T>, c: Sim3Coeffs<T>, jl: Mat3<T>) -> Mat3<T>
     ensures { as_mat3 T.float result
-        ≡ jl_q T.format (as_vec3 T.float phi) (as_vec3 T.float rho) (as_sim3_coeffs T.float c) (as_mat3 T.float jl) }
+        ≡ jl_q T.format (as_vec3 T.float tau.phi) (as_vec3 T.float tau.rho) (as_sim3_coeffs T.float c)
+        (as_mat3 T.float jl) }
 {
+    let phi = tau.phi;
+    let rho = tau.rho;
     let w = hat(phi);
     let xi = hat(rho);
     let mu = phi.cross(rho);
     let nu = phi.cross(mu);
-    let y = combine(rho, mu, nu, c.v0, c.v1, c.v2);
+    let y = combine(Three::from(c), rho, mu, nu);
     let dy = mu
         .scale(T::of(2.0) * c.dv1)
         .add(nu.scale(T::of(2.0) * c.dv2));
@@ -97,29 +85,25 @@ fn q_block<T: Real>(phi: Vec3<T>, rho: Vec3<T>, c: Sim3Coeffs<T>, jl: Mat3<T>) -
 }
 
 // J_l(tau) from the unscaled coefficients and J_l(phi).
-pub fn jl_blocks_with<T: Real>(
-    phi: Vec3<T>,
-    rho: Vec3<T>,
-    c: Sim3Coeffs<T>,
-    jl: Mat3<T>,
-) -> Sim3Jac<T>
+pub fn jl_blocks_with<T: Real>(tau: Sim3Tangent<T>, c: Sim3Coeffs<T>, jl: Mat3<T>) -> Sim3Jac<T>
     ensures { as_sim3_jac T.float result
-        ≡ jl_blocks T.format (as_vec3 T.float phi) (as_vec3 T.float rho) (as_sim3_coeffs T.float c)
+        ≡ jl_blocks T.format (as_vec3 T.float tau.phi) (as_vec3 T.float tau.rho) (as_sim3_coeffs T.float c)
         (as_mat3 T.float jl) }
 {
+    let phi = tau.phi;
+    let rho = tau.rho;
     let mu = phi.cross(rho);
     let nu = phi.cross(mu);
-    let gamma = combine(rho, mu, nu, c.w0, c.w1, c.w2);
-    let b = q_block(phi, rho, c, jl);
-    let v = Three {
-        x0: c.v0,
-        x1: c.v1,
-        x2: c.v2,
+    let w = Three {
+        x0: c.w0,
+        x1: c.w1,
+        x2: c.w2,
     };
+    let gamma = combine(w, rho, mu, nu);
     Sim3Jac {
         a: jl,
-        b,
-        c: poly(phi, v),
+        b: q_block(tau, c, jl),
+        c: poly(phi, Three::from(c)),
         f: gamma.neg(),
         e: T::of(1.0),
     }
@@ -127,29 +111,23 @@ pub fn jl_blocks_with<T: Real>(
 
 // J_l(tau) and its inverse from the coefficients as their arm forms them at z: c of the inverse from
 // the scaled v, e^-sigma applied last; b and f from the unscaled block.
-pub(crate) fn jl_and_inverse_at<T: Width>(
-    phi: Vec3<T>,
-    rho: Vec3<T>,
+pub(crate) fn jl_and_inverse_from<T: Width>(
+    tau: Sim3Tangent<T>,
     z: T,
-    s: Scaled<T>,
+    s: Scaled<Sim3Coeffs<T>>,
     jl: Mat3<T>,
     jl_inv: Mat3<T>,
     up: T,
     down: T,
 ) -> JacAndInverse<T>
     ensures { as_jac_and_inverse T.float result
-        ≡ jl_and_inverse_from T.format (as_vec3 T.float phi) (as_vec3 T.float rho) (T.float z) (as_scaled T.float s)
-        (as_mat3 T.float jl) (as_mat3 T.float jl_inv) (T.float up) (T.float down) }
+        ≡ jl_and_inverse_from T.format (as_vec3 T.float tau.phi) (as_vec3 T.float tau.rho) (T.float z)
+        (as_scaled T.float s) (as_mat3 T.float jl) (as_mat3 T.float jl_inv) (T.float up) (T.float down) }
 {
     let c = s.c;
-    let j = jl_blocks_with(phi, rho, coeffs::sim3::unscale(c, up, s.scaled), jl);
-    let v = Three {
-        x0: c.v0,
-        x1: c.v1,
-        x2: c.v2,
-    };
+    let j = jl_blocks_with(tau, s.unscale(up), jl);
     let inv_scale = ieee::pick(s.scaled, down, T::of(1.0));
-    let ci = poly(phi, inv_coeffs(v, z)).scale(inv_scale);
+    let ci = poly(tau.phi, inv_coeffs(Three::from(c), z)).scale(inv_scale);
     let b = ci.mul(j.b).mul(jl_inv).neg();
     let f = ci.mul_vec(j.f).neg();
     let inv = Sim3Jac {
@@ -160,22 +138,4 @@ pub(crate) fn jl_and_inverse_at<T: Width>(
         e: T::of(1.0),
     };
     JacAndInverse { j, inv }
-}
-
-// The same at z = |phi|^2.
-pub fn jl_and_inverse_from<T: Width>(
-    phi: Vec3<T>,
-    rho: Vec3<T>,
-    s: Scaled<T>,
-    jl: Mat3<T>,
-    jl_inv: Mat3<T>,
-    up: T,
-    down: T,
-) -> JacAndInverse<T>
-    ensures { as_jac_and_inverse T.float result
-        ≡ jl_and_inverse_from T.format (as_vec3 T.float phi) (as_vec3 T.float rho)
-        (vec_norm_sq T.format (as_vec3 T.float phi)) (as_scaled T.float s) (as_mat3 T.float jl) (as_mat3 T.float jl_inv)
-        (T.float up) (T.float down) }
-{
-    jl_and_inverse_at(phi, rho, phi.norm_sq(), s, jl, jl_inv, up, down)
 }

@@ -6,9 +6,9 @@ ghost use Rattle.linalg.specs.Floats.{as_mat3};
 ghost use Rattle.sim3.specs.Floats.{as_sim3_tangent};
 ghost use Rattle.sides.specs.Floats.{as_block_pair};
 
-use crate::blocks::jl_and_inverse_at;
+use crate::blocks::jl_and_inverse_from;
 use closed::values::Values;
-use coeffs::sim3::sim3_coeffs_armed_pair;
+use coeffs::sim3::sim3_coeffs_armed_pair_of;
 use coeffs::width::Width;
 use jacobian::jac::Sim3Jac;
 use linalg::matrix::Mat3;
@@ -38,26 +38,18 @@ pub fn block_pair<T: Width>(
         ≡ block_pair T.format (as_sim3_tangent T.float tau) (as_values T.float v) (as_mat3 T.float jl_phi)
         (as_mat3 T.float jl_inv) }
 {
-    let phi = tau.phi;
-    let rho = tau.rho;
-    let z = phi.norm_sq();
-    let Ok(p) = sim3_coeffs_armed_pair(tau.sigma, z, v) else {
-        unreachable!();
-    };
+    let z = tau.phi.norm_sq();
+    let p = sim3_coeffs_armed_pair_of(tau.phi, tau.sigma, v);
     let pos = p.pos.s;
     let neg = p.neg.s;
-    let l = jl_and_inverse_at(phi, rho, z, pos, jl_phi, jl_inv, v.up, v.down);
+    let l = jl_and_inverse_from(tau, z, pos, jl_phi, jl_inv, v.up, v.down);
     let jt = jl_phi.transpose();
     let it = jl_inv.transpose();
-    let r = jl_and_inverse_at(phi.neg(), rho.neg(), z, neg, jt, it, v.down, v.up);
-    let left = l.j;
-    let left_inv = l.inv;
-    let right = r.j;
-    let right_inv = r.inv;
+    let r = jl_and_inverse_from(tau.neg(), z, neg, jt, it, v.down, v.up);
     BlockPair {
-        left,
-        left_inv,
-        right,
-        right_inv,
+        left: l.j,
+        left_inv: l.inv,
+        right: r.j,
+        right_inv: r.inv,
     }
 }

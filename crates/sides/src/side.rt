@@ -16,7 +16,7 @@ use ieee::Real;
 use jacobian::jac::Sim3Jac;
 use linalg::matrix::{Mat3, hat, hat_mul, mul_hat};
 use linalg::vector::Vec3;
-use series::sim3::Coeffs4;
+use series::sim3::{Coeffs4, Sim3Coeffs};
 use sim3::sim3::Sim3;
 use sim3::tangent::Sim3Tangent;
 
@@ -36,9 +36,10 @@ pub struct TwoJacobians<T> {
     pub second: Sim3Jac<T>,
 }
 
+// The exponential, as a pose without frames or with them, and J_l.
 #[derive(Clone, Copy)]
-pub struct ExpAndJl<T> {
-    pub x: Sim3<T>,
+pub struct ExpAndJl<X, T> {
+    pub x: X,
     pub jl: Sim3Jac<T>,
 }
 
@@ -79,10 +80,8 @@ pub fn jl<T: Width>(tau: Sim3Tangent<T>, v: Values<T>, jl_phi: Mat3<T>) -> Sim3J
     ensures { as_sim3_jac T.float result
         ≡ jac_jl T.format (as_sim3_tangent T.float tau) (as_values T.float v) (as_mat3 T.float jl_phi) }
 {
-    let phi = tau.phi;
-    let rho = tau.rho;
-    let c = coeffs::sim3::sim3_coeffs_of(phi, tau.sigma, v);
-    jl_blocks_with(phi, rho, c, jl_phi)
+    let c = coeffs::sim3::sim3_coeffs_of(tau.phi, tau.sigma, v);
+    jl_blocks_with(tau, c, jl_phi)
 }
 
 // J_r(tau) = J_l(-tau), with the values of -tau and J_l(-phi).
@@ -105,9 +104,8 @@ pub fn jl_and_inverse<T: Width>(
         (as_mat3 T.float jl_inv) }
 {
     let phi = tau.phi;
-    let rho = tau.rho;
     let s = coeffs::sim3::sim3_coeffs_scaled_of(phi, tau.sigma, v);
-    jl_and_inverse_from(phi, rho, s, jl_phi, jl_inv, v.up, v.down)
+    jl_and_inverse_from(tau, phi.norm_sq(), s, jl_phi, jl_inv, v.up, v.down)
 }
 
 // J_l(tau)^-1 alone.
@@ -139,28 +137,38 @@ pub fn jr_inv<T: Width>(
 }
 
 // (Exp tau, J_l(tau)) from one evaluation of the coefficients.
-pub fn exp_and_jl<T: Width>(tau: Sim3Tangent<T>, v: Values<T>, jl_phi: Mat3<T>) -> ExpAndJl<T>
+pub fn exp_and_jl<T: Width>(
+    tau: Sim3Tangent<T>,
+    v: Values<T>,
+    jl_phi: Mat3<T>,
+) -> ExpAndJl<Sim3<T>, T>
     ensures { as_exp_and_jl T.float result
         ≡ exp_and_jl T.format (as_sim3_tangent T.float tau) (as_values T.float v) (as_mat3 T.float jl_phi) }
 {
     let phi = tau.phi;
-    let rho = tau.rho;
     let c = coeffs::sim3::sim3_coeffs_of(phi, tau.sigma, v);
+    let Sim3Coeffs {
+        v0,
+        v1,
+        v2,
+        chi_delta,
+        ..
+    } = c;
     let c4 = Coeffs4 {
-        v0: c.v0,
-        v1: c.v1,
-        v2: c.v2,
-        chi_delta: c.chi_delta,
+        v0,
+        v1,
+        v2,
+        chi_delta,
     };
-    let q = so3::so3::exp(phi, v.root, v.sin_half, v.cos_half);
-    let t = sim3::sim3::v_apply(phi, tau.sigma, c4, rho);
     let x = Sim3 {
-        q,
-        t,
+        q: so3::so3::exp(phi, v.root, v.sin_half, v.cos_half),
+        t: sim3::sim3::v_apply(phi, tau.sigma, c4, tau.rho),
         sigma: tau.sigma,
     };
-    let j = jl_blocks_with(phi, rho, c, jl_phi);
-    ExpAndJl { x, jl: j }
+    ExpAndJl {
+        x,
+        jl: jl_blocks_with(tau, c, jl_phi),
+    }
 }
 
 // (Ad_Exp(tau), J_l(tau)), of Exp(tau) X by X and by tau.
@@ -173,11 +181,9 @@ pub fn lplus_jacobians<T: Width>(
         ≡ lplus_jacobians T.format (as_sim3_tangent T.float tau) (as_values T.float v) (as_mat3 T.float jl_phi) }
 {
     let both = exp_and_jl(tau, v, jl_phi);
-    let x = both.x;
-    let j = both.jl;
     TwoJacobians {
-        first: adjoint(x, v.up),
-        second: j,
+        first: adjoint(both.x, v.up),
+        second: both.jl,
     }
 }
 

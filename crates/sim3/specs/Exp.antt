@@ -8,13 +8,21 @@ use Rattle.linalg.specs.Floats.{Vec3}
 use Rattle.so3.specs.So3.{so3_exp}
 use Rattle.tables.specs.Tables.{b_row}
 use Rattle.circle.specs.Limits.{row_limit}
-use Rattle.series.specs.Floats.{Coeffs4}
+use Rattle.series.specs.Floats.{Coeffs4, Sim3Coeffs}
 use Rattle.closed.specs.Limits.{coeffs_delta}
 use Rattle.coeffs.specs.Group.{coeffs_v}
 use Rattle.closed.specs.Floats.{Values}
 use Rattle.sim3.specs.Pose.{pose, pose_mul}
 use Rattle.sim3.specs.Floats.{Sim3}
 use Rattle.sim3.specs.Floats.{Sim3Tangent}
+use Rattle.sim3.specs.Floats.{Three}
+
+-- the coefficients of V
+abbrev pub three_of : Coeffs4 → Three
+three_of c = record { x0 = c.v0; x1 = c.v1; x2 = c.v2 }
+
+abbrev pub three_v : Sim3Coeffs → Three
+three_v c = record { x0 = c.v0; x1 = c.v1; x2 = c.v2 }
 
 module _ (f : Format) where
   infixl 60 ◌⊞◌
@@ -23,11 +31,15 @@ module _ (f : Format) where
   open operations f use {◌⊗◌, ◌⊘◌}
   open vec_operations f use {◌⊞◌, ◌⊡◌, ◌⨯◌}
 
+  -- x₀ a + x₁ b + x₂ c
+  abbrev pub combined : Vec3 → Vec3 → Vec3 → Float → Float → Float → Vec3
+  combined a b c x0 x1 x2 = a ⊡ x0 ⊞ b ⊡ x1 ⊞ c ⊡ x2
+
   -- x₀ v + x₁ φ×v + x₂ φ×(φ×v)
   unfoldable pub poly_apply : Vec3 → Float → Float → Float → Vec3 → Vec3
   poly_apply phi x0 x1 x2 v =
       let mu = phi ⨯ v in
-      v ⊡ x0 ⊞ mu ⊡ x1 ⊞ phi ⨯ mu ⊡ x2
+      combined v mu (phi ⨯ mu) x0 x1 x2
 
   -- V ρ: by χ = χΔ/Δ where z = |φ|² is not below b's limit, a NaN included; else by two cross products
   unfoldable pub v_apply : Vec3 → Float → Coeffs4 → Vec3 → Vec3

@@ -2,20 +2,20 @@
 // in.
 ghost use Rattle.std.specs.Prelude.{◌≡◌};
 ghost use Rattle.sim3.specs.Pose.{pose_identity, pose_inverse, pose_act, pose_mul, pose_mul_inv, pose_inv_mul, pose_renormalized};
-ghost use Rattle.sim3.specs.Exp.{poly_apply, v_apply, pose_exp, pose_rplus, pose_lplus};
+ghost use Rattle.sim3.specs.Exp.{combined, three_of, three_v, v_apply, pose_exp, pose_rplus, pose_lplus};
 ghost use Rattle.closed.specs.Floats.{as_values};
-ghost use Rattle.sim3.specs.Floats.{as_sim3, as_sim3_tangent};
-ghost use Rattle.series.specs.Floats.{as_coeffs4};
+ghost use Rattle.sim3.specs.Floats.{as_sim3, as_sim3_tangent, as_three};
+ghost use Rattle.series.specs.Floats.{as_coeffs4, as_sim3_coeffs};
 ghost use Rattle.so3.specs.Floats.{as_quat};
 ghost use Rattle.linalg.specs.Floats.{as_vec3};
 
-use crate::tangent::Sim3Tangent;
+use crate::tangent::{Sim3Tangent, zero_vector};
 use closed::values::Values;
 use coeffs::width::Width;
 use ieee::Real;
 use linalg::vector::Vec3;
-use series::sim3::Coeffs4;
-use so3::quat::Quat;
+use series::sim3::{Coeffs4, Sim3Coeffs};
+use so3::quat::{Quat, Renormalize};
 
 // The numbers of a pose. A pose with the frames between which it maps is `frames::Pose`, and what gives
 // one is there, over the functions here.
@@ -51,19 +51,6 @@ impl<T: Real> Sim3<T> {
         ensures { T.float result ≡ (as_sim3 T.float self).sigma }
     {
         self.sigma
-    }
-
-    // The quaternion's Newton step; t and sigma stay.
-    pub fn renormalized(self) -> Sim3<T>
-        ensures { as_sim3 T.float result ≡ pose_renormalized T.format (as_sim3 T.float self) }
-    {
-        let q = self.q;
-        let t = self.t;
-        Sim3 {
-            q: q.renormalized(),
-            t,
-            sigma: self.sigma,
-        }
     }
 
     // self * other^-1; e is the exponential of the difference of the two log scales.
@@ -152,11 +139,7 @@ impl<T: Real> Sim3<T> {
     {
         Sim3 {
             q: Quat::identity(),
-            t: Vec3 {
-                x: T::of(0.0),
-                y: T::of(0.0),
-                z: T::of(0.0),
-            },
+            t: zero_vector(),
             sigma: T::of(0.0),
         }
     }
@@ -208,12 +191,46 @@ impl<T: Width> Sim3<T> {
     }
 }
 
-// x0 v + x1 (phi x v) + x2 (phi x (phi x v)).
-fn poly_apply<T: Real>(phi: Vec3<T>, x0: T, x1: T, x2: T, v: Vec3<T>) -> Vec3<T>
-    ensures { as_vec3 T.float result ≡ poly_apply T.format (as_vec3 T.float phi) (T.float x0) (T.float x1) (T.float x2) (as_vec3 T.float v) }
+// The coefficients of I, W and W^2 in a polynomial in W = hat(phi).
+#[derive(Clone, Copy)]
+pub struct Three<T> {
+    pub x0: T,
+    pub x1: T,
+    pub x2: T,
+}
+
+// Those of V.
+impl<T: Real> From<Coeffs4<T>> for Three<T> {
+    ghost from_gives = { λ c x. as_three T.float x ≡ three_of (as_coeffs4 T.float c) };
+
+    fn from(c: Coeffs4<T>) -> Three<T> {
+        Three {
+            x0: c.v0,
+            x1: c.v1,
+            x2: c.v2,
+        }
+    }
+}
+
+impl<T: Real> From<Sim3Coeffs<T>> for Three<T> {
+    ghost from_gives = { λ c x. as_three T.float x ≡ three_v (as_sim3_coeffs T.float c) };
+
+    fn from(c: Sim3Coeffs<T>) -> Three<T> {
+        Three {
+            x0: c.v0,
+            x1: c.v1,
+            x2: c.v2,
+        }
+    }
+}
+
+// x0 a + x1 b + x2 c, from the left.
+pub fn combine<T: Real>(x: Three<T>, a: Vec3<T>, b: Vec3<T>, c: Vec3<T>) -> Vec3<T>
+    ensures { as_vec3 T.float result
+        ≡ combined T.format (as_vec3 T.float a) (as_vec3 T.float b) (as_vec3 T.float c) (T.float x.x0) (T.float x.x1)
+        (T.float x.x2) }
 {
-    let mu = phi.cross(v);
-    v.scale(x0).add(mu.scale(x1)).add(phi.cross(mu).scale(x2))
+    a.scale(x.x0).add(b.scale(x.x1)).add(c.scale(x.x2))
 }
 
 // V rho at z = |phi|^2: by chi_delta / delta where b is on its exact arm (z not below b's limit),
@@ -223,16 +240,24 @@ pub fn v_apply<T: Width>(phi: Vec3<T>, sigma: T, c: Coeffs4<T>, rho: Vec3<T>) ->
 {
     let z = phi.norm_sq();
     if !circle::kernel::b_takes_exact_arm_of(phi) {
-        return poly_apply(phi, c.v0, c.v1, c.v2, rho);
+        let mu = phi.cross(rho);
+        return combine(Three::from(c), rho, mu, phi.cross(mu));
     }
     let chi = c.chi_delta / (sigma * sigma + z);
     let far = phi.scale(c.v2 * phi.dot(rho));
     rho.scale(chi).add(phi.cross(rho).scale(c.v1)).add(far)
 }
 
-// `Sim3::renormalized` on a pose that is lent; nothing else is altered.
-pub fn renormalize<T: Real>(x: &mut Sim3<T>)
-    ensures { as_sim3 T.float x.new ≡ pose_renormalized T.format (as_sim3 T.float x.old) }
-{
-    *x = (*x).renormalized();
+impl<T: Real> Renormalize for Sim3<T> {
+    ghost renormalizes = { λ x y. as_sim3 T.float y ≡ pose_renormalized T.format (as_sim3 T.float x) };
+
+    // The quaternion's Newton step; t and sigma stay.
+    fn renormalized(self) -> Sim3<T>
+        ensures { as_sim3 T.float result ≡ pose_renormalized T.format (as_sim3 T.float self) }
+    {
+        Sim3 {
+            q: self.q.renormalized(),
+            ..self
+        }
+    }
 }

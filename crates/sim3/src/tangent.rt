@@ -1,5 +1,8 @@
 // A tangent of Sim(3): the rotation vector, the translation part and the log scale.
 ghost use Rattle.std.specs.Prelude.{◌≡◌, map};
+ghost use Rattle.ieee.specs.Numbers.{f0};
+ghost use Rattle.linalg.specs.Vector.{vec};
+ghost use Rattle.linalg.specs.Floats.{as_vec3};
 ghost use Rattle.sim3.specs.Tangent.{tangent_zero, tangent_add, tangent_sub, tangent_neg, tangent_scale, tangent_dot_acc, tangent_to_dense, tangent_from_dense};
 ghost use Rattle.sim3.specs.Floats.{as_sim3_tangent};
 
@@ -13,21 +16,76 @@ pub struct Sim3Tangent<T> {
     pub sigma: T,
 }
 
+// (+0, +0, +0).
+pub fn zero_vector<T: Real>() -> Vec3<T>
+    ensures { as_vec3 T.float result ≡ vec f0 f0 f0 }
+{
+    Vec3 {
+        x: T::of(0.0),
+        y: T::of(0.0),
+        z: T::of(0.0),
+    }
+}
+
 impl<T: Real> Sim3Tangent<T> {
+    // f of each of the seven numbers.
+    fn map<F: Fn(T) -> T>(self, f: F) -> Sim3Tangent<T>
+        requires { F.IsAlwaysCallable f }
+        ensures phi { F.post f self.phi.x result.phi.x × F.post f self.phi.y result.phi.y × F.post f self.phi.z result.phi.z }
+        ensures rho { F.post f self.rho.x result.rho.x × F.post f self.rho.y result.rho.y × F.post f self.rho.z result.rho.z }
+        ensures sigma { F.post f self.sigma result.sigma }
+    {
+        let a = self.phi;
+        let b = self.rho;
+        Sim3Tangent {
+            phi: Vec3 {
+                x: f(a.x),
+                y: f(a.y),
+                z: f(a.z),
+            },
+            rho: Vec3 {
+                x: f(b.x),
+                y: f(b.y),
+                z: f(b.z),
+            },
+            sigma: f(self.sigma),
+        }
+    }
+
+    // f of each of the seven numbers and the same one of o.
+    fn zip_with<F: Fn(T, T) -> T>(self, o: Sim3Tangent<T>, f: F) -> Sim3Tangent<T>
+        requires { F.IsAlwaysCallable f }
+        ensures phi { F.post f self.phi.x o.phi.x result.phi.x × F.post f self.phi.y o.phi.y result.phi.y
+            × F.post f self.phi.z o.phi.z result.phi.z }
+        ensures rho { F.post f self.rho.x o.rho.x result.rho.x × F.post f self.rho.y o.rho.y result.rho.y
+            × F.post f self.rho.z o.rho.z result.rho.z }
+        ensures sigma { F.post f self.sigma o.sigma result.sigma }
+    {
+        let a = self.phi;
+        let b = o.phi;
+        let c = self.rho;
+        let d = o.rho;
+        Sim3Tangent {
+            phi: Vec3 {
+                x: f(a.x, b.x),
+                y: f(a.y, b.y),
+                z: f(a.z, b.z),
+            },
+            rho: Vec3 {
+                x: f(c.x, d.x),
+                y: f(c.y, d.y),
+                z: f(c.z, d.z),
+            },
+            sigma: f(self.sigma, o.sigma),
+        }
+    }
+
     pub fn zero() -> Sim3Tangent<T>
         ensures { as_sim3_tangent T.float result ≡ tangent_zero }
     {
         Sim3Tangent {
-            phi: Vec3 {
-                x: T::of(0.0),
-                y: T::of(0.0),
-                z: T::of(0.0),
-            },
-            rho: Vec3 {
-                x: T::of(0.0),
-                y: T::of(0.0),
-                z: T::of(0.0),
-            },
+            phi: zero_vector(),
+            rho: zero_vector(),
             sigma: T::of(0.0),
         }
     }
@@ -35,53 +93,27 @@ impl<T: Real> Sim3Tangent<T> {
     pub fn add(self, o: Sim3Tangent<T>) -> Sim3Tangent<T>
         ensures { as_sim3_tangent T.float result ≡ tangent_add T.format (as_sim3_tangent T.float self) (as_sim3_tangent T.float o) }
     {
-        Sim3Tangent {
-            phi: self.phi.add(o.phi),
-            rho: self.rho.add(o.rho),
-            sigma: self.sigma + o.sigma,
-        }
+        self.zip_with(o, |a, b| a + b)
     }
 
     pub fn sub(self, o: Sim3Tangent<T>) -> Sim3Tangent<T>
         ensures { as_sim3_tangent T.float result ≡ tangent_sub T.format (as_sim3_tangent T.float self) (as_sim3_tangent T.float o) }
     {
-        Sim3Tangent {
-            phi: self.phi.sub(o.phi),
-            rho: self.rho.sub(o.rho),
-            sigma: self.sigma - o.sigma,
-        }
+        self.zip_with(o, |a, b| a - b)
     }
 
     // Flips every sign bit.
     pub fn neg(self) -> Sim3Tangent<T>
         ensures { as_sim3_tangent T.float result ≡ tangent_neg (as_sim3_tangent T.float self) }
     {
-        Sim3Tangent {
-            phi: self.phi.neg(),
-            rho: self.rho.neg(),
-            sigma: -self.sigma,
-        }
+        self.map(|x| -x)
     }
 
     // k * self, the factor first.
     pub fn scale(self, k: T) -> Sim3Tangent<T>
         ensures { as_sim3_tangent T.float result ≡ tangent_scale T.format (as_sim3_tangent T.float self) (T.float k) }
     {
-        let a = self.phi;
-        let b = self.rho;
-        Sim3Tangent {
-            phi: Vec3 {
-                x: k * a.x,
-                y: k * a.y,
-                z: k * a.z,
-            },
-            rho: Vec3 {
-                x: k * b.x,
-                y: k * b.y,
-                z: k * b.z,
-            },
-            sigma: k * self.sigma,
-        }
+        self.map(|x| k * x)
     }
 
     // acc plus the seven products, one after another from the left.

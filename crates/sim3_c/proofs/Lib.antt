@@ -1,2 +1,2 @@
--- The laws of lists of points that are refused.
-pub mod Alone
+-- The laws of calls on lists of points.
+pub mod Moved

@@ -1,8 +1,8 @@
-// The engine for callers in C, Rust and Python: functions over numbers and lists of numbers, which the archive over this
-// crate exports, each returning 0, or the number of a refusal, where `out` stays as it was. LIST_LENGTH is the lists'
-// own (crate from_lists), the others are the engine's. Here are those that exist at both widths, but for
-// those that records of the job have too, in crate sim3_c_entries; sim3_c_doubles has those for doubles
-// alone. include/sim3.h has the order of every number.
+// The engine for callers in C, Rust and Python: functions over numbers and lists of numbers, which the archives over
+// this crate export. Each writes to the lists that it is lent, or refuses and leaves them as they were. A list of
+// another length than the call takes is refused as such; the other refusals are the engine's. Here are those that exist
+// at both widths, but for those that records of the job have too, in crate sim3_c_entries; sim3_c_doubles has those for
+// doubles alone. include/sim3.h has the order of every number.
 #![tactic(auto)]
 
 pub mod pose; // compositions with an inverse, with the frames; renormalising

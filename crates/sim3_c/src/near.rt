@@ -1,55 +1,50 @@
 // How near another arm is, to a list of whole numbers: the count, which can be as large as a pattern
 // and so no double, the direction, and the arm there.
 ghost use Rattle.std.specs.Prelude.{◌≡◌};
-ghost use Rattle.std.specs.Float.{binary64};
-ghost use Rattle.nearest.specs.Nearest.{way_told};
+ghost use Rattle.linalg.specs.Answer.{answer};
+ghost use Rattle.nearest.specs.Nearest.{near_told, step_told};
 ghost use Rattle.to_lists.specs.Written.{status, written};
-ghost use Rattle.sim3_c.specs.Near.{way_number, near_call};
+ghost use Rattle.sim3_c.specs.Near.{near_numbers, near_call};
 
-use from_lists::LIST_LENGTH;
-use nearest::Direction;
+use linalg::refusal::Refusal;
+use nearest::width::Neighbours;
+use nearest::{Direction, Step};
 
 const NUMBERS: usize = 3;
 
-// A direction's number.
-fn way_number(direction: Direction) -> u64
-    ensures { result ≡ way_number (way_told direction) }
+// The count, the direction, which is 0 for down and 1 for up, and the arm; three zeros for none.
+fn numbers(near: Option<Step>) -> [u64; NUMBERS]
+    ensures { result ≡ near_numbers (near_told step_told near) }
 {
-    match direction {
-        Direction::Down => 0,
-        Direction::Up => 1,
+    match near {
+        Some(
+            Step {
+                count,
+                direction: Direction::Down,
+                arm,
+            },
+        ) => [count, 0, u64::from(arm.number())],
+        Some(
+            Step {
+                count,
+                direction: Direction::Up,
+                arm,
+            },
+        ) => [count, 1, u64::from(arm.number())],
+        None => [0; NUMBERS],
     }
 }
 
-// The least number of neighbouring doubles that z must move for the arm at (sigma, z) to change, the
+// The least number of neighbouring values that z must move for the arm at (sigma, z) to change, the
 // direction, and the arm there; three zeros where every permitted z has the same arm.
-pub fn sim3_nearest_arm(sigma: f64, z: f64, out: &mut [u64]) -> u32
-    ensures value { result ≡ status (near_call binary64 sigma z out.old) }
-    ensures out_after { out.new ≡ written (near_call binary64 sigma z out.old) out.old }
+pub fn sim3_nearest_arm<T: Neighbours>(sigma: T, z: T, out: &mut [u64]) -> Result<(), Refusal>
+    ensures value { status (answer result) ≡ status (near_call T.format (T.float sigma) (T.float z) out.old) }
+    ensures out_after { out.new ≡ written (near_call T.format (T.float sigma) (T.float z) out.old) out.old }
 {
-    match nearest::nearest_arm(sigma, z) {
-        Ok(Some(s)) => {
-            if out.len() != NUMBERS {
-                return LIST_LENGTH;
-            }
-            let count = s.count;
-            let arm = s.arm as u64;
-            let toward = s.direction;
-            let direction = way_number(toward);
-            out[0] = count;
-            out[1] = direction;
-            out[2] = arm;
-            0
-        }
-        Ok(None) => {
-            if out.len() != NUMBERS {
-                return LIST_LENGTH;
-            }
-            out[0] = 0;
-            out[1] = 0;
-            out[2] = 0;
-            0
-        }
-        Err(refusal) => refusal.number() as u32,
+    let near = nearest::nearest_arm(sigma, z)?;
+    if out.len() != NUMBERS {
+        return Err(Refusal::ListLength);
     }
+    out.copy_from_slice(&numbers(near));
+    Ok(())
 }

@@ -5,13 +5,15 @@ ghost use Rattle.to_lists.specs.Written.{status, written};
 ghost use Rattle.sim3_c.specs.Calls.{adjoint_call, act_jacobians_right_call, act_jacobians_left_call};
 ghost use Rattle.sim3_c.specs.Calls.{compose_jacobians_right_call, compose_jacobians_left_call, inverse_jacobian_right_call, inverse_jacobian_left_call};
 
+use to_lists::status;
+
 // Ad_X.
 #[unsafe(no_mangle)]
 pub extern "C" fn sim3_adjoint(x: &[f64], up: f64, out: &mut [f64]) -> u32
     ensures value { result ≡ status (adjoint_call binary64 x.now up out.old) }
     ensures out_after { out.new ≡ written (adjoint_call binary64 x.now up out.old) out.old }
 {
-    sim3_c::jacobians::sim3_adjoint(x, up, out)
+    status(sim3_c::jacobians::sim3_adjoint(x, up, out))
 }
 
 // Of X p, right.
@@ -20,7 +22,7 @@ pub extern "C" fn sim3_act_jacobians_right(x: &[f64], up: f64, p: &[f64], out: &
     ensures value { result ≡ status (act_jacobians_right_call binary64 x.now up p.now out.old) }
     ensures out_after { out.new ≡ written (act_jacobians_right_call binary64 x.now up p.now out.old) out.old }
 {
-    sim3_c::jacobians::sim3_act_jacobians_right(x, up, p, out)
+    status(sim3_c::jacobians::sim3_act_jacobians_right(x, up, p, out))
 }
 
 // Of X p, left.
@@ -29,7 +31,7 @@ pub extern "C" fn sim3_act_jacobians_left(x: &[f64], up: f64, p: &[f64], out: &m
     ensures value { result ≡ status (act_jacobians_left_call binary64 x.now up p.now out.old) }
     ensures out_after { out.new ≡ written (act_jacobians_left_call binary64 x.now up p.now out.old) out.old }
 {
-    sim3_c::jacobians::sim3_act_jacobians_left(x, up, p, out)
+    status(sim3_c::jacobians::sim3_act_jacobians_left(x, up, p, out))
 }
 
 // Of X Y, right.
@@ -38,7 +40,7 @@ pub extern "C" fn sim3_compose_jacobians_right(y: &[f64], down: f64, out: &mut [
     ensures value { result ≡ status (compose_jacobians_right_call binary64 y.now down out.old) }
     ensures out_after { out.new ≡ written (compose_jacobians_right_call binary64 y.now down out.old) out.old }
 {
-    sim3_c::jacobians::sim3_compose_jacobians_right(y, down, out)
+    status(sim3_c::jacobians::sim3_compose_jacobians_right(y, down, out))
 }
 
 // Of X Y, left.
@@ -47,7 +49,7 @@ pub extern "C" fn sim3_compose_jacobians_left(x: &[f64], up: f64, out: &mut [f64
     ensures value { result ≡ status (compose_jacobians_left_call binary64 x.now up out.old) }
     ensures out_after { out.new ≡ written (compose_jacobians_left_call binary64 x.now up out.old) out.old }
 {
-    sim3_c::jacobians::sim3_compose_jacobians_left(x, up, out)
+    status(sim3_c::jacobians::sim3_compose_jacobians_left(x, up, out))
 }
 
 // Of X^-1, right.
@@ -56,7 +58,7 @@ pub extern "C" fn sim3_inverse_jacobian_right(x: &[f64], up: f64, out: &mut [f64
     ensures value { result ≡ status (inverse_jacobian_right_call binary64 x.now up out.old) }
     ensures out_after { out.new ≡ written (inverse_jacobian_right_call binary64 x.now up out.old) out.old }
 {
-    sim3_c::jacobians::sim3_inverse_jacobian_right(x, up, out)
+    status(sim3_c::jacobians::sim3_inverse_jacobian_right(x, up, out))
 }
 
 // Of X^-1, left.
@@ -65,5 +67,5 @@ pub extern "C" fn sim3_inverse_jacobian_left(x: &[f64], down: f64, out: &mut [f6
     ensures value { result ≡ status (inverse_jacobian_left_call binary64 x.now down out.old) }
     ensures out_after { out.new ≡ written (inverse_jacobian_left_call binary64 x.now down out.old) out.old }
 {
-    sim3_c::jacobians::sim3_inverse_jacobian_left(x, down, out)
+    status(sim3_c::jacobians::sim3_inverse_jacobian_left(x, down, out))
 }

@@ -13,9 +13,8 @@ use Rattle.linalg.proofs.Answers.{never, answers-is}
 use Rattle.frames.specs.Pose.{framed}
 use Rattle.frames.specs.Joins.{framed_mul}
 use Rattle.frames.specs.Floats.{Pose}
-use Rattle.running.specs.Running.{Joint, due, one_more, produced_of, product_on, join_on, join_of, every_of, running_none}
-use Rattle.running.specs.declared.Start.{Start}
-use Rattle.running.specs.declared.Start.TheVariants.{Unset, Posed}
+use Rattle.running.specs.Running.{Start, Joint, due, one_more, produced_of, product_on, join_on, join_of, every_of, running_none}
+use Rattle.std.specs.Prelude.{Some, None}
 use Rattle.running.specs.declared.Running.{Running}
 use Rattle.sim3.specs.Floats.{Sim3}
 use Rattle.layout.specs.Layout.{pose_count, vec_in, quat_in, pose_in, quat_numbers, pose_numbers}
@@ -38,23 +37,23 @@ fitted out l x n k s h =
     ap running_from (passed t (held_lists x n k s) l wrong_length h).1 ∙ held_lists_lem x n k s
 
 -- ---- an answered pose is the running pose
-produced_stands : (f : Format) (y p : Pose) (n k : ℕ) (t : Bool) → due n k ≡ t → (produced_of f y n k).answer ≡ answers p → (produced_of f y n k).running.pose ≡ Posed p
+produced_stands : (f : Format) (y p : Pose) (n k : ℕ) (t : Bool) → due n k ≡ t → (produced_of f y n k).answer ≡ answers p → (produced_of f y n k).running.pose ≡ Some p
 unfolding produced_of
-produced_stands f y p n k true d h = rw d (ap Posed (answers-is _ p (rw d at h)))
-produced_stands f y p n k false d h = rw d (ap Posed (answers-is _ p (rw d at h)))
+produced_stands f y p n k true d h = rw d (ap Some (answers-is _ p (rw d at h)))
+produced_stands f y p n k false d h = rw d (ap Some (answers-is _ p (rw d at h)))
 
-product-stands : (f : Format) (r : Running) (a : Answer Pose) (p : Pose) → (product_on f r a).answer ≡ answers p → (product_on f r a).running.pose ≡ Posed p
+product-stands : (f : Format) (r : Running) (a : Answer Pose) (p : Pose) → (product_on f r a).answer ≡ answers p → (product_on f r a).running.pose ≡ Some p
 unfolding product_on
 product-stands f r (answers y) p h = produced_stands f y p r.every (one_more r.since) (due r.every (one_more r.since)) refl h
 product-stands f r (refuses e) p h = never p e (sym h)
 
-join_stands : (f : Format) (s : Start) (r : Running) (x : Pose) (up : Float) (p : Pose) → (join_on f s r x up).answer ≡ answers p → (join_on f s r x up).running.pose ≡ Posed p
+join_stands : (f : Format) (s : Start) (r : Running) (x : Pose) (up : Float) (p : Pose) → (join_on f s r x up).answer ≡ answers p → (join_on f s r x up).running.pose ≡ Some p
 unfolding join_on
-join_stands f Unset r x up p h = ap Posed (answers-is x p h)
-join_stands f (Posed q) r x up p h = product-stands f r (framed_mul f q x up) p h
+join_stands f None r x up p h = ap Some (answers-is x p h)
+join_stands f (Some q) r x up p h = product-stands f r (framed_mul f q x up) p h
 
 joint_held :
-    (out l : RunLists) (j : Joint) (a : Answer Pose) → j.answer ≡ a → ((p : Pose) → j.answer ≡ answers p → j.running.pose ≡ Posed p) →
+    (out l : RunLists) (j : Joint) (a : Answer Pose) → j.answer ≡ a → ((p : Pose) → j.answer ≡ answers p → j.running.pose ≡ Some p) →
     joint_fitting out j ≡ answers l → running_from l ≡ answers j.running
 unfolding joint_fitting start_in
 joint_held out l j (answers p) e stands h =

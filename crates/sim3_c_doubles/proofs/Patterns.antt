@@ -1,37 +1,42 @@
--- Tangents by their patterns: seven numbers that are read one by one, a list that is refused, and the numbers of an order. Assumes nothing.
+-- Tangents by their patterns: a list that is put in order or refused, and the numbers of an order. Assumes nothing.
 use mathlib.Core.Path.{◌≡◌, refl}
-use mathlib.Core.List.{List, [], ◌∷◌}
+use mathlib.Core.Bool.{Bool, true, false, cond}
+use mathlib.Core.List.{List}
 use Prim.Native.Nat.{ℕ}
-use native.Mathlib.Omega.{arith}
-use lib.ListN.{length, get_or}
-use lib.Ieee.{Format}
+use lib.Ieee.{binary64}
 use mir.Syntax.{w64}
 use mir.Val.{to_z, of_z}
-use Rattle.linalg.specs.Answer.{refuses}
-use Rattle.order.specs.Order.{sort_accepted, sort_answer, sort_out}
-use Rattle.order.specs.declared.Order.{Order}
-use Rattle.order.specs.declared.Order.TheVariants.{Before, Same, After}
-use Rattle.sim3_c_doubles.specs.Order.{order_number}
-use Rattle.to_lists.proofs.Fits.{alone}
+use Rattle.linalg.specs.Answer.{Answer, answers, refuses, and_then}
+use Rattle.order.specs.Order.{ordered_of, sort_accepted, sort_answer, sort_out}
+use Rattle.std.specs.declared.cmp.Ordering.{Ordering}
+use Rattle.std.specs.declared.cmp.Ordering.TheVariants.{Less, Equal, Greater}
+use Rattle.to_lists.specs.Written.{status, written}
+use Rattle.sim3_c_doubles.specs.Order.{order_number, sort_call}
 
-pub seven : (l : List ℕ) → length l ≡ 7 → get_or l 0 0 ∷ get_or l 1 0 ∷ get_or l 2 0 ∷ get_or l 3 0 ∷ get_or l 4 0 ∷ get_or l 5 0 ∷ get_or l 6 0 ∷ [] ≡ l
-seven [] h = absurd (omega arith)
-seven (a ∷ []) h = absurd (omega arith)
-seven (a ∷ b ∷ []) h = absurd (omega arith)
-seven (a ∷ b ∷ c ∷ []) h = absurd (omega arith)
-seven (a ∷ b ∷ c ∷ d ∷ []) h = absurd (omega arith)
-seven (a ∷ b ∷ c ∷ d ∷ e ∷ []) h = absurd (omega arith)
-seven (a ∷ b ∷ c ∷ d ∷ e ∷ g ∷ []) h = absurd (omega arith)
-seven (a ∷ b ∷ c ∷ d ∷ e ∷ g ∷ k ∷ []) h = refl
-seven (a ∷ b ∷ c ∷ d ∷ e ∷ g ∷ k ∷ m ∷ l) h = absurd (omega arith)
+abbrev judged : Bool → Answer (Unit {0})
+judged t = cond t (answers tt) (refuses 5)
 
-pub sort_alone : (f : Format) (l : List ℕ) (n : ℕ) → sort_answer l ≡ refuses n → sort_out f l ≡ l
-unfolding sort_answer sort_out
-sort_alone f l n h = alone tt (sort_accepted l) _ l n h
+status_by : (t : Bool) (m : List ℕ) → status (judged t) ≡ status (and_then (judged t) (λ done. answers m))
+unfolding status
+status_by true m = refl
+status_by false m = refl
+
+pub sort_status : (l : List ℕ) → status (sort_answer l) ≡ status (sort_call l)
+unfolding sort_answer sort_call
+sort_status l = status_by (sort_accepted l) (sort_out binary64 l)
+
+written_by : (t : Bool) (m l : List ℕ) → cond t m l ≡ written (and_then (judged t) (λ done. answers (cond t m l))) l
+unfolding written
+written_by true m l = refl
+written_by false m l = refl
+
+pub sort_written : (l : List ℕ) → sort_out binary64 l ≡ written (sort_call l) l
+unfolding sort_answer sort_call sort_out
+sort_written l = written_by (sort_accepted l) _ l
 
 -- an order's number fits a word
-pub number_back : (o : Order) → to_z w64 (of_z w64 (order_number o)) ≡ order_number o
+pub number_back : (o : Ordering) → to_z w64 (of_z w64 (order_number o)) ≡ order_number o
 unfolding order_number
-number_back Before = refl
-number_back Same = refl
-number_back After = refl
+number_back Less = refl
+number_back Equal = refl
+number_back Greater = refl

@@ -1,6 +1,6 @@
 -- The running join between calls, and the Newton step on a list of poses. What a call answers and what the lists then hold is told as in Written.antt of crate `to_lists`.
 -- A running join stands in two lists: the eight numbers of the running pose; and its frames, from and to, n, how many products there were since the last renormalisation, and 1 where there is a pose.
-use Rattle.std.specs.Prelude.{ℕ, zero, suc, ◌*◌, ◌/◌, ◌%◌, ◌≡◌, Bool, cond, ◌&&◌, List, [], ◌∷◌, ◌++◌, eqb, get_or, set, length, Float}
+use Rattle.std.specs.Prelude.{ℕ, zero, suc, ◌*◌, ◌/◌, ◌%◌, ◌≡◌, Bool, cond, ◌&&◌, List, [], ◌∷◌, ◌++◌, eqb, get_or, set, length, Float, Some, None}
 use Rattle.std.specs.Float.{Format}
 use Rattle.ieee.specs.Numbers.{f0}
 use Rattle.linalg.specs.Answer.{Answer, answers, refuses, and_then}
@@ -9,15 +9,11 @@ use Rattle.so3.specs.Quat.{quat}
 use Rattle.sim3.specs.Pose.{pose, pose_renormalized}
 use Rattle.frames.specs.Pose.{framed}
 use Rattle.frames.specs.Floats.{Pose}
-use Rattle.running.specs.Running.{Joint, join_of, every_of, running_none}
-use Rattle.running.specs.declared.Start.{Start}
-use Rattle.running.specs.declared.Start.TheVariants.{Unset, Posed}
+use Rattle.running.specs.Running.{Start, Joint, join_of, every_of, running_none}
 use Rattle.running.specs.declared.Running.{Running}
 use Rattle.layout.specs.Layout.{pose_count, pose_in, pose_numbers}
 use Rattle.from_lists.specs.Lists.{wrong_length, sized, number_in, pose_from, PoseLists, framed_from}
 use Rattle.to_lists.specs.Written.{written}
-use Rattle.sim3_c_doubles.specs.declared.join.RunningRead.{RunningRead}
-use Rattle.sim3_c_doubles.specs.declared.join.RunningRead.TheVariants as runs
 
 pub record RunLists : Type 0 where
   pub numbers : List Float
@@ -31,7 +27,7 @@ state_count = 5
 
 -- ---- read
 unfoldable pub start_in : Pose → ℕ → Start
-start_in x s = cond (eqb s 1) (Posed x) Unset
+start_in x s = cond (eqb s 1) (Some x) None
 
 unfoldable pub running_from : RunLists → Answer Running
 running_from l =
@@ -40,10 +36,6 @@ running_from l =
       every = get_or l.state 2 0;
       since = get_or l.state 3 0;
     }))
-
-unfoldable pub running_read_told : RunningRead → Answer Running
-running_read_told (runs.Got r) = answers r
-running_read_told runs.Wrong = refuses wrong_length
 
 -- ---- written, to lists that have just these lengths
 abbrev pub held_lists : Pose → ℕ → ℕ → ℕ → RunLists

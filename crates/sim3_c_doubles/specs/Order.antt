@@ -3,16 +3,16 @@ use Rattle.std.specs.Prelude.{ℕ, cond, List, [], ◌∷◌, eqb, ℤ, pos, neg
 use Rattle.std.specs.Float.{binary64}
 use Rattle.linalg.specs.Answer.{Answer, answers, refuses, and_then}
 use Rattle.order.specs.Order.{tangent_order, sort_answer, sort_out}
-use Rattle.order.specs.declared.Order.{Order}
-use Rattle.order.specs.declared.Order.TheVariants.{Before, Same, After}
+use Rattle.std.specs.declared.cmp.Ordering.{Ordering}
+use Rattle.std.specs.declared.cmp.Ordering.TheVariants.{Less, Equal, Greater}
 use Rattle.layout.specs.Layout.{tangent_count}
 use Rattle.from_lists.specs.Lists.{wrong_length, sized}
 
 -- −1 where the first stands before the second, 0 where they are the same bits, 1 where it stands after
-unfoldable pub order_number : Order → ℤ
-order_number Before = negsuc 0
-order_number Same = pos 0
-order_number After = pos 1
+unfoldable pub order_number : Ordering → ℤ
+order_number Less = negsuc 0
+order_number Equal = pos 0
+order_number Greater = pos 1
 
 unfoldable pub patterns_from : List ℕ → Answer (List ℕ)
 patterns_from l = sized l tangent_count l

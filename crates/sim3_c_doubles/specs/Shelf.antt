@@ -3,7 +3,7 @@ use Rattle.std.specs.Prelude.{ℕ, Bool, cond, ◌&&◌, List, [], ◌∷◌, eq
 use Rattle.linalg.specs.Answer.{Answer, answers, refuses, and_then}
 use Rattle.frames.specs.Floats.{Pose}
 use Rattle.sheets.specs.Sheets.{Sheets, Shelved}
-use Rattle.sheets.specs.Store.{holds, sheets_of, Lent, lent, storeless, put_answer, put_sheets, put_bytes, fresh_bytes, get_answer}
+use Rattle.sheets.specs.Store.{holds, sheets_of, of_store, put_answer, put_sheets, put_bytes, fresh_bytes, get_answer}
 use Rattle.sheets.specs.declared.Shot.{Shot}
 use Rattle.layout.specs.Layout.{pose_count}
 use Rattle.from_lists.specs.Lists.{wrong_length, PoseLists, pose_lists, frames_count, framed_from}
@@ -11,11 +11,6 @@ use Rattle.to_lists.specs.Written.{written, framed_numbers}
 
 abbrev pub shot : ℕ → Pose → Shot
 shot t x = record { take = t; pose = x }
-
--- bytes that are no store are a list of a wrong length
-unfoldable pub of_store : {A : Type 0} → Lent (Answer A) → Answer A
-of_store (lent a) = a
-of_store storeless = refuses wrong_length
 
 -- ---- a new store
 unfoldable pub fresh_call : List ℕ → Answer (List ℕ)
@@ -25,11 +20,11 @@ fresh_call m = cond (holds m) (answers (fresh_bytes m)) (refuses wrong_length)
 unfoldable pub two_fitting : List ℕ → ℕ → ℕ → Answer (List ℕ)
 two_fitting out how before = cond (eqb (length out) 2) (answers (how ∷ before ∷ [])) (refuses wrong_length)
 
-unfoldable pub shelved_fitting : List ℕ → Lent (Answer Shelved) → Answer (List ℕ)
-shelved_fitting out a = and_then (of_store a) (λ s. two_fitting out s.how s.before)
+unfoldable pub shelved_fitting : List ℕ → Answer Shelved → Answer (List ℕ)
+shelved_fitting out a = and_then a (λ s. two_fitting out s.how s.before)
 
 unfoldable pub put_call : List ℕ → ℕ → ℕ → PoseLists → List ℕ → Answer (List ℕ)
-put_call m n t x out = and_then (framed_from x) (λ a. cond (eqb (length out) 2) (shelved_fitting out (put_answer m n (shot t a))) (refuses wrong_length))
+put_call m n t x out = and_then (framed_from x) (λ a. cond (eqb (length out) 2) (shelved_fitting out (of_store (put_answer m n (shot t a)))) (refuses wrong_length))
 
 -- the store's bytes then: as they were where a list has a wrong length
 unfoldable pub store_after : List ℕ → ℕ → ℕ → Answer Pose → List ℕ → List ℕ

@@ -1,5 +1,5 @@
 // The functions for callers in C, Rust and Python that exist for doubles alone, as those of crate sim3_c:
-// each returns 0, or the number of a refusal, where every list stays as it was.
+// each answers nothing more, or a refusal, where every list stays as it was.
 #![tactic(auto)]
 
 pub mod square_root; // the square root with what is left

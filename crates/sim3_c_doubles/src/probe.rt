@@ -1,22 +1,19 @@
 // Whether the machine computes as the proofs say, by numbers that the caller hands in, so that no compiler
 // works their product out beforehand.
 ghost use Rattle.std.specs.Prelude.{◌≡◌};
-ghost use Rattle.sim3_c_doubles.specs.Probe.{probe_call};
+ghost use Rattle.sim3_c_doubles.specs.Probe.{probe_call, probe_told};
 
-use from_lists::LIST_LENGTH;
+use linalg::refusal::Refusal;
 
 const NUMBERS: usize = 3;
 
-// 1 where the three numbers have the product that is due (`environment::product_is_due`), else 0. For 4.75,
-// 0x1p-1074 and 0x1.0000000000001p+1023 it is 1 (proofs/Documented.antt).
-pub fn sim3_environment(probe: &[f64]) -> u32
-    ensures { result ≡ probe_call probe.now }
+// Whether the three numbers have the product that is due (`environment::product_is_due`). 4.75, 0x1p-1074
+// and 0x1.0000000000001p+1023 have it (proofs/Documented.antt).
+pub fn sim3_environment(probe: &[f64]) -> Result<bool, Refusal>
+    ensures { probe_told result ≡ probe_call probe.now }
 {
     if probe.len() != NUMBERS {
-        return LIST_LENGTH;
+        return Err(Refusal::ListLength);
     }
-    if environment::product_is_due(probe[0], probe[1], probe[2]) {
-        return 1;
-    }
-    0
+    Ok(environment::product_is_due(probe[0], probe[1], probe[2]))
 }

@@ -1,15 +1,18 @@
 // The sheets between calls: the pose of the highest take for each of up to 512 sheets, kept in bytes that
 // the caller lends.
 ghost use Rattle.std.specs.Prelude.{cond, ◌≡◌};
+ghost use Rattle.linalg.specs.Answer.{answer, told};
 ghost use Rattle.sheets.specs.Sheets.{no_sheets};
-ghost use Rattle.sheets.specs.Store.{holds, sheets_of, put_told, get_told};
+ghost use Rattle.sheets.specs.Store.{holds, sheets_of, shelved_of};
 ghost use Rattle.from_lists.specs.Lists.{pose_lists, framed_from};
 ghost use Rattle.to_lists.specs.Written.{status, written};
-ghost use Rattle.sim3_c_doubles.specs.Shelf.{fresh_call, two_fitting, shelved_fitting, put_call, store_after, kept_after, shot_lists, shot_fitting, get_call, shot_written};
+ghost use Rattle.sim3_c_doubles.specs.Shelf.{fresh_call, shelved_fitting, put_call, store_after, kept_after};
+ghost use Rattle.sim3_c_doubles.specs.Shelf.{shot_lists, shot_fitting, get_call, shot_written};
 
-use from_lists::{FRAMES, FramedRead, LIST_LENGTH, framed_from};
+use from_lists::{FRAMES, framed_from};
 use layout::POSE;
-use sheets::{GetAnswer, PutAnswer, STORE, Shot};
+use linalg::refusal::Refusal;
+use sheets::{STORE, Shelved, Shot};
 use to_lists::put_framed;
 
 // What a shot was answered: 1, 2 or 3, and the take that stood before.
@@ -18,41 +21,30 @@ const SHELVED: usize = 2;
 const TAKE: usize = 1;
 
 // Nothing is kept yet.
-pub fn sim3_sheets_start(store: &mut [u8]) -> u32
-    ensures value { result ≡ status (fresh_call store.old) }
+pub fn sim3_sheets_start(store: &mut [u8]) -> Result<(), Refusal>
+    ensures value { status (answer result) ≡ status (fresh_call store.old) }
     ensures store_after { store.new ≡ written (fresh_call store.old) store.old }
     ensures store_after_2 { sheets_of store.new ≡ cond (holds store.old) no_sheets (sheets_of store.old) }
 {
     if store.len() != STORE {
-        return LIST_LENGTH;
+        return Err(Refusal::ListLength);
     }
     sheets::fresh(store);
-    0
+    Ok(())
 }
 
-fn set_two(out: &mut [u16], how: u16, before: u16) -> u32
-    ensures value { result ≡ status (two_fitting out.old how before) }
-    ensures out_after { out.new ≡ written (two_fitting out.old how before) out.old }
+fn put_shelved(out: &mut [u16], a: Result<Shelved, Refusal>) -> Result<(), Refusal>
+    ensures value { status (answer result) ≡ status (shelved_fitting out.old (told shelved_of a)) }
+    ensures out_after { out.new ≡ written (shelved_fitting out.old (told shelved_of a)) out.old }
 {
+    let shelved = a?;
     if out.len() != SHELVED {
-        return LIST_LENGTH;
+        return Err(Refusal::ListLength);
     }
-    out[0] = how;
-    out[1] = before;
-    0
-}
-
-fn put_shelved(out: &mut [u16], a: PutAnswer) -> u32
-    ensures value { result ≡ status (shelved_fitting out.old (put_told a)) }
-    ensures out_after { out.new ≡ written (shelved_fitting out.old (put_told a)) out.old }
-{
-    match a {
-        PutAnswer::New => set_two(out, 1, 0),
-        PutAnswer::Replaced(before) => set_two(out, 2, before),
-        PutAnswer::Older(before) => set_two(out, 3, before),
-        PutAnswer::Refused(n) => n as u32,
-        PutAnswer::Storeless => LIST_LENGTH,
-    }
+    let take = shelved.before();
+    out[0] = shelved.number() as u16;
+    out[1] = take;
+    Ok(())
 }
 
 // A shot of a sheet: it is kept if none of that sheet is, or one of a lower take.
@@ -63,36 +55,38 @@ pub fn sim3_sheets_put(
     x: &[f64],
     x_frames: &[u16],
     out: &mut [u16],
-) -> u32
-    ensures value { result ≡ status (put_call store.old sheet take (pose_lists x.now x_frames.now) out.old) }
+) -> Result<(), Refusal>
+    ensures value { status (answer result) ≡ status (put_call store.old sheet take (pose_lists x.now x_frames.now) out.old) }
     ensures out_after { out.new
         ≡ written (put_call store.old sheet take (pose_lists x.now x_frames.now) out.old) out.old }
     ensures store_after { store.new ≡ store_after store.old sheet take (framed_from (pose_lists x.now x_frames.now)) out.old }
     ensures store_after_2 { sheets_of store.new ≡ kept_after store.old sheet take (framed_from (pose_lists x.now x_frames.now)) out.old }
 {
-    let FramedRead::Got(a) = framed_from(x, x_frames) else {
-        return LIST_LENGTH;
-    };
+    let pose = framed_from(x, x_frames)?;
     if out.len() != SHELVED {
-        return LIST_LENGTH;
+        return Err(Refusal::ListLength);
     }
-    let shot = Shot { take, pose: a };
-    put_shelved(out, sheets::put(store, sheet, shot))
+    put_shelved(out, sheets::put(store, sheet, Shot { take, pose }))
 }
 
-fn put_shot(take: &mut [u16], out: &mut [f64], out_frames: &mut [u16], s: Shot) -> u32
-    ensures value { result ≡ status (shot_fitting (shot_lists take.old out.old out_frames.old) s) }
+fn put_shot(
+    take: &mut [u16],
+    out: &mut [f64],
+    out_frames: &mut [u16],
+    s: Shot,
+) -> Result<(), Refusal>
+    ensures value { status (answer result) ≡ status (shot_fitting (shot_lists take.old out.old out_frames.old) s) }
     ensures out_frames_after { shot_lists take.new out.new out_frames.new
         ≡ shot_written (λ o. shot_fitting o s) (shot_lists take.old out.old out_frames.old) }
 {
     if take.len() != TAKE {
-        return LIST_LENGTH;
+        return Err(Refusal::ListLength);
     }
     if out.len() != POSE {
-        return LIST_LENGTH;
+        return Err(Refusal::ListLength);
     }
     if out_frames.len() != FRAMES {
-        return LIST_LENGTH;
+        return Err(Refusal::ListLength);
     }
     take[0] = s.take;
     put_framed(out, out_frames, s.pose)
@@ -105,14 +99,10 @@ pub fn sim3_sheets_get(
     take: &mut [u16],
     out: &mut [f64],
     out_frames: &mut [u16],
-) -> u32
-    ensures value { result ≡ status (get_call store.now sheet (shot_lists take.old out.old out_frames.old)) }
+) -> Result<(), Refusal>
+    ensures value { status (answer result) ≡ status (get_call store.now sheet (shot_lists take.old out.old out_frames.old)) }
     ensures out_frames_after { shot_lists take.new out.new out_frames.new
         ≡ shot_written (get_call store.now sheet) (shot_lists take.old out.old out_frames.old) }
 {
-    match sheets::get(store, sheet) {
-        GetAnswer::Kept(s) => put_shot(take, out, out_frames, s),
-        GetAnswer::Refused(n) => n as u32,
-        GetAnswer::Storeless => LIST_LENGTH,
-    }
+    put_shot(take, out, out_frames, sheets::get(store, sheet)?)
 }

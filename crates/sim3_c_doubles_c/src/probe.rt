@@ -7,5 +7,9 @@ ghost use Rattle.sim3_c_doubles.specs.Probe.{probe_call};
 pub extern "C" fn sim3_environment(probe: &[f64]) -> u32
     ensures { result ≡ probe_call probe.now }
 {
-    sim3_c_doubles::probe::sim3_environment(probe)
+    match sim3_c_doubles::probe::sim3_environment(probe) {
+        Ok(true) => 1,
+        Ok(false) => 0,
+        Err(refusal) => refusal.number() as u32,
+    }
 }

@@ -6,6 +6,8 @@ ghost use Rattle.from_lists.specs.Lists.{pose_lists, framed_from};
 ghost use Rattle.to_lists.specs.Written.{status, written};
 ghost use Rattle.sim3_c_doubles.specs.Shelf.{fresh_call, put_call, store_after, kept_after, shot_lists, get_call, shot_written};
 
+use to_lists::status;
+
 // Nothing is kept yet.
 #[unsafe(no_mangle)]
 pub extern "C" fn sim3_sheets_start(store: &mut [u8]) -> u32
@@ -13,7 +15,7 @@ pub extern "C" fn sim3_sheets_start(store: &mut [u8]) -> u32
     ensures store_after { store.new ≡ written (fresh_call store.old) store.old }
     ensures store_after_2 { sheets_of store.new ≡ cond (holds store.old) no_sheets (sheets_of store.old) }
 {
-    sim3_c_doubles::shelf::sim3_sheets_start(store)
+    status(sim3_c_doubles::shelf::sim3_sheets_start(store))
 }
 
 // A shot of a sheet.
@@ -32,7 +34,7 @@ pub extern "C" fn sim3_sheets_put(
     ensures store_after { store.new ≡ store_after store.old sheet take (framed_from (pose_lists x.now x_frames.now)) out.old }
     ensures store_after_2 { sheets_of store.new ≡ kept_after store.old sheet take (framed_from (pose_lists x.now x_frames.now)) out.old }
 {
-    sim3_c_doubles::shelf::sim3_sheets_put(store, sheet, take, x, x_frames, out)
+    status(sim3_c_doubles::shelf::sim3_sheets_put(store, sheet, take, x, x_frames, out))
 }
 
 // The take and the pose that are kept of a sheet.
@@ -48,5 +50,5 @@ pub extern "C" fn sim3_sheets_get(
     ensures out_frames_after { shot_lists take.new out.new out_frames.new
         ≡ shot_written (get_call store.now sheet) (shot_lists take.old out.old out_frames.old) }
 {
-    sim3_c_doubles::shelf::sim3_sheets_get(store, sheet, take, out, out_frames)
+    status(sim3_c_doubles::shelf::sim3_sheets_get(store, sheet, take, out, out_frames))
 }

@@ -1,216 +1,202 @@
 // The C functions that answer records of the job too: each is what a C caller has, and what the entry of a mark asks.
-// And two functions on lists that a mark has and C callers do not. Each returns 0, or the number of a refusal, where
-// the lists that it is lent to write to stay as they were. include/sim3.h has the order of every number.
+// And two functions on lists that a mark has and C callers do not. Each writes to the lists that it is lent, or refuses
+// and leaves them as they were. include/sim3.h has the order of every number.
 #![tactic(auto)]
 
 ghost use Rattle.std.specs.Prelude.{◌≡◌};
-ghost use Rattle.std.specs.Float.{binary64};
-ghost use Rattle.linalg.specs.Vector.{vec_numbers};
+ghost use Rattle.linalg.specs.Answer.{answer};
+ghost use Rattle.coeffs.specs.Floats.{as_armed_pair};
 ghost use Rattle.from_lists.specs.Lists.{pose_lists};
-ghost use Rattle.to_lists.specs.Written.{status, written, fitting, framed_written};
+ghost use Rattle.to_lists.specs.Written.{status, written, framed_written};
 ghost use Rattle.sim3_c_entries.specs.Calls.{exp_call, mul_call, inverse_call, scaled_pair_call, block_pair_call, block_inverse_call, act_call, arm_lists, arms_fitting, arms_call};
 
-use coeffs::sim3::{ArmedPair, ScaledPair, sim3_coeffs_armed_pair, sim3_coeffs_scaled_pair};
+use coeffs::sim3::{ArmedPair, sim3_coeffs_armed_pair, sim3_coeffs_scaled_pair};
+use coeffs::width::Width;
 use frames::Pose;
 use from_lists::{
-    BlockRead, FramedRead, FramesRead, LIST_LENGTH, MatRead, PoseRead, TangentRead, ValuesRead,
-    VecRead, block_from, framed_from, frames_from, mat_from, pose_from, tangent_from, values_from,
-    vec_from,
+    block_from, framed_from, frames_from, mat_from, pose_from, tangent_from, values_from, vec_from,
 };
-use layout::{SCALED_PAIR, VEC};
-use linalg::vector::Vec3;
+use ieee::Real;
+use layout::SCALED_PAIR;
+use linalg::refusal::Refusal;
+use series::sim3::Signs;
 use sides::pair::block_pair;
-use to_lists::{put_block, put_block_pair, put_framed, put_joined, put_scaled_pair};
+use to_lists::{ToNumbers, put, put_framed};
 
 // How many bytes the arms of both signs have.
 pub const ARMS: usize = 4;
 
 // Exp of the tangent, with its ten function values and the frames that it is given.
-pub fn sim3_exp(
-    tau: &[f64],
-    values: &[f64],
+pub fn sim3_exp<T: Width>(
+    tau: &[T],
+    values: &[T],
     frames: &[u16],
-    out: &mut [f64],
+    out: &mut [T],
     out_frames: &mut [u16],
-) -> u32
-    ensures value { result ≡ status (exp_call binary64 tau.now values.now frames.now
-        (pose_lists out.old out_frames.old)) }
-    ensures out_frames_after { pose_lists out.new out_frames.new
-        ≡ framed_written (exp_call binary64 tau.now values.now frames.now)
-        (pose_lists out.old out_frames.old) }
+) -> Result<(), Refusal>
+    ensures value { status (answer result)
+        ≡ status (exp_call T.format (T.floats tau.now) (T.floats values.now) frames.now
+        (pose_lists (T.floats out.old) out_frames.old)) }
+    ensures out_frames_after { pose_lists (T.floats out.new) out_frames.new
+        ≡ framed_written (exp_call T.format (T.floats tau.now) (T.floats values.now) frames.now)
+        (pose_lists (T.floats out.old) out_frames.old) }
 {
-    let TangentRead::Got(t) = tangent_from(tau) else {
-        return LIST_LENGTH;
-    };
-    let ValuesRead::Got(v) = values_from(values) else {
-        return LIST_LENGTH;
-    };
-    let FramesRead::Got(k) = frames_from(frames) else {
-        return LIST_LENGTH;
-    };
-    put_framed(out, out_frames, Pose::exp(t, v, k.from, k.to))
+    let t = tangent_from(tau)?;
+    let v = values_from(values)?;
+    let frames = frames_from(frames)?;
+    put_framed(out, out_frames, Pose::exp(t, v, frames))
 }
 
 // X Y, where X starts from the frame to which Y goes; up is e^sigma of X.
-pub fn sim3_mul(
-    x: &[f64],
+pub fn sim3_mul<T: Real>(
+    x: &[T],
     x_frames: &[u16],
-    y: &[f64],
+    y: &[T],
     y_frames: &[u16],
-    up: f64,
-    out: &mut [f64],
+    up: T,
+    out: &mut [T],
     out_frames: &mut [u16],
-) -> u32
-    ensures value { result ≡ status (mul_call binary64 (pose_lists x.now x_frames.now) (pose_lists y.now y_frames.now) up
-        (pose_lists out.old out_frames.old)) }
-    ensures out_frames_after { pose_lists out.new out_frames.new
-        ≡ framed_written (mul_call binary64 (pose_lists x.now x_frames.now) (pose_lists y.now y_frames.now) up)
-        (pose_lists out.old out_frames.old) }
+) -> Result<(), Refusal>
+    ensures value { status (answer result)
+        ≡ status (mul_call T.format (pose_lists (T.floats x.now) x_frames.now)
+        (pose_lists (T.floats y.now) y_frames.now) (T.float up) (pose_lists (T.floats out.old) out_frames.old)) }
+    ensures out_frames_after { pose_lists (T.floats out.new) out_frames.new
+        ≡ framed_written (mul_call T.format (pose_lists (T.floats x.now) x_frames.now)
+        (pose_lists (T.floats y.now) y_frames.now) (T.float up)) (pose_lists (T.floats out.old) out_frames.old) }
 {
-    let FramedRead::Got(a) = framed_from(x, x_frames) else {
-        return LIST_LENGTH;
-    };
-    let FramedRead::Got(b) = framed_from(y, y_frames) else {
-        return LIST_LENGTH;
-    };
-    put_joined(out, out_frames, a.mul(b, up))
+    let a = framed_from(x, x_frames)?;
+    let b = framed_from(y, y_frames)?;
+    put_framed(out, out_frames, a.mul(b, up)?)
 }
 
 // X^-1, with the frames exchanged; down is e^-sigma of X.
-pub fn sim3_inverse(
-    x: &[f64],
+pub fn sim3_inverse<T: Real>(
+    x: &[T],
     x_frames: &[u16],
-    down: f64,
-    out: &mut [f64],
+    down: T,
+    out: &mut [T],
     out_frames: &mut [u16],
-) -> u32
-    ensures value { result ≡ status (inverse_call binary64 (pose_lists x.now x_frames.now) down
-        (pose_lists out.old out_frames.old)) }
-    ensures out_frames_after { pose_lists out.new out_frames.new
-        ≡ framed_written (inverse_call binary64 (pose_lists x.now x_frames.now) down)
-        (pose_lists out.old out_frames.old) }
+) -> Result<(), Refusal>
+    ensures value { status (answer result)
+        ≡ status (inverse_call T.format (pose_lists (T.floats x.now) x_frames.now) (T.float down)
+        (pose_lists (T.floats out.old) out_frames.old)) }
+    ensures out_frames_after { pose_lists (T.floats out.new) out_frames.new
+        ≡ framed_written (inverse_call T.format (pose_lists (T.floats x.now) x_frames.now) (T.float down))
+        (pose_lists (T.floats out.old) out_frames.old) }
 {
-    let FramedRead::Got(a) = framed_from(x, x_frames) else {
-        return LIST_LENGTH;
-    };
+    let a = framed_from(x, x_frames)?;
     put_framed(out, out_frames, a.inverse(down))
 }
 
 // The scaled-form coefficients at sigma and at -sigma; z is the squared angle.
-pub fn sim3_scaled_pair(sigma: f64, z: f64, values: &[f64], out: &mut [f64]) -> u32
-    ensures value { result ≡ status (scaled_pair_call binary64 sigma z values.now out.old) }
-    ensures out_after { out.new ≡ written (scaled_pair_call binary64 sigma z values.now out.old) out.old }
+pub fn sim3_scaled_pair<T: Width>(
+    sigma: T,
+    z: T,
+    values: &[T],
+    out: &mut [T],
+) -> Result<(), Refusal>
+    ensures value { status (answer result)
+        ≡ status (scaled_pair_call T.format (T.float sigma) (T.float z) (T.floats values.now) (T.floats out.old)) }
+    ensures out_after { T.floats out.new
+        ≡ written (scaled_pair_call T.format (T.float sigma) (T.float z) (T.floats values.now) (T.floats out.old))
+        (T.floats out.old) }
 {
-    let ValuesRead::Got(v) = values_from(values) else {
-        return LIST_LENGTH;
-    };
-    match sim3_coeffs_scaled_pair(sigma, z, v) {
-        Ok(p) => put_scaled_pair(out, p),
-        Err(refusal) => refusal.number() as u32,
-    }
+    let v = values_from(values)?;
+    put(out, sim3_coeffs_scaled_pair(sigma, z, v)?)
 }
 
 // J_l, its inverse, J_r and its inverse, with the values of the tangent, J_l(phi) and its inverse.
-pub fn sim3_block_pair(
-    tau: &[f64],
-    values: &[f64],
-    jl: &[f64],
-    jl_inv: &[f64],
-    out: &mut [f64],
-) -> u32
-    ensures value { result ≡ status (block_pair_call binary64 tau.now values.now jl.now jl_inv.now out.old) }
-    ensures out_after { out.new
-        ≡ written (block_pair_call binary64 tau.now values.now jl.now jl_inv.now out.old) out.old }
+pub fn sim3_block_pair<T: Width>(
+    tau: &[T],
+    values: &[T],
+    jl: &[T],
+    jl_inv: &[T],
+    out: &mut [T],
+) -> Result<(), Refusal>
+    ensures value { status (answer result)
+        ≡ status (block_pair_call T.format (T.floats tau.now) (T.floats values.now) (T.floats jl.now)
+        (T.floats jl_inv.now) (T.floats out.old)) }
+    ensures out_after { T.floats out.new
+        ≡ written (block_pair_call T.format (T.floats tau.now) (T.floats values.now) (T.floats jl.now)
+        (T.floats jl_inv.now) (T.floats out.old)) (T.floats out.old) }
 {
-    let TangentRead::Got(t) = tangent_from(tau) else {
-        return LIST_LENGTH;
-    };
-    let ValuesRead::Got(v) = values_from(values) else {
-        return LIST_LENGTH;
-    };
-    let MatRead::Got(j) = mat_from(jl) else {
-        return LIST_LENGTH;
-    };
-    let MatRead::Got(i) = mat_from(jl_inv) else {
-        return LIST_LENGTH;
-    };
-    put_block_pair(out, block_pair(t, v, j, i))
+    let t = tangent_from(tau)?;
+    let v = values_from(values)?;
+    let j = mat_from(jl)?;
+    let i = mat_from(jl_inv)?;
+    put(out, block_pair(t, v, j, i))
 }
 
 // The inverse of a block; refusal 2 where e is a zero.
-pub fn sim3_block_inverse(j: &[f64], out: &mut [f64]) -> u32
-    ensures value { result ≡ status (block_inverse_call binary64 j.now out.old) }
-    ensures out_after { out.new ≡ written (block_inverse_call binary64 j.now out.old) out.old }
+pub fn sim3_block_inverse<T: Real>(j: &[T], out: &mut [T]) -> Result<(), Refusal>
+    ensures value { status (answer result)
+        ≡ status (block_inverse_call T.format (T.floats j.now) (T.floats out.old)) }
+    ensures out_after { T.floats out.new
+        ≡ written (block_inverse_call T.format (T.floats j.now) (T.floats out.old)) (T.floats out.old) }
 {
-    let BlockRead::Got(b) = block_from(j) else {
-        return LIST_LENGTH;
-    };
-    match b.inverse() {
-        Ok(i) => put_block(out, i),
-        Err(zero_scale) => zero_scale.number() as u32,
-    }
-}
-
-// A point to a list.
-fn put_point(out: &mut [f64], p: Vec3<f64>) -> u32
-    ensures value { result ≡ status (fitting out.old (vec_numbers p)) }
-    ensures out_after { out.new ≡ written (fitting out.old (vec_numbers p)) out.old }
-{
-    if out.len() != VEC {
-        return LIST_LENGTH;
-    }
-    out[0] = p.x;
-    out[1] = p.y;
-    out[2] = p.z;
-    0
+    let b = block_from(j)?;
+    let i = b.inverse()?;
+    put(out, i)
 }
 
 // A pose's action on one point; up is e^sigma of X.
-pub fn act_point(x: &[f64], up: f64, p: &[f64], out: &mut [f64]) -> u32
-    ensures value { result ≡ status (act_call binary64 x.now up p.now out.old) }
-    ensures out_after { out.new ≡ written (act_call binary64 x.now up p.now out.old) out.old }
+pub fn act_point<T: Real>(x: &[T], up: T, p: &[T], out: &mut [T]) -> Result<(), Refusal>
+    ensures value { status (answer result)
+        ≡ status (act_call T.format (T.floats x.now) (T.float up) (T.floats p.now) (T.floats out.old)) }
+    ensures out_after { T.floats out.new
+        ≡ written (act_call T.format (T.floats x.now) (T.float up) (T.floats p.now) (T.floats out.old))
+        (T.floats out.old) }
 {
-    let PoseRead::Got(a) = pose_from(x) else {
-        return LIST_LENGTH;
-    };
-    let VecRead::Got(v) = vec_from(p) else {
-        return LIST_LENGTH;
-    };
-    put_point(out, a.act(up, v))
+    let a = pose_from(x)?;
+    let v = vec_from(p)?;
+    put(out, a.act(up, v))
 }
 
 // The arms of both signs as bytes, each with 1 or 0 for whether v0 and w0 of the closed arm come from series of their
 // own, and the scaled pair to a list; both or none.
-fn put_arms(arms: &mut [u8], out: &mut [f64], p: ArmedPair<f64>) -> u32
-    ensures value { result ≡ status (arms_fitting (arm_lists arms.old out.old) p) }
-    ensures out_after { arm_lists arms.new out.new ≡ written (arms_fitting (arm_lists arms.old out.old) p) (arm_lists arms.old out.old) }
+fn put_arms<T: Real>(arms: &mut [u8], out: &mut [T], p: ArmedPair<T>) -> Result<(), Refusal>
+    ensures value { status (answer result)
+        ≡ status (arms_fitting (arm_lists arms.old (T.floats out.old)) (as_armed_pair T.float p)) }
+    ensures out_after { arm_lists arms.new (T.floats out.new)
+        ≡ written (arms_fitting (arm_lists arms.old (T.floats out.old)) (as_armed_pair T.float p))
+        (arm_lists arms.old (T.floats out.old)) }
 {
     if arms.len() != ARMS {
-        return LIST_LENGTH;
+        return Err(Refusal::ListLength);
     }
     if out.len() != SCALED_PAIR {
-        return LIST_LENGTH;
+        return Err(Refusal::ListLength);
     }
-    arms[0] = p.pos.arm;
-    arms[1] = p.pos.ends as u8;
-    arms[2] = p.neg.arm;
-    arms[3] = p.neg.ends as u8;
-    let pos = p.pos.s;
-    let neg = p.neg.s;
-    put_scaled_pair(out, ScaledPair { pos, neg })
+    let pos = p.pos;
+    let neg = p.neg;
+    let pair = Signs {
+        pos: pos.s,
+        neg: neg.s,
+    };
+    pair.to_numbers(out);
+    let ends = u8::from(pos.ends);
+    let ends_neg = u8::from(neg.ends);
+    let arm = pos.arm.number();
+    let arm_neg = neg.arm.number();
+    arms.copy_from_slice(&[arm, ends, arm_neg, ends_neg]);
+    Ok(())
 }
 
 // The scaled pair with the arms that formed it, the arms as bytes; z is the squared angle.
-pub fn armed_pair(sigma: f64, z: f64, values: &[f64], arms: &mut [u8], out: &mut [f64]) -> u32
-    ensures value { result ≡ status (arms_call binary64 sigma z values.now (arm_lists arms.old out.old)) }
-    ensures out_after { arm_lists arms.new out.new
-        ≡ written (arms_call binary64 sigma z values.now (arm_lists arms.old out.old)) (arm_lists arms.old out.old) }
+pub fn armed_pair<T: Width>(
+    sigma: T,
+    z: T,
+    values: &[T],
+    arms: &mut [u8],
+    out: &mut [T],
+) -> Result<(), Refusal>
+    ensures value { status (answer result)
+        ≡ status (arms_call T.format (T.float sigma) (T.float z) (T.floats values.now)
+        (arm_lists arms.old (T.floats out.old))) }
+    ensures out_after { arm_lists arms.new (T.floats out.new)
+        ≡ written (arms_call T.format (T.float sigma) (T.float z) (T.floats values.now)
+        (arm_lists arms.old (T.floats out.old))) (arm_lists arms.old (T.floats out.old)) }
 {
-    let ValuesRead::Got(v) = values_from(values) else {
-        return LIST_LENGTH;
-    };
-    match sim3_coeffs_armed_pair(sigma, z, v) {
-        Ok(p) => put_arms(arms, out, p),
-        Err(refusal) => refusal.number() as u32,
-    }
+    let v = values_from(values)?;
+    put_arms(arms, out, sim3_coeffs_armed_pair(sigma, z, v)?)
 }

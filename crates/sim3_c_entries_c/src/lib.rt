@@ -8,6 +8,8 @@ ghost use Rattle.from_lists.specs.Lists.{pose_lists};
 ghost use Rattle.to_lists.specs.Written.{status, written, framed_written};
 ghost use Rattle.sim3_c_entries.specs.Calls.{exp_call, mul_call, inverse_call, scaled_pair_call, block_pair_call, block_inverse_call};
 
+use to_lists::status;
+
 // Exp of the tangent.
 #[unsafe(no_mangle)]
 pub extern "C" fn sim3_exp(
@@ -23,7 +25,7 @@ pub extern "C" fn sim3_exp(
         ≡ framed_written (exp_call binary64 tau.now values.now frames.now)
         (pose_lists out.old out_frames.old) }
 {
-    sim3_c_entries::sim3_exp(tau, values, frames, out, out_frames)
+    status(sim3_c_entries::sim3_exp(tau, values, frames, out, out_frames))
 }
 
 // X Y, where X starts from the frame to which Y goes.
@@ -43,7 +45,7 @@ pub extern "C" fn sim3_mul(
         ≡ framed_written (mul_call binary64 (pose_lists x.now x_frames.now) (pose_lists y.now y_frames.now) up)
         (pose_lists out.old out_frames.old) }
 {
-    sim3_c_entries::sim3_mul(x, x_frames, y, y_frames, up, out, out_frames)
+    status(sim3_c_entries::sim3_mul(x, x_frames, y, y_frames, up, out, out_frames))
 }
 
 // X^-1, with the frames exchanged.
@@ -61,7 +63,7 @@ pub extern "C" fn sim3_inverse(
         ≡ framed_written (inverse_call binary64 (pose_lists x.now x_frames.now) down)
         (pose_lists out.old out_frames.old) }
 {
-    sim3_c_entries::sim3_inverse(x, x_frames, down, out, out_frames)
+    status(sim3_c_entries::sim3_inverse(x, x_frames, down, out, out_frames))
 }
 
 // The scaled-form coefficients at sigma and at -sigma.
@@ -70,7 +72,7 @@ pub extern "C" fn sim3_scaled_pair(sigma: f64, z: f64, values: &[f64], out: &mut
     ensures value { result ≡ status (scaled_pair_call binary64 sigma z values.now out.old) }
     ensures out_after { out.new ≡ written (scaled_pair_call binary64 sigma z values.now out.old) out.old }
 {
-    sim3_c_entries::sim3_scaled_pair(sigma, z, values, out)
+    status(sim3_c_entries::sim3_scaled_pair(sigma, z, values, out))
 }
 
 // J_l, its inverse, J_r and its inverse.
@@ -86,7 +88,7 @@ pub extern "C" fn sim3_block_pair(
     ensures out_after { out.new
         ≡ written (block_pair_call binary64 tau.now values.now jl.now jl_inv.now out.old) out.old }
 {
-    sim3_c_entries::sim3_block_pair(tau, values, jl, jl_inv, out)
+    status(sim3_c_entries::sim3_block_pair(tau, values, jl, jl_inv, out))
 }
 
 // The inverse of a block.
@@ -95,5 +97,5 @@ pub extern "C" fn sim3_block_inverse(j: &[f64], out: &mut [f64]) -> u32
     ensures value { result ≡ status (block_inverse_call binary64 j.now out.old) }
     ensures out_after { out.new ≡ written (block_inverse_call binary64 j.now out.old) out.old }
 {
-    sim3_c_entries::sim3_block_inverse(j, out)
+    status(sim3_c_entries::sim3_block_inverse(j, out))
 }

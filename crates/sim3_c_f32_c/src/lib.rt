@@ -1,5 +1,5 @@
-// The functions of crate sim3_c_f32 for callers in C: each under its name there, with its clauses, in a module of
-// the same name. include/sim3.h has the order of every number.
+// The functions of crate sim3_c at f32, for callers in C: each under its name there with the
+// ending _f32, with its clauses, in a module of the same name. include/sim3.h has the order of every number.
 #![tactic(auto)]
 
 pub mod pose; // compositions with an inverse, with the frames; renormalising

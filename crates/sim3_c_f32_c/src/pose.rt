@@ -5,6 +5,8 @@ ghost use Rattle.from_lists.specs.Lists.{pose_lists};
 ghost use Rattle.to_lists.specs.Written.{status, written, framed_written, renormalize_call};
 ghost use Rattle.sim3_c.specs.Calls.{mul_inv_call, inv_mul_call};
 
+use to_lists::status;
+
 // X Y^-1, where both start from one frame.
 #[unsafe(no_mangle)]
 pub extern "C" fn sim3_mul_inv_f32(
@@ -22,7 +24,7 @@ pub extern "C" fn sim3_mul_inv_f32(
         ≡ framed_written (mul_inv_call binary32 (pose_lists x.now x_frames.now) (pose_lists y.now y_frames.now) ds)
         (pose_lists out.old out_frames.old) }
 {
-    sim3_c_f32::pose::sim3_mul_inv_f32(x, x_frames, y, y_frames, ds, out, out_frames)
+    status(sim3_c::pose::sim3_mul_inv(x, x_frames, y, y_frames, ds, out, out_frames))
 }
 
 // Y^-1 X, where both go to one frame.
@@ -42,7 +44,7 @@ pub extern "C" fn sim3_inv_mul_f32(
         ≡ framed_written (inv_mul_call binary32 (pose_lists x.now x_frames.now) (pose_lists y.now y_frames.now) down)
         (pose_lists out.old out_frames.old) }
 {
-    sim3_c_f32::pose::sim3_inv_mul_f32(x, x_frames, y, y_frames, down, out, out_frames)
+    status(sim3_c::pose::sim3_inv_mul(x, x_frames, y, y_frames, down, out, out_frames))
 }
 
 // A Newton step towards a unit quaternion, in place.
@@ -51,5 +53,5 @@ pub extern "C" fn sim3_renormalize_f32(x: &mut [f32]) -> u32
     ensures value { result ≡ status (renormalize_call binary32 x.old) }
     ensures x_after { x.new ≡ written (renormalize_call binary32 x.old) x.old }
 {
-    sim3_c_f32::pose::sim3_renormalize_f32(x)
+    status(sim3_c::pose::sim3_renormalize(x))
 }

@@ -12,12 +12,11 @@ use Rattle.job.specs.declared.Reason.{Reason}
 use Rattle.job.specs.declared.Reason.TheVariants.{More, Room, Bad, Full, End, Unknown, Cut}
 use Rattle.job.specs.Counts.{counts_none, counts_sound, total}
 use Rattle.job.specs.Job.{Standing, job_limit}
-use Rattle.job.specs.Feed.{feed_of, goes_on, answer_room}
+use Rattle.job.specs.Feed.{feed_of, goes_on, asks_for, answer_room}
 use Rattle.job.specs.Private.{part_fed}
 use Rattle.job.proofs.Pieces.{sound_is}
 use Rattle.job.proofs.Progress.{feed_progress}
 use Rattle.job.proofs.Whole.{feed_sound}
-use Rattle.sim3_job.specs.Ran.{asks_for}
 use Rattle.outcome.proofs.Never.{untrue}
 
 -- ---- how far the end is: the records that may still be begun, each worth more than a whole buffer; then the room in the buffer; then whether a read comes next
@@ -26,7 +25,7 @@ idle true = 0
 idle false = 1
 
 abbrev pub to_go : Counts → ℕ → Bool → ℕ
-to_go c have asked = (job_limit - c.begun) * 131076 + ((65536 - have) * 2 + idle asked)
+to_go c have asked = (job_limit - c.four.begun) * 131076 + ((65536 - have) * 2 + idle asked)
 
 begun_more : (b b₁ have have₁ i i₁ : ℕ) → b < b₁ → b₁ ≤ job_limit → i₁ ≤ 1 → (job_limit - b₁) * 131076 + ((65536 - have₁) * 2 + i₁) < (job_limit - b) * 131076 + ((65536 - have) * 2 + i)
 begun_more b b₁ have have₁ i i₁ h k j = omega arith
@@ -63,7 +62,7 @@ nearer j kept asked ended have n room f s k e g h i =
     let m = feed_progress job_limit j kept ended room s in
     let g₁ : goes_on F.reason ≡ true = rw e at g in
     rw e
-    (less_by (ltb j.counts.begun F.standing.counts.begun) F.reason asked ended j.counts.begun F.standing.counts.begun have n F.used refl g₁ m.grows
+    (less_by (ltb j.counts.four.begun F.standing.counts.four.begun) F.reason asked ended j.counts.four.begun F.standing.counts.four.begun have n F.used refl g₁ m.grows
     (sound_is job_limit F.standing.counts (feed_sound job_limit true j kept ended room s)).few m.still m.more (m.roomy k) h i)
 
 pub still_sound :

@@ -18,11 +18,10 @@ use Rattle.job.specs.Private.{part_fed}
 use Rattle.job.specs.Run.{job_with}
 use Rattle.job.proofs.Stream.{stream}
 use Rattle.sim3_job.specs.declared.Filled.{Filled}
-use Rattle.sim3_job.specs.declared.Filled.TheVariants.{Bytes, Failed}
-use Rattle.sim3_job.specs.declared.Sent.{Sent}
-use Rattle.sim3_job.specs.declared.Sent.TheVariants as sent
+use Rattle.sim3_job.specs.declared.RunError.{RunError}
+use Rattle.sim3_job.specs.declared.RunError.TheVariants.{Unread, Unwritten}
 use Rattle.sim3_job.specs.Filled.{Within, FromTape, filled_of}
-use Rattle.sim3_job.specs.Sent.{WithinSink, ToSink, sent_of}
+use Rattle.sim3_job.specs.Sent.{WithinSink, ToSink}
 use Rattle.outcome.proofs.Never.{untrue}
 
 pub record Underway (limit : ℕ) (tape sink : List ℕ) (j : Standing) (kept : List ℕ) (last : Bool) (at sent : ℕ) : Type 0 where
@@ -46,6 +45,12 @@ underway_read limit tape sink j kept kept₁ last ended at n next sent p e k o =
     joined =
         append_assoc kept (take n (drop at tape)) (drop (at + n) tape)
         ∙ ap (λ (l : List ℕ). kept ++ l) (ap (λ (l : List ℕ). take n (drop at tape) ++ l) (sym (drop-drop n at tape)) ∙ take-append-drop n (drop at tape))
+
+-- the input is over for the next feed only where it was over for this one
+pub underway_next :
+    (limit : ℕ) (tape sink : List ℕ) (j : Standing) (kept : List ℕ) (last over : Bool) (at sent : ℕ) → Underway limit tape sink j kept last at sent → (over ≡ true → last ≡ true) →
+    Underway limit tape sink j kept over at sent
+underway_next limit tape sink j kept last over at sent p h = record { same = p.same; over = λ e. p.over (h e) }
 
 -- one call, of which f is told
 module _
@@ -93,41 +98,35 @@ module _
 
 -- ---- what a read from the tape gives
 pub tape_any :
-    (r : Filled) (tape : List ℕ) (at have : ℕ) (buf buf₁ : List ℕ) (last : Bool) → FromTape r tape at have buf buf₁ false → FromTape r tape at have buf buf₁ last
-tape_any (Bytes n ended next) tape at have buf buf₁ last p = (p.0, p.1, λ u v. p.2 u (λ e. untrue e))
-tape_any Failed tape at have buf buf₁ last p = p
+    (r : Result Filled RunError) (tape : List ℕ) (at have : ℕ) (buf buf₁ : List ℕ) (last : Bool) → FromTape r tape at have buf buf₁ false → FromTape r tape at have buf buf₁ last
+tape_any (Ok f) tape at have buf buf₁ last p = (p.0, p.1, λ u v. p.2 u (λ e. untrue e))
+tape_any (Err e) tape at have buf buf₁ last p = p
 
 pub tape_kept :
-    (r : Filled) (tape : List ℕ) (at have : ℕ) (buf buf₁ : List ℕ) (last : Bool) → have ≤ length buf → FromTape r tape at have buf buf₁ last → take have buf₁ ≡ take have buf
-tape_kept (Bytes n ended next) tape at have buf buf₁ last h p =
-    sym (take-take have (have + n) buf₁ (omega arith)) ∙ ap (take have) p.1 ∙ take_at (take have buf) _ have (length-take-le have buf h)
-tape_kept Failed tape at have buf buf₁ last h p = absurd p
-
-pub within :
-    {r : Filled} {n next : ℕ} {ended : Bool} → r ≡ Bytes n ended next → (have most : ℕ) (asked : Bool) (end : ℕ) → Within r have most asked end →
-    (have + n ≤ most) × (next ≤ end) × (asked ≡ true → ended ≡ eqb n 0)
-within e have most asked end w = rw e at w
+    (r : Result Filled RunError) (tape : List ℕ) (at have : ℕ) (buf buf₁ : List ℕ) (last : Bool) → have ≤ length buf → FromTape r tape at have buf buf₁ last →
+    take have buf₁ ≡ take have buf
+tape_kept (Ok f) tape at have buf buf₁ last h p =
+    sym (take-take have (have + f.count) buf₁ (omega arith)) ∙ ap (take have) p.1 ∙ take_at (take have buf) _ have (length-take-le have buf h)
+tape_kept (Err e) tape at have buf buf₁ last h p = absurd p
 
 pub tape_read :
-    {r : Filled} {n next : ℕ} {ended : Bool} → r ≡ Bytes n ended next →
-    (limit : ℕ) (tape sink : List ℕ) (j : Standing) (buf buf₁ : List ℕ) (last : Bool) (at have sent : ℕ) → FromTape r tape at have buf buf₁ last →
-    Underway limit tape sink j (take have buf) last at sent → Underway limit tape sink j (take (have + n) buf₁) ended next sent
-tape_read {r} {n} {next} {ended} e limit tape sink j buf buf₁ last at have sent q p =
-    let z : FromTape (Bytes n ended next) tape at have buf buf₁ last = rw e at q in
-    underway_read limit tape sink j (take have buf) (take (have + n) buf₁) last ended at n next sent p z.0 z.1 z.2
-
-pub tape_failed : {r : Filled} → r ≡ Failed → (tape : List ℕ) (at have : ℕ) (buf buf₁ : List ℕ) (last : Bool) → FromTape r tape at have buf buf₁ last → ⊥
-tape_failed e tape at have buf buf₁ last q = rw e at q
+    (limit : ℕ) (tape sink : List ℕ) (j : Standing) (f : Filled) (buf buf₁ : List ℕ) (last : Bool) (at have sent : ℕ) → FromTape (Ok f) tape at have buf buf₁ last →
+    Underway limit tape sink j (take have buf) last at sent → Underway limit tape sink j (take (have + f.count) buf₁) f.ended f.at sent
+tape_read limit tape sink j f buf buf₁ last at have sent z p =
+    underway_read limit tape sink j (take have buf) (take (have + f.count) buf₁) last f.ended at f.count f.at sent p z.0 z.1 z.2
 
 -- ---- what a write does
-pub sink_within : {r : Sent} {end : ℕ} → r ≡ sent.All end → (most : ℕ) → WithinSink r most → end ≤ most
-sink_within e most h = rw e at h
+pub sink_short :
+    (e : RunError) (bytes sink sink₁ : List ℕ) (sent : ℕ) → ToSink (Err e) bytes sink sink₁ sent →
+    (e ≡ Unwritten) × ((sink₁ ≡ sink) × (length sink < sent + length bytes))
+sink_short Unread bytes sink sink₁ sent t = absurd t
+sink_short Unwritten bytes sink sink₁ sent t = (refl, t)
 
-pub sink_holds : {r : Sent} {end : ℕ} → r ≡ sent.All end → (bytes sink sink₁ : List ℕ) (sent : ℕ) → ToSink r bytes sink sink₁ sent → take end sink₁ ≡ take sent sink ++ bytes
-sink_holds e bytes sink sink₁ sent t = rw e at t
-
-pub sink_short : {r : Sent} → r ≡ sent.Failed → (bytes sink sink₁ : List ℕ) (sent : ℕ) → ToSink r bytes sink sink₁ sent → (sink₁ ≡ sink) × (length sink < sent + length bytes)
-sink_short e bytes sink sink₁ sent t = rw e at t
+-- the front of a list whose part from i on was lent, and holds b first
+pub filled_front : (l b rest : List ℕ) (i n : ℕ) → i ≤ length l → length b ≡ n → take (i + n) (take i l ++ (b ++ rest)) ≡ take i l ++ b
+filled_front l b rest i n h k =
+    ap (take (i + n)) (sym (append_assoc (take i l) b rest))
+    ∙ take_at (take i l ++ b) rest (i + n) (length-append (take i l) b ∙ (λ j. length-take-le i l h j + k j))
 
 -- the bytes that a call wrote, at the front of the output
 pub handed : (b o o₁ : List ℕ) (w : ℕ) → w ≡ length b → o₁ ≡ b ++ drop w o → take w o₁ ≡ b
@@ -141,13 +140,7 @@ filled_in (Ok k) have room most at end h i = (omega arith, i, λ u. refl)
 filled_in (Err e) have room most at end h i = tt
 
 pub filled_within :
-    {E : Type 0} (r : Filled) (z : Result ℕ E) (room at : ℕ) → r ≡ filled_of z room at → (have most end : ℕ) → have + room ≤ most → at ≤ end → Within r have most true end
-filled_within {E} r z room at e have most end h i = subst (λ (x : Filled). Within x have most true end) (sym e) (filled_in z have room most at end h i)
-
-sent_in : (ok : Bool) (sent most : ℕ) → sent ≤ most → WithinSink (sent_of ok sent) most
-unfolding sent_of
-sent_in true sent most h = h
-sent_in false sent most h = tt
-
-pub sent_sink_within : (r : Sent) (ok : Bool) (sent : ℕ) → r ≡ sent_of ok sent → (most : ℕ) → sent ≤ most → WithinSink r most
-sent_sink_within r ok sent e most h = subst (λ (x : Sent). WithinSink x most) (sym e) (sent_in ok sent most h)
+    {E : Type 0} (r : Result Filled RunError) (z : Result ℕ E) (room at : ℕ) → r ≡ filled_of z room at → (have most end : ℕ) → have + room ≤ most → at ≤ end →
+    Within r have most true end
+filled_within {E} r z room at e have most end h i =
+    subst (λ (x : Result Filled RunError). Within x have most true end) (sym e) (filled_in z have room most at end h i)

@@ -1,20 +1,35 @@
 -- What a read gives, from any place, and from the tape.
-use Rattle.std.specs.Prelude.{ℕ, ◌+◌, ◌≤◌, min, ◌≡◌, Bool, true, List, ◌++◌, eqb, Result, Ok, Err, length, take, drop}
+use Rattle.std.specs.Prelude.{ℕ, ◌+◌, ◌≤◌, min, ◌≡◌, Bool, true, false, List, ◌++◌, eqb, Result, Ok, Err, length, take, drop}
 use Rattle.sim3_job.specs.declared.Filled.{Filled}
-use Rattle.sim3_job.specs.declared.Filled.TheVariants.{Bytes, Failed}
+use Rattle.sim3_job.specs.declared.Next.{Next}
+use Rattle.sim3_job.specs.declared.Next.TheVariants.{Read, Again, Ended}
+use Rattle.sim3_job.specs.declared.RunError.{RunError}
+use Rattle.sim3_job.specs.declared.RunError.TheVariants.{Unread}
+
+-- whether a read comes next, and whether the input has ended
+abbrev pub reads : Next → Bool
+reads Read = true
+reads Again = false
+reads Ended = false
+
+abbrev pub over : Next → Bool
+over Read = false
+over Again = false
+over Ended = true
 
 -- the bytes lie within the buffer, the place on the tape, and where bytes were asked for none come at the end and only there
-abbrev pub Within : Filled → ℕ → ℕ → Bool → ℕ → Type 0
-Within (Bytes n ended next) have most asked end = (have + n ≤ most) × (next ≤ end) × (asked ≡ true → ended ≡ eqb n 0)
-Within Failed have most asked end = Unit {0}
+abbrev pub Within : Result Filled RunError → ℕ → ℕ → Bool → ℕ → Type 0
+Within (Ok f) have most asked end = (have + f.count ≤ most) × (f.at ≤ end) × (asked ≡ true → f.ended ≡ eqb f.count 0)
+Within (Err e) have most asked end = Unit {0}
 
--- from the tape: behind the bytes at hand stand the next n of the tape, which goes on behind them; they are the last only where nothing follows
-abbrev pub FromTape : Filled → List ℕ → ℕ → ℕ → List ℕ → List ℕ → Bool → Type 0
-FromTape (Bytes n ended next) tape at have buf buf₁ last =
-    (next ≡ at + n) × (take (have + n) buf₁ ≡ take have buf ++ take n (drop at tape)) × (ended ≡ true → (last ≡ true → at ≡ length tape) → next ≡ length tape)
-FromTape Failed tape at have buf buf₁ last = ⊥
+-- from the tape: behind the bytes at hand stand the next ones of the tape, which goes on behind them; they are the last only where nothing follows
+abbrev pub FromTape : Result Filled RunError → List ℕ → ℕ → ℕ → List ℕ → List ℕ → Bool → Type 0
+FromTape (Ok f) tape at have buf buf₁ last =
+    (f.at ≡ at + f.count) × (take (have + f.count) buf₁ ≡ take have buf ++ take f.count (drop at tape))
+    × (f.ended ≡ true → (last ≡ true → at ≡ length tape) → f.at ≡ length tape)
+FromTape (Err e) tape at have buf buf₁ last = ⊥
 
 -- what std's read answered, where there was room for `most` bytes: an error, or how many were read, 0 at the end
-unfoldable pub filled_of : {E : Type 0} → Result ℕ E → ℕ → ℕ → Filled
-filled_of (Ok k) most at = Bytes (min k most) (eqb (min k most) 0) at
-filled_of (Err e) most at = Failed
+unfoldable pub filled_of : {E : Type 0} → Result ℕ E → ℕ → ℕ → Result Filled RunError
+filled_of (Ok k) most at = Ok (record { count = min k most; ended = eqb (min k most) 0; at = at })
+filled_of (Err e) most at = Err Unread

@@ -127,20 +127,6 @@ impl<T: Real> Quat<T> {
         }
     }
 
-    // One Newton step towards unit length, q (3 - |q|²) / 2. It is near unit only where |q|² is
-    // near 1: it gives zero at |q|² = 3 and reverses q beyond.
-    pub fn renormalized(self) -> Quat<T>
-        ensures { as_quat T.float result ≡ quat_renormalized T.format (as_quat T.float self) }
-    {
-        let k = (T::of(3.0) - self.norm_sq()) * T::of(0.5);
-        Quat {
-            w: self.w * k,
-            x: self.x * k,
-            y: self.y * k,
-            z: self.z * k,
-        }
-    }
-
     // The Hamilton product self * o; it does not normalise.
     pub fn mul(self, o: Quat<T>) -> Quat<T>
         ensures { as_quat T.float result ≡ quat_mul T.format (as_quat T.float self) (as_quat T.float o) }
@@ -166,9 +152,36 @@ impl<T: Real> Quat<T> {
     }
 }
 
-// `Quat::renormalized` on a quaternion that is lent; nothing else is altered.
-pub fn renormalize<T: Real>(q: &mut Quat<T>)
-    ensures { as_quat T.float q.new ≡ quat_renormalized T.format (as_quat T.float q.old) }
-{
-    *q = (*q).renormalized();
+// What a Newton step brings nearer to unit length: a quaternion, and a value that holds one.
+pub trait Renormalize: Copy {
+    // Whether the second is the first after one step.
+    ghost renormalizes: { Self → Self → Type 0 };
+
+    fn renormalized(self) -> Self
+        ensures { renormalizes self result };
+
+    // `renormalized` on a value that is lent; nothing else is altered.
+    fn renormalize(&mut self)
+        ensures { renormalizes self.old self.new }
+    {
+        *self = (*self).renormalized();
+    }
+}
+
+impl<T: Real> Renormalize for Quat<T> {
+    ghost renormalizes = { λ p q. as_quat T.float q ≡ quat_renormalized T.format (as_quat T.float p) };
+
+    // One Newton step towards unit length, q (3 - |q|²) / 2. It is near unit only where |q|² is
+    // near 1: it gives zero at |q|² = 3 and reverses q beyond.
+    fn renormalized(self) -> Quat<T>
+        ensures { as_quat T.float result ≡ quat_renormalized T.format (as_quat T.float self) }
+    {
+        let k = (T::of(3.0) - self.norm_sq()) * T::of(0.5);
+        Quat {
+            w: self.w * k,
+            x: self.x * k,
+            y: self.y * k,
+            z: self.z * k,
+        }
+    }
 }

@@ -17,7 +17,7 @@ use linalg::vector::Vec3;
 pub fn norm_sq<T: Real>(v: Vec3<T>) -> T
     ensures { T.float result ≡ vec_norm_sq T.format (as_vec3 T.float v) }
 {
-    (v.x * v.x + v.y * v.y) + v.z * v.z
+    v.norm_sq()
 }
 
 // R v by the quaternion sandwich: v + 2w (u x v) + 2 u x (u x v), u = (x, y, z), in that order.

@@ -1,18 +1,25 @@
 -- One computed test: at each width, in each row, every entry is the exact rational of the row's rule, rounded once. What follows for the constants of the code. Assumes nothing.
 use mathlib.Core.Path.{◌≡◌, refl, sym, ap, ◌∙◌, subst}
+use mathlib.Core.Logic.{inl, inr}
 use mathlib.Core.Bool.{Bool, true, ◌&&◌}
 use mathlib.Core.List.{List, [], ◌∷◌}
-use Rattle.std.specs.Prelude.{Some, None}
-use Prim.Native.Nat.{ℕ, zero, suc, ◌+◌, ◌≤◌, ◌<◌, zero-le}
+use Rattle.std.specs.Prelude.{Option, Some, None}
+use Rattle.std.specs.Option.{option_copied}
+use Rattle.std.specs.Slice.{IsItemAt}
+use Rattle.std.proofs.Common.{Bor}
+use Rattle.std.proofs.lemmas.Option.{slice_get_past, slice_get-get_or}
+use Rattle.std.specs.List.{slice_get}
+use Prim.Native.Nat.{ℕ, zero, suc, ◌+◌, ◌≤◌, ◌<◌}
 use native.Mathlib.Omega.{arith}
-use lib.Dec.{T, ltb, eqb, eqb→eq}
+use lib.Dec.{T, eqb, eqb→eq}
 use lib.ListN.{length, get_or}
-use borrow.Author.Tests.{ltb-true, lt-ltb, le-ltb}
-use lib.Ieee.{Format, binary32, binary64, round, of_bits, to_bits, fits}
+use borrow.Author.Tests.{lt-ltb, le-ltb}
+use lib.Ieee.{Float, Format, binary32, binary64, round, to_bits, fits}
 use lib.Ieee.Fits.{and_l, and_r, round-fits}
 use Rattle.ieee.specs.Signs.{not_minus_zero}
 use Rattle.ieee.specs.Table.{factorial, Rational, rounded, entries}
-use Rattle.ieee.proofs.Table.{floats, right, floats_are, entry_at}
+use Rattle.ieee.proofs.Table.{floats, right, floats_are}
+use Rattle.ieee.proofs.Signed.{order}
 use Rattle.ieee.proofs.Clear.{round_clear_false}
 use Rattle.tables.specs.Tables.{Row, cos_half_row, k_row, a_row, b_row, d_row, row_rule, row_table, recip_rule, Table, circle_table, recip_row, table_rule, table_length, recip_fact, recip_table}
 use Rattle.tables.specs.Patterns.{patterns}
@@ -89,17 +96,40 @@ pub table_is : (f : Format) (row : Row) → floats f (patterns f (circle_table r
 unfolding row_table
 table_is f row = floats_are f (row_rule row) 0 (patterns f (circle_table row)) (table-right f (circle_table row)) ∙ ap (entries f (row_rule row) 0) (table-length f (circle_table row))
 
--- ---- the reciprocals, entry by entry: at the index that equals k
-pub recip_is : (f : Format) (n k : ℕ) → n ≡ k → ltb k 33 ≡ true → Some (of_bits f (get_or (patterns f recip_row) k 0)) ≡ recip_table f n
-unfolding recip_table recip_fact
-recip_is f n k e h =
-    let m : ltb n 33 ≡ true = ap (λ (i : ℕ). ltb i 33) e ∙ h in
-    let l : k < 33 = ltb-true k 33 h in
-    rw m (ap Some (entry_at f recip_rule 0 (patterns f recip_row) (table-right f recip_row) n k (rw (table-length f recip_row) (omega arith)) (omega arith)))
+-- what a list lends at an index is what is there
+pub item_is : {X : Type 0} (xs : List X) (i : ℕ) (r : Option (Bor X)) → IsItemAt xs i r → option_copied r ≡ slice_get xs i
+item_is xs i None h = sym (slice_get_past xs i (h.3))
+item_is xs i (Some x) h = sym (slice_get-get_or xs i x.now h.3.0 ∙ ap Some (sym h.1))
+
+-- ---- to index 32 there is one
+pub recip_exists : (f : Format) (n : ℕ) → n ≤ 32 → recip_table f n ≡ Some (recip_fact f n)
+unfolding recip_table
+recip_exists f n h = rw (lt-ltb n 33 (omega arith)) refl
 
 pub recip_past : (f : Format) (n : ℕ) → 32 < n → recip_table f n ≡ None
 unfolding recip_table
 recip_past f n h = rw (le-ltb n 33 h) refl
+
+-- ---- what the list of the reciprocals has at an index
+entry_got : (f : Format) (rule : ℕ → Rational) (i m n : ℕ) → n < m → slice_get (entries f rule i m) n ≡ Some (rounded f (rule (i + n)))
+unfolding entries
+entry_got f rule i zero n h = absurd (omega arith)
+entry_got f rule i (suc m) zero h = let e : i ≡ i + 0 = omega arith in ap (λ (k : ℕ). Some (rounded f (rule k))) e
+entry_got f rule i (suc m) (suc n) h = let e : suc i + n ≡ i + suc n = omega arith in entry_got f rule (suc i) m n (omega arith) ∙ ap (λ (k : ℕ). Some (rounded f (rule k))) e
+
+length-entries : (f : Format) (rule : ℕ → Rational) (i m : ℕ) → length (entries f rule i m) ≡ m
+unfolding entries
+length-entries f rule i zero = refl
+length-entries f rule i (suc m) = ap suc (length-entries f rule (suc i) m)
+
+pub recip_got : (f : Format) (n : ℕ) → slice_get (floats f (patterns f recip_row)) n ≡ recip_table f n
+unfolding recip_fact
+recip_got f n =
+    ap (λ (l : List Float). slice_get l n) (floats_are f recip_rule 0 (patterns f recip_row) (table-right f recip_row) ∙ ap (entries f recip_rule 0) (table-length f recip_row))
+    ∙ elim (order n 33) [
+      | inl h ↦ (let e : 0 + n ≡ n = omega arith in entry_got f recip_rule 0 33 n h ∙ ap (λ (k : ℕ). Some (rounded f (recip_rule k))) e ∙ sym (recip_exists f n (omega arith)))
+      | inr h ↦ slice_get_past (entries f recip_rule 0 33) n (rw (length-entries f recip_rule 0 33) h) ∙ sym (recip_past f n h)
+    ]
 
 pub recip_fits : (f : Format) (n : ℕ) → T (fits f (recip_fact f n))
 unfolding recip_fact rounded
@@ -108,20 +138,3 @@ recip_fits f n = round-fits f _ _ _
 pub recip_clear : (f : Format) (n : ℕ) → T (not_minus_zero (recip_fact f n))
 unfolding recip_fact rounded recip_rule
 recip_clear f n = round_clear_false f _ _
-
--- ---- to index 32 there is one
-pub recip_exists : (f : Format) (n : ℕ) → n ≤ 32 → recip_table f n ≡ Some (recip_fact f n)
-unfolding recip_table
-recip_exists f n h = rw (lt-ltb n 33 (omega arith)) refl
-
--- n is none of 0, .., k - 1: what the last arm of a match knows
-abbrev pub NoneBelow : ℕ → ℕ → Type 0
-NoneBelow n zero = Unit
-NoneBelow n (suc k) = NoneBelow n k × (n ≡ k → ⊥)
-
-above : (k n : ℕ) → k ≤ n → (n ≡ k → ⊥) → suc k ≤ n
-above k n h d = omega arith
-
-pub none_below : (n k : ℕ) → NoneBelow n k → k ≤ n
-none_below n zero h = zero-le
-none_below n (suc k) h = above k n (none_below n k h.0) h.1

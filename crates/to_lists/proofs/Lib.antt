@@ -1,3 +1,2 @@
 -- The laws of lists that are written whole.
 pub mod Fits
-pub mod Stores

@@ -1,252 +1,367 @@
-// The numbers of a thing, written to a list that a C function is lent and that has just their length:
-// 0, or LIST_LENGTH and nothing written.
+// The numbers of a thing, written to a list that a C function is lent and that has just their length;
+// a list of another length is refused, and nothing written.
 #![tactic(auto)]
 
-ghost use Rattle.std.specs.Prelude.{◌≡◌, ◌+◌, ◌≤◌, length};
-ghost use Rattle.std.specs.Float.{binary64};
-ghost use Rattle.std.proofs.lemmas.List.Edits.{sets};
-ghost use Rattle.linalg.specs.Vector.{vec_numbers};
-ghost use Rattle.layout.specs.Layout.{mat_numbers, quat_numbers, pose_numbers, block_numbers, block_pair_numbers, coeffs_numbers, scaled_numbers, scaled_pair_numbers, two_numbers, act_numbers};
-ghost use Rattle.from_lists.specs.Lists.{pose_lists};
-ghost use Rattle.to_lists.specs.Written.{status, written, fitting, framed_written, framed_fitting, joined_fitting, arm_numbers, armed_numbers, armed_pair_numbers, renormalize_call};
+ghost use Rattle.std.specs.Prelude.{◌≡◌, ℕ, List, Float, cond, length};
+ghost use Rattle.ieee.specs.Numbers.{f0, f1};
 ghost use Rattle.linalg.specs.Answer.{answer};
+ghost use Rattle.linalg.specs.Vector.{vec_numbers};
+ghost use Rattle.linalg.specs.Floats.{as_mat3, as_vec3};
+ghost use Rattle.coeffs.specs.Floats.{as_armed, as_armed_pair, as_scaled, as_scaled_pair};
+ghost use Rattle.so3.specs.Floats.{as_quat};
+ghost use Rattle.sim3.specs.Floats.{as_sim3};
+ghost use Rattle.frames.specs.Floats.{as_pose};
+ghost use Rattle.jacobian.specs.Floats.{as_sim3_jac};
+ghost use Rattle.sides.specs.Floats.{as_act_jacobians, as_block_pair, as_two_jacobians};
+ghost use Rattle.layout.specs.Layout.{vec_count, mat_count, pose_count, block_count, block_pair_count, scaled_pair_count, two_count, act_count};
+ghost use Rattle.layout.specs.Layout.{mat_numbers, quat_numbers, pose_numbers, block_numbers, block_pair_numbers, scaled_numbers, scaled_pair_numbers, two_numbers, act_numbers};
+ghost use Rattle.layout.proofs.Numbers.{vec-count, mat-count, quat-count, pose-count, block-count, block-pair-count, scaled-count, scaled-pair-count, two_count_lem, act_count_lem};
+ghost use Rattle.from_lists.specs.Lists.{pose_lists};
+ghost use Rattle.to_lists.specs.Written.{status, written, fitting, framed_written, framed_fitting, arm_numbers, armed_numbers, armed_pair_numbers, renormalize_call};
+ghost use Rattle.to_lists.specs.Counts.{arm-count, armed-count, armed-pair-count};
 
-use coeffs::sim3::{Armed, ArmedPair, ScaledPair};
+use crate::whole::Whole;
+use coeffs::sim3::{Armed, Scaled};
 use frames::Pose;
-use from_lists::{FRAMES, LIST_LENGTH, PoseRead, pose_from};
+use from_lists::{FRAMES, pose_from};
+use ieee::Real;
 use jacobian::jac::Sim3Jac;
-use layout::{ACT_JACOBIANS, BLOCK, BLOCK_PAIR, POSE, SCALED_PAIR, TWO_JACOBIANS};
+use layout::{ACT_JACOBIANS, BLOCK, BLOCK_PAIR, MAT, POSE, SCALED_PAIR, TWO_JACOBIANS, VEC};
 use linalg::matrix::Mat3;
 use linalg::refusal::Refusal;
 use linalg::vector::Vec3;
-use series::sim3::Sim3Coeffs;
+use series::sim3::{Signs, Sim3Coeffs};
 use sides::pair::BlockPair;
 use sides::side::{ActJacobians, TwoJacobians};
 use sim3::sim3::Sim3;
-use so3::quat::Quat;
+use so3::quat::{Quat, Renormalize};
+
+pub mod whole; // a byte as a number
+
+const QUAT: usize = 4;
+
+// The nine coefficients of one sign and their flag.
+const SCALED: usize = 9 + 1;
 
 // The arm of one sign and its ends, before the ten numbers of that sign; and those of both signs before
 // the scaled pair.
-const ARMED: usize = 2 + 9 + 1;
+const ARM: usize = 2;
+
+const ARMED: usize = ARM + SCALED;
 
 const ARMED_PAIR: usize = 2 * ARMED;
 
-fn set_three(out: &mut [f64], at: usize, v: Vec3<f64>)
-    requires { at + 3 ≤ length out.old }
-    ensures { out.new ≡ sets out.old at (vec_numbers v) }
-{
-    out[at] = v.x;
-    out[at + 1] = v.y;
-    out[at + 2] = v.z;
+// What has a fixed number of numbers, in the order in which they stand in a list.
+pub trait ToNumbers<T: Real>: Copy {
+    const COUNT: usize;
+
+    ghost COUNT: { ℕ };
+
+    ghost numbers: { Self → List Float };
+
+    fn to_numbers(self, out: &mut [T])
+        requires { length out.old ≡ COUNT }
+        ensures { T.floats out.new ≡ numbers self };
+
+    ghost count_law: { (x : Self) → length (numbers x) ≡ COUNT };
 }
 
-fn set_quat(out: &mut [f64], at: usize, q: Quat<f64>)
-    requires { at + 4 ≤ length out.old }
-    ensures { out.new ≡ sets out.old at (quat_numbers q) }
+// The numbers of x to a list that has just their length.
+pub fn put<T: Real, X: ToNumbers<T>>(out: &mut [T], x: X) -> Result<(), Refusal>
+    ensures value { status (answer result) ≡ status (fitting (T.floats out.old) (X.numbers x)) }
+    ensures out_after { T.floats out.new ≡ written (fitting (T.floats out.old) (X.numbers x)) (T.floats out.old) }
 {
-    out[at] = q.w;
-    out[at + 1] = q.x;
-    out[at + 2] = q.y;
-    out[at + 3] = q.z;
+    if out.len() != X::COUNT {
+        return Err(Refusal::ListLength);
+    }
+    x.to_numbers(out);
+    Ok(())
 }
 
-fn set_mat(out: &mut [f64], at: usize, m: Mat3<f64>)
-    requires { at + 9 ≤ length out.old }
-    ensures { out.new ≡ sets out.old at (mat_numbers m) }
+// What a C function returns: 0, or the number of the refusal.
+pub fn status(done: Result<(), Refusal>) -> u32
+    ensures { result ≡ status (answer done) }
 {
-    set_three(out, at, m.c0);
-    set_three(out, at + 3, m.c1);
-    set_three(out, at + 6, m.c2);
+    match done {
+        Ok(()) => 0,
+        Err(refusal) => u32::from(refusal.number()),
+    }
 }
 
-fn set_block(out: &mut [f64], at: usize, j: Sim3Jac<f64>)
-    requires { at + 31 ≤ length out.old }
-    ensures { out.new ≡ sets out.old at (block_numbers j) }
-{
-    set_mat(out, at, j.a);
-    set_mat(out, at + 9, j.b);
-    set_mat(out, at + 18, j.c);
-    set_three(out, at + 27, j.f);
-    out[at + 30] = j.e;
+impl<T: Real> ToNumbers<T> for Vec3<T> {
+    const COUNT: usize = VEC;
+
+    ghost COUNT = { vec_count };
+
+    ghost numbers = { λ v. vec_numbers (as_vec3 T.float v) };
+
+    fn to_numbers(self, out: &mut [T]) {
+        out.copy_from_slice(&[self.x, self.y, self.z]);
+    }
+
+    ghost count_law = { λ v. vec-count (as_vec3 T.float v) };
+}
+
+impl<T: Real> ToNumbers<T> for Mat3<T> {
+    const COUNT: usize = MAT;
+
+    ghost COUNT = { mat_count };
+
+    ghost numbers = { λ m. mat_numbers (as_mat3 T.float m) };
+
+    fn to_numbers(self, out: &mut [T]) {
+        let (c0, rest) = out.split_at_mut(VEC);
+        let (c1, c2) = rest.split_at_mut(VEC);
+        self.c0.to_numbers(c0);
+        self.c1.to_numbers(c1);
+        self.c2.to_numbers(c2);
+    }
+
+    ghost count_law = { λ m. mat-count (as_mat3 T.float m) };
+}
+
+impl<T: Real> ToNumbers<T> for Quat<T> {
+    const COUNT: usize = QUAT;
+
+    ghost COUNT = { 4 };
+
+    ghost numbers = { λ q. quat_numbers (as_quat T.float q) };
+
+    fn to_numbers(self, out: &mut [T]) {
+        out.copy_from_slice(&[self.w, self.x, self.y, self.z]);
+    }
+
+    ghost count_law = { λ q. quat-count (as_quat T.float q) };
+}
+
+impl<T: Real> ToNumbers<T> for Sim3<T> {
+    const COUNT: usize = POSE;
+
+    ghost COUNT = { pose_count };
+
+    ghost numbers = { λ x. pose_numbers (as_sim3 T.float x) };
+
+    fn to_numbers(self, out: &mut [T]) {
+        let (q, rest) = out.split_at_mut(QUAT);
+        let (t, sigma) = rest.split_at_mut(VEC);
+        self.q.to_numbers(q);
+        self.t.to_numbers(t);
+        sigma.copy_from_slice(&[self.sigma]);
+    }
+
+    ghost count_law = { λ x. pose-count (as_sim3 T.float x) };
+}
+
+impl<T: Real> ToNumbers<T> for Sim3Jac<T> {
+    const COUNT: usize = BLOCK;
+
+    ghost COUNT = { block_count };
+
+    ghost numbers = { λ j. block_numbers (as_sim3_jac T.float j) };
+
+    fn to_numbers(self, out: &mut [T]) {
+        let (a, rest) = out.split_at_mut(MAT);
+        let (b, rest) = rest.split_at_mut(MAT);
+        let (c, rest) = rest.split_at_mut(MAT);
+        let (f, e) = rest.split_at_mut(VEC);
+        self.a.to_numbers(a);
+        self.b.to_numbers(b);
+        self.c.to_numbers(c);
+        self.f.to_numbers(f);
+        e.copy_from_slice(&[self.e]);
+    }
+
+    ghost count_law = { λ j. block-count (as_sim3_jac T.float j) };
 }
 
 // The nine coefficients, and the flag as 1 or 0.
-fn set_scaled(out: &mut [f64], at: usize, c: Sim3Coeffs<f64>, scaled: bool)
-    requires { at + 10 ≤ length out.old }
-    ensures { out.new ≡ sets out.old at (scaled_numbers (record { c = c; scaled = scaled })) }
-{
-    out[at] = c.v0;
-    out[at + 1] = c.v1;
-    out[at + 2] = c.v2;
-    out[at + 3] = c.w0;
-    out[at + 4] = c.w1;
-    out[at + 5] = c.w2;
-    out[at + 6] = c.dv1;
-    out[at + 7] = c.dv2;
-    out[at + 8] = c.chi_delta;
-    out[at + 9] = ieee::pick(scaled, 1.0, 0.0);
-}
+impl<T: Real> ToNumbers<T> for Scaled<Sim3Coeffs<T>> {
+    const COUNT: usize = SCALED;
 
-fn set_pose(out: &mut [f64], at: usize, x: Sim3<f64>)
-    requires { at + 8 ≤ length out.old }
-    ensures { out.new ≡ sets out.old at (pose_numbers x) }
-{
-    set_quat(out, at, x.q);
-    set_three(out, at + 4, x.t);
-    out[at + 7] = x.sigma;
-}
+    ghost COUNT = { 10 };
 
-pub fn put_pose(out: &mut [f64], x: Sim3<f64>) -> u32
-    ensures value { result ≡ status (fitting out.old (pose_numbers x)) }
-    ensures out_after { out.new ≡ written (fitting out.old (pose_numbers x)) out.old }
-{
-    if out.len() != POSE {
-        return LIST_LENGTH;
+    ghost numbers = { λ s. scaled_numbers (as_scaled T.float s) };
+
+    fn to_numbers(self, out: &mut [T]) {
+        let c = self.c;
+        let flag = flag(self.scaled);
+        out.copy_from_slice(&[
+            c.v0,
+            c.v1,
+            c.v2,
+            c.w0,
+            c.w1,
+            c.w2,
+            c.dv1,
+            c.dv2,
+            c.chi_delta,
+            flag,
+        ]);
     }
-    set_pose(out, 0, x);
-    0
-}
 
-// A Newton step towards a unit quaternion, in place: the pose is read, and then written.
-pub fn renormalize_pose(x: &mut [f64]) -> u32
-    ensures value { result ≡ status (renormalize_call binary64 x.old) }
-    ensures x_after { x.new ≡ written (renormalize_call binary64 x.old) x.old }
-{
-    let PoseRead::Got(a) = pose_from(x) else {
-        return LIST_LENGTH;
-    };
-    put_pose(x, a.renormalized())
-}
-
-// The numbers to one list and the frames, from and to, to another; both or none.
-pub fn put_framed(out: &mut [f64], out_frames: &mut [u16], x: Pose<f64>) -> u32
-    ensures value { result ≡ status (framed_fitting (pose_lists out.old out_frames.old) x) }
-    ensures out_frames_after { pose_lists out.new out_frames.new
-        ≡ framed_written (λ o. framed_fitting o x) (pose_lists out.old out_frames.old) }
-{
-    if out.len() != POSE {
-        return LIST_LENGTH;
-    }
-    if out_frames.len() != FRAMES {
-        return LIST_LENGTH;
-    }
-    set_pose(out, 0, x.sim3);
-    out_frames[0] = x.from;
-    out_frames[1] = x.to;
-    0
-}
-
-// The pose where the frames met, else the refusal.
-pub fn put_joined(out: &mut [f64], out_frames: &mut [u16], a: Result<Pose<f64>, Refusal>) -> u32
-    ensures value { result ≡ status (joined_fitting (pose_lists out.old out_frames.old) (answer a)) }
-    ensures out_frames_after { pose_lists out.new out_frames.new
-        ≡ framed_written (λ o. joined_fitting o (answer a)) (pose_lists out.old out_frames.old) }
-{
-    match a {
-        Ok(x) => put_framed(out, out_frames, x),
-        Err(refusal) => refusal.number() as u32,
-    }
+    ghost count_law = { λ s. scaled-count (as_scaled T.float s) };
 }
 
 // At sigma, then at -sigma.
-pub fn put_scaled_pair(out: &mut [f64], p: ScaledPair<f64>) -> u32
-    ensures value { result ≡ status (fitting out.old (scaled_pair_numbers p)) }
-    ensures out_after { out.new ≡ written (fitting out.old (scaled_pair_numbers p)) out.old }
-{
-    if out.len() != SCALED_PAIR {
-        return LIST_LENGTH;
-    }
-    set_scaled(out, 0, p.pos.c, p.pos.scaled);
-    set_scaled(out, 10, p.neg.c, p.neg.scaled);
-    0
-}
+impl<T: Real> ToNumbers<T> for Signs<Scaled<Sim3Coeffs<T>>> {
+    const COUNT: usize = SCALED_PAIR;
 
-// The arm, and 1 or 0 for whether v0 and w0 of the closed arm come from series of their own.
-fn set_arm(out: &mut [f64], at: usize, a: Armed<f64>)
-    requires { at + 2 ≤ length out.old }
-    ensures { out.new ≡ sets out.old at (arm_numbers binary64 a) }
-{
-    out[at] = a.arm as f64;
-    out[at + 1] = ieee::pick(a.ends, 1.0, 0.0);
-}
+    ghost COUNT = { scaled_pair_count };
 
-pub fn put_armed(out: &mut [f64], a: Armed<f64>) -> u32
-    ensures value { result ≡ status (fitting out.old (armed_numbers binary64 a)) }
-    ensures out_after { out.new ≡ written (fitting out.old (armed_numbers binary64 a)) out.old }
-{
-    if out.len() != ARMED {
-        return LIST_LENGTH;
-    }
-    set_arm(out, 0, a);
-    set_scaled(out, 2, a.s.c, a.s.scaled);
-    0
-}
+    ghost numbers = { λ p. scaled_pair_numbers (as_scaled_pair T.float p) };
 
-// The arms at sigma and at -sigma, then the coefficients of both.
-pub fn put_armed_pair(out: &mut [f64], p: ArmedPair<f64>) -> u32
-    ensures value { result ≡ status (fitting out.old (armed_pair_numbers binary64 p)) }
-    ensures out_after { out.new ≡ written (fitting out.old (armed_pair_numbers binary64 p)) out.old }
-{
-    if out.len() != ARMED_PAIR {
-        return LIST_LENGTH;
+    fn to_numbers(self, out: &mut [T]) {
+        let (pos, neg) = out.split_at_mut(SCALED);
+        self.pos.to_numbers(pos);
+        self.neg.to_numbers(neg);
     }
-    set_arm(out, 0, p.pos);
-    set_arm(out, 2, p.neg);
-    set_scaled(out, 4, p.pos.s.c, p.pos.s.scaled);
-    set_scaled(out, 14, p.neg.s.c, p.neg.s.scaled);
-    0
-}
 
-pub fn put_block(out: &mut [f64], j: Sim3Jac<f64>) -> u32
-    ensures value { result ≡ status (fitting out.old (block_numbers j)) }
-    ensures out_after { out.new ≡ written (fitting out.old (block_numbers j)) out.old }
-{
-    if out.len() != BLOCK {
-        return LIST_LENGTH;
-    }
-    set_block(out, 0, j);
-    0
+    ghost count_law = { λ p. scaled-pair-count (as_scaled_pair T.float p) };
 }
 
 // Left, its inverse, right, its inverse.
-pub fn put_block_pair(out: &mut [f64], p: BlockPair<f64>) -> u32
-    ensures value { result ≡ status (fitting out.old (block_pair_numbers p)) }
-    ensures out_after { out.new ≡ written (fitting out.old (block_pair_numbers p)) out.old }
-{
-    if out.len() != BLOCK_PAIR {
-        return LIST_LENGTH;
+impl<T: Real> ToNumbers<T> for BlockPair<T> {
+    const COUNT: usize = BLOCK_PAIR;
+
+    ghost COUNT = { block_pair_count };
+
+    ghost numbers = { λ p. block_pair_numbers (as_block_pair T.float p) };
+
+    fn to_numbers(self, out: &mut [T]) {
+        let (left, rest) = out.split_at_mut(BLOCK);
+        let (left_inv, rest) = rest.split_at_mut(BLOCK);
+        let (right, right_inv) = rest.split_at_mut(BLOCK);
+        self.left.to_numbers(left);
+        self.left_inv.to_numbers(left_inv);
+        self.right.to_numbers(right);
+        self.right_inv.to_numbers(right_inv);
     }
-    set_block(out, 0, p.left);
-    set_block(out, 31, p.left_inv);
-    set_block(out, 62, p.right);
-    set_block(out, 93, p.right_inv);
-    0
+
+    ghost count_law = { λ p. block-pair-count (as_block_pair T.float p) };
 }
 
 // By the first operand, then by the second.
-pub fn put_two(out: &mut [f64], t: TwoJacobians<f64>) -> u32
-    ensures value { result ≡ status (fitting out.old (two_numbers t)) }
-    ensures out_after { out.new ≡ written (fitting out.old (two_numbers t)) out.old }
-{
-    if out.len() != TWO_JACOBIANS {
-        return LIST_LENGTH;
+impl<T: Real> ToNumbers<T> for TwoJacobians<T> {
+    const COUNT: usize = TWO_JACOBIANS;
+
+    ghost COUNT = { two_count };
+
+    ghost numbers = { λ t. two_numbers (as_two_jacobians T.float t) };
+
+    fn to_numbers(self, out: &mut [T]) {
+        let (first, second) = out.split_at_mut(BLOCK);
+        self.first.to_numbers(first);
+        self.second.to_numbers(second);
     }
-    set_block(out, 0, t.first);
-    set_block(out, 31, t.second);
-    0
+
+    ghost count_law = { λ t. two_count_lem (as_two_jacobians T.float t) };
 }
 
 // By phi, rho and sigma of the pose, then by the point.
-pub fn put_act(out: &mut [f64], j: ActJacobians<f64>) -> u32
-    ensures value { result ≡ status (fitting out.old (act_numbers j)) }
-    ensures out_after { out.new ≡ written (fitting out.old (act_numbers j)) out.old }
-{
-    if out.len() != ACT_JACOBIANS {
-        return LIST_LENGTH;
+impl<T: Real> ToNumbers<T> for ActJacobians<T> {
+    const COUNT: usize = ACT_JACOBIANS;
+
+    ghost COUNT = { act_count };
+
+    ghost numbers = { λ j. act_numbers (as_act_jacobians T.float j) };
+
+    fn to_numbers(self, out: &mut [T]) {
+        let (rot, rest) = out.split_at_mut(MAT);
+        let (trans, rest) = rest.split_at_mut(MAT);
+        let (scale, point) = rest.split_at_mut(VEC);
+        self.rot.to_numbers(rot);
+        self.trans.to_numbers(trans);
+        self.scale.to_numbers(scale);
+        self.point.to_numbers(point);
     }
-    set_mat(out, 0, j.rot);
-    set_mat(out, 9, j.trans);
-    set_three(out, 18, j.scale);
-    set_mat(out, 21, j.point);
-    0
+
+    ghost count_law = { λ j. act_count_lem (as_act_jacobians T.float j) };
+}
+
+// 1 where it holds, else 0.
+fn flag<T: Real>(holds: bool) -> T
+    ensures { T.float result ≡ cond holds f1 f0 }
+{
+    ieee::pick(holds, T::of(1.0), T::of(0.0))
+}
+
+// The arm, and 1 or 0 for whether v0 and w0 of the closed arm come from series of their own.
+fn put_arm<T: Whole>(out: &mut [T], a: Armed<T>)
+    requires { length out.old ≡ 2 }
+    ensures { T.floats out.new ≡ arm_numbers T.format (as_armed T.float a) }
+{
+    out.copy_from_slice(&[T::of_byte(a.arm.number()), flag(a.ends)]);
+}
+
+// The arm of a sign before the numbers of that sign.
+impl<T: Whole> ToNumbers<T> for Armed<T> {
+    const COUNT: usize = ARMED;
+
+    ghost COUNT = { 12 };
+
+    ghost numbers = { λ a. armed_numbers T.format (as_armed T.float a) };
+
+    fn to_numbers(self, out: &mut [T]) {
+        let (arm, s) = out.split_at_mut(ARM);
+        put_arm(arm, self);
+        self.s.to_numbers(s);
+    }
+
+    ghost count_law = { λ a. armed-count T.format (as_armed T.float a) };
+}
+
+// The arms at sigma and at -sigma, then the coefficients of both.
+impl<T: Whole> ToNumbers<T> for Signs<Armed<T>> {
+    const COUNT: usize = ARMED_PAIR;
+
+    ghost COUNT = { 24 };
+
+    ghost numbers = { λ p. armed_pair_numbers T.format (as_armed_pair T.float p) };
+
+    fn to_numbers(self, out: &mut [T]) {
+        let (arm, rest) = out.split_at_mut(ARM);
+        let (arm_neg, rest) = rest.split_at_mut(ARM);
+        let (pos, neg) = rest.split_at_mut(SCALED);
+        put_arm(arm, self.pos);
+        put_arm(arm_neg, self.neg);
+        self.pos.s.to_numbers(pos);
+        self.neg.s.to_numbers(neg);
+    }
+
+    ghost count_law = { λ p. armed-pair-count T.format (as_armed_pair T.float p) };
+}
+
+pub fn put_pose<T: Real>(out: &mut [T], x: Sim3<T>) -> Result<(), Refusal>
+    ensures value { status (answer result) ≡ status (fitting (T.floats out.old) (pose_numbers (as_sim3 T.float x))) }
+    ensures out_after { T.floats out.new
+        ≡ written (fitting (T.floats out.old) (pose_numbers (as_sim3 T.float x))) (T.floats out.old) }
+{
+    put(out, x)
+}
+
+// A Newton step towards a unit quaternion, in place: the pose is read, and then written.
+pub fn renormalize_pose<T: Real>(x: &mut [T]) -> Result<(), Refusal>
+    ensures value { status (answer result) ≡ status (renormalize_call T.format (T.floats x.old)) }
+    ensures x_after { T.floats x.new ≡ written (renormalize_call T.format (T.floats x.old)) (T.floats x.old) }
+{
+    let a = pose_from(x)?;
+    put(x, a.renormalized())
+}
+
+// The numbers to one list and the frames, from and to, to another; both or none.
+pub fn put_framed<T: Real>(out: &mut [T], out_frames: &mut [u16], x: Pose<T>) -> Result<(), Refusal>
+    ensures value { status (answer result)
+        ≡ status (framed_fitting (pose_lists (T.floats out.old) out_frames.old) (as_pose T.float x)) }
+    ensures out_frames_after { pose_lists (T.floats out.new) out_frames.new
+        ≡ framed_written (λ o. framed_fitting o (as_pose T.float x)) (pose_lists (T.floats out.old) out_frames.old) }
+{
+    if out.len() != POSE {
+        return Err(Refusal::ListLength);
+    }
+    if out_frames.len() != FRAMES {
+        return Err(Refusal::ListLength);
+    }
+    x.sim3.to_numbers(out);
+    out_frames.copy_from_slice(&[x.from, x.to]);
+    Ok(())
 }

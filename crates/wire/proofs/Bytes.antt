@@ -1,5 +1,5 @@
 -- How many bytes a value has, and that what is written reads back. Assumes nothing.
-use Prim.Native.Nat.{ℕ, zero, suc, ◌+◌, ◌*◌, ◌^◌, ◌/◌, ◌%◌, ◌<◌, ◌≤◌}
+use Prim.Native.Nat.{ℕ, zero, suc, ◌+◌, ◌*◌, ◌^◌, ◌/◌, ◌<◌, ◌≤◌}
 use mathlib.Core.Path.{◌≡◌, refl, sym, ap, ◌∙◌}
 use mathlib.Core.Bool.{◌&&◌, and_assoc}
 use mathlib.Core.List.{List, [], ◌∷◌, ◌++◌, append_assoc}
@@ -10,6 +10,7 @@ use lib.Seq.{drop-cons, take_all}
 use lib.Dec.{T}
 use lib.Ieee.{Float, Format, nan, binary32, binary64, fits, to_bits}
 use lib.Ieee.Bits.{of_bits-to_bits, to_bits-lt}
+use Rattle.std.specs.Int.{w16, w32, w64, from_le_bytes, to_le_bytes}
 use Rattle.ieee.specs.Finite.{is_finite}
 use Rattle.wire.specs.Wire.{word_of, word_bytes, width, number_of, number_bytes, numbers_bytes, Item, item_bytes, items_bytes, all_finite, numbers, count_bytes}
 
@@ -88,28 +89,33 @@ pub word-eight :
 unfolding word_of
 word-eight b h = ap word_of (bytes-all b 8 h) ∙ omega arith
 
-pub word_two : (b : List ℕ) → length b ≡ 2 → word_of b ≡ get_or b 0 0 + 256 * get_or b 1 0
+-- as std reads them and writes them
+pub read_two : (a b : ℕ) → from_le_bytes w16 (a ∷ b ∷ []) ≡ word_of (a ∷ b ∷ [])
 unfolding word_of
-word_two b h = ap word_of (bytes-all b 2 h) ∙ omega arith
+read_two a b = omega arith
 
-pub bytes-eight :
-    (n : ℕ) →
-    n % 256
-    ∷ n / 0x100 % 256
-    ∷ n / 0x1_0000 % 256
-    ∷ n / 0x100_0000 % 256
-    ∷ n / 0x1_0000_0000 % 256
-    ∷ n / 0x100_0000_0000 % 256
-    ∷ n / 0x1_0000_0000_0000 % 256
-    ∷ n / 0x100_0000_0000_0000 % 256
-    ∷ []
-    ≡ word_bytes 8 n
-unfolding word_bytes
-bytes-eight n = simp div-div-eq-div-mul
+pub read_four : (b : List ℕ) → length b ≡ 4 → from_le_bytes w32 (get_or b 0 0 ∷ get_or b 1 0 ∷ get_or b 2 0 ∷ get_or b 3 0 ∷ []) ≡ word_of b
+read_four b h = omega (arith, word-four b h)
 
-pub bytes-four : (n : ℕ) → n % 256 ∷ n / 0x100 % 256 ∷ n / 0x1_0000 % 256 ∷ n / 0x100_0000 % 256 ∷ [] ≡ word_bytes 4 n
+pub read_eight :
+    (b : List ℕ) → length b ≡ 8 →
+    from_le_bytes
+    w64
+    (get_or b 0 0 ∷ get_or b 1 0 ∷ get_or b 2 0 ∷ get_or b 3 0 ∷ get_or b 4 0 ∷ get_or b 5 0 ∷ get_or b 6 0 ∷ get_or b 7 0 ∷ [])
+    ≡ word_of b
+read_eight b h = omega (arith, word-eight b h)
+
+pub written_two : (n : ℕ) → to_le_bytes w16 n ≡ word_bytes 2 n
 unfolding word_bytes
-bytes-four n = simp div-div-eq-div-mul
+written_two n = refl
+
+pub written_four : (n : ℕ) → to_le_bytes w32 n ≡ word_bytes 4 n
+unfolding word_bytes
+written_four n = simp div-div-eq-div-mul
+
+pub written_eight : (n : ℕ) → to_le_bytes w64 n ≡ word_bytes 8 n
+unfolding word_bytes
+written_eight n = simp div-div-eq-div-mul
 
 -- ---- what is written for NaN, and that what is written reads back
 pub nan_double : number_bytes binary64 nan ≡ 0 ∷ 0 ∷ 0 ∷ 0 ∷ 0 ∷ 0 ∷ 0xf8 ∷ 0x7f ∷ []

@@ -1,18 +1,18 @@
 -- The stores by which bytes become a list, and a list bytes; whether all numbers of a list are finite. Assumes nothing.
-use Prim.Native.Nat.{ℕ, zero, suc, ◌+◌, ◌-◌, ◌*◌, ◌^◌, ◌/◌, ◌≤◌, ◌<◌}
+use Prim.Native.Nat.{ℕ, zero, suc, min, ◌+◌, ◌-◌, ◌*◌, ◌^◌, ◌/◌, ◌≤◌, ◌<◌}
 use mathlib.Core.Path.{◌≡◌, refl, sym, ap, subst, ◌∙◌}
 use mathlib.Core.Bool.{Bool, beq, true, false, not, cond, ◌&&◌, and_assoc}
-use mathlib.Core.List.{List, [], ◌∷◌, ◌++◌, append-nil, append_assoc}
-use native.Mathlib.Nat.{add-zero, add-suc, suc-add, suc-mul, add_comm, zero-mul}
+use mathlib.Core.List.{List, [], ◌∷◌, ◌++◌, map, append-nil, append_assoc}
+use native.Mathlib.Nat.{min-eq_left, min-eq_right, min-le_left, min-le_right, add-zero, add-suc, suc-add, suc-mul, add_comm, zero-mul}
 use native.Mathlib.Numerals.{add-one}
 use native.Mathlib.Omega.{arith}
-use borrow.Author.Tests.{eq-eqb}
+use borrow.Author.Tests.{eq-eqb, ltb-true, ltb-false}
 use lib.Dec.{T, ltb}
-use lib.ListN.{length, take, drop, set, get_or, length-append}
+use lib.ListN.{length, take, drop, set, get_or, get_or-map, length-append}
+use Rattle.std.proofs.lemmas.List.{length-map, drop-map, take-map, map-append}
 use lib.Seq.{sets, sets-eq, take-suc, take_all, length-take-le}
 use lib.IntN.{ℤ}
-use lib.Ieee.{Float, nan, inf, fin, Format, binary32, binary64, of_bits, nan_bits, is_nan, up, down, low, emax, prec, odd, units, round, sum, neg, add, sub, eq}
-use lib.Ieee.Bits.{nan_bits_is}
+use lib.Ieee.{Float, nan, inf, fin, Format, binary32, binary64, to_bits, up, down, low, emax, prec, odd, units, round, sum, neg, add, sub, eq}
 use Rattle.ieee.specs.Finite.{is_finite}
 use Rattle.wire.specs.Wire.{width, word_of, word_bytes, word_at, number_at, number_bytes, numbers_bytes, numbers, all_finite, fewer, firsts, numbers_at, words_at, words_bytes}
 use Rattle.wire.proofs.Bytes.{word-length, numbers-length, numbers-append}
@@ -37,8 +37,29 @@ pub decoded_more : {A : Type 0} (at : ℕ → A) (l : List A) (i : ℕ) → set 
 unfolding firsts
 decoded_more at l i = rw (add-one i) (one_behind (firsts at i) l (at i) i (firsts-length at i))
 
-pub bits : (f : Format) (b : List ℕ) (i w : ℕ) → of_bits f w ≡ number_at f b i → is_nan (number_at f b i) ≡ false → T (not (nan_bits f w))
-bits f b i w e h = rw (nan_bits_is f w ∙ ap is_nan e ∙ h) tt
+-- ---- numbers of a type, by what each is: `float`
+taken_more : {X : Type 0} (float : X → Float) (l : List X) (i : ℕ) (x : X) → i < length l → take (suc i) (map float (set l i x)) ≡ take i (map float l) ++ (float x ∷ [])
+taken_more float [] i x h = absurd (omega arith)
+taken_more float (y ∷ l) zero x h = refl
+taken_more float (y ∷ l) (suc i) x h = ap (λ (k : List Float). float y ∷ k) (taken_more float l i x (omega arith))
+
+pub read_more :
+    {X : Type 0} (float : X → Float) (at : ℕ → Float) (l : List X) (x : X) (i : ℕ) → i < length l → take i (map float l) ≡ firsts at i → float x ≡ at i →
+    take (i + 1) (map float (set l i x)) ≡ firsts at (i + 1)
+unfolding firsts
+read_more float at l x i h e q = rw add-one (taken_more float l i x h ∙ rw (e, q) refl)
+
+pub read_all : {X : Type 0} (float : X → Float) (l : List X) (i : ℕ) (v : List Float) → take i (map float l) ≡ v → length l ≤ i → map float l ≡ v
+read_all float l i v h e = sym (take_all i (map float l) (simp length-map (omega arith))) ∙ h
+
+-- those at the front of a list
+pub read_front : {X : Type 0} (float : X → Float) (l k : List X) (v : List Float) (n : ℕ) → map float k ≡ v → length k ≡ n → n ≤ length l → map float (k ++ drop n l) ≡ sets (map float l) 0 v
+read_front float l k v n h e g =
+    let m : length v ≡ n = sym (ap length h) ∙ length-map k float ∙ e in
+    let j : 0 + length v ≡ n = omega (arith, m) in
+    map-append float k (drop n l)
+    ∙ rw (h, ← (drop-map float n l))
+    (sym (sets-eq v (map float l) 0 (simp length-map (omega (arith, m))) ∙ ap (λ (i : ℕ). v ++ drop i (map float l)) j))
 
 -- ---- written: one more element, each of w bytes
 next : {A : Type 0} (l : List A) (d : A) (i : ℕ) → i < length l → take (i + 1) l ≡ take i l ++ (get_or l i d ∷ [])
@@ -64,6 +85,22 @@ unfolding numbers_bytes
 encoded_more f l d out i h =
     ap (sets (sets out 0 (numbers_bytes f (take i l))) (i * width f)) (sym (append-nil (number_bytes f (get_or l i d))))
     ∙ stored_more (numbers_bytes f) (width f) (numbers-length f) (numbers-append f) l d out i h
+
+-- of numbers of a type, of which y is the i-th
+of_one : {X : Type 0} (float : X → Float) (l : List X) (y : X) (i : ℕ) → y ≡ get_or l i y → get_or (map float l) i (float y) ≡ float y
+of_one float l y i e = get_or-map float l i y ∙ ap float (sym e)
+
+pub written_more :
+    {X : Type 0} (f : Format) (float : X → Float) (l : List X) (y : X) (out o p : List ℕ) (i k n : ℕ) → i < length l → y ≡ get_or l i y →
+    o ≡ sets out 0 (numbers_bytes f (take i (map float l))) → n ≡ to_bits f (float y) → k ≡ width f → p ≡ sets o (i * k) (word_bytes (width f) n) →
+    p ≡ sets out 0 (numbers_bytes f (take (i + 1) (map float l)))
+unfolding number_bytes
+written_more f float l y out o p i k n h e q b w s =
+    let c = sets out 0 (numbers_bytes f (take i (map float l))) in
+    s
+    ∙ rw (q, b, w)
+    (ap (λ (x : Float). sets c (i * width f) (number_bytes f x)) (sym (of_one float l y i e))
+    ∙ encoded_more f (map float l) (float y) out i (simp length-map (omega arith)))
 
 -- whole numbers of k bytes
 pub words-length : (k : ℕ) (l : List ℕ) → length (words_bytes k l) ≡ length l * k
@@ -155,12 +192,20 @@ both true true e = (refl, refl)
 both true false e = absurd (subst T (sym e) tt)
 both false s e = absurd (subst T (sym e) tt)
 
-pub one-finite : (l : List Float) (d : Float) (n i : ℕ) → all_finite (numbers (take n l)) ≡ true → i < n → i < length l → is_finite (get_or l i d) ≡ true
+pub finite_next :
+    {X : Type 0} (f : Format) (float : X → Float) (l : List X) (y : X) (z : Float) (i : ℕ) (t r : Bool) → i < length l → y ≡ get_or l i y →
+    z ≡ sub f (float y) (float y) → r ≡ eq z z → t ≡ all_finite (numbers (take i (map float l))) → t && r ≡ all_finite (numbers (take (i + 1) (map float l)))
+finite_next f float l y z i t r h e q w s =
+    rw (w, q) (rw (of_one float l y i e) at (finite_more f (map float l) (float y) i t (simp length-map (omega arith)) s))
+
+at_finite : (l : List Float) (d : Float) (i : ℕ) → all_finite (numbers l) ≡ true → i < length l → is_finite (get_or l i d) ≡ true
 unfolding all_finite numbers
-one-finite [] d n i e h g = absurd (omega arith)
-one-finite (x ∷ l) d zero i e h g = absurd (omega arith)
-one-finite (x ∷ l) d (suc n) zero e h g = (both (is_finite x) (all_finite (numbers (take n l))) e).0
-one-finite (x ∷ l) d (suc n) (suc i) e h g = one-finite l d n i (both (is_finite x) (all_finite (numbers (take n l))) e).1 (omega arith) (omega arith)
+at_finite [] d i e h = absurd (omega arith)
+at_finite (x ∷ l) d zero e h = (both (is_finite x) (all_finite (numbers l)) e).0
+at_finite (x ∷ l) d (suc i) e h = at_finite l d i (both (is_finite x) (all_finite (numbers l)) e).1 (omega arith)
+
+pub one-finite : {X : Type 0} (float : X → Float) (l : List X) (y : X) (i : ℕ) → all_finite (numbers (map float l)) ≡ true → i < length l → y ≡ get_or l i y → is_finite (float y) ≡ true
+one-finite float l y i e h q = rw (of_one float l y i q) at (at_finite (map float l) (float y) i e (simp length-map (omega arith)))
 
 -- ---- what is read of bytes that have just the numbers for a list
 front_read : (f : Format) (b : List ℕ) (n k : ℕ) → n * width f ≤ length b → k < n → number_at f (take (n * width f) b) k ≡ number_at f b k
@@ -184,7 +229,7 @@ one_of_two : {A : Type 0} (t : Bool) (x : A) → cond t x x ≡ x
 one_of_two true x = refl
 one_of_two false x = refl
 
-all_stored : {A : Type 0} (l a : List A) → length l ≡ length a → sets l 0 a ≡ a
+pub all_stored : {A : Type 0} (l a : List A) → length l ≡ length a → sets l 0 a ≡ a
 all_stored l a h = sets-eq a l 0 (omega (arith, h)) ∙ rw (drop_all (0 + length a) l (omega (arith, h))) (append-nil a)
 
 many : (f : Format) (n : ℕ) → n * width f / width f ≡ n
@@ -217,6 +262,50 @@ shorts_decoded b l n h e =
     let m : n * 2 / 2 ≡ n = omega arith in
     let k : fewer (length (take (n * 2) b) / 2) (length l) ≡ n = rw (length-take-le (n * 2) b h, m, e) (one_of_two (ltb n n) n) in
     rw (k, shorts_front b n n h (omega arith)) (all_stored l (words_at 2 b n) (e ∙ sym (firsts-length (λ (i : ℕ). word_at 2 b (i * 2)) n)))
+
+-- ---- as many as both have
+min_by : (a b : ℕ) (t : Bool) → ltb a b ≡ t → min a b ≡ cond t a b
+min_by a b true e = let h = ltb-true a b e in min-eq_left (omega arith)
+min_by a b false e = let h = ltb-false a b e in min-eq_right (omega arith)
+
+pub min_fewer : (a b : ℕ) → min a b ≡ fewer a b
+min_fewer a b = min_by a b (ltb a b) refl
+
+pub fewer_least : (a b : ℕ) → (fewer a b ≤ a) × (fewer a b ≤ b)
+fewer_least a b = by (ltb a b) refl
+  where
+    by : (t : Bool) → ltb a b ≡ t → (cond t a b ≤ a) × (cond t a b ≤ b)
+    by true e = let h = ltb-true a b e in (omega arith, omega arith)
+    by false e = let h = ltb-false a b e in (omega arith, omega arith)
+
+-- of bytes to a list's front, and of a list's front to bytes
+fits_in : (f : Format) (n m : ℕ) → n ≤ m / width f → n * width f ≤ m
+fits_in binary32 n m h = omega arith
+fits_in binary64 n m h = omega arith
+
+pub in_bytes : (f : Format) (m n k w : ℕ) → w ≡ width f → n ≡ min (m / w) k → n * width f ≤ m
+in_bytes f m n k w e h = fits_in f n m (rw (h, e) (min-le_left (m / width f) k))
+
+pub decoded_whole :
+    {X : Type 0} (f : Format) (float : X → Float) (b : List ℕ) (l k : List X) (n w v : ℕ) → w ≡ width f → v ≡ width f → n ≡ min (length b / w) (length l) →
+    length k ≡ length (take n l) → map float k ≡ numbers_at f (take (n * v) b) (length (take n l)) →
+    map float (k ++ drop n l) ≡ sets (map float l) 0 (numbers_at f b (fewer (length b / width f) (length l)))
+decoded_whole f float b l k n w v p q h e r =
+    let m : n ≡ fewer (length b / width f) (length l) = h ∙ rw p (min_fewer (length b / width f) (length l)) in
+    let most : n ≤ length l = rw h (min-le_right (length b / w) (length l)) in
+    let t : length (take n l) ≡ n = length-take-le n l most in
+    let s = numbers_front f b n n (in_bytes f (length b) n (length l) w p h) (omega arith) in
+    rw (← m) (read_front float l k (numbers_at f b n) n (rw (q, t) at r ∙ s) (e ∙ t) most)
+
+pub taken_whole :
+    {X : Type 0} (f : Format) (float : X → Float) (l : List X) (m n w : ℕ) → w ≡ width f → n ≡ min (length l) (m / w) →
+    map float (take n l) ≡ take (fewer (length l) (m / width f)) (map float l)
+taken_whole f float l m n w e h = sym (take-map float n l) ∙ ap (λ (k : ℕ). take k (map float l)) (h ∙ rw e (min_fewer (length l) (m / width f)))
+
+pub front_stored : {A : Type 0} (l v : List A) (n : ℕ) → length v ≡ n → n ≤ length l → sets (take n l) 0 v ++ drop n l ≡ sets l 0 v
+front_stored l v n e h =
+    let j : 0 + length v ≡ n = omega (arith, e) in
+    rw (all_stored (take n l) v (length-take-le n l h ∙ sym e)) (sym (sets-eq v l 0 (omega (arith, e)) ∙ ap (λ (i : ℕ). v ++ drop i l) j))
 
 -- ---- a list that is written whole
 pub encoded : {A : Type 0} (y : List A) (p : List ℕ) (w n : ℕ) → length y ≡ n → length p / w ≡ n → take (fewer (length y) (length p / w)) y ≡ y

@@ -1,5 +1,5 @@
 -- Numbers looked through for a NaN, as code does it. Assumes nothing.
-use Prim.Native.Nat.{ℕ, zero, suc, ◌+◌, ◌*◌, ◌/◌, ◌%◌, ◌≤◌, ◌<◌}
+use Prim.Native.Nat.{ℕ, zero, suc, ◌+◌, ◌*◌, ◌/◌, ◌%◌, ◌<◌}
 use mathlib.Core.Path.{◌≡◌, refl, sym, ap, subst, ◌∙◌}
 use mathlib.Core.Bool.{Bool, true, false, not, cond, ◌&&◌}
 use mathlib.Core.List.{List}
@@ -7,17 +7,13 @@ use native.Mathlib.Omega.{arith}
 use borrow.Author.Tests.{ltb-true, ltb-false, eq-eqb, ne_eqb}
 use lib.Bits.{bit_or, or_zero_r, or_add_and, and_le_l, or_shr}
 use lib.Dec.{T, eqb, ltb}
-use lib.ListN.{length, take, drop}
-use lib.Ieee.{Format, binary32, binary64, of_bits, is_nan}
+use lib.ListN.{length}
+use lib.Ieee.{Format, binary32, binary64, of_bits, nan_bits, is_nan}
 use lib.Ieee.Bits.{nan_bits_is, nan_bits_above}
 use Rattle.wire.specs.Wire.{width, word_at, number_of, number_at, none_nan, no_nan}
-use Rattle.wire.proofs.Places.{part_count, part_read}
+use Rattle.wire.specs.Number.{sign_bit, high_bit_zero}
 
--- the bit of the sign as a number, and all bits of the fraction
-abbrev pub sign_bit : Format → ℕ
-sign_bit binary32 = 0x8000_0000
-sign_bit binary64 = 0x8000_0000_0000_0000
-
+-- all bits of the fraction
 abbrev pub fraction : Format → ℕ
 fraction binary32 = 0x007f_ffff
 fraction binary64 = 0x000f_ffff_ffff_ffff
@@ -46,9 +42,6 @@ nan_adds : (f : Format) (w : ℕ) → (w % sign_bit f + fraction f) / sign_bit f
 nan_adds f w = carried f (w % sign_bit f) _ (unsigned f w) refl ∙ ap (λ (t : Bool). cond t 1 0) (sym (nan_above f w))
 
 -- ---- one number more; of what was put together the bit of the sign is looked at
-abbrev pub high_bit_zero : Format → ℕ → Bool
-high_bit_zero f n = ltb n (sign_bit f)
-
 cases : (f : Format) (n : ℕ) (t : Bool) → high_bit_zero f n ≡ t → t ≡ eqb (n / sign_bit f) 0
 cases binary32 n true e = let h = ltb-true n _ e in sym (eq-eqb (n / 0x8000_0000) 0 (omega arith))
 cases binary32 n false e = let h = ltb-false n _ e in sym (ne_eqb _ _ (λ (g : n / 0x8000_0000 ≡ 0). omega arith))
@@ -74,14 +67,21 @@ put_in false false n e = rw (or_zero_r n) e
 next : (i : ℕ) → i + 1 ≡ suc i
 next i = omega arith
 
-pub one_more :
-    (f : Format) (b : List ℕ) (i seen w : ℕ) → w ≡ word_at (width f) b (i * width f) → high_bit_zero f seen ≡ none_nan f b i →
-    high_bit_zero f (bit_or seen (w % sign_bit f + fraction f)) ≡ none_nan f b (i + 1)
-unfolding none_nan number_at number_of word_at
-one_more f b i seen w e h =
+many : (f : Format) (n : ℕ) → n * width f / width f ≡ n
+many binary32 n = omega arith
+many binary64 n = omega arith
+
+pub one_seen :
+    (f : Format) (n w : ℕ) → high_bit_zero f (bit_or n (w % sign_bit f + fraction f)) ≡ high_bit_zero f n && not (is_nan (of_bits f w))
+one_seen f n w =
     let t = w % sign_bit f + fraction f in
-    rw (halved f (bit_or seen t), or_halved f seen t, nan_adds f w, e, next i)
-    (put_in (none_nan f b i) (is_nan (number_at f b i)) (seen / sign_bit f) (sym (halved f seen) ∙ h))
+    rw (halved f (bit_or n t), or_halved f n t, nan_adds f w) (put_in (high_bit_zero f n) (is_nan (of_bits f w)) (n / sign_bit f) (sym (halved f n)))
+
+pub one_more :
+    (f : Format) (b : List ℕ) (i w : ℕ) (t s : Bool) → w ≡ word_at (width f) b (i * width f) → t ≡ none_nan f b i → s ≡ t && not (is_nan (of_bits f w)) →
+    s ≡ none_nan f b (i + 1)
+unfolding none_nan number_at number_of word_at
+one_more f b i w t s e h g = rw (next i, ← h, ← e) g
 
 -- ---- where none is a NaN, no single one is
 both : (a s : Bool) → a && not s ≡ true → (a ≡ true) × (s ≡ false)
@@ -102,12 +102,12 @@ none_nan_lem f b (suc n) k e h =
     let p = both (none_nan f b n) (is_nan (number_at f b n)) e in
     last_or f b n k _ (none_nan_lem f b n k p.0) p.1 h refl
 
--- of n numbers from the i-th on
-pub part-plain :
-    (f : Format) (b p : List ℕ) (i n : ℕ) → p ≡ take (n * width f) (drop (i * width f) b) → (i + n) * width f ≤ length b → no_nan f p ≡ true →
-    (k : ℕ) → k < n → is_nan (number_at f b (i + k)) ≡ false
-unfolding no_nan
-part-plain f b p i n q h e k g =
-    let counted : length p / width f ≡ n = ap (λ (l : List ℕ). length l / width f) q ∙ part_count f b i n h in
-    let read : number_at f p k ≡ number_at f b (i + k) = ap (λ (l : List ℕ). number_at f l k) q ∙ part_read f b i n k h g in
-    sym (ap is_nan read) ∙ none_nan_lem f p n k (rw counted at e) g
+-- of the numbers of a part from the front, of which none is a NaN, each is its bits
+pub plain : (f : Format) (b : List ℕ) (n w i : ℕ) → length b ≡ n * width f → no_nan f b ≡ true → i < n → w ≡ word_at (width f) b (i * width f) → is_nan (of_bits f w) ≡ false
+unfolding no_nan number_at number_of word_at
+plain f b n w i h e g q =
+    let counted : length b / width f ≡ n = ap (λ (k : ℕ). k / width f) h ∙ many f n in
+    rw q (none_nan_lem f b n i (rw counted at e) g)
+
+pub bits : (f : Format) (w : ℕ) → is_nan (of_bits f w) ≡ false → T (not (nan_bits f w))
+bits f w h = rw (nan_bits_is f w ∙ h) tt

@@ -1,59 +1,15 @@
 -- The bytes at a place of a list, as code reads and stores them one by one. Assumes nothing.
 use Prim.Native.Nat.{ℕ, ◌+◌, ◌-◌, ◌*◌, ◌/◌, ◌≤◌, ◌<◌}
 use mathlib.Core.Path.{◌≡◌, sym, ap, ◌∙◌}
-use mathlib.Core.List.{List, [], ◌∷◌}
+use mathlib.Core.List.{List, [], ◌∷◌, ◌++◌, append_assoc}
 use native.Mathlib.Numerals.{towards_suc}
 use native.Mathlib.Omega.{arith}
-use lib.ListN.{length, take, drop, get_or, set, length-drop}
-use lib.Seq.{sets, length-take-le, take-take, take-add, drop-drop, drop_at}
-use lib.Ieee.{Float, Format, binary32, binary64}
-use Rattle.wire.specs.Wire.{width, word_of, word_bytes, word_at, number_of, number_at, number_bytes, count_bytes}
-use Rattle.wire.proofs.Bytes.{bytes-at, bytes-all, word-length, number-length, count-length}
+use lib.ListN.{length, take, drop, get_or, length-drop}
+use lib.Seq.{sets, sets-eq, length-take-le, take-take, take-add, drop-drop, drop_at}
+use lib.Ieee.{Format, binary32, binary64}
+use Rattle.wire.specs.Wire.{width, word_of, word_at, number_of, number_at}
+use Rattle.wire.proofs.Bytes.{bytes-at}
 
--- the eight bytes, and the four, that begin at `at`
-pub eight_read :
-    (b : List ℕ) (at : ℕ) → at + 8 ≤ length b →
-    get_or b at 0
-    ∷ get_or b (at + 1) 0
-    ∷ get_or b (at + 2) 0
-    ∷ get_or b (at + 3) 0
-    ∷ get_or b (at + 4) 0
-    ∷ get_or b (at + 5) 0
-    ∷ get_or b (at + 6) 0
-    ∷ get_or b (at + 7) 0
-    ∷ []
-    ≡ take 8 (drop at b)
-eight_read b at h = rw (bytes-at b at 8 h) (simp towards_suc)
-
-pub four_read : (b : List ℕ) (at : ℕ) → at + 4 ≤ length b → get_or b at 0 ∷ get_or b (at + 1) 0 ∷ get_or b (at + 2) 0 ∷ get_or b (at + 3) 0 ∷ [] ≡ take 4 (drop at b)
-four_read b at h = rw (bytes-at b at 4 h) (simp towards_suc)
-
--- the i-th double, whose bytes begin at `at`
-pub double_read :
-    (b : List ℕ) (i at : ℕ) → at ≡ i * 8 → at + 8 ≤ length b →
-    number_of
-    binary64
-    (get_or b at 0
-    ∷ get_or b (at + 1) 0
-    ∷ get_or b (at + 2) 0
-    ∷ get_or b (at + 3) 0
-    ∷ get_or b (at + 4) 0
-    ∷ get_or b (at + 5) 0
-    ∷ get_or b (at + 6) 0
-    ∷ get_or b (at + 7) 0
-    ∷ [])
-    ≡ number_at binary64 b i
-unfolding number_at
-double_read b i at e h = rw (← e) (ap (number_of binary64) (eight_read b at h))
-
--- the i-th single
-pub single_read :
-    (b : List ℕ) (i at : ℕ) → at ≡ i * 4 → at + 4 ≤ length b →
-    number_of binary32 (get_or b at 0 ∷ get_or b (at + 1) 0 ∷ get_or b (at + 2) 0 ∷ get_or b (at + 3) 0 ∷ []) ≡ number_at binary32 b i
-unfolding number_at
-single_read b i at e h = rw (← e) (ap (number_of binary32) (four_read b at h))
-
--- the number of the two bytes that begin at `at`
 pub short_read : (b : List ℕ) (at : ℕ) → at + 2 ≤ length b → word_of (get_or b at 0 ∷ get_or b (at + 1) 0 ∷ []) ≡ word_at 2 b at
 unfolding word_at
 short_read b at h = rw (bytes-at b at 2 h) (simp towards_suc)
@@ -84,30 +40,8 @@ pub part_count : (f : Format) (b : List ℕ) (i n : ℕ) → (i + n) * width f �
 part_count binary32 b i n h = rw (part_length b (i * 4) (n * 4) (omega arith)) (omega arith)
 part_count binary64 b i n h = rw (part_length b (i * 8) (n * 8) (omega arith)) (omega arith)
 
--- ---- two, four and eight stores
-abbrev pub two_stores : List ℕ → ℕ → List ℕ → List ℕ
-two_stores l at d = set (set l at (get_or d 0 0)) (at + 1) (get_or d 1 0)
-
-abbrev pub four_stores : List ℕ → ℕ → List ℕ → List ℕ
-four_stores l at d = set (set (set (set l at (get_or d 0 0)) (at + 1) (get_or d 1 0)) (at + 2) (get_or d 2 0)) (at + 3) (get_or d 3 0)
-
-abbrev pub eight_stores : List ℕ → ℕ → List ℕ → List ℕ
-eight_stores l at d = set (set (set (set (four_stores l at d) (at + 4) (get_or d 4 0)) (at + 5) (get_or d 5 0)) (at + 6) (get_or d 6 0)) (at + 7) (get_or d 7 0)
-
-four_are : (d l : List ℕ) (at : ℕ) → length d ≡ 4 → four_stores l at d ≡ sets l at d
-four_are d l at h = sym (ap (sets l at) (bytes-all d 4 h) ∙ sym (simp towards_suc))
-
-eight_are : (d l : List ℕ) (at : ℕ) → length d ≡ 8 → eight_stores l at d ≡ sets l at d
-eight_are d l at h = sym (ap (sets l at) (bytes-all d 8 h) ∙ sym (simp towards_suc))
-
-pub short_stored : (n : ℕ) (d l : List ℕ) (at : ℕ) → d ≡ word_bytes 2 n → two_stores l at d ≡ sets l at (word_bytes 2 n)
-short_stored n d l at e = sym (ap (sets l at) (sym e ∙ bytes-all d 2 (ap length e ∙ word-length 2 n)) ∙ sym (simp towards_suc))
-
-pub count_stored : (n : ℕ) (d l : List ℕ) (at : ℕ) → d ≡ count_bytes n → four_stores l at d ≡ sets l at (count_bytes n)
-count_stored n d l at e = four_are d l at (ap length e ∙ count-length n) ∙ ap (sets l at) e
-
-pub double_stored : (x : Float) (d l : List ℕ) (at : ℕ) → d ≡ number_bytes binary64 x → eight_stores l at d ≡ sets l at (number_bytes binary64 x)
-double_stored x d l at e = eight_are d l at (ap length e ∙ number-length binary64 x) ∙ ap (sets l at) e
-
-pub single_stored : (x : Float) (d l : List ℕ) (at : ℕ) → d ≡ number_bytes binary32 x → four_stores l at d ≡ sets l at (number_bytes binary32 x)
-single_stored x d l at e = four_are d l at (ap length e ∙ number-length binary32 x) ∙ ap (sets l at) e
+-- ---- written: a part of k bytes that is lent and comes back as d
+pub part_stored : (l d v : List ℕ) (a k : ℕ) → d ≡ v → length v ≡ k → a + k ≤ length l → take a l ++ (d ++ drop k (drop a l)) ≡ sets l a v
+part_stored l d v a k h e g =
+    let n : a + length v ≡ a + k = omega (arith, e) in
+    rw (h, drop-drop k a l) (sym (sets-eq v l a (omega (arith, e)) ∙ (append_assoc (take a l) v (drop (a + length v) l) ∙ ap (λ (j : ℕ). take a l ++ (v ++ drop j l)) n)))

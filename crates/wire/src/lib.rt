@@ -1,323 +1,292 @@
-// Doubles, counts and numbers of 16 bits as little-endian bytes: one value and an array of its bytes, and whole lists,
-// `decode` and `encode`. Each public function is total; those on lists go as far as the bytes and the list both do.
+// Numbers of either width, counts and whole numbers of 16 bits as little-endian bytes: one value at a place of a list,
+// and whole lists, `decode` and `encode`. Those on lists are total: they go as far as the bytes and the list both do.
 #![tactic(auto)]
 
-ghost use Rattle.std.specs.Prelude.{◌≡◌, true, ◌+◌, ◌*◌, ◌/◌, ◌≤◌, ◌<◌, length, take};
-ghost use Rattle.std.specs.Float.{binary64};
+ghost use Rattle.std.specs.Prelude.{◌≡◌, ◌+◌, ◌*◌, ◌/◌, ◌≤◌, ◌&&◌, ℕ, true, false, not, refl, length, take, drop};
+ghost use Rattle.std.specs.Float.Ieee.{of_bits, to_bits, is_nan};
+ghost use Rattle.std.specs.Float.{Format, binary32, binary64};
+ghost use Rattle.std.proofs.Common.{rules};
 ghost use Rattle.std.proofs.lemmas.List.Edits.{sets};
 ghost use Rattle.ieee.specs.Finite.{is_finite};
 ghost use Rattle.wire.specs.Wire.{width, word_of, word_bytes, word_at, number_of, number_bytes, no_nan, count_bytes};
 ghost use Rattle.wire.specs.Wire.{fewer, numbers_at, words_at, numbers, numbers_bytes, words_bytes, all_finite};
-ghost use Rattle.wire.specs.Private.{Plain};
+ghost use Rattle.wire.specs.Number.{high_bit_zero};
+ghost use Rattle.wire.specs.Private.{Reads, Writes};
 
 use ieee::Real;
 
-pub mod single; // singles
+// A number that has bytes: eight for `f64`, four for `f32`.
+pub trait Number: Real {
+    ghost BYTES: { ℕ };
 
-// How many bytes a double has.
-pub const NUMBER: usize = 8;
+    const BYTES: usize;
 
-// The sign's bit, and all bits of the fraction.
-const SIGN: u64 = 0x8000_0000_0000_0000;
+    // The whole number that the bytes make.
+    fn word(b: &[u8]) -> Self::Bits
+        requires { length b.now ≡ BYTES }
+        ensures { Self.bits result ≡ word_of b.now };
 
-const FRACTION: u64 = 0x000f_ffff_ffff_ffff;
+    // The bytes of a whole number.
+    fn put_word(word: Self::Bits, out: &mut [u8])
+        requires { length out.old ≡ BYTES }
+        ensures { out.new ≡ word_bytes BYTES (Self.bits word) };
 
-fn wide(x: u8) -> u64
-    ensures { (result ≡ x) × (result < 256) }
-{
-    x as u64
+    // The number whose bits these are, taken as they are: no NaN's.
+    fn from_bits(word: Self::Bits) -> Self
+        requires { is_nan (of_bits Self.format (Self.bits word)) ≡ false }
+        ensures { Self.float result ≡ of_bits Self.format (Self.bits word) };
+
+    // The bits of a number as they are: no NaN's.
+    fn to_bits(self) -> Self::Bits
+        requires { is_finite (Self.float self) ≡ true }
+        ensures { Self.bits result ≡ to_bits Self.format (Self.float self) };
+
+    // What is put together of words looked at for a NaN: of none, and of one more. Without its sign a NaN's pattern is
+    // above that of the infinity, so that all bits of the fraction carry it to the bit of the sign, and no other.
+    fn none_seen() -> Self::Bits
+        ensures { high_bit_zero Self.format (Self.bits result) ≡ true };
+
+    fn seen(before: Self::Bits, word: Self::Bits) -> Self::Bits
+        ensures { high_bit_zero Self.format (Self.bits result)
+            ≡ (high_bit_zero Self.format (Self.bits before) && not (is_nan (of_bits Self.format (Self.bits word)))) };
+
+    // Whether there was no NaN among them: that bit is looked at once, so that nothing is tested word by word.
+    fn no_nan_seen(seen: Self::Bits) -> bool
+        ensures { result ≡ high_bit_zero Self.format (Self.bits seen) };
+
+    ghost bytes_law: { BYTES ≡ width Self.format };
 }
 
-// The whole number whose eight bytes, the least first, are `b`.
-pub fn word_from_le_bytes(b: [u8; 8]) -> u64
-    ensures { result ≡ word_of b }
-{
-    let b0 = wide(b[0]);
-    let b1 = wide(b[1]);
-    let b2 = wide(b[2]);
-    let b3 = wide(b[3]);
-    let b4 = wide(b[4]);
-    let b5 = wide(b[5]);
-    let b6 = wide(b[6]);
-    let b7 = wide(b[7]);
-    b0 + 0x100 * b1
-        + 0x1_0000 * b2
-        + 0x100_0000 * b3
-        + 0x1_0000_0000 * b4
-        + 0x100_0000_0000 * b5
-        + 0x1_0000_0000_0000 * b6
-        + 0x100_0000_0000_0000 * b7
+impl Number for f64 {
+    ghost BYTES = { 8 };
+
+    const BYTES: usize = 8;
+
+    fn word(b: &[u8]) -> u64 {
+        u64::from_le_bytes([b[0], b[1], b[2], b[3], b[4], b[5], b[6], b[7]])
+    }
+
+    fn put_word(word: u64, out: &mut [u8]) {
+        out.copy_from_slice(&word.to_le_bytes());
+    }
+
+    fn from_bits(word: u64) -> f64 {
+        f64::from_bits(word)
+    }
+
+    fn to_bits(self) -> u64 {
+        f64::to_bits(self)
+    }
+
+    fn none_seen() -> u64 {
+        0
+    }
+
+    fn seen(before: u64, word: u64) -> u64 {
+        before | (word % 0x8000_0000_0000_0000 + 0x000f_ffff_ffff_ffff)
+    }
+
+    fn no_nan_seen(seen: u64) -> bool {
+        seen < 0x8000_0000_0000_0000
+    }
+
+    ghost bytes_law = { refl };
 }
 
-// The double whose eight bytes, the least first, are `b`. Every NaN pattern reads as NaN.
+impl Number for f32 {
+    ghost BYTES = { 4 };
+
+    const BYTES: usize = 4;
+
+    fn word(b: &[u8]) -> u32 {
+        u32::from_le_bytes([b[0], b[1], b[2], b[3]])
+    }
+
+    fn put_word(word: u32, out: &mut [u8]) {
+        out.copy_from_slice(&word.to_le_bytes());
+    }
+
+    fn from_bits(word: u32) -> f32 {
+        f32::from_bits(word)
+    }
+
+    fn to_bits(self) -> u32 {
+        f32::to_bits(self)
+    }
+
+    fn none_seen() -> u32 {
+        0
+    }
+
+    fn seen(before: u32, word: u32) -> u32 {
+        before | (word % 0x8000_0000 + 0x007f_ffff)
+    }
+
+    fn no_nan_seen(seen: u32) -> bool {
+        seen < 0x8000_0000
+    }
+
+    ghost bytes_law = { refl };
+}
+
+// ---- one word at a place of a list
+fn word_at<T: Number>(b: &[u8], at: usize) -> T::Bits
+    requires { at + width T.format ≤ length b.now }
+    ensures { T.bits result ≡ word_at (width T.format) b.now at }
+{
+    T::word(&b[at..at + T::BYTES])
+}
+
+fn put_word_at<T: Number>(out: &mut [u8], at: usize, word: T::Bits)
+    requires { at + width T.format ≤ length out.old }
+    ensures { out.new ≡ sets out.old at (word_bytes (width T.format) (T.bits word)) }
+{
+    T::put_word(word, &mut out[at..at + T::BYTES]);
+}
+
+// ---- one value and an array of its bytes, the least first
+// The double of these bytes; every NaN pattern reads as NaN.
 pub fn from_le_bytes(b: [u8; 8]) -> f64
     ensures { result ≡ number_of binary64 b }
 {
-    f64::from_pattern(word_from_le_bytes(b))
+    f64::from_pattern(u64::from_le_bytes(b))
 }
 
-// The i-th eight bytes of a list as one whole number.
-fn word_at(b: &[u8], i: usize) -> u64
-    requires { (i + 1) * 8 ≤ length b.now }
-    ensures { result ≡ word_at 8 b.now (i * 8) }
-{
-    let at = i * 8;
-    word_from_le_bytes([
-        b[at],
-        b[at + 1],
-        b[at + 2],
-        b[at + 3],
-        b[at + 4],
-        b[at + 5],
-        b[at + 6],
-        b[at + 7],
-    ])
-}
-
-// Whether none of the doubles in the bytes is a NaN. Without its sign a NaN's pattern is above that of
-// the infinity, so that FRACTION carries it to the bit of the sign, and no other; all are put together,
-// and that bit is looked at once. So nothing is tested number by number, and two are taken in one step.
-pub fn no_nan(b: &[u8]) -> bool
-    ensures { result ≡ no_nan binary64 b.now }
-{
-    let n = b.len() / 8;
-    let mut seen: u64 = 0;
-    let mut i = 0;
-    while i < n {
-        seen = seen | (word_at(b, i) % SIGN + FRACTION);
-        i += 1;
-    }
-    seen < SIGN
-}
-
-// The eight bytes of `n`, the least first.
-pub fn word_to_le_bytes(n: u64) -> [u8; 8]
-    ensures { result ≡ word_bytes 8 n }
-{
-    [
-        (n % 256) as u8,
-        (n / 0x100 % 256) as u8,
-        (n / 0x1_0000 % 256) as u8,
-        (n / 0x100_0000 % 256) as u8,
-        (n / 0x1_0000_0000 % 256) as u8,
-        (n / 0x100_0000_0000 % 256) as u8,
-        (n / 0x1_0000_0000_0000 % 256) as u8,
-        (n / 0x100_0000_0000_0000 % 256) as u8,
-    ]
-}
-
-// The eight bytes of `x`, the least first; those of 7ff8000000000000 for every NaN.
+// The bytes of a double; those of 7ff8000000000000 for every NaN.
 pub fn to_le_bytes(x: f64) -> [u8; 8]
     ensures { result ≡ number_bytes binary64 x }
 {
-    word_to_le_bytes(x.pattern())
+    x.pattern().to_le_bytes()
 }
 
-// The four bytes of `n`, the least first.
+// The bytes of a whole number of 32 bits.
 pub fn count_to_le_bytes(n: u32) -> [u8; 4]
     ensures { result ≡ count_bytes n }
 {
-    [
-        (n % 256) as u8,
-        (n / 0x100 % 256) as u8,
-        (n / 0x1_0000 % 256) as u8,
-        (n / 0x100_0000 % 256) as u8,
-    ]
+    n.to_le_bytes()
 }
 
-fn joined(low: u8, high: u8) -> u16
-    ensures { result ≡ low + 256 * high }
-{
-    (low as u16) + 256 * (high as u16)
-}
-
-// The whole number whose two bytes, the least first, are `b`.
+// The whole number of these two bytes.
 pub fn short_from_le_bytes(b: [u8; 2]) -> u16
     ensures { result ≡ word_of b }
 {
-    joined(b[0], b[1])
+    u16::from_le_bytes(b)
 }
 
-// The two bytes of `n`, the least first.
+// The two bytes of a whole number.
 pub fn short_to_le_bytes(n: u16) -> [u8; 2]
     ensures { result ≡ word_bytes 2 n }
 {
-    [(n % 256) as u8, (n / 0x100 % 256) as u8]
+    n.to_le_bytes()
 }
 
-fn least(a: usize, b: usize) -> usize
-    ensures value { result ≡ fewer a b }
-    ensures upper_bound { result ≤ a }
-    ensures upper_bound_2 { result ≤ b }
+// ---- one number at a place of a list
+fn short_at(b: &[u8], at: usize) -> u16
+    requires { at + 2 ≤ length b.now }
+    ensures { result ≡ word_at 2 b.now at }
 {
-    if a < b {
-        return a;
+    short_from_le_bytes([b[at], b[at + 1]])
+}
+
+fn put_short(out: &mut [u8], at: usize, n: u16)
+    requires { at + 2 ≤ length out.old }
+    ensures { out.new ≡ sets out.old at (word_bytes 2 n) }
+{
+    out[at..at + 2].copy_from_slice(&short_to_le_bytes(n));
+}
+
+// ---- numbers read
+// Whether none of the numbers in the bytes is a NaN.
+pub fn no_nan<T: Number>(b: &[u8]) -> bool
+    ensures { result ≡ no_nan T.format b.now }
+{
+    let mut seen = T::none_seen();
+    for i in 0..b.len() / T::BYTES {
+        seen = T::seen(seen, word_at::<T>(b, i * T::BYTES));
     }
-    b
+    T::no_nan_seen(seen)
 }
 
-// ---- read
-// Every NaN pattern reads as NaN.
-fn decode_any(b: &[u8], out: &mut [f64], n: usize)
-    requires binary64_in_bounds { n * width binary64 ≤ length b.now }
-    requires n_in_bounds { n ≤ length out.old }
-    ensures { out.new ≡ sets out.old 0 (numbers_at binary64 b.now n) }
+// As many numbers as the list has, each read from its bits.
+fn decode_by<T: Number, F: Fn(T::Bits) -> T>(b: &[u8], out: &mut [T], read: F)
+    requires bytes { length out.old * width T.format ≤ length b.now }
+    requires reads { Reads T.format T.bits T.float (F.pre read) (F.post read) b.now (length out.old) }
+    ensures { T.floats out.new ≡ numbers_at T.format b.now (length out.old) }
 {
-    let mut i = 0;
-    while i < n {
-        out[i] = f64::from_pattern(word_at(b, i));
-        i += 1;
-    }
-}
-
-// None is a NaN: their bits are taken as they are.
-fn decode_plain(b: &[u8], out: &mut [f64], n: usize)
-    requires binary64_in_bounds { n * width binary64 ≤ length b.now }
-    requires n_in_bounds { n ≤ length out.old }
-    requires plain { Plain binary64 b.now n }
-    ensures { out.new ≡ sets out.old 0 (numbers_at binary64 b.now n) }
-{
-    let mut i = 0;
-    while i < n {
-        out[i] = f64::from_bits(word_at(b, i));
-        i += 1;
+    for (i, x) in out.iter_mut().enumerate() {
+        *x = read(word_at::<T>(b, i * T::BYTES));
     }
 }
 
 // The numbers in the bytes, to a list. Where none is a NaN, which one look through all of them tells, their bits are
 // taken as they are.
-pub fn decode(b: &[u8], out: &mut [f64])
-    ensures { out.new
-        ≡ sets out.old 0 (numbers_at binary64 b.now (fewer (length b.now / width binary64) (length out.old))) }
+pub fn decode<T: Number>(b: &[u8], out: &mut [T])
+    ensures { T.floats out.new
+        ≡ sets (T.floats out.old) 0 (numbers_at T.format b.now (fewer (length b.now / width T.format) (length out.old))) }
 {
-    let n = least(b.len() / 8, out.len());
-    if no_nan(&b[0..n * 8]) {
-        decode_plain(b, out, n);
+    let n = (b.len() / T::BYTES).min(out.len());
+    let bytes = &b[..n * T::BYTES];
+    let numbers = &mut out[..n];
+    if no_nan::<T>(bytes) {
+        decode_by(bytes, numbers, |word| T::from_bits(word));
     } else {
-        decode_any(b, out, n);
+        decode_by(bytes, numbers, |word| T::from_pattern(word));
     }
 }
 
-// ---- written
-fn put_number(out: &mut [u8], i: usize, x: f64)
-    requires { (i + 1) * width binary64 ≤ length out.old }
-    ensures { out.new ≡ sets out.old (i * width binary64) (number_bytes binary64 x) }
-{
-    let at = i * 8;
-    let d = to_le_bytes(x);
-    out[at] = d[0];
-    out[at + 1] = d[1];
-    out[at + 2] = d[2];
-    out[at + 3] = d[3];
-    out[at + 4] = d[4];
-    out[at + 5] = d[5];
-    out[at + 6] = d[6];
-    out[at + 7] = d[7];
-}
-
-fn put_finite(out: &mut [u8], i: usize, x: f64)
-    requires binary64_in_bounds { (i + 1) * width binary64 ≤ length out.old }
-    requires x_value { is_finite x ≡ true }
-    ensures { out.new ≡ sets out.old (i * width binary64) (number_bytes binary64 x) }
-{
-    let at = i * 8;
-    let d = word_to_le_bytes(f64::to_bits(x));
-    out[at] = d[0];
-    out[at + 1] = d[1];
-    out[at + 2] = d[2];
-    out[at + 3] = d[3];
-    out[at + 4] = d[4];
-    out[at + 5] = d[5];
-    out[at + 6] = d[6];
-    out[at + 7] = d[7];
-}
-
-// Whether the first n numbers are finite: a number less itself is a zero, which equals itself; of a NaN or an infinity
-// it is NaN, which does not.
-fn all_finite(x: &[f64], n: usize) -> bool
-    requires { n ≤ length x.now }
-    ensures { result ≡ all_finite (numbers (take n x.now)) }
+// ---- numbers written
+// Whether all are finite: a number less itself is a zero, which equals itself; of a NaN or an infinity it is NaN, which
+// does not.
+fn all_finite<T: Number>(x: &[T]) -> bool
+    ensures { result ≡ all_finite (numbers (T.floats x.now)) }
 {
     let mut finite = true;
-    let mut i = 0;
-    while i < n {
-        let z = x[i] - x[i];
+    for y in x {
+        let z = *y - *y;
         finite = finite & (z == z);
-        i += 1;
     }
     finite
 }
 
-fn encode_any(x: &[f64], out: &mut [u8], n: usize)
-    requires n_in_bounds { n ≤ length x.now }
-    requires binary64_in_bounds { n * width binary64 ≤ length out.old }
-    ensures { out.new ≡ sets out.old 0 (numbers_bytes binary64 (take n x.now)) }
+// All numbers of a list, each written by its bits.
+fn encode_by<T: Number, F: Fn(T) -> T::Bits>(x: &[T], out: &mut [u8], write: F)
+    requires bytes { length x.now * width T.format ≤ length out.old }
+    requires writes { Writes T.format T.bits T.float (F.pre write) (F.post write) x.now }
+    ensures { out.new ≡ sets out.old 0 (numbers_bytes T.format (T.floats x.now)) }
 {
-    let mut i = 0;
-    while i < n {
-        put_number(out, i, x[i]);
-        i += 1;
-    }
-}
-
-fn encode_finite(x: &[f64], out: &mut [u8], n: usize)
-    requires n_in_bounds { n ≤ length x.now }
-    requires binary64_in_bounds { n * width binary64 ≤ length out.old }
-    requires x_value { all_finite (numbers (take n x.now)) ≡ true }
-    ensures { out.new ≡ sets out.old 0 (numbers_bytes binary64 (take n x.now)) }
-{
-    let mut i = 0;
-    while i < n {
-        put_finite(out, i, x[i]);
-        i += 1;
+    for (i, y) in x.iter().enumerate() {
+        put_word_at::<T>(out, i * T::BYTES, write(*y));
     }
 }
 
 // The numbers of a list to bytes, and whether all of them are finite; where they are, their bits are taken as they are.
-pub fn encode(x: &[f64], out: &mut [u8]) -> bool
-    ensures value { result ≡ all_finite (numbers (take (fewer (length x.now) (length out.old / width binary64)) x.now)) }
+pub fn encode<T: Number>(x: &[T], out: &mut [u8]) -> bool
+    ensures value { result
+        ≡ all_finite (numbers (take (fewer (length x.now) (length out.old / width T.format)) (T.floats x.now))) }
     ensures out_after { out.new
-        ≡ sets out.old 0 (numbers_bytes binary64 (take (fewer (length x.now) (length out.old / width binary64)) x.now)) }
+        ≡ sets out.old 0 (numbers_bytes T.format
+        (take (fewer (length x.now) (length out.old / width T.format)) (T.floats x.now))) }
 {
-    let n = least(x.len(), out.len() / 8);
-    if all_finite(x, n) {
-        encode_finite(x, out, n);
-        return true;
+    let n = x.len().min(out.len() / T::BYTES);
+    let numbers = &x[..n];
+    let finite = all_finite(numbers);
+    if finite {
+        encode_by(numbers, out, |y| y.to_bits());
+    } else {
+        encode_by(numbers, out, |y| y.pattern());
     }
-    encode_any(x, out, n);
-    false
+    finite
 }
 
 // ---- whole numbers of two bytes
-// The i-th two bytes as one whole number.
-fn short_at(b: &[u8], i: usize) -> u16
-    requires { (i + 1) * 2 ≤ length b.now }
-    ensures { result ≡ word_at 2 b.now (i * 2) }
-{
-    let at = i * 2;
-    short_from_le_bytes([b[at], b[at + 1]])
-}
-
 // The whole numbers in the bytes, two bytes each, to a list.
 pub fn decode_shorts(b: &[u8], out: &mut [u16])
     ensures { out.new ≡ sets out.old 0 (words_at 2 b.now (fewer (length b.now / 2) (length out.old))) }
 {
-    let n = least(b.len() / 2, out.len());
-    let mut i = 0;
-    while i < n {
-        out[i] = short_at(b, i);
-        i += 1;
+    let n = (b.len() / 2).min(out.len());
+    for (i, x) in out[..n].iter_mut().enumerate() {
+        *x = short_at(b, i * 2);
     }
-}
-
-fn put_short(out: &mut [u8], i: usize, n: u16)
-    requires { (i + 1) * 2 ≤ length out.old }
-    ensures { out.new ≡ sets out.old (i * 2) (word_bytes 2 n) }
-{
-    let at = i * 2;
-    let d = short_to_le_bytes(n);
-    out[at] = d[0];
-    out[at + 1] = d[1];
 }
 
 // The whole numbers of a list to bytes, two bytes each.
@@ -325,10 +294,8 @@ pub fn encode_shorts(x: &[u16], out: &mut [u8])
     ensures { out.new
         ≡ sets out.old 0 (words_bytes 2 (take (fewer (length x.now) (length out.old / 2)) x.now)) }
 {
-    let n = least(x.len(), out.len() / 2);
-    let mut i = 0;
-    while i < n {
-        put_short(out, i, x[i]);
-        i += 1;
+    let n = x.len().min(out.len() / 2);
+    for (i, y) in x[..n].iter().enumerate() {
+        put_short(out, i * 2, *y);
     }
 }

@@ -1,6 +1,8 @@
--- `finite::pose` meets its contract: the product equals itself where it is a zero. Assumes nothing.
-use Rattle.ieee.proofs.Finite.{zero-told}
+-- `finite::pose` meets its contract: the product is no NaN where it is a zero. Assumes nothing.
+use mathlib.Core.Path.{◌∙◌, ap}
+use mathlib.Core.Bool.{not}
+use Rattle.finite.proofs.AllFinite.{told_by_nan}
 use Rattle.finite.proofs.pose.Goals as goal
 
 pub returns : goal.returns
-returns c = zero-told _ _ c.pose_zero-z.ensures
+returns c = ap not c.is_nan.ensures.value ∙ told_by_nan _ _ c.pose_zero.ensures

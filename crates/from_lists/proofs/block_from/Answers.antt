@@ -1,20 +1,12 @@
--- `from_lists::block_from` meets its contract: a list of the length that is due is read, and any other is told. Assumes nothing.
-use mathlib.Core.Path.{sym}
-use Rattle.layout.specs.Layout.{block_in}
-use Rattle.from_lists.specs.Lists.{block_from, block_read_told}
-use Rattle.from_lists.proofs.Lists.{sized-right, sized_wrong}
+-- `from_lists::block_from` meets its contract: what is told by its numbers is told of the thing. Assumes nothing.
+use Rattle.std.proofs.lemmas.List.{length-map}
+use Rattle.layout.specs.Layout.{block_in, block_numbers}
+use Rattle.from_lists.specs.Lists.{block_from, number_in}
+use Rattle.from_lists.proofs.Back.{told_back, block_back}
 use Rattle.from_lists.proofs.block_from.Goals as goal
 
-pub returns-then-l-ne-BLOCK : goal.returns-then-l-ne-BLOCK
-unfolding block_from block_read_told
-returns-then-l-ne-BLOCK c = sym (sized_wrong _ _ _ c.if-l-ne-BLOCK.true)
-
 pub returns : goal.returns
-unfolding block_in block_from block_read_told
-returns c =
-    rw (
-      c.vec_in.ensures,
-      c.mat_in-3.ensures,
-      c.mat_in-2.ensures,
-      c.mat_in.ensures,
-    ) (sym (sized-right _ _ _ c.if-l-ne-BLOCK.false))
+unfolding block_from
+returns g c =
+    let real = g.met.T.Real in
+    told_back _ block_numbers (λ l. block_in (number_in l) 0) block_back _ _ _ _ (rw (real.floats_law, length-map)) c.from_list.ensures

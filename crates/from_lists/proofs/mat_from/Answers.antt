@@ -1,13 +1,12 @@
--- `from_lists::mat_from` meets its contract: a list of the length that is due is read, and any other is told. Assumes nothing.
-use mathlib.Core.Path.{sym}
-use Rattle.from_lists.specs.Lists.{mat_from, mat_read_told}
-use Rattle.from_lists.proofs.Lists.{sized-right, sized_wrong}
+-- `from_lists::mat_from` meets its contract: what is told by its numbers is told of the thing. Assumes nothing.
+use Rattle.std.proofs.lemmas.List.{length-map}
+use Rattle.layout.specs.Layout.{mat_in, mat_numbers}
+use Rattle.from_lists.specs.Lists.{mat_from, number_in}
+use Rattle.from_lists.proofs.Back.{told_back, mat_back}
 use Rattle.from_lists.proofs.mat_from.Goals as goal
 
-pub returns-then-l-ne-MAT : goal.returns-then-l-ne-MAT
-unfolding mat_from mat_read_told
-returns-then-l-ne-MAT c = sym (sized_wrong _ _ _ c.if-l-ne-MAT.true)
-
 pub returns : goal.returns
-unfolding mat_from mat_read_told
-returns c = rw c.mat_in.ensures (sym (sized-right _ _ _ c.if-l-ne-MAT.false))
+unfolding mat_from
+returns g c =
+    let real = g.met.T.Real in
+    told_back _ mat_numbers (λ l. mat_in (number_in l) 0) mat_back _ _ _ _ (rw (real.floats_law, length-map)) c.from_list.ensures

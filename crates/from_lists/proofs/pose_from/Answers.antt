@@ -1,13 +1,12 @@
--- `from_lists::pose_from` meets its contract: a list of the length that is due is read, and any other is told. Assumes nothing.
-use mathlib.Core.Path.{sym}
-use Rattle.from_lists.specs.Lists.{pose_from, pose_read_told}
-use Rattle.from_lists.proofs.Lists.{sized-right, sized_wrong}
+-- `from_lists::pose_from` meets its contract: what is told by its numbers is told of the thing. Assumes nothing.
+use Rattle.std.proofs.lemmas.List.{length-map}
+use Rattle.layout.specs.Layout.{pose_in, pose_numbers}
+use Rattle.from_lists.specs.Lists.{pose_from, number_in}
+use Rattle.from_lists.proofs.Back.{told_back, pose_back}
 use Rattle.from_lists.proofs.pose_from.Goals as goal
 
-pub returns-then-l-ne-POSE : goal.returns-then-l-ne-POSE
-unfolding pose_from pose_read_told
-returns-then-l-ne-POSE c = sym (sized_wrong _ _ _ c.if-l-ne-POSE.true)
-
 pub returns : goal.returns
-unfolding pose_from pose_read_told
-returns c = rw c.pose_in.ensures (sym (sized-right _ _ _ c.if-l-ne-POSE.false))
+unfolding pose_from
+returns g c =
+    let real = g.met.T.Real in
+    told_back _ pose_numbers (λ l. pose_in (number_in l) 0) pose_back _ _ _ _ (rw (real.floats_law, length-map)) c.from_list.ensures

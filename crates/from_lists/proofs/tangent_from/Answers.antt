@@ -1,14 +1,13 @@
--- `from_lists::tangent_from` meets its contract: a list of the length that is due is read, and any other is told. Assumes nothing.
-use mathlib.Core.Path.{sym}
+-- `from_lists::tangent_from` meets its contract: what is told by its numbers is told of the thing. Assumes nothing.
+use Rattle.std.proofs.lemmas.List.{length-map}
+use Rattle.from_lists.specs.Numbers.{tangent_numbers}
 use Rattle.layout.specs.Layout.{tangent_in}
-use Rattle.from_lists.specs.Lists.{tangent_from, tangent_read_told}
-use Rattle.from_lists.proofs.Lists.{sized-right, sized_wrong}
+use Rattle.from_lists.specs.Lists.{tangent_from, number_in}
+use Rattle.from_lists.proofs.Back.{told_back, tangent_back}
 use Rattle.from_lists.proofs.tangent_from.Goals as goal
 
-pub returns-then-l-ne-TANGENT : goal.returns-then-l-ne-TANGENT
-unfolding tangent_from tangent_read_told
-returns-then-l-ne-TANGENT c = sym (sized_wrong _ _ _ c.if-l-ne-TANGENT.true)
-
 pub returns : goal.returns
-unfolding tangent_in tangent_from tangent_read_told
-returns c = rw (c.vec_in-2.ensures, c.vec_in.ensures) (sym (sized-right _ _ _ c.if-l-ne-TANGENT.false))
+unfolding tangent_from
+returns g c =
+    let real = g.met.T.Real in
+    told_back _ tangent_numbers (λ l. tangent_in (number_in l) 0) tangent_back _ _ _ _ (rw (real.floats_law, length-map)) c.from_list.ensures

@@ -1,15 +1,13 @@
--- `from_lists::values_from` meets its contract: a list of the length that is due is read, and any other is told. Assumes nothing.
-use mathlib.Core.Path.{sym}
+-- `from_lists::values_from` meets its contract: what is told by its numbers is told of the thing. Assumes nothing.
+use Rattle.std.proofs.lemmas.List.{length-map}
+use Rattle.from_lists.specs.Numbers.{values_numbers}
 use Rattle.layout.specs.Layout.{values_in}
-use Rattle.from_lists.specs.Lists.{values_from, values_read_told}
-use Rattle.from_lists.proofs.Lists.{sized-right, sized_wrong}
+use Rattle.from_lists.specs.Lists.{values_from, number_in}
+use Rattle.from_lists.proofs.Back.{told_back, values_back}
 use Rattle.from_lists.proofs.values_from.Goals as goal
 
-pub returns-then-l-ne-VALUES : goal.returns-then-l-ne-VALUES
-unfolding values_from values_read_told
-returns-then-l-ne-VALUES c = sym (sized_wrong _ _ _ c.if-l-ne-VALUES.true)
-
 pub returns : goal.returns
-unfolding values_in values_from values_read_told
-returns c =
-    sym (sized-right _ _ _ c.if-l-ne-VALUES.false)
+unfolding values_from
+returns g c =
+    let real = g.met.T.Real in
+    told_back _ values_numbers (λ l. values_in (number_in l) 0) values_back _ _ _ _ (rw (real.floats_law, length-map)) c.from_list.ensures

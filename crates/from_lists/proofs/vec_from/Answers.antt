@@ -1,13 +1,13 @@
--- `from_lists::vec_from` meets its contract: a list of the length that is due is read, and any other is told. Assumes nothing.
-use mathlib.Core.Path.{sym}
-use Rattle.from_lists.specs.Lists.{vec_from, vec_read_told}
-use Rattle.from_lists.proofs.Lists.{sized-right, sized_wrong}
+-- `from_lists::vec_from` meets its contract: what is told by its numbers is told of the thing. Assumes nothing.
+use Rattle.std.proofs.lemmas.List.{length-map}
+use Rattle.linalg.specs.Vector.{vec_numbers}
+use Rattle.layout.specs.Layout.{vec_in}
+use Rattle.from_lists.specs.Lists.{vec_from, number_in}
+use Rattle.from_lists.proofs.Back.{told_back, vec_back}
 use Rattle.from_lists.proofs.vec_from.Goals as goal
 
-pub returns-then-l-ne-VEC : goal.returns-then-l-ne-VEC
-unfolding vec_from vec_read_told
-returns-then-l-ne-VEC c = sym (sized_wrong _ _ _ c.if-l-ne-VEC.true)
-
 pub returns : goal.returns
-unfolding vec_from vec_read_told
-returns c = rw c.vec_in.ensures (sym (sized-right _ _ _ c.if-l-ne-VEC.false))
+unfolding vec_from
+returns g c =
+    let real = g.met.T.Real in
+    told_back _ vec_numbers (λ l. vec_in (number_in l) 0) vec_back _ _ _ _ (rw (real.floats_law, length-map)) c.from_list.ensures

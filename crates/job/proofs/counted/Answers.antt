@@ -1,5 +1,5 @@
 -- `job::counted` meets its contract: by how the record counts. Assumes nothing.
-use Rattle.job.specs.Private.{four_more}
+use Rattle.job.specs.Counts.{four_more}
 use Rattle.job.proofs.counted.Goals as goal
 
 pub returns-in-Answered : goal.returns-in-Answered

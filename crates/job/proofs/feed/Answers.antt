@@ -52,8 +52,8 @@ close-n-requires c =
     } in
     feed_room k
 
-pub overflow_add-to : goal.overflow_add-to
-overflow_add-to c =
+pub overflow_add-result : goal.overflow_add-result
+overflow_add-result c =
     let a = c.args in
     -- what is known where the loop has answered
     let k : Looped job_limit (holds a.mem.now) (standing a.c (state_of a.mem.now)) a.input.now a.last a.out.now c.records-l.result c.records-l.new.out (state_of c.records-l.new.mem) = record {
@@ -75,11 +75,10 @@ returns c =
       left = c.records-l.ensures.mem_after_2;
     } in
     let n = c.close-n in
-    rw c.leave-2.ensures
-    (record {
+    record {
       result_value = feed_view k n.result n.ensures.value;
       out_after = feed_wrote k n.result n.new.out n.ensures.value n.ensures.out_after;
       mem_after = c.records-l.ensures.mem_after ∙ sym (mem_good c.args.c c.args.mem.now c.args.input.now _ k.good);
       mem_after_2 = feed_left k;
       used_in_bounds = (feed_uses k, rw n.ensures.value (feed_within k));
-    })
+    }

@@ -1,19 +1,18 @@
--- `job::put_no` meets its contract: the three stores are the run of three bytes. Assumes nothing.
+-- `job::put_no` meets its contract: what is copied is the run of three bytes. Assumes nothing.
 use native.Mathlib.Omega.{arith}
-use lib.ListN.{length-set}
-use native.Mathlib.Numerals.{towards_suc}
+use mathlib.Core.Path.{ap, ◌∙◌}
+use Prim.Native.Nat.{◌+◌, ◌-◌}
+use Rattle.linalg.specs.Answer.{number}
 use Rattle.outcome.specs.Outcome.{no_bytes}
+use Rattle.outcome.proofs.Record.{no_length}
+use Rattle.job.proofs.Ending.{stored}
 use Rattle.job.proofs.put_no.Goals as goal
 
 pub returns : goal.returns
 unfolding no_bytes
-returns c = simp towards_suc
-
-pub bounds-out-at-2 : goal.bounds-out-at-2
-bounds-out-at-2 c = simp length-set (omega arith)
-
-pub bounds-out-at-3 : goal.bounds-out-at-3
-bounds-out-at-3 c = simp length-set (omega arith)
-
-pub shape_of-out : goal.shape_of-out
-shape_of-out c = simp length-set
+returns c =
+    let a = c.args in
+    stored (no_bytes (number a.refusal)) a.out.now c.copy_from_slice.new.self a.at (a.at + 3 - a.at)
+    (c.copy_from_slice.ensures.after ∙ ap no_bytes c.number.ensures)
+    (omega (arith, no_length (number a.refusal)))
+    (omega (arith, no_length (number a.refusal), c.requires))

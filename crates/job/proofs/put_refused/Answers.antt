@@ -4,6 +4,7 @@ use native.Mathlib.Omega.{arith}
 use Prim.Native.Nat.{ℕ, ◌+◌}
 use mathlib.Core.Path.{◌≡◌, sym, ap, ◌∙◌}
 use lib.ListN.{length}
+use Rattle.linalg.specs.Answer.{number}
 use Rattle.marks.specs.Rows.{row_count}
 use Rattle.job.proofs.Ending.{trailer-length, refused-length, refused_run}
 use Rattle.job.proofs.put_refused.Goals as goal
@@ -19,6 +20,6 @@ returns c =
     let w : length c.args.c.rows ≡ row_count = search rules in
     let n = ap (λ (n : ℕ). 3 + n) (c.put_trailer.ensures.value ∙ trailer-length a.c w) in
     record {
-      value = n ∙ sym (refused-length a.number a.c w);
-      out_after = cc (refused_run a.number a.c a.out.now a.at);
+      value = n ∙ sym (refused-length (number a.refusal) a.c w);
+      out_after = cc (refused_run (number a.refusal) a.c a.out.now a.at);
     }

@@ -1,16 +1,15 @@
--- `job::put_zz` meets its contract: the two stores are the run of two bytes. Assumes nothing.
+-- `job::put_zz` meets its contract: what is copied is the run of two bytes. Assumes nothing.
 use native.Mathlib.Omega.{arith}
-use lib.ListN.{length-set}
-use native.Mathlib.Numerals.{towards_suc}
+use Prim.Native.Nat.{◌+◌, ◌-◌}
 use Rattle.outcome.specs.Outcome.{mark_bytes}
+use Rattle.outcome.proofs.Record.{mark_length}
+use Rattle.job.proofs.Ending.{stored}
 use Rattle.job.proofs.put_zz.Goals as goal
 
 pub returns : goal.returns
 unfolding mark_bytes
-returns c = simp towards_suc
-
-pub bounds-out-at-2 : goal.bounds-out-at-2
-bounds-out-at-2 c = simp length-set (omega arith)
-
-pub shape_of-out : goal.shape_of-out
-shape_of-out c = simp length-set
+returns c =
+    let a = c.args in
+    stored (mark_bytes 0x5a 0x5a) a.out.now c.copy_from_slice.new.self a.at (a.at + 2 - a.at) c.copy_from_slice.ensures.after
+    (omega (arith, mark_length 0x5a 0x5a))
+    (omega (arith, mark_length 0x5a 0x5a, c.requires))

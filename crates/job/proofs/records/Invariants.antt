@@ -9,11 +9,11 @@ use Rattle.job.specs.Private.{joined}
 use Rattle.job.proofs.Loop.{Going}
 use Rattle.job.proofs.records.Given as goal
 
-abbrev pub invariant-loop-c : goal.invariant-loop-c
-invariant-loop-c l =
+abbrev pub invariant-loop-four : goal.invariant-loop-four
+invariant-loop-four l =
     (length l.mem ≡ memory)
-    × (Going job_limit l.input l.last (standing (joined l.initial.c l.initial.rows) (state_of l.initial.mem)) l.initial.out (standing (joined l.c l.rows) (state_of l.mem)) l.out l.at l.to
-    × (mem_records (job_limit - l.initial.c.begun) l.initial.mem l.input (length l.initial.out) ≡ mem_records (job_limit - l.c.begun) l.mem (drop l.at l.input) (length l.initial.out - l.to)))
+    × (Going job_limit l.input l.last (standing l.fn.c0 (state_of l.initial.mem)) l.initial.out (standing (joined l.four l.rows) (state_of l.mem)) l.out l.at l.to
+    × (mem_records (job_limit - l.fn.c0.four.begun) l.initial.mem l.input (length l.initial.out) ≡ mem_records (job_limit - l.four.begun) l.mem (drop l.at l.input) (length l.initial.out - l.to)))
 
-abbrev pub decreases-loop-c : goal.decreases-loop-c
-decreases-loop-c l = job_limit - l.c.begun
+abbrev pub decreases-loop-four : goal.decreases-loop-four
+decreases-loop-four l = job_limit - l.four.begun

@@ -5,7 +5,7 @@ use lib.Ieee.{binary32, binary64}
 use Rattle.outcome.specs.declared.Step.TheVariants as step
 use Rattle.outcome.specs.Outcome.{ended, unknown, cut, became_of, written_of}
 use Rattle.marks.specs.Marks.{look_told}
-use Rattle.marks.specs.declared.Look.TheVariants.{Known}
+use Rattle.std.specs.Prelude.{Some}
 use Rattle.marks.proofs.Heads.{found_none, found-half, found-unknown, behind_short, behind_unknown, met_unheld, met_still, met_by_lem, entry-told, asked-told}
 use Rattle.marks.proofs.Rows.{row_unheld, row-short, row-unknown, row_mark, beside}
 use Rattle.marks.proofs.reply.Goals as goal
@@ -44,8 +44,8 @@ returns-in_default c =
 pub returns-in-Double : goal.returns-in-Double
 returns-in-Double c =
     let a = c.args in
-    let p = c.in-Known.place in
-    let listed = sym c.look_up.ensures ∙ ap look_told (c.in-Known.is ∙ ap (λ m. Known m p) c.in-Double.is) in
+    let p = c.in-Some.place in
+    let listed = sym c.look_up.ensures ∙ ap look_told (c.in-Some.is ∙ ap (λ m. Some (m, p)) c.in-Double.is) in
     let told = entry-told binary64 c.in-Double.e a.mem.now a.s.now a.out.now c.if-mem-ne-MEMORY.false
     c.reply.result _ c.reply.ensures.result_value c.reply.ensures.out_after in
     let t = met_by_lem a.mem.now a.s.now a.out.now _ (omega arith) listed c.reply.result _ _ told in
@@ -54,8 +54,8 @@ returns-in-Double c =
 pub returns-in-Single : goal.returns-in-Single
 returns-in-Single c =
     let a = c.args in
-    let p = c.in-Known.place in
-    let listed = sym c.look_up.ensures ∙ ap look_told (c.in-Known.is ∙ ap (λ m. Known m p) c.in-Single.is) in
+    let p = c.in-Some.place in
+    let listed = sym c.look_up.ensures ∙ ap look_told (c.in-Some.is ∙ ap (λ m. Some (m, p)) c.in-Single.is) in
     let told = entry-told binary32 c.in-Single.e a.mem.now a.s.now a.out.now c.if-mem-ne-MEMORY.false
     c.reply-in-Single.result _ c.reply-in-Single.ensures.result_value
     c.reply-in-Single.ensures.out_after in
@@ -65,8 +65,8 @@ returns-in-Single c =
 pub returns-in-Ch : goal.returns-in-Ch
 returns-in-Ch c =
     let a = c.args in
-    let p = c.in-Known.place in
-    let listed = sym c.look_up.ensures ∙ ap look_told (c.in-Known.is ∙ ap (λ m. Known m p) c.in-Ch.is) in
+    let p = c.in-Some.place in
+    let listed = sym c.look_up.ensures ∙ ap look_told (c.in-Some.is ∙ ap (λ m. Some (m, p)) c.in-Ch.is) in
     let told = c.ch.ensures in
     let t = met_by_lem a.mem.now a.s.now a.out.now _ (omega arith) listed c.ch.result _ _ told in
     rw c.tell-in-Ch.ensures (beside t (row_mark a.mem.now a.s.now _ c.if-mem-ne-MEMORY.false (omega arith) listed))
@@ -74,8 +74,8 @@ returns-in-Ch c =
 pub returns-in-Rn : goal.returns-in-Rn
 returns-in-Rn c =
     let a = c.args in
-    let p = c.in-Known.place in
-    let listed = sym c.look_up.ensures ∙ ap look_told (c.in-Known.is ∙ ap (λ m. Known m p) c.in-Rn.is) in
+    let p = c.in-Some.place in
+    let listed = sym c.look_up.ensures ∙ ap look_told (c.in-Some.is ∙ ap (λ m. Some (m, p)) c.in-Rn.is) in
     let told = c.rn.ensures in
     let t = met_by_lem a.mem.now a.s.now a.out.now _ (omega arith) listed c.rn.result _ _ told in
     rw c.tell-in-Rn.ensures (beside t (row_mark a.mem.now a.s.now _ c.if-mem-ne-MEMORY.false (omega arith) listed))
@@ -83,8 +83,8 @@ returns-in-Rn c =
 pub returns-in-Sh : goal.returns-in-Sh
 returns-in-Sh c =
     let a = c.args in
-    let p = c.in-Known.place in
-    let listed = sym c.look_up.ensures ∙ ap look_told (c.in-Known.is ∙ ap (λ m. Known m p) c.in-Sh.is) in
+    let p = c.in-Some.place in
+    let listed = sym c.look_up.ensures ∙ ap look_told (c.in-Some.is ∙ ap (λ m. Some (m, p)) c.in-Sh.is) in
     let told = c.sh.ensures in
     let t = met_by_lem a.mem.now a.s.now a.out.now _ (omega arith) listed c.sh.result _ _ told in
     rw c.tell-in-Sh.ensures (beside t (row_mark a.mem.now a.s.now _ c.if-mem-ne-MEMORY.false (omega arith) listed))
@@ -92,8 +92,8 @@ returns-in-Sh c =
 pub returns-in-Sq : goal.returns-in-Sq
 returns-in-Sq c =
     let a = c.args in
-    let p = c.in-Known.place in
-    let listed = sym c.look_up.ensures ∙ ap look_told (c.in-Known.is ∙ ap (λ m. Known m p) c.in-Sq.is) in
+    let p = c.in-Some.place in
+    let listed = sym c.look_up.ensures ∙ ap look_told (c.in-Some.is ∙ ap (λ m. Some (m, p)) c.in-Sq.is) in
     let told = asked-told a.mem.now a.s.now a.out.now c.if-mem-ne-MEMORY.false c.sq.result _
     c.sq.ensures.result_value c.sq.ensures.out_after in
     let t = met_by_lem a.mem.now a.s.now a.out.now _ (omega arith) listed c.sq.result _ _ told in

@@ -1,13 +1,26 @@
 -- `nearest::both_finite` meets its contract: a product that begins with 0 is a zero where all its factors are finite, and a NaN elsewhere. Assumes nothing.
 use mathlib.Core.Bool.{true, ◌&&◌}
-use lib.Ieee.{binary64, of_bits, mul}
-use Rattle.ieee.specs.Finite.{is_finite}
-use Rattle.ieee.proofs.Finite.{zero-starts, zero-times, zero-told}
+use mathlib.Core.Path.{refl}
+use lib.Ieee.{mul, of_bits}
+use Rattle.std.proofs.Common.{rules}
+use Rattle.ieee.specs.Finite.{is_finite, ZeroIf}
+use Rattle.ieee.specs.Numbers.{f0}
+use Rattle.ieee.specs.Signs.{plain}
+use Rattle.ieee.proofs.Finite.{zero-times, zero-told}
 use Rattle.nearest.proofs.both_finite.Goals as goal
 
+starts : ZeroIf true f0
+unfolding plain
+starts = refl
+
 pub returns : goal.returns
-returns c =
-    let x = c.args.x in
-    let y = c.args.y in
-    let one = zero-times binary64 true (of_bits binary64 0) x (zero-starts binary64) in
-    zero-told (is_finite x && is_finite y) _ (zero-times binary64 (is_finite x) (mul binary64 (of_bits binary64 0) x) y one)
+unfolding of_bits
+returns g c =
+    let r = g.T.Real in
+    let real = g.met.T.Real in
+    let f = r.format in
+    let x = r.float c.args.x in
+    let y = r.float c.args.y in
+    let one = zero-times f true f0 x starts in
+    let both = zero-told (is_finite x && is_finite y) _ (zero-times f (is_finite x) (mul f f0 x) y one) in
+    search (rules, real.mul_law, real.eq_law, both)

@@ -1,31 +1,38 @@
 -- `nearest::nearest_arm` meets its contract: its tests are those of the definition, in their order. Assumes nothing.
-use mathlib.Core.Path.{sym, ◌∙◌}
-use lib.Ieee.{binary64, of_bits}
+use mathlib.Core.Path.{sym, ap, ◌∙◌}
+use lib.Ieee.{of_bits}
+use Rattle.linalg.specs.Answer.{answers}
 use Rattle.ieee.specs.Finite.{is_finite}
 use Rattle.nearest.specs.Nearest.{first_told}
 use Rattle.nearest.proofs.Answers.{below-zero, not_finite, accepted, right}
 use Rattle.nearest.proofs.nearest_arm.Goals as goal
 
-pub returns-then-z : goal.returns-then-z
+pub returns-then-is_below : goal.returns-then-is_below
 unfolding of_bits
-returns-then-z c = below-zero binary64 first_told c.args.sigma c.args.z c.if-z.true
+returns-then-is_below g c =
+    let r = g.T.Real in
+    let b = simp (c.is_below.ensures, c.of.ensures) at c.if-is_below.true in
+    below-zero r.format first_told (r.float c.args.sigma) (r.float c.args.z) b
 
 pub returns-then-not-both_finite : goal.returns-then-not-both_finite
 unfolding of_bits
-returns-then-not-both_finite c = not_finite binary64 first_told c.args.sigma c.args.z
-    c.if-z.false (sym c.both_finite.ensures ∙ c.if-not-both_finite.true)
+returns-then-not-both_finite g c =
+    let r = g.T.Real in
+    let b = simp (c.is_below.ensures, c.of.ensures) at c.if-is_below.false in
+    not_finite r.format first_told (r.float c.args.sigma) (r.float c.args.z) b (sym c.both_finite.ensures ∙ c.if-not-both_finite.true)
 
-pub pattern-requires : goal.pattern-requires
+pub start-requires : goal.start-requires
 unfolding of_bits
-pattern-requires c = (
-  c.if-z.false,
-  right (is_finite c.args.sigma)
-      (is_finite c.args.z) (sym c.both_finite.ensures ∙ c.if-not-both_finite.false),
-)
+start-requires g c =
+    let r = g.T.Real in
+    let b = simp (c.is_below.ensures, c.of.ensures) at c.if-is_below.false in
+    (b, right (is_finite (r.float c.args.sigma)) (is_finite (r.float c.args.z)) (sym c.both_finite.ensures ∙ c.if-not-both_finite.false))
 
 pub returns : goal.returns
 unfolding of_bits
-returns c =
-    c.nearest_from.ensures
-    ∙ accepted binary64 first_told c.args.sigma c.args.z c.pattern.result c.if-z.false
-    (sym c.both_finite.ensures ∙ c.if-not-both_finite.false) c.pattern.ensures.0
+returns g c =
+    let r = g.T.Real in
+    let b = simp (c.is_below.ensures, c.of.ensures) at c.if-is_below.false in
+    ap answers c.nearest_from.ensures
+    ∙ accepted r.format first_told (r.float c.args.sigma) (r.float c.args.z) c.start.result b
+    (sym c.both_finite.ensures ∙ c.if-not-both_finite.false) c.start.ensures.0

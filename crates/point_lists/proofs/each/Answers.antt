@@ -1,54 +1,33 @@
--- `point_lists::each` meets its contract: after i turns the first i triples are moved and the rest is as it was, and what is left to read begins at triple i. Assumes nothing.
-use Prim.Native.Nat.{◌-◌}
-use mathlib.Core.Path.{◌≡◌, refl, ◌∙◌}
-use native.Mathlib.Omega.{arith}
-use lib.Ieee.{binary64}
-use Rattle.point_lists.specs.Points.{points_moved}
-use Rattle.sim3.specs.Pose.{pose_act}
-use Rattle.point_lists.proofs.Lists.{moved_more, moved_all, left-first, left-next, left-length}
+-- `point_lists::each` meets its contract: after i turns the first i triples are moved and the rest is as it was. Assumes nothing.
+use Rattle.std.proofs.Common.{◌≡◌, ◌+◌, ◌*◌, ◌/◌, ◌<◌, ◌≤◌, ◌++◌, List, length, drop, arith, ap, refl, ◌∙◌}
+use Rattle.std.specs.Prelude.{Float}
+use Rattle.linalg.specs.Floats.{as_vec3}
+use Rattle.point_lists.specs.Points.{point_at, points_moved}
+use Rattle.point_lists.specs.Private.{put_point}
+use Rattle.point_lists.proofs.Lists.{moved_more, piece, floats_length}
 use Rattle.point_lists.proofs.each.Goals as goal
 
 pub loop-i-init : goal.loop-i-init
 unfolding points_moved
-loop-i-init c = (omega arith, refl, refl, refl, omega arith)
+loop-i-init g c = (λ m moves. refl, refl)
 
 pub loop-i-preserved : goal.loop-i-preserved
-loop-i-preserved c =
+loop-i-preserved g c =
     let a = c.args in
-    let more = moved_more (pose_act binary64 a.x a.up) a.pts.now a.out.now c.loop-i.i (omega arith) in (
-      omega arith,
-      simp (c.put_point.ensures, c.act-p.ensures, c.point_at.ensures, c.loop-i.invariant.3, left-first a.pts.now c.loop-i.i, c.loop-i.invariant.1) more,
-      c.put_point.auto.out ∙ c.loop-i.invariant.2,
-      left-next a.pts.now c.loop-i.rest.now c.loop-i.i c.loop-i.invariant.3,
-      left-length a.pts.now c.loop-i.rest.now c.loop-i.i c.loop-i.invariant.3 (omega arith),
+    let i = c.loop-i.i in
+    let h = g.T.Real.float in
+    let fl = g.T.Real.floats in
+    let law = g.met.T.Real.floats_law in
+    let n : i < length a.pts.now / 3 = omega (arith, c.loop-i-test.true, c.as_chunks.ensures.front_len) in
+    let z : i + 0 ≡ i = omega arith in
+    let p : point_at (fl c.index-triples-i.result) 0 ≡ point_at (fl a.pts.now) i =
+    rw z at (piece h fl law a.pts.now c.index-triples-i.result c.as_chunks.result.0.now 3 (length a.pts.now / 3) i i 0
+    c.as_chunks.ensures.front n c.index-triples-i.is (omega arith) (omega arith)) in
+    let room : i * 3 + 3 ≤ length (fl a.out.now) = rw (floats_length h fl law a.out.now) (omega (arith, n, c.requires.room)) in (
+      λ m moves.
+          c.put_point.ensures
+          ∙ ap (λ (l : List Float). put_point l (i * 3) (as_vec3 h c.f.result)) (c.loop-i.invariant.0 m moves)
+          ∙ ap (put_point (points_moved m (fl a.pts.now) i ++ drop (i * 3) (fl a.out.now)) (i * 3)) (moves _ _ c.f.ensures ∙ ap m (c.point_at.ensures ∙ p))
+          ∙ moved_more m (fl a.pts.now) (fl a.out.now) i room,
+      c.put_point.auto.out ∙ c.loop-i.invariant.1,
     )
-
-pub shape_of-out : goal.shape_of-out
-shape_of-out c = c.loop-i.invariant.2
-
-pub returns : goal.returns
-returns c =
-    let a = c.args in
-    let e : c.loop-i.i ≡ a.n = omega arith in
-    cc (moved_all (pose_act binary64 a.x a.up) a.pts.now a.out.now c.loop-i.i (omega arith))
-
-pub point_at-requires : goal.point_at-requires
-point_at-requires c = omega arith
-
-pub slice_bounds-rest-count : goal.slice_bounds-rest-count
-slice_bounds-rest-count c = omega arith
-
-pub slice_bounds-rest-start : goal.slice_bounds-rest-start
-slice_bounds-rest-start c = omega arith
-
-pub overflow_mul-i : goal.overflow_mul-i
-overflow_mul-i c = omega arith
-
-pub put_point-requires : goal.put_point-requires
-put_point-requires c = omega arith
-
-pub overflow_add-i : goal.overflow_add-i
-overflow_add-i c = omega arith
-
-pub loop-i-smaller : goal.loop-i-smaller
-loop-i-smaller c = omega arith

@@ -1,17 +1,12 @@
--- `point_lists::each` meets its contract: after i turns the first i triples are moved and the rest is as it was, and what is left to read begins at triple i. Assumes nothing.
-use Prim.Native.Nat.{◌+◌, ◌*◌, ◌-◌, ◌≤◌}
-use mathlib.Core.Path.{◌≡◌}
-use mathlib.Core.List.{◌++◌}
-use lib.ListN.{length, drop}
-use lib.Ieee.{binary64}
+-- `point_lists::each` meets its contract: after i turns the first i triples are moved and the rest is as it was. Assumes nothing.
+use Rattle.std.proofs.Common.{◌≡◌, ◌*◌, ◌++◌, length, drop}
+use Rattle.linalg.specs.Floats.{Vec3}
 use Rattle.point_lists.specs.Points.{points_moved}
-use Rattle.sim3.specs.Pose.{pose_act}
+use Rattle.point_lists.specs.Private.{Moves}
 use Rattle.point_lists.proofs.each.Given as goal
 
 abbrev pub invariant-loop-i : goal.invariant-loop-i
-invariant-loop-i l =
-    (l.i ≤ l.n) × (l.out ≡ points_moved (pose_act binary64 l.x l.up) l.pts l.i ++ drop (l.i * 3) l.initial.out)
-    × (length l.out ≡ length l.initial.out) × (l.rest ≡ drop (l.i * 3) l.pts) × (length l.rest + l.i * 3 ≡ length l.pts)
-
-abbrev pub decreases-loop-i : goal.decreases-loop-i
-decreases-loop-i l = l.n - l.i
+invariant-loop-i g l =
+    ((m : Vec3 → Vec3) → Moves g.T.Real.float (goal.F-post g l.f) m →
+    g.T.Real.floats l.out ≡ points_moved m (g.T.Real.floats l.pts) l.i ++ drop (l.i * 3) (g.T.Real.floats l.initial.out))
+    × (length l.out ≡ length l.initial.out)

@@ -13,15 +13,15 @@ new = framed_renormalized binary64
 turn : (i : ℕ) (l p : List Pose) (r d : Pose) → p ≡ up_to new i l → r ≡ new (get_or p i d) → set p i r ≡ up_to new (i + 1) l
 turn i l p r d e g = rw (g, e, add-one) (up_to_more new i l d)
 
-pub loop-i-preserved : goal.loop-i-preserved
-loop-i-preserved c = record {
-  in_range = omega arith;
-  so_far = turn c.loop-i.i c.args.poses.now _ _ _ c.loop-i.invariant.so_far c.renormalized.ensures;
+pub loop-p-preserved : goal.loop-p-preserved
+loop-p-preserved c = record {
+  in_range = omega (arith, c.loop-p-test.true);
+  so_far = turn c.loop-p.p-index c.args.poses.now _ _ _ c.loop-p.invariant.so_far c.renormalized.ensures;
 }
 
 pub returns : goal.returns
 unfolding all_renormalized
 returns c =
     let l = c.args.poses.now in
-    let all : c.loop-i.i ≡ length l = omega (arith, c.loop-i.auto.poses) in
-    c.loop-i.invariant.so_far ∙ (ap (λ n. up_to new n l) all ∙ up_to_all new l)
+    let all : c.loop-p.p-index ≡ length l = omega (arith, c.loop-p.invariant.in_range, c.loop-p-test.false) in
+    c.loop-p.invariant.so_far ∙ (ap (λ n. up_to new n l) all ∙ up_to_all new l)

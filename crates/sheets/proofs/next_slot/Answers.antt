@@ -4,13 +4,10 @@ use Rattle.sheets.proofs.Told.{next-used, next_free}
 use Rattle.sheets.proofs.next_slot.Goals as goal
 
 pub returns-then-used-lt-MOST : goal.returns-then-used-lt-MOST
-returns-then-used-lt-MOST c = next-used c.args.store.now c.args.used c.requires.used_value c.if-used-lt-MOST.true
+returns-then-used-lt-MOST c = next-used c.args.store.now c.args.used c.requires c.if-used-lt-MOST.true
 
 pub free_slot-requires : goal.free_slot-requires
-free_slot-requires c = record {
-  store_len = c.requires.store_len;
-  most_bound = rw (← c.requires.used_value) c.if-used-lt-MOST.false;
-}
+free_slot-requires c = rw (← c.requires) c.if-used-lt-MOST.false
 
 pub returns : goal.returns
-returns c = c.free_slot.ensures ∙ next_free c.args.store.now c.args.used c.requires.used_value c.if-used-lt-MOST.false
+returns c = c.free_slot.ensures ∙ next_free c.args.store.now c.args.used c.requires c.if-used-lt-MOST.false

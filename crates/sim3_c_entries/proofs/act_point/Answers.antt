@@ -1,42 +1,22 @@
--- `sim3_c_entries::act_point` meets its contract: the lists are read, the engine is asked, and its answer is written. Assumes nothing.
-use mathlib.Core.Path.{refl}
-use Rattle.from_lists.specs.Lists.{pose_read_told, vec_read_told}
+-- `sim3_c_entries::act_point` meets its contract: the lists are read, the engine is asked, and its answer is written or the refusal handed on. Assumes nothing.
+use Rattle.std.proofs.Common.{rules}
 use Rattle.to_lists.specs.Written.{status, written}
 use Rattle.sim3_c_entries.specs.Calls.{act_call}
 use Rattle.sim3_c_entries.proofs.act_point.Goals as goal
 
-pub returns-in_default : goal.returns-in_default
-unfolding status written act_call pose_read_told
-returns-in_default c = rw (← c.pose_from.ensures, c.in_default.is)
-    (record {
-      value = refl;
-      out_after = refl;
-    })
+pub returns-in_err-a : goal.returns-in_err-a
+unfolding act_call status written
+returns-in_err-a g c = rw (← c.pose_from.ensures, c.in_err-a.was) (search rules)
 
-pub returns-in_default-vec_from : goal.returns-in_default-vec_from
-unfolding status written act_call pose_read_told vec_read_told
-returns-in_default-vec_from c =
-    rw (
-      ← c.pose_from.ensures,
-      c.in-Got.is,
-      ← c.vec_from.ensures,
-      c.in_default-vec_from.is,
-    )
-    (record {
-      value = refl;
-      out_after = refl;
-    })
+pub returns-in_err-v : goal.returns-in_err-v
+unfolding act_call status written
+returns-in_err-v g c = rw (← c.pose_from.ensures, c.in_ok-a.was, ← c.vec_from.ensures, c.in_err-v.was) (search rules)
 
 pub returns : goal.returns
-unfolding status written act_call pose_read_told vec_read_told
-returns c =
-    rw (
-      ← c.pose_from.ensures,
-      c.in-Got.is,
-      ← c.vec_from.ensures,
-      c.in-Got-vec_from.is,
-    )
+unfolding act_call status written
+returns g c =
+    rw (← c.pose_from.ensures, c.in_ok-a.was, ← c.vec_from.ensures, c.in_ok-v.was)
     (record {
-      value = rw c.act.ensures at c.put_point.ensures.value;
-      out_after = rw c.act.ensures at c.put_point.ensures.out_after;
+      value = rw c.act.ensures at c.put.ensures.value;
+      out_after = rw c.act.ensures at c.put.ensures.out_after;
     })

@@ -1,42 +1,22 @@
--- `sim3_c_entries::armed_pair` meets its contract: the list is read, the engine is asked, and its answer is written or the refusal handed on. Assumes nothing.
-use mathlib.Core.Path.{refl}
-use Rattle.from_lists.specs.Lists.{values_read_told}
+-- `sim3_c_entries::armed_pair` meets its contract: the lists are read, the engine is asked, and its answer is written or the refusal handed on. Assumes nothing.
+use Rattle.std.proofs.Common.{rules}
 use Rattle.to_lists.specs.Written.{status, written}
 use Rattle.sim3_c_entries.specs.Calls.{arms_call}
 use Rattle.sim3_c_entries.proofs.armed_pair.Goals as goal
 
-pub returns-in_default : goal.returns-in_default
-unfolding status written arms_call values_read_told
-returns-in_default c = rw (← c.values_from.ensures, c.in_default.is)
-    (record {
-      value = refl;
-      out_after = refl;
-    })
+pub returns-in_err-v : goal.returns-in_err-v
+unfolding arms_call status written
+returns-in_err-v g c = rw (← c.values_from.ensures, c.in_err-v.was) (search rules)
 
-pub returns-in-Ok : goal.returns-in-Ok
-unfolding status written arms_call values_read_told
-returns-in-Ok c =
-    rw (
-      ← c.values_from.ensures,
-      c.in-Got.is,
-      ← c.sim3_coeffs_armed_pair.ensures,
-      c.in-Ok.is,
-    )
+pub returns-in_err-sim3_coeffs_armed_pair : goal.returns-in_err-sim3_coeffs_armed_pair
+unfolding arms_call status written
+returns-in_err-sim3_coeffs_armed_pair g c = rw (← c.values_from.ensures, c.in_ok-v.was, ← c.sim3_coeffs_armed_pair.ensures, c.in_err-sim3_coeffs_armed_pair.was) (search rules)
+
+pub returns : goal.returns
+unfolding arms_call status written
+returns g c =
+    rw (← c.values_from.ensures, c.in_ok-v.was, ← c.sim3_coeffs_armed_pair.ensures, c.in_ok-sim3_coeffs_armed_pair.was)
     (record {
       value = c.put_arms.ensures.value;
       out_after = c.put_arms.ensures.out_after;
-    })
-
-pub returns-in-Err : goal.returns-in-Err
-unfolding status written arms_call values_read_told
-returns-in-Err c =
-    rw (
-      ← c.values_from.ensures,
-      c.in-Got.is,
-      ← c.sim3_coeffs_armed_pair.ensures,
-      c.in-Err.is,
-    )
-    (record {
-      value = c.number.ensures;
-      out_after = refl;
     })

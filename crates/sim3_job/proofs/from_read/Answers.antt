@@ -1,9 +1,6 @@
 -- `sim3_job::from_read` meets its contract: both sides compute, once what was read is an error or a number. Assumes
 -- nothing.
-use Prim.Native.Nat.{ℕ}
-use mathlib.Core.Path.{refl, ap}
-use lib.Dec.{eqb}
-use Rattle.sim3_job.specs.declared.Filled.TheVariants.{Bytes}
+use mathlib.Core.Path.{refl}
 use Rattle.sim3_job.specs.Filled.{filled_of}
 use Rattle.sim3_job.proofs.from_read.Goals as goal
 
@@ -13,4 +10,4 @@ returns-in_default c = rw c.in_default.is refl
 
 pub returns : goal.returns
 unfolding filled_of
-returns c = rw c.in-Ok.is (ap (λ (n : ℕ). Bytes n (eqb n 0) c.args.at) c.least-n.ensures)
+returns c = rw (c.in-Ok.is, c.min-count.ensures) refl

@@ -1,35 +1,28 @@
 -- `sim3_job::read_tape` meets its contract: a piece of the tape is copied behind the bytes at hand, and there is none
 -- only at the tape's end. Assumes nothing.
-use borrow.Author.Rules.{rules}
 use native.Mathlib.Omega.{arith}
 use borrow.Author.Tests.{eqb-true}
-use Prim.Native.Nat.{◌+◌}
-use mathlib.Core.Path.{◌≡◌, refl, ap, ◌∙◌}
+use Prim.Native.Nat.{◌+◌, ◌-◌}
+use mathlib.Core.Path.{◌≡◌, refl}
 use lib.ListN.{take, drop, length-drop}
-use lib.Seq.{take-paste}
+use lib.Seq.{length-take-le}
+use Rattle.sim3_job.proofs.Underway.{filled_front}
 use Rattle.sim3_job.proofs.read_tape.Goals as goal
-
-pub copy-requires : goal.copy-requires
-copy-requires c = record {
-  n_in_bounds = omega (arith, c.piece-n.ensures.upper_bound, c.least.ensures);
-  n_in_bounds_2 = omega (arith, c.piece-n.ensures.upper_bound, c.least.ensures);
-}
-
-pub overflow_add-result : goal.overflow_add-result
-overflow_add-result c = search rules
 
 pub returns : goal.returns
 returns c =
     let a = c.args in
-    let n = c.piece-n.result in
-    let p = c.piece-n.ensures in
-    let m = c.least.ensures in
+    let n = c.piece-count.result in
+    let p = c.piece-count.ensures in
+    let m = c.min.ensures in
+    let s : a.at + n - a.at ≡ n = omega arith in
     record {
       within = (omega (arith, p.upper_bound, m), omega (arith, p.upper_bound, m), λ u. refl);
       from_tape = (
         refl,
-        ap (take (a.have + n)) c.copy.ensures ∙ take-paste a.buf.now a.have (drop a.at a.tape.now) n (omega arith)
-            (rw (length-drop a.at a.tape.now) (omega (arith, p.upper_bound, m))),
+        rw (c.copy_from_slice.ensures.after, s)
+            (filled_front a.buf.now (take n (drop a.at a.tape.now)) _ a.have n (omega (arith, c.requires.have_in_bounds))
+            (length-take-le n (drop a.at a.tape.now) (omega (arith, length-drop a.at a.tape.now, p.upper_bound, m)))),
         λ u v. let z : n ≡ 0 = eqb-true _ _ u in omega (arith, p.most_value z, z, m),
       );
     }

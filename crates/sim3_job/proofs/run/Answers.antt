@@ -1,5 +1,6 @@
 -- `sim3_job::run` meets its contract. From a tape, what the sink holds and what the job still writes are together what
 -- it writes for the whole tape; and each turn brings the end nearer, wherever it reads from.
+use borrow.Author.Rules.{rules}
 use native.Mathlib.Omega.{arith}
 use Prim.Native.Nat.{ℕ, ◌+◌, ◌-◌, ◌≤◌, ◌<◌}
 use mathlib.Core.Bool.{Bool, true, false}
@@ -13,13 +14,16 @@ use Rattle.kept.proofs.Records.{held}
 use Rattle.job.specs.Job.{standing, job_limit}
 use Rattle.job.specs.Feed.{feed_of, goes_on, answer_room}
 use Rattle.job.proofs.Input.{input}
-use Rattle.sim3_job.proofs.Underway.{underway_start, underway_feed, underway_done, underway_short, within, tape_read, tape_failed, sink_within, sink_holds, sink_short, handed}
+use Rattle.std.specs.Prelude.{Err}
+use Rattle.sim3_job.specs.declared.RunError.TheVariants.{Unwritten}
+use Rattle.sim3_job.specs.Filled.{reads, over}
+use Rattle.sim3_job.proofs.Underway.{underway_start, underway_next, underway_feed, underway_done, underway_short, tape_read, sink_short, handed}
 use Rattle.sim3_job.proofs.Nearer.{to_go, nearer, still_sound, none_sound, asks_more}
 use Rattle.sim3_job.proofs.run.Goals as goal
 
-pub loop-n-init : goal.loop-n-init
+pub loop-read-init : goal.loop-read-init
 unfolding holds
-loop-n-init c =
+loop-read-init c =
     let a = c.args in
     let z = c.no_counts-c.ensures in
     let y : state_of c.fresh.new.mem ≡ state_none = c.fresh.ensures.mem_after_2 in
@@ -37,7 +41,7 @@ loop-n-init c =
     }
 
 pub fill-requires : goal.fill-requires
-fill-requires c = let i = c.loop-n.invariant in
+fill-requires c = let i = c.loop-read.invariant in
     record {
       at_in_bounds = i.at_in_bounds;
       have_in_bounds = omega (arith, i.have_in_bounds, i.buf_length);
@@ -45,69 +49,50 @@ fill-requires c = let i = c.loop-n.invariant in
     }
 
 pub overflow_add-have : goal.overflow_add-have
-overflow_add-have c =
-    let h = within c.in-Bytes.is c.loop-n.have (length c.loop-n.buf)
-    c.loop-n.asked (length c.args.tape.now) c.fill.ensures.within in omega
-    (arith, h.0, c.loop-n.invariant.buf_length)
+overflow_add-have c = omega (arith, c.in_ok-read.ensures.within.0, c.loop-read.invariant.buf_length)
 
-pub turn-f-requires : goal.turn-f-requires
-turn-f-requires c =
-    let h = within c.in-Bytes.is c.loop-n.have (length c.loop-n.buf) c.loop-n.asked
-    (length c.args.tape.now) c.fill.ensures.within in
+pub turn-fed-requires : goal.turn-fed-requires
+turn-fed-requires c =
     record {
-      have_in_bounds = omega (arith, h.0, c.fill.auto.buf);
-      c_value = c.loop-n.invariant.sound;
-      mem_len = c.loop-n.invariant.mem_length;
+      have_in_bounds = omega (arith, c.in_ok-read.ensures.within.0, c.fill.auto.buf);
+      c_value = c.loop-read.invariant.sound;
+      mem_len = c.loop-read.invariant.mem_length;
     }
 
-pub slice_bounds-put-end : goal.slice_bounds-put-end
-slice_bounds-put-end c =
-    omega (arith, c.turn-f.ensures.used_le_have.1, c.turn-f.auto.out)
-
-pub slice_bounds-put-end-in-Bytes : goal.slice_bounds-put-end-in-Bytes
-slice_bounds-put-end-in-Bytes c =
-    let fits : c.turn-f.result.written ≤ length c.turn-f.new.out = omega (arith, c.turn-f.ensures.used_le_have.1, c.turn-f.auto.out) in
-    omega (arith, length-take-le c.turn-f.result.written c.turn-f.new.out fits)
-
 pub put-requires : goal.put-requires
-put-requires c =
-    c.loop-n.invariant.sent_in_bounds
+put-requires c = c.loop-read.invariant.sent_in_bounds
 
 pub overflow_sub-have : goal.overflow_sub-have
-overflow_sub-have c =
-    c.turn-f.ensures.used_le_have.0
+overflow_sub-have c = c.turn-fed.ensures.used_le_have.0
 
-pub loop-n-smaller : goal.loop-n-smaller
-loop-n-smaller c =
-    let l = c.loop-n in
-    let t = c.turn-f in
-    let n = c.in-Bytes.n in
-    let h = within c.in-Bytes.is c.loop-n.have (length c.loop-n.buf) c.loop-n.asked
-    (length c.args.tape.now) c.fill.ensures.within in
+pub loop-read-smaller : goal.loop-read-smaller
+loop-read-smaller c =
+    let l = c.loop-read in
+    let t = c.turn-fed in
+    let n = c.in_ok-read.read.count in
+    let h = c.in_ok-read.ensures.within in
     let room : answer_room ≤ length l.out = omega (arith, l.invariant.out_length) in
     let fits : l.have + n ≤ 65536 = omega (arith, h.0, l.invariant.buf_length) in
     let told = rw (held l.mem l.invariant.mem_length) at t.ensures.value in
     let on : goes_on t.result.reason ≡ true = sym c.goes_on.ensures ∙ c.if-not-goes_on.false in
-    subst (λ (b : Bool). to_go t.result.counts (l.have + n - t.result.used) b < to_go l.c l.have l.asked) (sym c.asks_for-asked.ensures)
-    (nearer (standing l.c (state_of l.mem)) (take (l.have + n) c.fill.new.buf) l.asked _ l.have n (length l.out) t.result
+    subst (λ (b : Bool). to_go t.result.counts (l.have + n - t.result.used) b < to_go l.c l.have (reads l.next)) (sym c.next_after-next.ensures.reads)
+    (nearer (standing l.c (state_of l.mem)) (take (l.have + n) c.fill.new.buf) (reads l.next) _ l.have n (length l.out) t.result
     l.invariant.sound room told on (λ u z. h.2 u ∙ rw z refl) fits)
 
-pub loop-n-preserved : goal.loop-n-preserved
-loop-n-preserved c =
+pub loop-read-preserved : goal.loop-read-preserved
+loop-read-preserved c =
     let a = c.args in
-    let l = c.loop-n in
+    let l = c.loop-read in
     let i = l.invariant in
     let f = c.fill in
-    let t = c.turn-f in
+    let t = c.turn-fed in
     let p = c.put in
-    let n = c.in-Bytes.n in
-    let ended = c.in-Bytes.ended in
-    let next = c.in-Bytes.next in
-    let end = c.in-All.end in
-    let h = within c.in-Bytes.is l.have (length l.buf) l.asked (length a.tape.now) f.ensures.within in
+    let r = c.in_ok-read.read in
+    let end = c.in_ok-end.end in
+    let h = c.in_ok-read.ensures.within in
     let buf₁ = f.new.buf in
     let sink₁ = p.new.sink in
-    let F = feed_of job_limit true (standing l.c (state_of l.mem)) (take (l.have + n) buf₁) ended (length l.out) in
+    let F = feed_of job_limit true (standing l.c (state_of l.mem)) (take (l.have + r.count) buf₁) r.ended (length l.out) in
     let held₁ = held l.mem i.mem_length in
     let told = rw held₁ at t.ensures.value in
     let wrote = rw held₁ at t.ensures.out_after in
@@ -116,92 +101,89 @@ loop-n-preserved c =
       have_in_bounds = omega (arith, h.0, i.buf_length);
       buf_length = t.auto.buf ∙ f.auto.buf ∙ i.buf_length;
       out_length = t.auto.out ∙ i.out_length;
-      room_to_read = λ e. t.ensures.used_bound (asks_more _ (sym c.asks_for-asked.ensures ∙ e));
-      sound = still_sound (standing l.c (state_of l.mem)) (take (l.have + n) buf₁) ended (length l.out) t.result i.sound told;
+      room_to_read = λ e. t.ensures.used_bound (asks_more _ (sym c.next_after-next.ensures.reads ∙ e));
+      sound = still_sound (standing l.c (state_of l.mem)) (take (l.have + r.count) buf₁) r.ended (length l.out) t.result i.sound told;
       at_in_bounds = h.1;
-      sent_in_bounds = omega (arith, sink_within c.in-All.is (length l.sink) p.ensures.within_sink, p.auto.sink);
+      sent_in_bounds = omega (arith, c.in_ok-end.ensures.within_sink, p.auto.sink);
       sink_length = p.auto.sink ∙ i.sink_length;
       underway = λ e.
-          let r = tape_read c.in-Bytes.is job_limit a.tape.now l.sink (standing l.c (state_of l.mem))
-          l.buf buf₁ l.last l.at l.have l.sent (f.ensures.from_tape e) (i.underway e) in
+          let q = tape_read job_limit a.tape.now l.sink (standing l.c (state_of l.mem)) r
+          l.buf buf₁ (over l.next) l.at l.have l.sent (c.in_ok-read.ensures.from_tape e) (i.underway e) in
           let b = handed F.bytes l.out _ t.result.written (ap (λ (x : Fed). x.written) told) wrote in
-          let w : take end sink₁ ≡ take l.sent l.sink ++ F.bytes = sink_holds c.in-All.is _ l.sink sink₁ l.sent
-          (p.ensures.to_sink e) ∙ ap (λ (x : List ℕ). take l.sent l.sink ++ x) b in
+          let w : take end sink₁ ≡ take l.sent l.sink ++ F.bytes = c.in_ok-end.ensures.to_sink e ∙ ap (λ (x : List ℕ). take l.sent l.sink ++ x) b in
           let state : state_of t.new.mem ≡ F.standing.state = rw held₁ at t.ensures.mem_after in
           let stands : standing t.result.counts (state_of t.new.mem) ≡ F.standing = λ i. standing (ap (λ (x : Fed). x.counts) told i) (state i) in
           rw stands
-          (underway_feed job_limit a.tape.now l.sink (standing l.c (state_of l.mem)) (take (l.have + n) buf₁) ended next l.sent r i.sound (length l.out) sink₁ _ end
-          t.result told on w t.ensures.buf_after);
+          (underway_next job_limit a.tape.now sink₁ F.standing _ r.ended (over c.next_after-next.result) r.at end
+          (underway_feed job_limit a.tape.now l.sink (standing l.c (state_of l.mem)) (take (l.have + r.count) buf₁) r.ended r.at l.sent q i.sound (length l.out) sink₁ _ end
+          t.result told on w t.ensures.buf_after)
+          c.next_after-next.ensures.over);
       mem_length = t.auto.mem ∙ i.mem_length;
     }
 
-pub returns-in-Failed : goal.returns-in-Failed
-returns-in-Failed c =
+pub returns-in_err-read : goal.returns-in_err-read
+returns-in_err-read c =
     let a = c.args in
-    let l = c.loop-n in
-    rw c.ended_as-left.ensures record {
+    let l = c.loop-read in
+    record {
       sent_in_bounds = omega (arith, l.invariant.sent_in_bounds, l.invariant.sink_length);
-      performed = λ e. tape_failed c.in-Failed.is a.tape.now l.at l.have l.buf _ l.last (c.fill.ensures.from_tape e);
+      performed = λ e. absurd (c.in_err-read.ensures.from_tape e);
       input_theorem = input job_limit a.tape.now (λ i. omega (arith, c.type_inv.tape i));
     }
 
-pub returns-in-Failed-put : goal.returns-in-Failed-put
-returns-in-Failed-put c =
+pub returns-in_err-end : goal.returns-in_err-end
+returns-in_err-end c =
     let a = c.args in
-    let l = c.loop-n in
+    let l = c.loop-read in
     let i = l.invariant in
     let f = c.fill in
-    let t = c.turn-f in
+    let t = c.turn-fed in
     let p = c.put in
-    let n = c.in-Bytes.n in
-    let ended = c.in-Bytes.ended in
-    let next = c.in-Bytes.next in
+    let r = c.in_ok-read.read in
     let buf₁ = f.new.buf in
-    let F = feed_of job_limit true (standing l.c (state_of l.mem)) (take (l.have + n) buf₁) ended (length l.out) in
+    let F = feed_of job_limit true (standing l.c (state_of l.mem)) (take (l.have + r.count) buf₁) r.ended (length l.out) in
     let held₁ = held l.mem i.mem_length in
     let told = rw held₁ at t.ensures.value in
     let wrote = rw held₁ at t.ensures.out_after in
-    rw c.ended_as-left-in-Failed-put.ensures record {
+    record {
       sent_in_bounds = omega (arith, i.sent_in_bounds, i.sink_length);
       performed = λ e.
-          let r = tape_read c.in-Bytes.is job_limit a.tape.now l.sink (standing l.c (state_of l.mem)) l.buf buf₁ l.last
-          l.at l.have l.sent (f.ensures.from_tape e) (i.underway e) in
+          let q = tape_read job_limit a.tape.now l.sink (standing l.c (state_of l.mem)) r l.buf buf₁ (over l.next)
+          l.at l.have l.sent (c.in_ok-read.ensures.from_tape e) (i.underway e) in
           let b = handed F.bytes l.out _ t.result.written (ap (λ (x : Fed). x.written) told) wrote in
-          let w = sink_short c.in-Failed-put.is _ l.sink _ l.sent (p.ensures.to_sink e) in
-          let s = underway_short job_limit a.tape.now l.sink (standing l.c (state_of l.mem)) (take (l.have + n) buf₁) ended next l.sent r i.sound (length l.out)
-          i.sent_in_bounds (omega (arith, w.1, ap length b)) in
-          (omega (arith, s.0, i.sink_length), rw w.0 s.1);
+          let w = sink_short _ _ l.sink _ l.sent (c.in_err-end.ensures.to_sink e) in
+          let s = underway_short job_limit a.tape.now l.sink (standing l.c (state_of l.mem)) (take (l.have + r.count) buf₁) r.ended r.at l.sent q i.sound (length l.out)
+          i.sent_in_bounds (omega (arith, w.1.1, ap length b)) in
+          let z : c.from_residual-in_err-end.result ≡ Err Unwritten = search (rules, w.0) in
+          rw z (omega (arith, s.0, i.sink_length), rw w.1.0 s.1);
       input_theorem = input job_limit a.tape.now (λ i. omega (arith, c.type_inv.tape i));
     }
 
 pub returns-then-not-goes_on : goal.returns-then-not-goes_on
 returns-then-not-goes_on c =
     let a = c.args in
-    let l = c.loop-n in
+    let l = c.loop-read in
     let i = l.invariant in
     let f = c.fill in
-    let t = c.turn-f in
+    let t = c.turn-fed in
     let p = c.put in
-    let n = c.in-Bytes.n in
-    let ended = c.in-Bytes.ended in
-    let next = c.in-Bytes.next in
-    let end = c.in-All.end in
+    let r = c.in_ok-read.read in
+    let end = c.in_ok-end.end in
     let buf₁ = f.new.buf in
     let sink₁ = p.new.sink in
-    let F = feed_of job_limit true (standing l.c (state_of l.mem)) (take (l.have + n) buf₁) ended (length l.out) in
+    let F = feed_of job_limit true (standing l.c (state_of l.mem)) (take (l.have + r.count) buf₁) r.ended (length l.out) in
     let held₁ = held l.mem i.mem_length in
     let told = rw held₁ at t.ensures.value in
     let wrote = rw held₁ at t.ensures.out_after in
     let off : goes_on t.result.reason ≡ false = sym c.goes_on.ensures ∙ c.if-not-goes_on.true in
-    rw c.ended_as-left-then-not-goes_on.ensures record {
-      sent_in_bounds = omega (arith, sink_within c.in-All.is (length l.sink) p.ensures.within_sink, i.sink_length);
+    record {
+      sent_in_bounds = omega (arith, c.in_ok-end.ensures.within_sink, i.sink_length);
       performed = λ e.
-          let r = tape_read c.in-Bytes.is job_limit a.tape.now l.sink (standing l.c (state_of l.mem)) l.buf buf₁ l.last
-          l.at l.have l.sent (f.ensures.from_tape e) (i.underway e) in
+          let q = tape_read job_limit a.tape.now l.sink (standing l.c (state_of l.mem)) r l.buf buf₁ (over l.next)
+          l.at l.have l.sent (c.in_ok-read.ensures.from_tape e) (i.underway e) in
           let b = handed F.bytes l.out _ t.result.written (ap (λ (x : Fed). x.written) told) wrote in
-          let w : take end sink₁ ≡ take l.sent l.sink ++ F.bytes = sink_holds c.in-All.is _ l.sink sink₁
-          l.sent (p.ensures.to_sink e) ∙ ap (λ (x : List ℕ). take l.sent l.sink ++ x) b in
-          underway_done job_limit a.tape.now l.sink (standing l.c (state_of l.mem)) (take (l.have + n) buf₁) ended next l.sent r i.sound
+          let w : take end sink₁ ≡ take l.sent l.sink ++ F.bytes = c.in_ok-end.ensures.to_sink e ∙ ap (λ (x : List ℕ). take l.sent l.sink ++ x) b in
+          underway_done job_limit a.tape.now l.sink (standing l.c (state_of l.mem)) (take (l.have + r.count) buf₁) r.ended r.at l.sent q i.sound
           (length l.out) sink₁ end t.result told off w;
       input_theorem = input job_limit a.tape.now (λ i. omega (arith, c.type_inv.tape i));
     }

@@ -8,23 +8,24 @@ use Rattle.kept.specs.State.{state_of, memory}
 use Rattle.job.specs.Counts.{counts_sound}
 use Rattle.job.specs.Job.{standing, job_limit}
 use Rattle.job.specs.Feed.{record_room}
+use Rattle.sim3_job.specs.Filled.{reads, over}
 use Rattle.sim3_job.proofs.Underway.{Underway}
 use Rattle.sim3_job.proofs.Nearer.{to_go}
 use Rattle.sim3_job.proofs.run.Given as goal
 
-abbrev pub invariant-loop-n : goal.invariant-loop-n
-invariant-loop-n l = record {
+abbrev pub invariant-loop-read : goal.invariant-loop-read
+invariant-loop-read l = record {
   have_in_bounds : l.have ≤ 65536;
   buf_length : length l.buf ≡ 65536;
   out_length : length l.out ≡ 65536;
-  room_to_read : l.asked ≡ true → l.have < record_room;
+  room_to_read : reads l.next ≡ true → l.have < record_room;
   sound : counts_sound job_limit l.c ≡ true;
   at_in_bounds : l.at ≤ length l.tape;
   sent_in_bounds : l.sent ≤ length l.sink;
   sink_length : length l.sink ≡ length l.initial.sink;
-  underway : l.live ≡ false → Underway job_limit l.tape l.sink (standing l.c (state_of l.mem)) (take l.have l.buf) l.last l.at l.sent;
+  underway : l.live ≡ false → Underway job_limit l.tape l.sink (standing l.c (state_of l.mem)) (take l.have l.buf) (over l.next) l.at l.sent;
   mem_length : length l.mem ≡ memory;
 }
 
-abbrev pub decreases-loop-n : goal.decreases-loop-n
-decreases-loop-n l = to_go l.c l.have l.asked
+abbrev pub decreases-loop-read : goal.decreases-loop-read
+decreases-loop-read l = to_go l.c l.have (reads l.next)

@@ -1,10 +1,11 @@
 -- `sim3_job::turn` meets its contract: it is what `feed` ensures, with the bytes that are left moved to the front.
 use borrow.Author.Rules.{rules}
 use native.Mathlib.Omega.{arith}
-use Prim.Native.Nat.{◌-◌, ◌≤◌, ◌<◌}
+use Prim.Native.Nat.{ℕ, ◌-◌, ◌≤◌, ◌<◌}
 use mathlib.Core.Path.{◌≡◌, sym, ap, ◌∙◌}
-use lib.Seq.{length-take-le}
-use lib.ListN.{length, take, length-take}
+use native.Mathlib.Nat.{zero-add}
+use lib.Seq.{length-take-le, paste, take-paste}
+use lib.ListN.{length, take, drop, length-take, length-drop}
 use Rattle.job.specs.declared.Fed.{Fed}
 use Rattle.job.specs.declared.Reason.TheVariants.{More}
 use mathlib.Core.Bool.{true}
@@ -20,10 +21,6 @@ use Rattle.sim3_job.proofs.turn.Goals as goal
 
 pub slice_bounds-feed-end-2 : goal.slice_bounds-feed-end-2
 slice_bounds-feed-end-2 c = sym (length-take-le _ _ (search rules))
-
-pub shift-requires : goal.shift-requires
-shift-requires c =
-    (omega (arith, simp length-take at c.feed-f.ensures.used_in_bounds.0), search rules)
 
 pub returns : goal.returns
 returns c =
@@ -41,7 +38,12 @@ returns c =
     omega (arith, z, u, n) in
     let h : holds a.mem.now ≡ true = held a.mem.now c.requires.mem_len in
     let bad = not_bad (standing a.c (state_of a.mem.now)) _ a.last room f.result c.requires.c_value (rw h at told) in
-    let left = c.shift.ensures ∙ sym (drop-take f.result.used a.have a.buf.now used) in
+    let n = a.have - f.result.used in
+    let rest = drop f.result.used a.buf.now in
+    let front =
+    ap (λ (k : ℕ). take k (paste a.buf.now 0 rest n)) (sym (zero-add n))
+    ∙ take-paste a.buf.now 0 rest n (omega (arith, c.requires.have_in_bounds)) (omega (arith, length-drop f.result.used a.buf.now, c.requires.have_in_bounds)) in
+    let left = ap (take n) c.copy_within.ensures.after ∙ front ∙ sym (drop-take f.result.used a.have a.buf.now used) in
     record {
       value = told;
       out_after = f.ensures.out_after;

@@ -1,19 +1,15 @@
 -- `to_lists::put_framed` meets its contract: lists of the lengths that are due have the numbers and the frames written, and any other two are left as they were. Assumes nothing.
-use borrow.Author.Rules.{rules}
+use Rattle.std.proofs.Common.{◌≡◌, refl, length}
+use Rattle.std.proofs.lemmas.List.{length-map}
 use borrow.Author.Tests.{eq-eqb, ne_eqb}
-use mathlib.Core.Path.{refl, sym, ◌∙◌}
-use mathlib.Core.List.{[], ◌∷◌}
-use lib.ListN.{length-set}
-use Rattle.layout.specs.Layout.{pose_numbers}
-use Rattle.layout.proofs.Numbers.{pose-count}
-use Rattle.from_lists.specs.Lists.{pose_lists}
 use Rattle.to_lists.specs.Written.{status, written, framed_fitting}
-use Rattle.to_lists.proofs.Fits.{sets-all}
 use Rattle.to_lists.proofs.put_framed.Goals as goal
 
 pub returns-then-out-ne-POSE : goal.returns-then-out-ne-POSE
 unfolding status written framed_fitting
-returns-then-out-ne-POSE c = rw (ne_eqb _ _ c.if-out-ne-POSE.true)
+returns-then-out-ne-POSE g c =
+    let k : length (g.T.Real.floats c.args.out.now) ≡ length c.args.out.now = rw (g.met.T.Real.floats_law, length-map) in
+    rw (k, ne_eqb _ _ c.if-out-ne-POSE.true)
     (record {
       value = refl;
       out_frames_after = refl;
@@ -21,7 +17,9 @@ returns-then-out-ne-POSE c = rw (ne_eqb _ _ c.if-out-ne-POSE.true)
 
 pub returns-then-out_frames-ne-FRAMES : goal.returns-then-out_frames-ne-FRAMES
 unfolding status written framed_fitting
-returns-then-out_frames-ne-FRAMES c = rw (eq-eqb _ _ c.if-out-ne-POSE.false, ne_eqb _ _ c.if-out_frames-ne-FRAMES.true)
+returns-then-out_frames-ne-FRAMES g c =
+    let k : length (g.T.Real.floats c.args.out.now) ≡ length c.args.out.now = rw (g.met.T.Real.floats_law, length-map) in
+    rw (k, eq-eqb _ _ c.if-out-ne-POSE.false, ne_eqb _ _ c.if-out_frames-ne-FRAMES.true)
     (record {
       value = refl;
       out_frames_after = refl;
@@ -29,16 +27,10 @@ returns-then-out_frames-ne-FRAMES c = rw (eq-eqb _ _ c.if-out-ne-POSE.false, ne_
 
 pub returns : goal.returns
 unfolding status written framed_fitting
-returns c =
-    let a = c.args in
-    let x = a.x in
-    let numbers = c.set_pose.ensures ∙ sets-all a.out.now (pose_numbers x.sim3) (c.if-out-ne-POSE.false ∙ sym (pose-count x.sim3)) in
-    let frames = sets-all a.out_frames.now (x.from ∷ x.to ∷ []) c.if-out_frames-ne-FRAMES.false in
-    rw (eq-eqb _ _ c.if-out-ne-POSE.false, eq-eqb _ _ c.if-out_frames-ne-FRAMES.false)
+returns g c =
+    let k : length (g.T.Real.floats c.args.out.now) ≡ length c.args.out.now = rw (g.met.T.Real.floats_law, length-map) in
+    rw (k, eq-eqb _ _ c.if-out-ne-POSE.false, eq-eqb _ _ c.if-out_frames-ne-FRAMES.false)
     (record {
       value = refl;
-      out_frames_after = λ i. pose_lists (numbers i) (frames i);
+      out_frames_after = rw (c.to_numbers.ensures, c.copy_from_slice.ensures.after) refl;
     })
-
-pub bounds-out_frames-1 : goal.bounds-out_frames-1
-bounds-out_frames-1 c = simp length-set (search rules)

@@ -1,24 +1,25 @@
 -- `wire::all_finite` meets its contract: what is told so far is told of the numbers so far. Assumes nothing.
 use native.Mathlib.Omega.{arith}
-use mathlib.Core.Path.{◌≡◌}
-use Prim.Native.Nat.{◌-◌}
-use lib.Ieee.{binary64}
-use Rattle.wire.proofs.Lists.{finite-none, finite_more}
+use mathlib.Core.Path.{◌≡◌, ap, ◌∙◌}
+use lib.ListN.{length}
+use lib.Seq.{take_all}
+use Rattle.std.proofs.lemmas.List.{length-map}
+use Rattle.wire.specs.Wire.{numbers, all_finite}
+use Rattle.wire.proofs.Lists.{finite-none, finite_next}
 use Rattle.wire.proofs.all_finite.Goals as goal
 
-pub loop-i-init : goal.loop-i-init
-loop-i-init c = (omega arith, finite-none c.args.x.now)
+pub loop-y-init : goal.loop-y-init
+loop-y-init g c = finite-none (g.T.Real.floats c.args.x.now)
 
-pub bounds-x-i : goal.bounds-x-i
-bounds-x-i c = omega (arith, c.requires, c.loop-i-test.true)
-
-pub loop-i-preserved : goal.loop-i-preserved
-loop-i-preserved c = (
-  omega (arith, c.loop-i-test.true),
-  finite_more binary64 c.args.x.now _
-      c.loop-i.i c.loop-i.finite
-      (omega (arith, c.requires, c.loop-i-test.true)) c.loop-i.invariant.1,
-)
+pub loop-y-preserved : goal.loop-y-preserved
+loop-y-preserved g c =
+    let r = g.met.T.Real in
+    rw r.floats_law
+    (finite_next g.T.Real.format g.T.Real.float c.args.x.now c.y-item.result _ c.loop-y.y-index _ _ c.loop-y-test.true c.y-item.is
+    (r.sub_law _ _ _ c.sub-z.ensures) (c.eq-finite.ensures ∙ r.eq_law _ _) (rw r.floats_law at c.loop-y.invariant))
 
 pub returns : goal.returns
-returns c = let l = c.loop-i in let e : l.i ≡ c.args.n = omega (arith, l.invariant.0, c.loop-i-test.false) in rw e at l.invariant.1
+returns g c =
+    let x = g.T.Real.floats c.args.x.now in
+    let n : length x ≡ length c.args.x.now = ap length (g.met.T.Real.floats_law c.args.x.now) ∙ length-map c.args.x.now g.T.Real.float in
+    c.loop-y.invariant ∙ ap (λ (l : _). all_finite (numbers l)) (take_all c.loop-y.y-index x (omega (arith, n, c.loop-y-test.false)))

@@ -1,35 +1,50 @@
 -- `wire::encode` meets its contract: as many numbers as both have, by the test of all of them. Assumes nothing.
-use native.Mathlib.Omega.{arith}
-use mathlib.Core.Path.{sym, ◌∙◌}
+use borrow.Author.Rules.{rules}
+use mathlib.Core.Path.{◌≡◌, sym, ap, ◌∙◌}
+use mathlib.Core.Bool.{true}
+use Prim.Native.Nat.{◌/◌}
+use mathlib.Core.List.{List}
+use lib.ListN.{length, take}
+use lib.Seq.{sets}
+use lib.Ieee.{Float}
+use Rattle.ieee.specs.Finite.{is_finite}
+use Rattle.wire.specs.Wire.{width, fewer, numbers, numbers_bytes, all_finite}
+use Rattle.wire.proofs.Lists.{taken_whole, one-finite}
 use Rattle.wire.proofs.encode.Goals as goal
 
-pub all_finite-requires : goal.all_finite-requires
-all_finite-requires c = omega (arith, c.least-n.ensures.upper_bound)
+pub encode_by-requires-clause-writes : goal.encode_by-requires-clause-writes
+encode_by-requires-clause-writes g c =
+    let r = g.met.T.Real in
+    let all = rw r.floats_law at (sym c.all_finite-finite.ensures ∙ c.if-finite.true) in
+    record {
+      may = λ y i h e. let p : is_finite (g.T.Real.float y) ≡ true = one-finite g.T.Real.float (take c.min-n.result c.args.x.now) y i all h e in search rules;
+      gives = λ y w i h e q. search rules;
+    }
 
-pub encode_finite-requires : goal.encode_finite-requires
-encode_finite-requires c = record {
-  n_in_bounds = omega (arith, c.least-n.ensures.upper_bound);
-  binary64_in_bounds = omega (arith, c.least-n.ensures.upper_bound_2);
-  x_value = sym
-      c.all_finite.ensures ∙ c.if-all_finite.true;
-}
+pub returns-then-finite : goal.returns-then-finite
+returns-then-finite g c =
+    let f = g.T.Real.format in
+    let r = g.met.T.Real in
+    let x = c.args.x.now in
+    let m = length c.args.out.now in
+    let n = c.min-n.result in
+    let e : g.T.Real.floats (take n x) ≡ take (fewer (length x) (m / width f)) (g.T.Real.floats x) =
+    r.floats_law (take n x) ∙ rw (r.floats_law x) (taken_whole f g.T.Real.float x m n _ (c.BYTES.ensures ∙ g.met.T.Number.bytes_law) c.min-n.ensures) in
+    record {
+      value = c.all_finite-finite.ensures ∙ ap (λ (l : List Float). all_finite (numbers l)) e;
+      out_after = c.encode_by.ensures ∙ ap (λ (l : List Float). sets c.args.out.now 0 (numbers_bytes f l)) e;
+    }
 
-pub encode_any-requires : goal.encode_any-requires
-encode_any-requires c = record {
-  n_in_bounds = omega (arith, c.least-n.ensures.upper_bound);
-  binary64_in_bounds = omega (arith, c.least-n.ensures.upper_bound_2);
-}
-
-pub returns-then-all_finite : goal.returns-then-all_finite
-returns-then-all_finite c = record {
-  value = rw c.least-n.ensures.value at (sym c.if-all_finite.true ∙ c.all_finite.ensures);
-  out_after = rw
-      c.least-n.ensures.value at c.encode_finite.ensures;
-}
-
-pub returns : goal.returns
-returns c = record {
-  value = rw c.least-n.ensures.value at (sym c.if-all_finite.false ∙ c.all_finite.ensures);
-  out_after = rw
-      c.least-n.ensures.value at c.encode_any.ensures;
-}
+pub returns-else-finite : goal.returns-else-finite
+returns-else-finite g c =
+    let f = g.T.Real.format in
+    let r = g.met.T.Real in
+    let x = c.args.x.now in
+    let m = length c.args.out.now in
+    let n = c.min-n.result in
+    let e : g.T.Real.floats (take n x) ≡ take (fewer (length x) (m / width f)) (g.T.Real.floats x) =
+    r.floats_law (take n x) ∙ rw (r.floats_law x) (taken_whole f g.T.Real.float x m n _ (c.BYTES.ensures ∙ g.met.T.Number.bytes_law) c.min-n.ensures) in
+    record {
+      value = c.all_finite-finite.ensures ∙ ap (λ (l : List Float). all_finite (numbers l)) e;
+      out_after = c.encode_by-else-finite.ensures ∙ ap (λ (l : List Float). sets c.args.out.now 0 (numbers_bytes f l)) e;
+    }

@@ -1,39 +1,25 @@
--- `wire::encode_shorts` meets its contract: i turns have stored the first i numbers. Assumes nothing.
+-- `wire::encode_shorts` meets its contract: the bytes so far are those of the numbers so far. Assumes nothing.
 use native.Mathlib.Omega.{arith}
-use mathlib.Core.Path.{◌≡◌, refl, ◌∙◌}
-use Prim.Native.Nat.{◌-◌, ◌/◌}
-use lib.ListN.{length}
-use Rattle.wire.specs.Wire.{fewer, words_bytes}
-use Rattle.wire.proofs.Lists.{words_more}
+use mathlib.Core.Path.{refl, ap, ◌∙◌}
+use Prim.Native.Nat.{◌/◌}
+use mathlib.Core.List.{List}
+use Prim.Native.Nat.{ℕ}
+use lib.ListN.{length, take}
+use lib.Seq.{sets, take_all}
+use Rattle.wire.specs.Wire.{words_bytes}
+use Rattle.wire.proofs.Lists.{words_more, min_fewer}
 use Rattle.wire.proofs.encode_shorts.Goals as goal
 
 pub loop-i-init : goal.loop-i-init
 unfolding words_bytes
-loop-i-init c = (omega arith, refl, refl)
-
-pub bounds-x-i : goal.bounds-x-i
-bounds-x-i c =
-    omega (arith, c.least-n.ensures.upper_bound, c.loop-i-test.true)
-
-pub put_short-requires : goal.put_short-requires
-put_short-requires c =
-    omega (arith, c.least-n.ensures.upper_bound_2, c.loop-i.invariant.2, c.loop-i-test.true)
+loop-i-init c = refl
 
 pub loop-i-preserved : goal.loop-i-preserved
 loop-i-preserved c =
-    let a = c.args in
-    let l = c.loop-i in
-    let p = c.put_short in (
-      omega (arith, c.loop-i-test.true),
-      rw l.invariant.1 at p.ensures ∙ words_more 2 a.x.now _ a.out.now l.i (omega (arith, c.least-n.ensures.upper_bound, c.loop-i-test.true)),
-      p.auto.out ∙ l.invariant.2,
-    )
-
-pub shape_of-out : goal.shape_of-out
-shape_of-out c = c.loop-i.invariant.2
+    rw c.loop-i.invariant at c.put_short.ensures ∙ words_more 2 (take c.min-n.result c.args.x.now) _ c.args.out.now c.loop-i.i c.loop-i-test.true
 
 pub returns : goal.returns
 returns c =
-    let l = c.loop-i in
-    let e : l.i ≡ fewer (length c.args.x.now) (length c.args.out.now / 2) = omega (arith, l.invariant.0, c.loop-i-test.false, c.least-n.ensures.value) in
-    rw e at l.invariant.1
+    c.loop-i.invariant
+    ∙ ap (λ (l : List ℕ). sets c.args.out.now 0 (words_bytes 2 l)) (take_all c.loop-i.i (take c.min-n.result c.args.x.now) (omega (arith, c.loop-i-test.false)))
+    ∙ ap (λ (k : ℕ). sets c.args.out.now 0 (words_bytes 2 (take k c.args.x.now))) (c.min-n.ensures ∙ min_fewer (length c.args.x.now) (length c.args.out.now / 2))

@@ -1,13 +1,9 @@
--- `wire::encode_shorts` meets its contract: i turns have stored the first i numbers. Assumes nothing.
+-- `wire::encode_shorts` meets its contract: the bytes so far are those of the numbers so far. Assumes nothing.
 use mathlib.Core.Path.{◌≡◌}
-use Prim.Native.Nat.{◌-◌, ◌≤◌}
-use lib.ListN.{length, take}
+use lib.ListN.{take}
 use lib.Seq.{sets}
 use Rattle.wire.specs.Wire.{words_bytes}
 use Rattle.wire.proofs.encode_shorts.Given as goal
 
 abbrev pub invariant-loop-i : goal.invariant-loop-i
-invariant-loop-i l = (l.i ≤ l.n) × (l.out ≡ sets l.initial.out 0 (words_bytes 2 (take l.i l.x))) × (length l.out ≡ length l.initial.out)
-
-abbrev pub decreases-loop-i : goal.decreases-loop-i
-decreases-loop-i l = l.n - l.i
+invariant-loop-i l = l.out ≡ sets l.initial.out 0 (words_bytes 2 (take l.i l.y-items))

@@ -1,25 +1,26 @@
--- `wire::no_nan` meets its contract: the highest bit of what was put together tells of the numbers looked at so far. Assumes nothing.
-use Prim.Native.Nat.{◌/◌, ◌-◌}
-use mathlib.Core.Path.{◌≡◌, refl}
+-- `wire::no_nan` meets its contract: what was put together tells of the numbers looked at so far. Assumes nothing.
 use native.Mathlib.Omega.{arith}
+use Prim.Native.Nat.{◌/◌}
+use mathlib.Core.Path.{◌≡◌, ◌∙◌}
 use lib.ListN.{length}
-use lib.Ieee.{binary64}
-use Rattle.wire.specs.Wire.{none_nan, no_nan}
+use Rattle.wire.specs.Wire.{width, none_nan, no_nan}
 use Rattle.wire.proofs.Nans.{one_more}
 use Rattle.wire.proofs.no_nan.Goals as goal
 
 pub loop-i-init : goal.loop-i-init
 unfolding none_nan
-loop-i-init c = (omega arith, refl, refl)
+loop-i-init g c = c.none_seen-seen.ensures
 
 pub loop-i-preserved : goal.loop-i-preserved
-loop-i-preserved c = (
-  omega arith,
-  c.loop-i.invariant.1,
-  one_more binary64 c.args.b.now c.loop-i.i
-      c.loop-i.seen _ c.word_at.ensures c.loop-i.invariant.2,
-)
+loop-i-preserved g c =
+    let f = g.T.Real.format in
+    let w : c.BYTES-in-loop-i.result ≡ width f = c.BYTES-in-loop-i.ensures ∙ g.met.T.Number.bytes_law in
+    one_more f c.args.b.now c.loop-i.i _ _ _ (rw w at c.word_at.ensures) c.loop-i.invariant c.seen-seen.ensures
 
 pub returns : goal.returns
 unfolding no_nan
-returns c = let e : c.loop-i.i ≡ length c.args.b.now / 8 = omega (arith, c.loop-i.invariant.1) in rw e at c.loop-i.invariant.2
+returns g c =
+    let f = g.T.Real.format in
+    let w : c.BYTES.result ≡ width f = c.BYTES.ensures ∙ g.met.T.Number.bytes_law in
+    let e : c.loop-i.i ≡ length c.args.b.now / c.BYTES.result = omega arith in
+    c.no_nan_seen.ensures ∙ rw (e, w) at c.loop-i.invariant

@@ -1,7 +1,6 @@
-use mathlib.Core.Path.{refl}
-use Rattle.wire.specs.Wire.{word_bytes}
+use mathlib.Core.Path.{◌∙◌}
+use Rattle.wire.proofs.Bytes.{written_two}
 use Rattle.wire.proofs.short_to_le_bytes.Goals as goal
 
 pub returns : goal.returns
-unfolding word_bytes
-returns c = refl
+returns c = c.to_le_bytes.ensures ∙ written_two c.args.n

@@ -1,8 +1,8 @@
--- `wire::to_le_bytes` meets its contract: they are the bytes of its bits. Assumes nothing.
-use mathlib.Core.Path.{◌∙◌}
+use mathlib.Core.Path.{refl, ◌∙◌}
 use Rattle.wire.specs.Wire.{number_bytes}
+use Rattle.wire.proofs.Bytes.{written_eight}
 use Rattle.wire.proofs.to_le_bytes.Goals as goal
 
 pub returns : goal.returns
 unfolding number_bytes
-returns c = c.word_to_le_bytes.ensures ∙ rw c.pattern.ensures
+returns c = c.to_le_bytes.ensures ∙ (written_eight c.pattern.result ∙ rw c.pattern.ensures refl)

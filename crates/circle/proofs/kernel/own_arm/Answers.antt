@@ -2,10 +2,10 @@
 use Rattle.circle.specs.Kernel.{row_own}
 use Rattle.circle.proofs.kernel.own_arm.Goals as goal
 
-pub returns-then-lt : goal.returns-then-lt
+pub returns-then-is_below : goal.returns-then-is_below
 unfolding row_own
-returns-then-lt g c = let real = g.met.T.Real in simp (c.whole.ensures, ← c.below.ensures, ← real.lt_law, ← c.lt.ensures, c.if-lt.true)
+returns-then-is_below g c = simp (c.whole.ensures, ← c.below.ensures, ← c.is_below.ensures, c.if-is_below.true)
 
-pub returns-else-lt : goal.returns-else-lt
+pub returns-else-is_below : goal.returns-else-is_below
 unfolding row_own
-returns-else-lt g c = let real = g.met.T.Real in simp (← c.below.ensures, ← real.lt_law, ← c.lt.ensures, c.if-lt.false)
+returns-else-is_below g c = simp (← c.below.ensures, ← c.is_below.ensures, c.if-is_below.false)

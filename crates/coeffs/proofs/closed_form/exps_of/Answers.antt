@@ -6,4 +6,4 @@ use Rattle.coeffs.proofs.closed_form.exps_of.Goals as goal
 
 pub returns : goal.returns
 unfolding closed_exps of_bits
-returns g c = let real = g.met.T.Real in search (rules, real.lt_law, real.neg_law)
+returns g c = let real = g.met.T.Real in search (rules, real.neg_law)

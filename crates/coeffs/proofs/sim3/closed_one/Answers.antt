@@ -5,4 +5,4 @@ use Rattle.coeffs.proofs.sim3.closed_one.Goals as goal
 
 pub returns : goal.returns
 unfolding closed_one of_bits
-returns g c = let real = g.met.T.Real in search (rules, real.lt_law)
+returns g c = search rules

@@ -1,18 +1,8 @@
--- `coeffs::sim3::sim3_coeffs_of` meets its contract: |phi|² is not below zero, so the entry answers. Assumes nothing.
-use mathlib.Core.Path.{sym}
-use Rattle.linalg.specs.Floats.{as_vec3}
-use Rattle.coeffs.specs.Entries.{coeffs_answer}
-use Rattle.coeffs.proofs.Arms.{angle_answers, angle_refuses}
+-- `coeffs::sim3::sim3_coeffs_of` meets its contract: by what its calls ensure. Assumes nothing.
+use Rattle.std.proofs.Common.{rules}
+use Rattle.coeffs.specs.Group.{coeffs_plain}
 use Rattle.coeffs.proofs.sim3.sim3_coeffs_of.Goals as goal
 
-pub unreachable-requires : goal.unreachable-requires
-unfolding coeffs_answer
-unreachable-requires g c =
-    let r = g.T.Real in
-    angle_refuses r.format (as_vec3 r.float c.args.phi) _ _ (sym (rw c.norm_sq.ensures at c.in-Err.ensures))
-
 pub returns : goal.returns
-unfolding coeffs_answer
-returns g c =
-    let r = g.T.Real in
-    angle_answers r.format (as_vec3 r.float c.args.phi) _ _ (sym (rw c.norm_sq.ensures at c.in-Ok.ensures))
+unfolding coeffs_plain
+returns g c = search rules

@@ -1,18 +1,9 @@
--- `coeffs::sim3::sim3_v_of` meets its contract: |phi|² is not below zero, so the entry answers. Assumes nothing.
-use mathlib.Core.Path.{sym}
-use Rattle.linalg.specs.Floats.{as_vec3}
-use Rattle.coeffs.specs.Entries.{v_answer}
-use Rattle.coeffs.proofs.Arms.{angle_answers, angle_refuses}
+-- `coeffs::sim3::sim3_v_of` meets its contract: the numbers of v, unscaled, are those of the nine, unscaled. Assumes nothing.
+use Rattle.std.proofs.Common.{rules}
+use Rattle.series.specs.Series.{coeffs4}
+use Rattle.coeffs.specs.Group.{coeffs_plain, coeffs_v, coeffs_v_scaled, coeffs_unscale, coeffs_unscale_v}
 use Rattle.coeffs.proofs.sim3.sim3_v_of.Goals as goal
 
-pub unreachable-requires : goal.unreachable-requires
-unfolding v_answer
-unreachable-requires g c =
-    let r = g.T.Real in
-    angle_refuses r.format (as_vec3 r.float c.args.phi) _ _ (sym (rw c.norm_sq.ensures at c.in-Err.ensures))
-
 pub returns : goal.returns
-unfolding v_answer
-returns g c =
-    let r = g.T.Real in
-    angle_answers r.format (as_vec3 r.float c.args.phi) _ _ (sym (rw c.norm_sq.ensures at c.in-Ok.ensures))
+unfolding coeffs_plain coeffs_v coeffs_v_scaled coeffs_unscale coeffs_unscale_v coeffs4
+returns g c = search rules

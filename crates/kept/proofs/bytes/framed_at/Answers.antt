@@ -1,19 +1,16 @@
--- `kept::bytes::framed_at` meets its contract: the numbers stand one behind another, and behind them the frames. Assumes nothing.
-use Rattle.sheets.proofs.Framed.{framed_read}
+-- `kept::bytes::framed_at` meets its contract: what stands behind the pose's bytes is not read. Assumes nothing.
+use borrow.Author.Rules.{rules}
+use mathlib.Core.Path.{◌≡◌, ap, ◌∙◌}
+use Prim.Native.Nat.{◌-◌}
+use lib.ListN.{length, take, drop}
+use lib.Ieee.{binary64}
+use Rattle.std.proofs.lemmas.List.{take_rest}
+use Rattle.replies.specs.Table.{framed_in}
+use Rattle.sheets.proofs.Framed.{framed_front}
 use Rattle.kept.proofs.bytes.framed_at.Goals as goal
 
 pub returns : goal.returns
 returns c =
-    rw (framed_read c.args.b.now c.args.at)
-    (simp (
-      c.short_at-2.ensures,
-      c.short_at.ensures,
-      c.number_at-sigma.ensures,
-      c.number_at-7.ensures,
-      c.number_at-6.ensures,
-      c.number_at-5.ensures,
-      c.number_at-4.ensures,
-      c.number_at-3.ensures,
-      c.number_at-2.ensures,
-      c.number_at.ensures,
-    ))
+    let a = c.args in
+    let part : c.unwrap.result.now ≡ take 68 (take (length a.b.now - a.at) (drop a.at a.b.now)) = search rules in
+    c.framed_of.ensures ∙ ap (framed_in binary64) (part ∙ ap (take 68) (take_rest a.b.now a.at)) ∙ framed_front a.b.now a.at c.requires

@@ -3,24 +3,18 @@ use mathlib.Core.Path.{refl, sym, ap, ◌∙◌}
 use lib.Seq.{sets}
 use Rattle.linalg.specs.Answer.{answer}
 use Rattle.running.specs.Running.{Joint}
-use Rattle.running.specs.declared.Start.TheVariants.{Posed}
+use Rattle.std.specs.Prelude.{Some}
 use Rattle.running.specs.declared.Running.{Running}
 use Rattle.kept.specs.State.{running_of, posed_bytes}
 use Rattle.kept.specs.Chain.{joint_bytes}
-use Rattle.kept.proofs.Lent.{ch-joined, ch_stood, ch-kept}
+use Rattle.kept.proofs.Lent.{ch_refused, ch-joined, ch_stood, ch-kept}
 use Rattle.kept.proofs.chain.join.Goals as goal
 
-pub put_posed-requires : goal.put_posed-requires
-put_posed-requires c =
-    c.requires.mem_len
-
 pub tell-requires : goal.tell-requires
-tell-requires c =
-    c.requires.longest_in_bounds
+tell-requires c = c.requires.longest_in_bounds
 
 pub refuse-requires : goal.refuse-requires
-refuse-requires c =
-    c.requires.longest_in_bounds
+refuse-requires c = c.requires.longest_in_bounds
 
 pub returns-in-Ok : goal.returns-in-Ok
 unfolding joint_bytes
@@ -31,7 +25,7 @@ returns-in-Ok c =
     c.running_at.ensures c.join-j.ensures in
     let e = sym (ap (λ (j : Joint). j.answer) j) ∙ ap answer c.in-Ok.is in
     let k = c.put_posed.ensures in
-    let left : Joint → Running = λ j. record { pose = Posed p; every = j.running.every; since = j.running.since } in
+    let left : Joint → Running = λ j. record { pose = Some p; every = j.running.every; since = j.running.since } in
     rw e
     (record {
       result_value = c.tell.ensures.result_value;
@@ -47,11 +41,11 @@ returns-in-Err c =
     let j = ch-joined a.mem.now a.b.now _ _ _ _ c.framed_at-x.ensures c.number_at-up.ensures
     c.running_at.ensures c.join-j.ensures in
     let e = sym (ap (λ (j : Joint). j.answer) j) ∙ ap answer c.in-Err.is in
-    let told = rw c.number.ensures at c.refuse.ensures in
+    let t = ch_refused _ in
     rw e
     (record {
-      result_value = told.result_value;
-      out_after = told.out_after;
+      result_value = c.refuse.ensures.result_value ∙ t.0;
+      out_after = c.refuse.ensures.out_after ∙ ap (sets a.out.now 0) t.1;
       mem_after = refl;
       mem_after_2 = sym (ch-kept (running_of a.mem.now) a.b.now _ e);
     })

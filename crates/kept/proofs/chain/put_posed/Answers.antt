@@ -8,14 +8,6 @@ use Rattle.sheets.proofs.Framed.{Fit}
 use Rattle.kept.proofs.Lent.{posed_stores, posed_stored}
 use Rattle.kept.proofs.chain.put_posed.Goals as goal
 
-pub put_framed-requires : goal.put_framed-requires
-put_framed-requires c =
-    simp length-set (omega (arith, c.put_short-2.auto.out, c.put_short.auto.out, c.requires))
-
-pub shape_of-mem : goal.shape_of-mem
-shape_of-mem c =
-    c.put_framed.auto.out ∙ length-set c.put_short-2.new.out 4 1 ∙ c.put_short-2.auto.out ∙ c.put_short.auto.out
-
 pub returns : goal.returns
 returns c =
     let a = c.args in
@@ -35,5 +27,5 @@ returns c =
     let w = (rw (c.put_short-2.ensures, c.put_short.ensures) at c.put_framed.ensures) ∙ posed_stores a.x a.n a.k a.mem.now in
     record {
       mem_after = w;
-      mem_after_2 = ap running_of w ∙ posed_stored a.x a.n a.k a.mem.now c.requires (search rules) (search rules) fit;
+      mem_after_2 = ap running_of w ∙ posed_stored a.x a.n a.k a.mem.now (search rules) (search rules) (search rules) fit;
     }

@@ -31,5 +31,5 @@ returns c =
       result_value = t.result_value;
       out_after = t.out_after;
       mem_after = w;
-      mem_after_2 = ap running_of w ∙ every_stored c.short_at-n.result c.args.mem.now c.requires.mem_len (search rules);
+      mem_after_2 = ap running_of w ∙ every_stored c.short_at-n.result c.args.mem.now (search rules) (search rules);
     })

@@ -1,46 +1,27 @@
--- `kept::chain::rn` meets its contract: lent bytes that are no state, a cut record and an output without room are told; else the record's own bytes are taken. Assumes nothing.
+-- `kept::chain::rn` meets its contract: a record that is left is told; else the record's own bytes are taken. Assumes nothing.
+use borrow.Author.Rules.{rules}
 use native.Mathlib.Omega.{arith}
-use Prim.Native.Nat.{◌+◌}
-use mathlib.Core.Path.{sym, ap}
-use lib.ListN.{drop, length-drop}
+use mathlib.Core.Path.{◌≡◌, ap}
+use lib.ListN.{length, take, drop, length-drop}
 use lib.Seq.{length-take-le}
-use Rattle.kept.specs.Chain.{rn_asks}
-use Rattle.kept.proofs.Records.{told_unheld, told-cut, told-roomless}
-use Rattle.kept.proofs.State.{front_length, front_same}
+use Rattle.kept.specs.State.{running_size}
+use Rattle.kept.specs.Chain.{rn_size, rn_asks}
+use Rattle.kept.proofs.Records.{told_left, own_length}
 use Rattle.kept.proofs.Lent.{rn-whole}
 use Rattle.kept.proofs.chain.rn.Goals as goal
 
-pub slice_bounds-renew-end-3 : goal.slice_bounds-renew-end-3
-slice_bounds-renew-end-3 c =
-    sym (front_length c.args.mem.now c.if-mem-ne-MEMORY.false)
-
-pub shape_of-mem : goal.shape_of-mem
-shape_of-mem c =
-    front_same c.args.mem.now c.if-mem-ne-MEMORY.false c.renew.new.mem c.renew.auto.mem
-
 pub renew-requires : goal.renew-requires
 renew-requires c = record {
-  b_value = ap (λ n. 2 + n) (length-take-le 2 (drop 2 c.args.s.now)
-      (simp length-drop (omega (arith, c.if-s-lt-RN.false))));
-  mem_len = front_length c.args.mem.now c.if-mem-ne-MEMORY.false;
-  longest_in_bounds = c.if-out-lt-LONGEST.false;
+  b_value = own_length _ _ _ _ _ (omega arith) c.in-Ok.ensures;
+  longest_in_bounds = c.in-Ok.ensures.room;
 }
 
-pub returns-then-mem-ne-MEMORY : goal.returns-then-mem-ne-MEMORY
-returns-then-mem-ne-MEMORY c = let a = c.args in told_unheld rn_asks a.mem.now a.s.now a.out.now c.if-mem-ne-MEMORY.true
-
-pub returns-then-s-lt-RN : goal.returns-then-s-lt-RN
-returns-then-s-lt-RN c =
-    let a = c.args in told-cut rn_asks a.mem.now a.s.now a.out.now c.if-mem-ne-MEMORY.false c.if-s-lt-RN.true
-
-pub returns-then-out-lt-LONGEST : goal.returns-then-out-lt-LONGEST
-returns-then-out-lt-LONGEST c =
-    let a = c.args in told-roomless rn_asks a.mem.now a.s.now a.out.now c.if-mem-ne-MEMORY.false c.if-s-lt-RN.false c.if-out-lt-LONGEST.true
-
-pub returns : goal.returns
-returns c =
+pub returns-in-Ok : goal.returns-in-Ok
+returns-in-Ok c =
     let a = c.args in
-    let w = c.renew.ensures in
-    rn-whole a.mem.now a.s.now a.out.now c.if-mem-ne-MEMORY.false c.if-s-lt-RN.false
-    c.if-out-lt-LONGEST.false c.renew.result _ _ w.result_value w.out_after w.mem_after w.mem_after_2
-    c.renew.auto.mem
+    let part : c.unwrap.result.now ≡ take running_size a.mem.now = search rules in
+    let w = rw part at c.renew.ensures in
+    rn-whole a.mem.now a.s.now a.out.now c.in-Ok.b.now c.in-Ok.ensures c.renew.result _ _ w.result_value w.out_after w.mem_after w.mem_after_2
+
+pub returns-in-Err : goal.returns-in-Err
+returns-in-Err c = let a = c.args in told_left rn_asks a.mem.now a.s.now a.out.now c.in-Err.step c.in-Err.ensures

@@ -1,12 +1,7 @@
--- `kept::chain::running_at` meets its contract: by the byte that says whether there is a pose. Assumes nothing.
-use borrow.Author.Tests.{eq-eqb, ne_eqb}
-use Rattle.kept.specs.State.{start_of, running_of}
+-- `kept::chain::running_at` meets its contract: part by part. Assumes nothing.
+use Rattle.kept.specs.State.{running_of}
 use Rattle.kept.proofs.chain.running_at.Goals as goal
 
-pub returns-then-mem-eq1 : goal.returns-then-mem-eq1
-unfolding running_of start_of
-returns-then-mem-eq1 c = simp (c.framed_at.ensures, eq-eqb _ _ c.if-mem-eq1.true, c.short_at-since.ensures, c.short_at-every.ensures)
-
 pub returns : goal.returns
-unfolding running_of start_of
-returns c = simp (ne_eqb _ _ c.if-mem-eq1.false, c.short_at-since.ensures, c.short_at-every.ensures)
+unfolding running_of
+returns c = simp (c.pose_at.ensures, c.short_at-2.ensures, c.short_at.ensures)

@@ -1,36 +1,43 @@
 -- `replies::entries::ac` meets its contract: the call on lists is what the job asks for. Assumes nothing.
--- a list of n zeros, as it is made
 use native.Mathlib.Omega.{arith}
-use mathlib.Core.Path.{◌≡◌, refl, ap, ◌∙◌}
-use Prim.Native.Nat.{ℕ}
+use Prim.Native.Nat.{ℕ, ◌+◌, ◌-◌, ◌*◌, ◌≤◌}
+use mathlib.Core.Path.{◌≡◌, refl, sym, ap, ◌∙◌}
 use mathlib.Core.List.{List}
-use lib.ListN.{length, drop, replicate, length-drop}
+use lib.ListN.{length, get_or, take, drop, replicate, length-drop}
 use lib.Seq.{sets}
-use lib.Ieee.{Float, binary64, of_bits}
+use lib.Ieee.{Float}
 use Rattle.linalg.specs.Answer.{Answer}
-use Rattle.wire.specs.Wire.{Item, firsts}
-use Rattle.wire.proofs.Lists.{decoded}
-use Rattle.outcome.specs.Outcome.{gave_of, gave_bytes}
+use Rattle.wire.specs.Wire.{Item, width, firsts, number_at, numbers_at, words_at}
+use Rattle.outcome.specs.Outcome.{longest, gave_of, gave_bytes}
+use Rattle.from_lists.specs.Lists.{pose_lists}
+use Rattle.sim3_c_entries.specs.Calls.{arm_lists}
 use Rattle.replies.specs.Table.{framed_width}
+use Rattle.replies.proofs.Told.{floats-length, floats-part, floats-one}
+use Rattle.replies.proofs.Frames.{rest_is}
+use Rattle.replies.proofs.Replies.{poses_most, arms_most, widest}
+use Rattle.replies.proofs.Front.{first_at}
 use Rattle.replies.proofs.Calls.{ac_told}
 use Rattle.replies.proofs.entries.ac.Goals as goal
 
-abbrev zeros : ℕ → List Float
-zeros n = replicate n (of_bits binary64 0)
-
 pub told-requires : goal.told-requires
-told-requires c =
-    let k : length c.act_point-n.new.out ≡ 3 = c.act_point-n.auto.out in omega (arith, c.requires.longest_bound, k)
+told-requires g c =
+    let k : length c.act_point-called.new.out ≡ 3 = c.act_point-called.auto.out in
+    rw k (omega (arith, c.requires.longest_bound, widest g.T.Real.format 3 (omega arith)))
 
 pub returns : goal.returns
 unfolding firsts
-returns c =
+returns g c =
+    let f = g.T.Real.format in
+    let fl = g.T.Real.floats in
+    let law = g.met.T.Real.floats_law in
     let b = c.args.b.now in
-    let x = c.decode.ensures ∙ decoded binary64 b (zeros 8) 8 (omega (arith, c.requires.b_len)) refl in
-    let p = c.decode-2.ensures ∙ decoded binary64 (drop (framed_width binary64) b) (zeros 4) 4 (rw (length-drop (framed_width binary64) b) (omega (arith, c.requires.b_len))) refl in
-    let s = c.act_point-n.ensures in
-    let t = ac_told binary64 b _ _ (zeros 3) _ _ _ x (rw p refl) (rw p refl) refl s.value s.out_after in
+    let s = c.act_point-called.ensures in
+    let w = framed_width f in
+    let p = rw (c.framed.ensures, rest_is b w) at c.read-p.ensures in
+    let part = floats-part fl g.T.Real.float law c.read-p.result (numbers_at f (drop w b) 4) 1 3 p in
+    let o = fl (replicate 3 c.of-y.result) in
+    let t = ac_told f b _ _ o _ _ _ c.read-x.ensures (floats-one fl g.T.Real.float law c.read-p.result (numbers_at f (drop w b) 4) 0 _ p (ap (get_or c.read-p.result 0) c.index-p-0.is)) part (floats-length fl g.T.Real.float law (replicate 3 c.of-y.result)) s.value s.out_after in
     record {
-      value = c.told.ensures.value ∙ ap (gave_of binary64) t;
-      out_after = c.told.ensures.out_after ∙ ap (λ (a : Answer (List Item)). sets c.args.out.now 0 (gave_bytes binary64 a)) t;
+      value = c.told.ensures.value ∙ ap (gave_of f) t;
+      out_after = c.told.ensures.out_after ∙ ap (λ (a : Answer (List Item)). sets c.args.out.now 0 (gave_bytes f a)) t;
     }

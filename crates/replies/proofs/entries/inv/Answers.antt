@@ -1,44 +1,46 @@
 -- `replies::entries::inv` meets its contract: the call on lists is what the job asks for. Assumes nothing.
--- a list of n zeros, as it is made
 use native.Mathlib.Omega.{arith}
-use mathlib.Core.Path.{refl, ap, ◌∙◌}
-use Prim.Native.Nat.{ℕ, ◌*◌}
+use Prim.Native.Nat.{ℕ, ◌+◌, ◌-◌, ◌*◌, ◌≤◌}
+use mathlib.Core.Path.{◌≡◌, refl, sym, ap, ◌∙◌}
 use mathlib.Core.List.{List}
-use lib.ListN.{drop, replicate, length-drop}
+use lib.ListN.{length, take, drop, replicate, length-drop}
 use lib.Seq.{sets}
-use lib.Ieee.{Float, binary64, of_bits}
+use lib.Ieee.{Float}
 use Rattle.linalg.specs.Answer.{Answer}
-use Rattle.wire.specs.Wire.{Item, width, firsts}
-use Rattle.wire.proofs.Lists.{decoded, shorts_decoded}
-use Rattle.outcome.specs.Outcome.{gave_of, gave_bytes}
+use Rattle.wire.specs.Wire.{Item, width, firsts, number_at, numbers_at, words_at}
+use Rattle.outcome.specs.Outcome.{longest, gave_of, gave_bytes}
 use Rattle.from_lists.specs.Lists.{pose_lists}
+use Rattle.sim3_c_entries.specs.Calls.{arm_lists}
 use Rattle.replies.specs.Table.{framed_width}
+use Rattle.replies.proofs.Told.{floats-length, floats-part, floats-one}
+use Rattle.replies.proofs.Frames.{rest_is}
+use Rattle.replies.proofs.Replies.{poses_most, arms_most, widest}
+use Rattle.replies.proofs.Front.{first_at}
 use Rattle.replies.proofs.Calls.{in_told}
 use Rattle.replies.proofs.entries.inv.Goals as goal
 
-abbrev zeros : ℕ → List Float
-zeros n = replicate n (of_bits binary64 0)
-
 pub told_framed-requires : goal.told_framed-requires
-told_framed-requires c = record {
-  y_len = c.sim3_inverse-n.auto.out;
-  k_len = c.sim3_inverse-n.auto.out_frames;
-  binary64_in_bounds = omega (arith, c.requires.longest_bound);
+told_framed-requires g c = record {
+  y_len = c.sim3_inverse-called.auto.out;
+  k_len = c.sim3_inverse-called.auto.out_frames;
+  bytes = omega (arith, c.requires.longest_bound, poses_most g.T.Real.format);
 }
 
 pub returns : goal.returns
 unfolding firsts
-returns c =
+returns g c =
+    let f = g.T.Real.format in
+    let fl = g.T.Real.floats in
+    let law = g.met.T.Real.floats_law in
     let b = c.args.b.now in
-    let at = 8 * width binary64 in
-    let w = framed_width binary64 in
-    let x = c.decode.ensures ∙ decoded binary64 b (zeros 8) 8 (omega (arith, c.requires.b_len)) refl in
-    let k = c.decode_shorts.ensures ∙ shorts_decoded (drop at b) (replicate 2 0) 2 (rw (length-drop at b) (omega (arith, c.requires.b_len))) refl in
-    let d = c.decode-2.ensures ∙ decoded binary64 (drop w b) (zeros 1) 1 (rw (length-drop w b) (omega (arith, c.requires.b_len))) refl in
-    let s = c.sim3_inverse-n.ensures in
-    let t = in_told binary64 b _ (pose_lists (zeros 8) (replicate 2 0)) _ _ _ (rw (x, k) refl) (rw d refl) refl refl s.value s.out_frames_after in
+    let s = c.sim3_inverse-called.ensures in
+    let w = framed_width f in
+    let v : c.BYTES.result * 8 ≡ 8 * width f = omega (arith, c.BYTES.ensures, g.met.T.Number.bytes_law) in
+    let k = rw (v, rest_is b (8 * width f)) at c.frames-k.ensures in
+    let d = rw c.framed.ensures at c.number_at-down.ensures ∙ first_at f b w in
+    let o = pose_lists (fl (replicate 8 c.of-z.result)) (replicate 2 0) in
+    let t = in_told f b _ o _ _ _ (rw (c.read-x.ensures, k) refl) d (floats-length fl g.T.Real.float law (replicate 8 c.of-z.result)) refl s.value s.out_frames_after in
     record {
-      value = c.told_framed.ensures.value ∙ ap (gave_of binary64) t;
-      out_after = c.told_framed.ensures.out_after ∙ ap
-          (λ (a : Answer (List Item)). sets c.args.out.now 0 (gave_bytes binary64 a)) t;
+      value = c.told_framed.ensures.value ∙ ap (gave_of f) t;
+      out_after = c.told_framed.ensures.out_after ∙ ap (λ (a : Answer (List Item)). sets c.args.out.now 0 (gave_bytes f a)) t;
     }

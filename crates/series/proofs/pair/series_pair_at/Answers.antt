@@ -7,4 +7,4 @@ use Rattle.series.proofs.pair.series_pair_at.Goals as goal
 
 pub returns : goal.returns
 unfolding pair_full g_series_pair
-returns g c = rw (← pair_is g.T.Real.format (g.T.Real.float c.args.sigma) (g.T.Real.float c.args.z) c.args.k) (search rules)
+returns g c = rw (← pair_is g.T.Real.format (g.T.Real.float c.args.sigma) (g.T.Real.float c.args.z) c.args.k.terms) (search rules)

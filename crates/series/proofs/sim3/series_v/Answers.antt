@@ -1,17 +1,19 @@
--- `series::sim3::series_v` meets its contract: the tests are the definition's, 1 before 4. Assumes nothing.
-use Rattle.std.proofs.Common.{rules}
-use lib.Ieee.{of_bits}
-use Rattle.series.specs.Series.{series_v_answer}
+use Rattle.std.proofs.Common.{rules, ◌≡◌, ◌+◌, ◌*◌, ◌/◌, ap, ◌∙◌}
+use native.Mathlib.Omega.{arith}
+use Rattle.series.specs.Series.{series_v_answer, series_v}
+use Rattle.series.proofs.Guard.{refused, accepted}
 use Rattle.series.proofs.sim3.series_v.Goals as goal
 
-pub returns-then-lt : goal.returns-then-lt
-unfolding series_v_answer of_bits
-returns-then-lt g c = let real = g.met.T.Real in search (rules, real.lt_law)
-
-pub returns-then-k-gt30 : goal.returns-then-k-gt30
-unfolding series_v_answer of_bits
-returns-then-k-gt30 g c = let real = g.met.T.Real in search (rules, real.lt_law)
+pub returns-in_err-k : goal.returns-in_err-k
+unfolding series_v_answer
+returns-in_err-k g c =
+    let x = g.T.Real.float in
+    let f = g.T.Real.format in
+    search (rules, refused 30 (x c.args.z) c.args.k c.args.k _ (series_v f (x c.args.sigma) (x c.args.z) c.args.k) c.in_err-k.ensures)
 
 pub returns : goal.returns
-unfolding series_v_answer of_bits
-returns g c = let real = g.met.T.Real in search (rules, real.lt_law)
+unfolding series_v_answer
+returns g c =
+    let x = g.T.Real.float in
+    let f = g.T.Real.format in
+    accepted 30 (x c.args.z) c.args.k (λ n. series_v f (x c.args.sigma) (x c.args.z) n) _ _ c.in_ok-k.ensures c.series_v_at.ensures

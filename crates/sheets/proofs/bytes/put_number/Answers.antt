@@ -1,32 +1,12 @@
--- `sheets::bytes::put_number` meets its contract: the eight stores are the run of the double's bytes. Assumes nothing.
 use native.Mathlib.Omega.{arith}
-use lib.ListN.{length-set}
-use Rattle.wire.proofs.Places.{double_stored}
+use Prim.Native.Nat.{◌+◌, ◌-◌}
+use mathlib.Core.Path.{◌≡◌, ◌∙◌}
+use lib.Ieee.{binary64}
+use Rattle.wire.proofs.Bytes.{number-length}
+use Rattle.wire.proofs.Places.{part_stored}
 use Rattle.sheets.proofs.bytes.put_number.Goals as goal
 
 pub returns : goal.returns
-returns c = double_stored c.args.x c.to_le_bytes-d.result c.args.out.now _ c.to_le_bytes-d.ensures
-
-pub bounds-out-at-2 : goal.bounds-out-at-2
-bounds-out-at-2 c = simp length-set (omega (arith, c.requires))
-
-pub bounds-out-at-3 : goal.bounds-out-at-3
-bounds-out-at-3 c = simp length-set (omega (arith, c.requires))
-
-pub bounds-out-at-4 : goal.bounds-out-at-4
-bounds-out-at-4 c = simp length-set (omega (arith, c.requires))
-
-pub bounds-out-at-5 : goal.bounds-out-at-5
-bounds-out-at-5 c = simp length-set (omega (arith, c.requires))
-
-pub bounds-out-at-6 : goal.bounds-out-at-6
-bounds-out-at-6 c = simp length-set (omega (arith, c.requires))
-
-pub bounds-out-at-7 : goal.bounds-out-at-7
-bounds-out-at-7 c = simp length-set (omega (arith, c.requires))
-
-pub bounds-out-at-8 : goal.bounds-out-at-8
-bounds-out-at-8 c = simp length-set (omega (arith, c.requires))
-
-pub shape_of-out : goal.shape_of-out
-shape_of-out c = simp length-set
+returns c =
+    let k : c.args.at + 8 - c.args.at ≡ 8 = omega arith in
+    rw k (part_stored c.args.out.now _ _ c.args.at 8 (c.copy_from_slice.ensures.after ∙ c.to_le_bytes.ensures) (number-length binary64 c.args.x) c.requires)

@@ -1,42 +1,22 @@
 -- `sim3_c::jacobians::sim3_act_jacobians_left` meets its contract: the lists are read, the engine is asked, and its answer is written or the refusal handed on. Assumes nothing.
-use mathlib.Core.Path.{refl}
-use Rattle.from_lists.specs.Lists.{vec_read_told, pose_read_told}
+use Rattle.std.proofs.Common.{rules}
 use Rattle.to_lists.specs.Written.{status, written}
 use Rattle.sim3_c.specs.Calls.{act_jacobians_left_call}
 use Rattle.sim3_c.proofs.jacobians.sim3_act_jacobians_left.Goals as goal
 
-pub returns-in_default : goal.returns-in_default
-unfolding status written act_jacobians_left_call pose_read_told
-returns-in_default c = rw (← c.pose_from.ensures, c.in_default.is)
-    (record {
-      value = refl;
-      out_after = refl;
-    })
+pub returns-in_err-a : goal.returns-in_err-a
+unfolding act_jacobians_left_call status written
+returns-in_err-a g c = rw (← c.pose_from.ensures, c.in_err-a.was) (search rules)
 
-pub returns-in_default-vec_from : goal.returns-in_default-vec_from
-unfolding status written act_jacobians_left_call pose_read_told vec_read_told
-returns-in_default-vec_from c =
-    rw (
-      ← c.pose_from.ensures,
-      c.in-Got.is,
-      ← c.vec_from.ensures,
-      c.in_default-vec_from.is,
-    )
-    (record {
-      value = refl;
-      out_after = refl;
-    })
+pub returns-in_err-b : goal.returns-in_err-b
+unfolding act_jacobians_left_call status written
+returns-in_err-b g c = rw (← c.pose_from.ensures, c.in_ok-a.was, ← c.vec_from.ensures, c.in_err-b.was) (search rules)
 
 pub returns : goal.returns
-unfolding status written act_jacobians_left_call pose_read_told vec_read_told
-returns c =
-    rw (
-      ← c.pose_from.ensures,
-      c.in-Got.is,
-      ← c.vec_from.ensures,
-      c.in-Got-vec_from.is,
-    )
+unfolding act_jacobians_left_call status written
+returns g c =
+    rw (← c.pose_from.ensures, c.in_ok-a.was, ← c.vec_from.ensures, c.in_ok-b.was)
     (record {
-      value = rw c.act_jacobians_left.ensures at c.put_act.ensures.value;
-      out_after = rw c.act_jacobians_left.ensures at c.put_act.ensures.out_after;
+      value = rw c.act_jacobians_left.ensures at c.put.ensures.value;
+      out_after = rw c.act_jacobians_left.ensures at c.put.ensures.out_after;
     })

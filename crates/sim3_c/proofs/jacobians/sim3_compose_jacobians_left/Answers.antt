@@ -1,26 +1,18 @@
 -- `sim3_c::jacobians::sim3_compose_jacobians_left` meets its contract: the lists are read, the engine is asked, and its answer is written or the refusal handed on. Assumes nothing.
-use mathlib.Core.Path.{refl}
-use Rattle.from_lists.specs.Lists.{pose_read_told}
+use Rattle.std.proofs.Common.{rules}
 use Rattle.to_lists.specs.Written.{status, written}
 use Rattle.sim3_c.specs.Calls.{compose_jacobians_left_call}
 use Rattle.sim3_c.proofs.jacobians.sim3_compose_jacobians_left.Goals as goal
 
-pub returns-in_default : goal.returns-in_default
-unfolding status written compose_jacobians_left_call pose_read_told
-returns-in_default c = rw (← c.pose_from.ensures, c.in_default.is)
-    (record {
-      value = refl;
-      out_after = refl;
-    })
+pub returns-in_err-a : goal.returns-in_err-a
+unfolding compose_jacobians_left_call status written
+returns-in_err-a g c = rw (← c.pose_from.ensures, c.in_err-a.was) (search rules)
 
 pub returns : goal.returns
-unfolding status written compose_jacobians_left_call pose_read_told
-returns c =
-    rw (
-      ← c.pose_from.ensures,
-      c.in-Got.is,
-    )
+unfolding compose_jacobians_left_call status written
+returns g c =
+    rw (← c.pose_from.ensures, c.in_ok-a.was)
     (record {
-      value = rw c.compose_jacobians_left.ensures at c.put_two.ensures.value;
-      out_after = rw c.compose_jacobians_left.ensures at c.put_two.ensures.out_after;
+      value = rw c.compose_jacobians_left.ensures at c.put.ensures.value;
+      out_after = rw c.compose_jacobians_left.ensures at c.put.ensures.out_after;
     })

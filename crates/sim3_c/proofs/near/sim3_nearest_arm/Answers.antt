@@ -1,63 +1,26 @@
 -- `sim3_c::near::sim3_nearest_arm` meets its contract: a refusal is handed on; a list of three has the numbers written, and any other is left as it was. Assumes nothing.
-use borrow.Author.Rules.{rules}
+use Rattle.std.proofs.Common.{rules, refl, ◌∙◌}
 use borrow.Author.Tests.{eq-eqb, ne_eqb}
-use mathlib.Core.Path.{refl}
-use mathlib.Core.List.{[], ◌∷◌}
-use lib.ListN.{length-set}
-use Rattle.nearest.specs.Nearest.{step_told}
 use Rattle.to_lists.specs.Written.{status, written}
-use Rattle.sim3_c.specs.Near.{near_numbers, near_call}
-use Rattle.to_lists.proofs.Fits.{sets-all}
+use Rattle.sim3_c.specs.Near.{near_call}
 use Rattle.sim3_c.proofs.near.sim3_nearest_arm.Goals as goal
+
+pub returns-in_err-near : goal.returns-in_err-near
+unfolding status written near_call
+returns-in_err-near g c = rw (← c.nearest_arm.ensures, c.in_err-near.was) (search rules)
 
 pub returns-then-out-ne-NUMBERS : goal.returns-then-out-ne-NUMBERS
 unfolding status written near_call
-returns-then-out-ne-NUMBERS c = rw (← c.nearest_arm.ensures, c.in-Ok-Some.is, ne_eqb _ _ c.if-out-ne-NUMBERS.true)
+returns-then-out-ne-NUMBERS g c = rw (← c.nearest_arm.ensures, c.in_ok-near.was, ne_eqb _ _ c.if-out-ne-NUMBERS.true)
     (record {
       value = refl;
       out_after = refl;
     })
 
-pub bounds-out-1 : goal.bounds-out-1
-bounds-out-1 c = simp length-set (search rules)
-
-pub bounds-out-2 : goal.bounds-out-2
-bounds-out-2 c = simp length-set (search rules)
-
-pub returns-then-out-ne-NUMBERS-2 : goal.returns-then-out-ne-NUMBERS-2
+pub returns : goal.returns
 unfolding status written near_call
-returns-then-out-ne-NUMBERS-2 c = rw (← c.nearest_arm.ensures, c.in-Ok-None.is, ne_eqb _ _ c.if-out-ne-NUMBERS-2.true)
+returns g c = rw (← c.nearest_arm.ensures, c.in_ok-near.was, eq-eqb _ _ c.if-out-ne-NUMBERS.false)
     (record {
       value = refl;
-      out_after = refl;
-    })
-
-pub bounds-out-2-in-Ok-None : goal.bounds-out-2-in-Ok-None
-bounds-out-2-in-Ok-None c = simp length-set (search rules)
-
-pub returns-else-out-ne-NUMBERS : goal.returns-else-out-ne-NUMBERS
-unfolding status written near_call near_numbers step_told
-returns-else-out-ne-NUMBERS c =
-    let s = c.in-Ok-Some.s in
-    rw (← c.nearest_arm.ensures, c.in-Ok-Some.is, c.in-Ok-Some.field-0-is, eq-eqb _ _ c.if-out-ne-NUMBERS.false, ← c.way_number-direction.ensures)
-    (record {
-      value = refl;
-      out_after = sets-all c.args.out.now (s.count ∷ c.way_number-direction.result ∷ s.arm ∷ []) c.if-out-ne-NUMBERS.false;
-    })
-
-pub returns-else-out-ne-NUMBERS-2 : goal.returns-else-out-ne-NUMBERS-2
-unfolding status written near_call near_numbers
-returns-else-out-ne-NUMBERS-2 c =
-    rw (← c.nearest_arm.ensures, c.in-Ok-None.is, c.in-Ok-None.field-0-is, eq-eqb _ _ c.if-out-ne-NUMBERS-2.false)
-    (record {
-      value = refl;
-      out_after = sets-all c.args.out.now (0 ∷ 0 ∷ 0 ∷ []) c.if-out-ne-NUMBERS-2.false;
-    })
-
-pub returns-in-Err : goal.returns-in-Err
-unfolding status written near_call
-returns-in-Err c = rw (← c.nearest_arm.ensures, c.in-Err.is)
-    (record {
-      value = c.number.ensures;
-      out_after = refl;
+      out_after = c.copy_from_slice.ensures.after ∙ c.numbers.ensures;
     })

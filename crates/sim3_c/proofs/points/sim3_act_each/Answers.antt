@@ -1,46 +1,20 @@
 -- `sim3_c::points::sim3_act_each` meets its contract: the lists are read, the engine is asked, and its answer is written or the refusal handed on. Assumes nothing.
-use mathlib.Core.Path.{refl, sym, ap, ◌∙◌}
-use Rattle.linalg.specs.Answer.{answer}
-use Rattle.from_lists.specs.Lists.{pose_read_told}
+use Rattle.std.proofs.Common.{rules, ap, ◌∙◌}
 use Rattle.to_lists.specs.Written.{status, written}
-use Rattle.sim3_c.specs.Calls.{act_call, act_each_call}
-use Rattle.sim3_c.proofs.Alone.{points_alone}
+use Rattle.sim3_c.specs.Calls.{act_each_call}
+use Rattle.sim3_c.proofs.Moved.{moved}
 use Rattle.sim3_c.proofs.points.sim3_act_each.Goals as goal
 
-pub returns-in_default : goal.returns-in_default
-unfolding status written act_each_call act_call pose_read_told
-returns-in_default c = rw (← c.pose_from.ensures, c.in_default.is)
-    (record {
-      value = refl;
-      out_after = refl;
-    })
+pub returns-in_err-a : goal.returns-in_err-a
+unfolding act_each_call status written
+returns-in_err-a g c = rw (← c.pose_from.ensures, c.in_err-a.was) (search rules)
 
-pub returns-in-Ok : goal.returns-in-Ok
-unfolding status written act_each_call act_call pose_read_told
-returns-in-Ok c =
-    rw (
-      ← c.pose_from.ensures,
-      c.in-Got.is,
-      ← c.act_each.ensures.result_value,
-      c.in-Ok.is,
-    )
+pub returns : goal.returns
+unfolding act_each_call
+returns g c =
+    let m = moved _ _ _ in
+    rw (← c.pose_from.ensures, c.in_ok-a.was)
     (record {
-      value = refl;
-      out_after = c.act_each.ensures.out_after;
-    })
-
-pub returns-in-Err : goal.returns-in-Err
-unfolding status written act_each_call act_call pose_read_told
-returns-in-Err c =
-    let a = c.args in
-    let p = points_alone _ a.pts.now a.out.now _ (sym c.act_each.ensures.result_value ∙ ap answer c.in-Err.is) in
-    rw (
-      ← c.pose_from.ensures,
-      c.in-Got.is,
-      ← c.act_each.ensures.result_value,
-      c.in-Err.is,
-    )
-    (record {
-      value = c.number.ensures;
-      out_after = c.act_each.ensures.out_after ∙ p;
+      value = ap status c.act_each.ensures.result_value ∙ m.0;
+      out_after = c.act_each.ensures.out_after ∙ m.1;
     })

@@ -1,42 +1,27 @@
 -- `sim3_c_doubles::join::sim3_running_push` meets its contract: the lists are read, the pose is joined, and the running pose is written or the refusal handed on. Assumes nothing.
 use borrow.Author.Rules.{rules}
-use mathlib.Core.Path.{refl}
-use Rattle.from_lists.specs.Lists.{framed_read_told}
+use mathlib.Core.Path.{◌≡◌}
+use Rattle.linalg.specs.Answer.{answers}
+use Rattle.from_lists.specs.Lists.{pose_lists, framed_from}
 use Rattle.to_lists.specs.Written.{status, written}
-use Rattle.sim3_c_doubles.specs.Join.{running_read_told, push_call}
+use Rattle.sim3_c_doubles.specs.Join.{run_lists, running_from, push_call}
 use Rattle.sim3_c_doubles.proofs.join.sim3_running_push.Goals as goal
 
-pub returns-in_default : goal.returns-in_default
-unfolding status written push_call running_read_told
-returns-in_default c = rw (← c.running_from.ensures, c.in_default.is)
-    (record {
-      value = refl;
-      state_after = refl;
-    })
+pub returns-in_err-r : goal.returns-in_err-r
+unfolding status written push_call
+returns-in_err-r c = search rules
 
-pub returns-in_default-framed_from : goal.returns-in_default-framed_from
-unfolding status written push_call running_read_told framed_read_told
-returns-in_default-framed_from c =
-    rw (
-      ← c.running_from.ensures,
-      c.in-Got.is,
-      ← c.framed_from.ensures,
-      c.in_default-framed_from.is,
-    )
-    (record {
-      value = refl;
-      state_after = refl;
-    })
+pub returns-in_err-a : goal.returns-in_err-a
+unfolding status written push_call
+returns-in_err-a c = search rules
 
 pub returns : goal.returns
-unfolding status written push_call running_read_told framed_read_told
+unfolding status written push_call
 returns c =
-    rw (
-      ← c.running_from.ensures,
-      c.in-Got.is,
-      ← c.framed_from.ensures,
-      c.in-Got-framed_from.is,
-    )
+    let l = c.args in
+    let r : running_from (run_lists l.pose.now l.state.now) ≡ answers c.in_ok-r.r = search rules in
+    let a : framed_from (pose_lists l.x.now l.x_frames.now) ≡ answers c.in_ok-a.a = search rules in
+    rw (r, a)
     (record {
       value = rw c.join.ensures at c.put_joint.ensures.value;
       state_after = rw c.join.ensures at c.put_joint.ensures.state_after;

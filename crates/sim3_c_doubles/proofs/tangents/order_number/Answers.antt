@@ -4,14 +4,14 @@ use mathlib.Core.Path.{refl}
 use Rattle.sim3_c_doubles.specs.Order.{order_number}
 use Rattle.sim3_c_doubles.proofs.tangents.order_number.Goals as goal
 
-pub returns-in-Before : goal.returns-in-Before
+pub returns-in-Less : goal.returns-in-Less
 unfolding order_number
-returns-in-Before c = rw c.in-Before.is refl
+returns-in-Less c = rw c.in-Less.is refl
 
-pub returns-in-Same : goal.returns-in-Same
+pub returns-in-Equal : goal.returns-in-Equal
 unfolding order_number
-returns-in-Same c = rw c.in-Same.is refl
+returns-in-Equal c = rw c.in-Equal.is refl
 
-pub returns-in-After : goal.returns-in-After
+pub returns-in-Greater : goal.returns-in-Greater
 unfolding order_number
-returns-in-After c = rw c.in-After.is refl
+returns-in-Greater c = rw c.in-Greater.is refl

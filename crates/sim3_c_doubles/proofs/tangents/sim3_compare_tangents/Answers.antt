@@ -8,6 +8,8 @@ use lib.ListN.{set}
 use lib.Ieee.{binary64}
 use mir.Syntax.{w64}
 use mir.Val.{to_z, of_z}
+use Rattle.std.specs.Prelude.{Err}
+use Rattle.linalg.specs.declared.refusal.Refusal.TheVariants.{ListLength}
 use Rattle.order.specs.Order.{tangent_order}
 use Rattle.to_lists.specs.Written.{status, written}
 use Rattle.sim3_c_doubles.specs.Order.{order_number, patterns_from, compare_call}
@@ -16,22 +18,23 @@ use Rattle.to_lists.proofs.Fits.{sets-all}
 use Rattle.sim3_c_doubles.proofs.Patterns.{number_back}
 use Rattle.sim3_c_doubles.proofs.tangents.sim3_compare_tangents.Goals as goal
 
-pub returns-then-a-ne-TANGENT : goal.returns-then-a-ne-TANGENT
+pub returns-in_err-x : goal.returns-in_err-x
 unfolding status written compare_call patterns_from
-returns-then-a-ne-TANGENT c = rw (sized_wrong c.args.a.now 7 c.args.a.now c.if-a-ne-TANGENT.true)
+returns-in_err-x c =
+    let a = c.args in
+    let is : c.from_residual.result ≡ Err ListLength = search rules in
+    rw (is, sized_wrong a.a.now 7 a.a.now (search rules))
     (record {
       value = refl;
       out_after = refl;
     })
 
-pub returns-then-b-ne-TANGENT : goal.returns-then-b-ne-TANGENT
+pub returns-in_err-y : goal.returns-in_err-y
 unfolding status written compare_call patterns_from
-returns-then-b-ne-TANGENT c = rw (
-  sized-right c.args.a.now 7 c.args.a.now
-      c.if-a-ne-TANGENT.false,
-  sized_wrong c.args.b.now 7 c.args.b.now
-      c.if-b-ne-TANGENT.true,
-)
+returns-in_err-y c =
+    let a = c.args in
+    let is : c.from_residual-in_err-y.result ≡ Err ListLength = search rules in
+    rw (is, sized-right a.a.now 7 a.a.now (search rules), sized_wrong a.b.now 7 a.b.now (search rules))
     (record {
       value = refl;
       out_after = refl;
@@ -40,10 +43,10 @@ returns-then-b-ne-TANGENT c = rw (
 pub returns-then-out-ne-ORDER : goal.returns-then-out-ne-ORDER
 unfolding status written compare_call patterns_from
 returns-then-out-ne-ORDER c =
+    let a = c.args in
     rw (
-      sized-right c.args.a.now 7 c.args.a.now c.if-a-ne-TANGENT.false,
-      sized-right c.args.b.now 7 c.args.b.now
-          c.if-b-ne-TANGENT.false,
+      sized-right a.a.now 7 a.a.now (search rules),
+      sized-right a.b.now 7 a.b.now (search rules),
       ne_eqb _ _ c.if-out-ne-ORDER.true,
     )
     (record {
@@ -56,10 +59,12 @@ unfolding status written compare_call patterns_from
 returns c =
     let a = c.args in
     let t = tangent_order binary64 a.a.now a.b.now in
+    let x : c.in_ok-x.x.now ≡ a.a.now = search rules in
+    let y : c.in_ok-y.y.now ≡ a.b.now = search rules in
     let o : c.order_number.result ≡ order_number t =
-    c.order_number.ensures ∙ ap order_number (c.compare.ensures ∙ (λ i. tangent_order binary64 (c.patterns_in-x.ensures i) (c.patterns_in-y.ensures i))) in
+    c.order_number.ensures ∙ ap order_number (c.compare.ensures ∙ (λ i. tangent_order binary64 (x i) (y i))) in
     let kept = ap (λ (z : ℤ). set a.out.now 0 (to_z w64 (of_z w64 z))) o ∙ ap (λ (z : ℤ). set a.out.now 0 z) (number_back t) in
-    rw (sized-right a.a.now 7 a.a.now c.if-a-ne-TANGENT.false, sized-right a.b.now 7 a.b.now c.if-b-ne-TANGENT.false, eq-eqb _ _ c.if-out-ne-ORDER.false)
+    rw (sized-right a.a.now 7 a.a.now (search rules), sized-right a.b.now 7 a.b.now (search rules), eq-eqb _ _ c.if-out-ne-ORDER.false)
     (record {
       value = refl;
       out_after = kept ∙ sets-all a.out.now (order_number t ∷ []) c.if-out-ne-ORDER.false;

@@ -1,8 +1,0 @@
--- `from_lists::vec_in` meets its contract: three numbers from a place on. Assumes nothing.
-use mathlib.Core.Path.{refl}
-use Rattle.layout.specs.Layout.{vec_in}
-use Rattle.from_lists.proofs.vec_in.Goals as goal
-
-pub returns : goal.returns
-unfolding vec_in
-returns c = refl

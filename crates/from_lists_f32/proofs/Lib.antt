@@ -1,2 +1,0 @@
--- Written by tools/widths from crates/from_lists: edit that one. Digest a61e728cdc0f9fb4.
-pub mod As

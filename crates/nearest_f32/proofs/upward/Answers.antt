@@ -1,8 +1,0 @@
--- Written by tools/widths from crates/nearest/proofs/upward/Answers.antt: edit that one. Digest 3d11a100bcb6bf9b.
--- `nearest_f32::upward` meets its contract: the answer's parts are those that it says. Assumes nothing.
-use Rattle.nearest_f32.specs.Told.{way_told, step_told}
-use Rattle.nearest_f32.proofs.upward.Goals as goal
-
-pub returns : goal.returns
-unfolding step_told way_told
-returns c = simp c.arm_at.ensures.0

@@ -1,2 +1,0 @@
--- Written by tools/widths from crates/nearest: edit that one. Digest b6433e4fa07f7aeb.
-pub mod Told

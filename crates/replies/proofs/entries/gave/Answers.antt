@@ -1,8 +1,0 @@
--- `replies::entries::gave` meets its contract: by its test. Assumes nothing.
-use Rattle.replies.proofs.entries.gave.Goals as goal
-
-pub returns-then-finite : goal.returns-then-finite
-returns-then-finite c = rw c.if-finite.true
-
-pub returns-else-finite : goal.returns-else-finite
-returns-else-finite c = rw c.if-finite.false

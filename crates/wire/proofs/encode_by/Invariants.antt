@@ -1,0 +1,9 @@
+-- `wire::encode_by` meets its contract: the bytes so far are those of the numbers so far. Assumes nothing.
+use mathlib.Core.Path.{◌≡◌}
+use lib.ListN.{take}
+use lib.Seq.{sets}
+use Rattle.wire.specs.Wire.{numbers_bytes}
+use Rattle.wire.proofs.encode_by.Given as goal
+
+abbrev pub invariant-loop-i : goal.invariant-loop-i
+invariant-loop-i g l = l.out ≡ sets l.initial.out 0 (numbers_bytes g.T.Real.format (take l.i (g.T.Real.floats l.x)))
