@@ -4,5 +4,4 @@ pub mod Signs
 pub mod Finite
 pub mod Table
 pub mod Infix
-pub mod Compare
 pub mod Held

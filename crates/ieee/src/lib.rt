@@ -9,17 +9,15 @@ ghost use Rattle.std.specs.Float.Ieee.{of_bits, to_bits};
 ghost use Rattle.std.specs.Float.Ieee as Ieee;
 ghost use Rattle.std.specs.Float.{Format, binary32, binary64};
 ghost use Rattle.std.specs.Mem.{type_size};
-ghost use Rattle.std.specs.Ordering.{partial_lt, partial_le};
 ghost use Rattle.std.proofs.Common.{rules, sym};
 ghost use Rattle.std.proofs.lemmas.List.{map-id};
 ghost use Rattle.ieee.specs.Held.{HeldFits};
-ghost use Rattle.ieee.specs.Compare.{partial_lt-is, partial_le-is};
 
 use std::ops::{Add, Div, Mul, Neg, Sub};
 
 // A number of IEEE 754: `f64` or `f32`. Every operation rounds once, to the type's own format.
 pub trait Real: Copy
-    + PartialOrd
+    + PartialEq
     + Neg<Output = Self>
     + Add<Self, Output = Self>
     + Sub<Self, Output = Self>
@@ -90,10 +88,6 @@ pub trait Real: Copy
     ghost div_law: { (a b r : Self) → Self.div_gives a b r → float r ≡ Ieee.div format (float a) (float b) };
 
     ghost eq_law: { (a b : Self) → Self.eq a b ≡ Ieee.eq (float a) (float b) };
-
-    ghost lt_law: { (a b : Self) → partial_lt Self.partial_cmp a b ≡ Ieee.lt (float a) (float b) };
-
-    ghost le_law: { (a b : Self) → partial_le Self.partial_cmp a b ≡ Ieee.le (float a) (float b) };
 }
 
 impl Real for f64 {
@@ -160,10 +154,6 @@ impl Real for f64 {
     ghost div_law = { λ a b r e. e };
 
     ghost eq_law = { λ a b. refl };
-
-    ghost lt_law = { partial_lt-is };
-
-    ghost le_law = { partial_le-is };
 }
 
 impl Real for f32 {
@@ -230,10 +220,6 @@ impl Real for f32 {
     ghost div_law = { λ a b r e. e };
 
     ghost eq_law = { λ a b. refl };
-
-    ghost lt_law = { partial_lt-is };
-
-    ghost le_law = { partial_le-is };
 }
 
 // `a` where `c` holds, `b` elsewhere: the Rust's `select`.
