@@ -1,7 +1,7 @@
 -- What a test of the computed Δ tells of σ and z. Assumes nothing.
 use mathlib.Core.Path.{◌≡◌, refl, sym, ap, ◌∙◌, subst}
-use Prim.Native.Nat.{ℕ, zero, suc, ◌+◌, ◌-◌, ◌*◌, ◌/◌, ◌%◌, ◌^◌, ◌≤◌, ◌<◌}
-use native.Mathlib.Nat.{le_trans, le_of_eq, mul_assoc, suc-mul, zero-mul, mul-le-mul_left, mul-le-mul_right, le_of_mul-le-mul_right, mul-pos, div-add-mod', mod-lt}
+use Prim.Native.Nat.{ℕ, zero, suc, ◌+◌, ◌-◌, ◌*◌, ◌/◌, ◌^◌, ◌≤◌, ◌<◌}
+use native.Mathlib.Nat.{div-lt_iff_lt-mul, le_of_lt, le_refl, le_trans, le_of_eq, mul_assoc, zero-mul, mul-le-mul_left, mul-le-mul_right, le_of_mul-le-mul_right, mul-pos}
 use native.Mathlib.Omega.{arith}
 use mathlib.Core.Bool.{Bool, true, false, not, cond}
 use lib.IntN.{ℤ}
@@ -72,9 +72,6 @@ two_less p h = omega arith
 two_back : (p : ℕ) → 2 ≤ p → 2 * p ≡ 2 * p - 2 + 2
 two_back p h = omega arith
 
-next : (a b : ℕ) → 0 < b → a ≤ suc (a / b) * b
-next a b h = let e : a / b * b + a % b ≡ a = div-add-mod' a b in let l : a % b < b = mod-lt a h in rw suc-mul (omega arith)
-
 two_power : (k : ℕ) → 2 ≤ k → 2 ≤ 2 ^ k
 two_power k h = le_trans (lit≤ tt) (pow_mono h)
 
@@ -89,7 +86,7 @@ round_back f w x s num den t m j z e h =
     let up : 0 < (2 * p - 2) * l = mul-pos (two_less p p2) (pow_pos (low f)) in
     back_rest w x (before f w x) (2 * p - 2) p l num den (kept f num den) up (two_back p p2) hv.1
     (units_most w x l (m * I.up j) (down j) (kept f num den) (down_pos j) (round_fin f s num den t m j e).1 h)
-    (next (2 * (p * (l * x)) + p * w) ((2 * p - 2) * l) up)
+    (le_of_lt ((div-lt_iff_lt-mul up).0 (le_refl _)))
 
 -- what was rounded is at most the result and the error
 pub round_gap : (f : Format) (w y : ℕ) (s : Bool) (num den : ℕ) (t : Bool) (m : ℕ) (j : ℤ) → 0 < den → round f s num den ≡ fin t m j

@@ -7,7 +7,7 @@ use native.Mathlib.Omega.{arith}
 use mathlib.Core.Bool.{Bool, true, false, not, cond}
 use lib.IntN.{negsuc}
 use lib.Dec.{T, leb, ltb, leb→le, lit≤, lit<}
-use lib.Ieee.{Float, Format, binary32, binary64, up, sub, mul, lt, of_bits}
+use lib.Ieee.{Float, Format, binary32, binary64, sub, mul, lt, of_bits}
 use lib.Ieee.Fits.{and_l, and_r}
 use Rattle.ieee.specs.Numbers.{f0, f1}
 use Rattle.ieee.specs.Table.{factorial}

@@ -7,9 +7,9 @@ use Rattle.ieee.specs.Numbers.{f0}
 use Rattle.ieee.specs.Table.{factorial}
 use Rattle.rounding.specs.Value.{Value, plus, times, value_of, AtMost, Near}
 use Rattle.accuracy.specs.Series.{exact_recip, exact_horner}
+use Rattle.accuracy.proofs.Series.{factorial_pos}
 use Rattle.rounding.proofs.Differences.{expand, zeros, product}
 use Rattle.rounding.proofs.Fractions.{near-plus, most-plus}
-use Rattle.accuracy.proofs.Tail.{factorial-above}
 
 -- ---- a factor in front
 factor_whole : (w u r e sp sn sd xp xn xd yp yn yd : ℕ)
@@ -80,7 +80,7 @@ unfolding exact_horner factorial
 horner_most w r s z h zero l k = zero-most (factorial l) 2
 horner_most w r s z h (suc n) l k =
     most-plus (factorial l) (exact_recip l) (times s (exact_horner s (suc l) n)) 1 1 (recip_most l)
-    (most_convert (factorial l) (w * factorial (suc l)) (times s (exact_horner s (suc l) n)) 1 (r * 2) (mul-pos z (factorial-above (suc l))) (room (factorial l) r w l k)
+    (most_convert (factorial l) (w * factorial (suc l)) (times s (exact_horner s (suc l) n)) 1 (r * 2) (mul-pos z (factorial_pos (suc l))) (room (factorial l) r w l k)
     (most_factor w (factorial (suc l)) s (exact_horner s (suc l) n) r 2 h (horner_most w r s z h n (suc l) (more r w l k))))
 
 -- ---- the tail of Horner's sums

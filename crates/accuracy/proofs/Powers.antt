@@ -1,8 +1,9 @@
 -- Powers of sigma + i theta over whole numbers written as differences. Assumes nothing.
 use mathlib.Core.Path.{◌≡◌, refl, sym, ap, ◌∙◌}
 use Prim.Native.Nat.{ℕ, zero, suc, ◌+◌, ◌*◌, ◌^◌, ◌≤◌}
-use native.Mathlib.Nat.{le_refl, le_trans, le_of_eq, mul_comm, suc-mul, mul-le-mul, mul-le-mul_left, pow-suc, pow-zero}
+use native.Mathlib.Nat.{pow-le-pow_left, le_trans, le_of_eq, mul_comm, suc-mul, mul-le-mul_left, pow-suc, pow-zero}
 use native.Mathlib.Omega.{arith}
+use Rattle.std.proofs.lemmas.Nat.{mul-pow}
 use Rattle.rounding.proofs.Differences.{expand}
 use Rattle.rounding.proofs.Squares.{Size, size-root, size-product, size-sum, size_same, twice-le}
 
@@ -106,14 +107,6 @@ unfoldable pub state : ℕ → ℕ → ℕ → ℕ → State
 state s s' y zero = start
 state s s' y (suc j) = step s s' y (state s s' y j)
 
-power_square : (r j : ℕ) → (r * r) ^ j ≡ r ^ j * r ^ j
-power_square r zero = simp pow-zero
-power_square r (suc j) = rw (pow-suc, pow-suc, power_square r j) (simp expand)
-
-power_mono : (a b j : ℕ) → a ≤ b → a ^ j ≤ b ^ j
-power_mono a b zero h = rw (pow-zero, pow-zero) (le_refl 1)
-power_mono a b (suc j) h = rw (pow-suc, pow-suc) (mul-le-mul (power_mono a b j h) h)
-
 drop-x : (q y m n t r : ℕ) → q + y * m ≡ t + (n + y * r) → r ≤ m → q ≤ t + n
 drop-x q y m n t r h k = let l : y * r ≤ y * m = mul-le-mul_left y k in omega arith
 
@@ -160,7 +153,7 @@ module _ (s s' y t r : ℕ) (e : s * s + s' * s' + y ≡ t + 2 * (s * s')) (b : 
       let a = state s s' y j in
       let d : a.h * a.h + a.h' * a.h' ≤ t ^ j + 2 * (a.h * a.h') = drop-x (a.h * a.h + a.h' * a.h') y (a.x * a.x + a.x' * a.x')
       (2 * (a.h * a.h')) (t ^ j) (2 * (a.x * a.x')) (norm j) (twice-le a.x a.x') in
-      let k : t ^ j ≤ r ^ j * r ^ j = le_trans (power_mono t (r * r) j b) (le_of_eq (power_square r j)) in
+      let k : t ^ j ≤ r ^ j * r ^ j = le_trans (pow-le-pow_left b j) (le_of_eq (mul-pow r r j)) in
       size-root a.h a.h' (r ^ j) (omega arith)
 
   pub p-size : (j : ℕ) → Size (state s s' y j).p (state s s' y j).p' (r ^ j)

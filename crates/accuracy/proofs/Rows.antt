@@ -1,17 +1,16 @@
 -- The rows of the circle functions: rounding and truncation. Assumes nothing.
 use mathlib.Core.Path.{◌≡◌, refl, sym, ap, ◌∙◌, subst}
 use Prim.Native.Nat.{ℕ, zero, suc, ◌+◌, ◌*◌, ◌^◌, ◌≤◌, ◌<◌}
-use native.Mathlib.Nat.{le_trans, le_of_eq, mul-pos, add_assoc, zero-add, suc-add, pow-suc, mul-le-mul, mul-le-mul_left, mul-le-mul_right, le_of_mul-le-mul_right}
+use native.Mathlib.Nat.{one-le-pow, le_trans, le_of_eq, mul-pos, add_assoc, zero-add, suc-add, pow-suc, mul-le-mul, mul-le-mul_left, mul-le-mul_right, le_of_mul-le-mul_right}
 use native.Mathlib.Omega.{arith}
 use mathlib.Core.Bool.{Bool, true, false, not, cond, ◌&&◌}
 use lib.IntN.{ℤ, pos, negsuc}
 use lib.Dec.{T, ltb→lt, nltb→le, lit≤, lit<}
-use lib.Ieee.{Float, nan, inf, fin, Format, binary32, binary64, emax, up, down, mul, lt, below, of_bits}
+use lib.Ieee.{Float, nan, inf, fin, Format, binary32, binary64, emax, up, down, mul, lt, of_bits}
 use lib.Ieee.Fits.{down_pos, and_l, and_r}
 use Rattle.ieee.specs.Numbers.{f0}
 use Rattle.ieee.specs.Table.{factorial, Rational, rounded, entries}
 use Rattle.circle.specs.Limits.{row_limit, exp_short_limit}
-use Rattle.accuracy.proofs.Truncation.{power_pos}
 use Rattle.tables.specs.Tables.{Row, cos_half_row, k_row, a_row, b_row, d_row, row_rule, row_table}
 use Rattle.circle.specs.Kernel.{horner_sum, row_series, row_short, row_whole, row_own, row_member, circle_exp}
 use Rattle.rounding.specs.Value.{Value, plus, times, value_of, AtMost, Near, AbsoluteError}
@@ -177,13 +176,10 @@ one-num a_row i = refl
 one-num b_row i = refl
 one-num d_row i = refl
 
-four_pos : (i : ℕ) → 0 < 4 ^ i
-four_pos i = power_pos 4 i (lit< tt)
-
 row_dens : (row : Row) (i : ℕ) → 0 < (row_rule row i).den
 unfolding row_rule
-row_dens cos_half_row i = mul-pos (four_pos i) (factorial_pos (2 * i))
-row_dens k_row i = mul-pos (lit< tt) (mul-pos (four_pos i) (factorial_pos (2 * i + 1)))
+row_dens cos_half_row i = mul-pos (one-le-pow i 4 (lit< tt)) (factorial_pos (2 * i))
+row_dens k_row i = mul-pos (lit< tt) (mul-pos (one-le-pow i 4 (lit< tt)) (factorial_pos (2 * i + 1)))
 row_dens a_row i = factorial_pos (2 * i + 2)
 row_dens b_row i = factorial_pos (2 * i + 3)
 row_dens d_row i = factorial_pos (2 * i + 4)

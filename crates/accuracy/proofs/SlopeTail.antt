@@ -1,7 +1,7 @@
 -- The truncation of the series of the derivatives, dv₁ and dv₂. Assumes nothing.
 use mathlib.Core.Path.{◌≡◌, ap, subst, subst₃}
 use Prim.Native.Nat.{ℕ, zero, suc, ◌+◌, ◌*◌, ◌^◌, ◌≤◌, ◌<◌}
-use native.Mathlib.Nat.{mul_assoc, mul_comm, suc-add, mul-pos, pow-suc, pow-zero}
+use native.Mathlib.Nat.{one-le-pow, mul_assoc, mul_comm, suc-add, mul-pos, pow-suc, pow-zero}
 use native.Mathlib.Numerals.{add-one}
 use native.Mathlib.Omega.{arith}
 use Rattle.ieee.specs.Table.{factorial}
@@ -12,7 +12,7 @@ use Rattle.accuracy.proofs.Powers.{State, state}
 use Rattle.accuracy.proofs.Slopes.{Slope, slope_step, slope, triples, fours, six_triples, four_fours, a-size, b-size}
 use Rattle.rounding.proofs.Denominators.{Is, is_shift, is-opposite, is-scaled, is-divided, is-plus, is-times}
 use Rattle.accuracy.proofs.Tail.{LevelIs, level-is, term_most, weigh, tail-near}
-use Rattle.accuracy.proofs.Truncation.{Rest, shrinks, power_pos, plain-sum, no_cross, delta-whole, no_minus, sigma-whole, z-whole}
+use Rattle.accuracy.proofs.Truncation.{Rest, shrinks, plain-sum, no_cross, delta-whole, no_minus, sigma-whole, z-whole}
 
 pub record SlopeIs (l : Five Value) (a : Slope) (d e : ℕ) : Type 0 where
   pub dxi : Is l.dxi (d * (d * (d * a.a))) (d * (d * (d * a.a'))) e
@@ -114,7 +114,7 @@ module _ (w r : ℕ) (sigma z : Value) (wp : 0 < w) (sd : 0 < sigma.d) (zd : 0 <
       let d = sigma.d * z.d * w in
       let dp : 0 < d = mul-pos (mul-pos sd zd) wp in
       let a = slope s s' y (suc (suc (suc m))) in
-      term_most u c (d * (d * d)) a.a a.a' (triples m * (r * (sigma.d * z.d)) ^ m) (d ^ m) n (exact_level sigma z (suc (suc (suc m)))).dxi (mul-pos dp (mul-pos dp dp)) (power_pos d m dp)
+      term_most u c (d * (d * d)) a.a a.a' (triples m * (r * (sigma.d * z.d)) ^ m) (d ^ m) n (exact_level sigma z (suc (suc (suc m)))).dxi (mul-pos dp (mul-pos dp dp)) (one-le-pow m d dp)
       (subst₃ (λ (p q e : ℕ). Is (exact_level sigma z (suc (suc (suc m)))).dxi p q e) (three-times d a.a) (three-times d a.a') (three_powers d m) (is_slope (suc (suc (suc m)))).dxi)
       (a-size s s' y (s * s + s' * s' + y) (r * (sigma.d * z.d)) (plain-sum (s * s + s' * s' + y) (2 * (s * s')) (no_cross sigma.p sigma.n (z.d * w) ss))
       (delta-whole w r sigma.p sigma.n sigma.d z.p z.d _ (no_minus sigma.p sigma.n sigma.d z.n z.d w ss zn) delta.above) m) h
@@ -129,7 +129,7 @@ module _ (w r : ℕ) (sigma z : Value) (wp : 0 < w) (sd : 0 < sigma.d) (zd : 0 <
       let dp : 0 < d = mul-pos (mul-pos sd zd) wp in
       let a = slope s s' y (suc (suc (suc (suc m)))) in
       term_most u c (d * (d * (d * d))) a.b a.b' (fours m * (r * (sigma.d * z.d)) ^ m) (d ^ m) n
-      (exact_level sigma z (suc (suc (suc (suc m))))).dzeta (mul-pos dp (mul-pos dp (mul-pos dp dp))) (power_pos d m dp)
+      (exact_level sigma z (suc (suc (suc (suc m))))).dzeta (mul-pos dp (mul-pos dp (mul-pos dp dp))) (one-le-pow m d dp)
       (subst₃ (λ (p q e : ℕ). Is (exact_level sigma z (suc (suc (suc (suc m))))).dzeta p q e) (four-times d a.b) (four-times d a.b')
       (four_powers d m) (is_slope (suc (suc (suc (suc m))))).dzeta)
       (b-size s s' y (s * s + s' * s' + y) (r * (sigma.d * z.d)) (plain-sum (s * s + s' * s' + y) (2 * (s * s')) (no_cross sigma.p sigma.n (z.d * w) ss))

@@ -1,9 +1,8 @@
 -- The terms of the series decrease, so the sums of any greater length are near. Assumes nothing.
 use mathlib.Core.Path.{◌≡◌, refl, ap}
 use Prim.Native.Nat.{ℕ, zero, suc, ◌+◌, ◌*◌, ◌^◌, ◌≤◌, ◌<◌}
-use native.Mathlib.Nat.{le_trans, mul-add, mul_assoc, mul_comm, mul-one, add-zero, add-suc, mul-pos, mul-le-mul, mul-le-mul_left, mul-le-mul_right, le_of_mul-le-mul_right, pow-suc, pow-zero, zero-lt-suc}
+use native.Mathlib.Nat.{le_trans, mul-add, mul_assoc, mul_comm, mul-one, add-zero, add-suc, mul-pos, mul-le-mul, mul-le-mul_left, mul-le-mul_right, le_of_mul-le-mul_right, pow-suc, pow-zero}
 use native.Mathlib.Omega.{arith}
-use lib.Dec.{lit≤}
 use lib.Pow.{pow_pos}
 use Rattle.ieee.specs.Table.{factorial}
 use Rattle.rounding.specs.Value.{Value, opposite, plus, minus, times, value_of, AtMost, Near}
@@ -11,6 +10,7 @@ use Rattle.accuracy.specs.Series.{Five, exact_first, exact_next, exact_level, ex
 use Rattle.rounding.proofs.Differences.{expand, zeros}
 use Rattle.rounding.proofs.Fractions.{near_wider}
 use Rattle.accuracy.proofs.Powers.{State, start, step, state, h_is}
+use Rattle.accuracy.proofs.Series.{factorial_pos}
 use Rattle.rounding.proofs.Squares.{Size}
 use Rattle.rounding.proofs.Denominators.{Is, is_shift, is-opposite, is-scaled, is-divided, is-plus, is-times, is-most}
 
@@ -72,11 +72,6 @@ module _ (s s' y t r : ℕ) (e : s * s + s' * s' + y ≡ t + 2 * (s * s')) (b : 
 recip_is : (n : ℕ) → Is (exact_recip n) 1 0 (factorial n)
 recip_is n = record { equal = simp zeros }
 
-pub factorial-above : (n : ℕ) → 0 < factorial n
-unfolding factorial
-factorial-above zero = lit≤ tt
-factorial-above (suc n) = mul-pos (zero-lt-suc n) (factorial-above n)
-
 side_term : (w c x x' m e : ℕ) → x ≤ x' + m → w * m ≤ c * e → w * (x * 1 + x' * 0) ≤ w * (x * 0 + x' * 1) + c * e
 side_term w c x x' m e h k = let a = mul-le-mul_left w h in simp (zeros, mul-one) (omega (arith, simp mul-add at a))
 
@@ -85,7 +80,7 @@ side_term' w c x x' m e h k = let a = mul-le-mul_left w h in simp (zeros, mul-on
 
 pub term_most : (w c k x x' m e n : ℕ) (v : Value) → 0 < k → 0 < e → Is v (k * x) (k * x') (k * e) → Size x x' m → w * m ≤ c * (e * factorial n) → AtMost w (times v (exact_recip n)) c
 term_most w c k x x' m e n v kp ep h g l =
-    is-most w c (times v (exact_recip n)) (x * 1 + x' * 0) (x * 0 + x' * 1) (e * factorial n) (mul-pos ep (factorial-above n))
+    is-most w c (times v (exact_recip n)) (x * 1 + x' * 0) (x * 0 + x' * 1) (e * factorial n) (mul-pos ep (factorial_pos n))
     (is-times v (exact_recip n) x x' 1 0 e (factorial n) (is-divided v x x' e k kp h) (recip_is n))
     (side_term w c x x' m (e * factorial n) g.above l) (side_term' w c x x' m (e * factorial n) g.below l)
 

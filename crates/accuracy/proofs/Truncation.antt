@@ -1,9 +1,10 @@
 -- The truncation of the series: how far the sums of any greater length are from those of k terms. Assumes nothing.
 use mathlib.Core.Path.{◌≡◌, sym, ap, ◌∙◌, subst₃}
-use Prim.Native.Nat.{ℕ, zero, suc, ◌+◌, ◌*◌, ◌^◌, ◌≤◌, ◌<◌}
-use native.Mathlib.Nat.{le_refl, le_trans, mul_assoc, mul_comm, mul-mul-mul_comm, zero-mul, mul-zero, suc-add, mul-pos, mul-le-mul, mul-le-mul_left, mul-le-mul_right, le_of_mul-le-mul_right, pow-suc, pow-zero}
+use Prim.Native.Nat.{ℕ, suc, ◌+◌, ◌*◌, ◌^◌, ◌≤◌, ◌<◌}
+use native.Mathlib.Nat.{one-le-pow, le_trans, mul_assoc, mul_comm, mul-mul-mul_comm, zero-mul, mul-zero, suc-add, mul-pos, mul-le-mul, mul-le-mul_left, mul-le-mul_right, le_of_mul-le-mul_right, pow-suc}
 use native.Mathlib.Numerals.{add-one, add-two}
 use native.Mathlib.Omega.{arith}
+use Rattle.std.proofs.lemmas.Nat.{mul-pow}
 use Rattle.ieee.specs.Table.{factorial}
 use Rattle.rounding.specs.Value.{Value, plus, times, AtMost, Near}
 use Rattle.accuracy.specs.Series.{exact_level, exact_recip, xi_part, zeta_part, exact_term, exact_total, exact_horner}
@@ -11,7 +12,8 @@ use Rattle.rounding.proofs.Differences.{expand, zeros}
 use Rattle.accuracy.proofs.Powers.{state, s_size, x-size, z-size, pairs, twice_pairs}
 use Rattle.rounding.proofs.Denominators.{Is}
 use Rattle.accuracy.proofs.HornerTail.{horner_tail, near_convert}
-use Rattle.accuracy.proofs.Tail.{factorial-above, LevelIs, level-is, term_most, decay, weigh, tail-near}
+use Rattle.accuracy.proofs.Tail.{LevelIs, level-is, term_most, decay, weigh, tail-near}
+use Rattle.accuracy.proofs.Series.{factorial_pos}
 
 -- ---- factorials
 fact_xi_1 : (m : ℕ) → factorial (suc m + 1) ≡ suc m * suc (suc m) * factorial m
@@ -39,10 +41,6 @@ fact_zeta_2 : (m : ℕ) → factorial (suc (suc m) + 2) ≡ pairs m * (2 * (suc 
 unfolding factorial
 fact_zeta_2 m = rw add-two (regroup_zeta_2 (suc m) (suc (suc m)) (suc (suc (suc m))) (suc (suc (suc (suc m)))) (pairs m) (factorial m) (twice_pairs m))
 
-power_product : (a b k : ℕ) → (a * b) ^ k ≡ a ^ k * b ^ k
-power_product a b zero = simp pow-zero
-power_product a b (suc k) = rw (pow-suc (a * b) k, pow-suc a k, pow-suc b k, power_product a b k) (mul-mul-mul_comm (a ^ k) (b ^ k) a b)
-
 -- ---- sigma and z over one denominator
 pub sigma-whole : (sp sn sd zd w : ℕ) → sp * (sd * zd * w) + sn * (zd * w) * sd ≡ sn * (sd * zd * w) + sp * (zd * w) * sd
 sigma-whole sp sn sd zd w = simp expand (omega arith)
@@ -69,10 +67,6 @@ delta-whole w r sp sn sd zp zd k h l =
         → sp * (zd * w) * (sp * (zd * w)) + sn * (zd * w) * (sn * (zd * w)) + zp * (sd * (sd * (zd * (w * w)))) ≤ r * (sd * zd) * (r * (sd * zd))
     whole w r sp sn sd zp zd b = simp expand (omega (arith, simp expand at b))
 
-pub power_pos : (d m : ℕ) → 0 < d → 0 < d ^ m
-power_pos d zero h = rw pow-zero (le_refl 1)
-power_pos d (suc m) h = rw pow-suc (mul-pos (power_pos d m h) h)
-
 two_powers : (d m : ℕ) → d ^ suc (suc m) ≡ d * d * d ^ m
 two_powers d m = rw (pow-suc d (suc m), pow-suc d m) (simp expand)
 
@@ -80,7 +74,7 @@ half-whole : (r k w g : ℕ) → 2 * r ≤ k * w → 2 * (r * g) ≤ k * (g * w)
 half-whole r k w g h = let a = mul-le-mul_right g h in simp expand (omega (arith, simp expand at a))
 
 base_whole : (w c r g k f : ℕ) → w * r ^ k ≤ c * (w ^ k * f) → w * (r * g) ^ k ≤ c * ((g * w) ^ k * f)
-base_whole w c r g k f h = rw (power_product r g k, power_product g w k) (go (r ^ k) (g ^ k) (w ^ k) h)
+base_whole w c r g k f h = rw (mul-pow r g k, mul-pow g w k) (go (r ^ k) (g ^ k) (w ^ k) h)
   where
     go : (a b e : ℕ) → w * a ≤ c * (e * f) → w * (a * b) ≤ c * (b * e * f)
     go a b e l = let x = mul-le-mul_right b l in simp expand (omega (arith, simp expand at x))
@@ -117,7 +111,7 @@ module _ (w r : ℕ) (sigma z : Value) (wp : 0 < w) (sd : 0 < sigma.d) (zd : 0 <
       let y = z.p * (sigma.d * (sigma.d * (z.d * (w * w)))) in
       let d = sigma.d * z.d * w in
       let a = state s s' y (suc m) in
-      term_most u c d a.x a.x' (suc m * (r * (sigma.d * z.d)) ^ m) (d ^ m) n (exact_level sigma z (suc m)).xi dpos (power_pos d m dpos)
+      term_most u c d a.x a.x' (suc m * (r * (sigma.d * z.d)) ^ m) (d ^ m) n (exact_level sigma z (suc m)).xi dpos (one-le-pow m d dpos)
       (rw (pow-suc d m, mul_comm (d ^ m) d) at (is-level (suc m)).xi)
       (x-size s s' y (s * s + s' * s' + y) (r * (sigma.d * z.d)) (plain-sum (s * s + s' * s' + y) (2 * (s * s')) (no_cross sigma.p sigma.n (z.d * w) ss))
       (delta-whole w r sigma.p sigma.n sigma.d z.p z.d _ (no_minus sigma.p sigma.n sigma.d z.n z.d w ss zn) delta.above) m) h
@@ -130,7 +124,7 @@ module _ (w r : ℕ) (sigma z : Value) (wp : 0 < w) (sd : 0 < sigma.d) (zd : 0 <
       let d = sigma.d * z.d * w in
       let a = state s s' y (suc (suc m)) in
       let l = (is-level (suc (suc m))).zeta in
-      term_most u c (d * d) a.z a.z' (pairs m * (r * (sigma.d * z.d)) ^ m) (d ^ m) n (exact_level sigma z (suc (suc m))).zeta (mul-pos dpos dpos) (power_pos d m dpos)
+      term_most u c (d * d) a.z a.z' (pairs m * (r * (sigma.d * z.d)) ^ m) (d ^ m) n (exact_level sigma z (suc (suc m))).zeta (mul-pos dpos dpos) (one-le-pow m d dpos)
       (subst₃ (λ (p q e : ℕ). Is (exact_level sigma z (suc (suc m))).zeta p q e) (sym (mul_assoc d d a.z)) (sym (mul_assoc d d a.z')) (two_powers d m) l)
       (z-size s s' y (s * s + s' * s' + y) (r * (sigma.d * z.d)) (plain-sum (s * s + s' * s' + y) (2 * (s * s')) (no_cross sigma.p sigma.n (z.d * w) ss))
       (delta-whole w r sigma.p sigma.n sigma.d z.p z.d _ (no_minus sigma.p sigma.n sigma.d z.n z.d w ss zn) delta.above) m) h
@@ -205,5 +199,5 @@ module _ (w r : ℕ) (sigma z : Value) (wp : 0 < w) (sd : 0 < sigma.d) (zd : 0 <
   pub tail_horner : (l k c : ℕ) → 2 * r ≤ k * w → w * r ^ k ≤ c * (w ^ k * factorial (k + l)) → (n : ℕ) → Near w (exact_horner sigma l (k + n)) (exact_horner sigma l k) (2 * c)
   tail_horner l k c h b n =
       near_convert w (w ^ k * factorial (k + l)) (exact_horner sigma l (k + n)) (exact_horner sigma l k) (2 * c) (r ^ k * 2)
-      (mul-pos (power_pos w k wp) (factorial-above (k + l))) (doubled w (r ^ k) c (w ^ k * factorial (k + l)) b)
+      (mul-pos (one-le-pow k w wp) (factorial_pos (k + l))) (doubled w (r ^ k) c (w ^ k * factorial (k + l)) b)
       (horner_tail w r sigma wp sigma-most n k l (le_trans h (mul-le-mul_right w (omega arith))))

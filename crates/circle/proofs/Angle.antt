@@ -1,18 +1,12 @@
 -- The squared norm of a rotation vector is never below zero, so an entry that forms it has nothing to refuse. Assumes nothing.
 use mathlib.Core.Path.{◌≡◌}
 use mathlib.Core.Bool.{false}
-use lib.Ieee.{Float, Format, lt}
+use lib.Ieee.{Format, lt}
 use Rattle.ieee.specs.Numbers.{f0}
 use Rattle.ieee.proofs.Square.{squares_not_below}
-use Rattle.linalg.specs.Answer.{answers}
 use Rattle.linalg.specs.Vector.{vec_dot, vec_norm_sq}
 use Rattle.linalg.specs.Floats.{Vec3}
-use Rattle.circle.specs.Kernel.{circle_exp, circle_exp_answer}
 
 pub norm_not_below : (f : Format) (v : Vec3) → lt (vec_norm_sq f v) f0 ≡ false
 unfolding vec_norm_sq vec_dot
 norm_not_below f v = squares_not_below f v.x v.y v.z
-
-pub exp-answers : (f : Format) (v : Vec3) (root sh ch : Float) → circle_exp_answer f (vec_norm_sq f v) root sh ch ≡ answers (circle_exp f (vec_norm_sq f v) root sh ch)
-unfolding circle_exp_answer
-exp-answers f v root sh ch = rw (norm_not_below f v)

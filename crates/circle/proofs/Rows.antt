@@ -4,7 +4,7 @@ use mathlib.Core.Bool.{true}
 use lib.Dec.{T}
 use lib.Ieee.{Float, Format, binary32, binary64, of_bits, lt, le}
 use lib.Ieee.Bits.{is_true}
-use Rattle.ieee.proofs.Order.{lt-le_trans}
+use Rattle.std.proofs.lemmas.Float.{lt_of_lt_of_le}
 use Rattle.tables.specs.Tables.{Row, cos_half_row, k_row, a_row, b_row, d_row}
 use Rattle.circle.specs.Limits.{row_limit}
 
@@ -23,4 +23,4 @@ cos_half-least binary64 b_row = tt
 cos_half-least binary64 d_row = tt
 
 pub below_all : (f : Format) (row : Row) (z : Float) → lt z (row_limit f cos_half_row) ≡ true → lt z (row_limit f row) ≡ true
-below_all f row z e = is_true _ (lt-le_trans z (row_limit f cos_half_row) (row_limit f row) (subst T (sym e) tt) (cos_half-least f row))
+below_all f row z e = is_true _ (lt_of_lt_of_le z (row_limit f cos_half_row) (row_limit f row) (subst T (sym e) tt) (cos_half-least f row))

@@ -69,6 +69,7 @@ fn series<T: Limits>(row: Row, n: usize, z: T) -> T
 }
 
 // The whole arm of a row.
+#[tactic(auto, unfolding(crate::specs::Kernel::row_whole))]
 fn whole<T: Limits>(row: Row, z: T) -> T
     ensures { T.float result ≡ row_whole T.format (row_named row) (T.float z) }
 {
@@ -76,7 +77,7 @@ fn whole<T: Limits>(row: Row, z: T) -> T
 }
 
 // Refusal 1 for a squared angle below zero, which -0 and NaN are not.
-fn unless_negative<T: Limits>(z: T) -> Result<(), Refusal>
+pub fn unless_negative<T: Limits>(z: T) -> Result<(), Refusal>
     ensures { answer result ≡ not_below_zero (T.float z) tt }
 {
     if z.is_below(T::of(0.0)) {
@@ -86,6 +87,7 @@ fn unless_negative<T: Limits>(z: T) -> Result<(), Refusal>
 }
 
 // A member above its group's short limit: its whole arm below its own limit, else `exact`.
+#[tactic(auto, unfolding(crate::specs::Kernel::row_own))]
 fn own_arm<T: Limits>(row: Row, z: T, exact: T) -> T
     ensures { T.float result ≡ row_own T.format (row_named row) (T.float z) (T.float exact) }
 {
@@ -121,6 +123,7 @@ fn exp_group<T: Limits>(z: T, root: T, sin_half: T, cos_half: T) -> ExpCoeffs<T>
 }
 
 // (k, cos(x/2)) at x^2 = z; refusal 1 for z below zero.
+#[tactic(auto, unfolding(crate::specs::Kernel::circle_exp_answer))]
 pub fn exp_coeffs<T: Limits>(
     z: T,
     root: T,
@@ -141,6 +144,7 @@ pub fn exp_coeffs_of<T: Limits>(phi: Vec3<T>, root: T, sin_half: T, cos_half: T)
 }
 
 // sin x/x at x^2 = z, 2 k cos(x/2) of `exp_coeffs`; refusal 1 for z below zero.
+#[tactic(auto, unfolding(crate::specs::Kernel::circle_sinc_answer, crate::specs::Kernel::circle_sinc))]
 pub fn sinc_value<T: Limits>(z: T, root: T, sin_half: T, cos_half: T) -> Result<T, Refusal>
     ensures { told T.float result ≡ circle_sinc_answer T.format (T.float z) (T.float root) (T.float sin_half) (T.float cos_half) }
 {
@@ -203,6 +207,7 @@ pub fn five_group<T: Limits>(z: T, root: T, sin_half: T, cos_half: T, sin: T) ->
 }
 
 // sinc and a of the group of five alone, with its bits, at any z.
+#[tactic(auto, unfolding(crate::specs::Kernel::circle_sinc_a, crate::specs::Kernel::circle_sinc_abd))]
 pub fn two_group<T: Limits>(z: T, root: T, sin_half: T, cos_half: T) -> SincA<T>
     ensures { as_sinc_a T.float result ≡ circle_sinc_a T.format (T.float z) (T.float root) (T.float sin_half) (T.float cos_half) }
 {
@@ -214,6 +219,7 @@ pub fn two_group<T: Limits>(z: T, root: T, sin_half: T, cos_half: T) -> SincA<T>
 }
 
 // (sin x/x, a, b, d) at x^2 = z, which the closed forms of Sim(3) read; refusal 1 for z below zero.
+#[tactic(auto, unfolding(crate::specs::Kernel::circle_sinc_abd_answer))]
 pub fn sinc_a_b_d<T: Limits>(
     z: T,
     root: T,
@@ -228,6 +234,7 @@ pub fn sinc_a_b_d<T: Limits>(
 }
 
 // sinc and a of `sinc_a_b_d` alone, which the closed form of V reads; refusal 1 for z below zero.
+#[tactic(auto, unfolding(crate::specs::Kernel::circle_sinc_a_answer))]
 pub fn sinc_a<T: Limits>(z: T, root: T, sin_half: T, cos_half: T) -> Result<SincA<T>, Refusal>
     ensures { told (as_sinc_a T.float) result ≡ circle_sinc_a_answer T.format (T.float z) (T.float root) (T.float sin_half) (T.float cos_half) }
 {
@@ -250,6 +257,7 @@ fn a_from<T: Limits>(z: T, sh: T) -> T
 }
 
 // (x - sin x)/x^3 as (1 - sin x/x)/x^2.
+#[tactic(auto, unfolding(crate::specs::Kernel::exact_b))]
 fn b_from<T: Limits>(z: T, th: T, s: T) -> T
     ensures { T.float result ≡ exact_b T.format (T.float z) (T.float th) (T.float s) }
 {

@@ -4,7 +4,7 @@ use Prim.Native.Nat.{ℕ}
 use mathlib.Core.Bool.{Bool, true, false, cond}
 use lib.Dec.{T}
 use lib.Ieee.{Float, Format, binary32, binary64, of_bits, lt}
-use Rattle.ieee.proofs.Order.{lt_trans}
+use Rattle.std.proofs.lemmas.Float.{lt_trans}
 use Rattle.closed.specs.Limits.{short_below, mid_below, upper_below, series_below}
 use Rattle.closed.specs.Arm.{coeffs_arm}
 

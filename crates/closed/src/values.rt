@@ -33,6 +33,7 @@ pub fn at_zero<T: Real>(sigma: T) -> bool
 impl<T: Real> Values<T> {
     // The values of the negative, the scope's mirrored values: up and down change places, and
     // where sigma is a zero so do e and e0, m and m0.
+    #[tactic(auto, unfolding(crate::specs::Values::mirrored))]
     pub fn mirrored(self, sigma: T) -> Values<T>
         ensures { as_values T.float result ≡ mirrored (T.float sigma) (as_values T.float self) }
     {

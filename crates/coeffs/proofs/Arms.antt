@@ -6,12 +6,9 @@ use lib.Dec.{ltb}
 use lib.Ieee.{Float, Format, mul, lt, le}
 use Rattle.ieee.specs.Numbers.{f0}
 use Rattle.linalg.specs.Answer.{answers, refuses, and_then}
-use Rattle.linalg.specs.Vector.{vec_norm_sq}
-use Rattle.linalg.specs.Floats.{Vec3}
-use Rattle.linalg.proofs.Answers.{answered_as, answered-at, not_refused}
+use Rattle.linalg.proofs.Answers.{answered_as}
 use Rattle.circle.specs.Kernel.{not_below_zero, circle_sinc_abd, circle_sinc_a}
 use Rattle.circle.specs.Floats.{SincA}
-use Rattle.circle.proofs.Angle.{norm_not_below}
 use Rattle.series.specs.Series.{series_full, series_v, coeffs4}
 use Rattle.closed.specs.Limits.{coeffs_delta, form_b_below, w0_below}
 use Rattle.closed.specs.Arm.{coeffs_arm, arm_terms, arm_ends}
@@ -28,13 +25,6 @@ use Rattle.coeffs.specs.Floats.{Armed}
 -- ---- any arm
 pub arm-answers : {A B : Type 0} (z : Float) (x c : A) (y : B) (g : A → B) → y ≡ g x → not_below_zero z x ≡ answers c → not_below_zero z y ≡ answers (g c)
 arm-answers z x c y g e r = ap (not_below_zero z) e ∙ answered_as (lt z f0) 1 x c g r
-
--- ---- at |φ|², which is not below zero, the answer is given
-pub angle_answers : {A : Type 0} (f : Format) (phi : Vec3) (x c : A) → not_below_zero (vec_norm_sq f phi) x ≡ answers c → c ≡ x
-angle_answers f phi x c r = sym (answered-at (lt (vec_norm_sq f phi) f0) 1 x c (norm_not_below f phi) r)
-
-pub angle_refuses : {A B : Type 0} (f : Format) (phi : Vec3) (n : ℕ) (x : A) → not_below_zero (vec_norm_sq f phi) x ≡ refuses n → B
-angle_refuses f phi n x r = not_refused (lt (vec_norm_sq f phi) f0) 1 n x (norm_not_below f phi) r
 
 -- ---- one sign: which arm
 pub scaled-series :

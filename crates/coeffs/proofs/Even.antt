@@ -5,9 +5,7 @@ use mathlib.Core.Bool.{Bool, true, false}
 use lib.Dec.{ltb}
 use lib.Ieee.{Float, Format, neg, mul, lt}
 use Rattle.ieee.specs.Numbers.{f0}
-use Rattle.linalg.specs.Answer.{answers, refuses, and_then}
-use Rattle.linalg.specs.Vector.{vec_norm_sq}
-use Rattle.linalg.specs.Floats.{Vec3}
+use Rattle.linalg.specs.Answer.{answers, and_then}
 use Rattle.linalg.proofs.Answers.{both_as}
 use Rattle.circle.specs.Kernel.{not_below_zero, circle_sinc_abd}
 use Rattle.series.specs.Series.{series_full}
@@ -24,7 +22,7 @@ use Rattle.closed.specs.Floats.{Values}
 use Rattle.coeffs.specs.Floats.{ScaledPair}
 use Rattle.coeffs.specs.Floats.{ArmedPair}
 use Rattle.closed.proofs.Arm.{delta_even, arm_even, ends_even}
-use Rattle.coeffs.proofs.Arms.{scaled-series, scaled-closed, then_as, told_at, angle_answers, angle_refuses}
+use Rattle.coeffs.proofs.Arms.{scaled-series, scaled-closed, then_as, told_at}
 
 -- ---- the pair in its two arms
 pub pair-series :
@@ -89,18 +87,3 @@ armed-pair-told f sigma z v =
 pub armed-pair-answer-is : (f : Format) (sigma z : Float) (v : Values) → armed_pair_answer f sigma z v ≡ not_below_zero z (coeffs_armed_pair f sigma z v)
 unfolding armed_pair_answer beside_armed armed_answer coeffs_armed_pair
 armed-pair-answer-is f sigma z v = both_as (lt z f0) 1 (coeffs_armed f sigma z v) (coeffs_armed f (neg sigma) z (mirrored sigma v)) (λ p n. record { pos = p; neg = n })
-
--- ---- at |φ|²
-pub angle_armed-answers :
-    (f : Format) (phi : Vec3) (sigma : Float) (v : Values) (p : ArmedPair) → armed_pair_answer f sigma (vec_norm_sq f phi) v ≡ answers p →
-    p ≡ coeffs_armed_pair f sigma (vec_norm_sq f phi) v
-angle_armed-answers f phi sigma v p r = angle_answers f phi _ p (sym (armed-pair-answer-is f sigma (vec_norm_sq f phi) v) ∙ r)
-
-pub angle_armed-refuses : {B : Type 0} (f : Format) (phi : Vec3) (sigma : Float) (v : Values) (n : ℕ) → armed_pair_answer f sigma (vec_norm_sq f phi) v ≡ refuses n → B
-angle_armed-refuses f phi sigma v n r = angle_refuses f phi n _ (sym (armed-pair-answer-is f sigma (vec_norm_sq f phi) v) ∙ r)
-
-pub angle_pair-answers : (f : Format) (phi : Vec3) (sigma : Float) (v : Values) (p : ScaledPair) → pair_answer f sigma (vec_norm_sq f phi) v ≡ answers p → p ≡ coeffs_pair f sigma (vec_norm_sq f phi) v
-angle_pair-answers f phi sigma v p r = angle_answers f phi _ p (sym (pair-answer-is f sigma (vec_norm_sq f phi) v) ∙ r)
-
-pub angle_pair-refuses : {B : Type 0} (f : Format) (phi : Vec3) (sigma : Float) (v : Values) (n : ℕ) → pair_answer f sigma (vec_norm_sq f phi) v ≡ refuses n → B
-angle_pair-refuses f phi sigma v n r = angle_refuses f phi n _ (sym (pair-answer-is f sigma (vec_norm_sq f phi) v) ∙ r)

@@ -14,6 +14,7 @@ use closed::values::at_zero;
 use series::sim3::{Coeffs4, CoeffsPair, Sim3Coeffs};
 
 // v0 by its series where `small`, else m1/sigma, and 1 where sigma is a zero.
+#[tactic(auto, unfolding(crate::specs::Closed::closed_v0))]
 fn v0_of<T: Width>(sigma: T, g: T, m1: T, small: bool) -> T
     ensures { T.float result ≡ closed_v0 T.format (T.float sigma) (T.float g) (T.float m1) small }
 {
@@ -26,6 +27,7 @@ fn v0_of<T: Width>(sigma: T, g: T, m1: T, small: bool) -> T
 }
 
 // w0 by its series where `small`, else (m1 - sigma g)/sigma^2.
+#[tactic(auto, unfolding(crate::specs::Closed::closed_w0))]
 fn w0_of<T: Width>(sigma: T, g: T, m1: T, small: bool) -> T
     ensures { T.float result ≡ closed_w0 T.format (T.float sigma) (T.float g) (T.float m1) small }
 {
@@ -37,6 +39,7 @@ fn w0_of<T: Width>(sigma: T, g: T, m1: T, small: bool) -> T
 }
 
 // v1, v2 and chi_delta from v0.
+#[tactic(auto, unfolding(crate::specs::Closed::closed_v, crate::specs::Closed::closed_only, closed::specs::Limits::coeffs_delta))]
 fn v_from<T: Width>(sigma: T, z: T, t: SincA<T>, e: T, m1: T, v0: T, form_b: bool) -> Coeffs4<T>
     ensures { as_coeffs4 T.float result ≡ closed_v T.format (T.float sigma) (T.float z) (closed_only (as_sinc_a T.float t)) (T.float e) (T.float m1) (T.float v0) form_b }
 {
@@ -64,6 +67,7 @@ pub struct Ws<T> {
 }
 
 // w1 and w2 from v1, v2 and w0.
+#[tactic(auto, unfolding(crate::specs::Closed::closed_ws, closed::specs::Limits::coeffs_delta))]
 fn w_from<T: Width>(sigma: T, z: T, v: Coeffs4<T>, w0: T) -> Ws<T>
     ensures { as_ws T.float result ≡ closed_ws T.format (T.float sigma) (T.float z) (as_coeffs4 T.float v) (T.float w0) }
 {
@@ -97,6 +101,7 @@ fn dv_from<T: Width>(sigma: T, z: T, t: SincABD<T>, e: T, v2: T) -> Dvs<T>
 }
 
 // All nine from v, w0 and e: w1, w2 and the derivatives are formed here.
+#[tactic(auto, unfolding(crate::specs::Closed::closed_joined, crate::specs::Closed::closed_nine))]
 fn nine<T: Width>(sigma: T, z: T, t: SincABD<T>, e: T, v: Coeffs4<T>, w0: T) -> Sim3Coeffs<T>
     ensures { as_sim3_coeffs T.float result ≡ closed_nine T.format (T.float sigma) (T.float z) (as_sinc_abd T.float t) (T.float e) (as_coeffs4 T.float v) (T.float w0) }
 {
@@ -131,6 +136,7 @@ pub struct Exps<T> {
     pub g: T,
 }
 
+#[tactic(auto, unfolding(crate::specs::Private::closed_exps))]
 fn exps_of<T: Width>(sigma: T, x: EtMt<T>) -> Exps<T>
     ensures { as_exps T.float result ≡ closed_exps (T.float sigma) (T.float x.et) (T.float x.mt) }
 {
@@ -155,6 +161,7 @@ fn of_v<T: Width>(t: SincABD<T>) -> SincA<T>
 // v and chi_delta alone, from the circle functions t and from e^t, e^t - 1 at t = -|sigma|. PERF: it and `v_at` have
 // several callers, and as functions of their own they would be handed their numbers in memory.
 #[inline(always)]
+#[tactic(auto, unfolding(crate::specs::Closed::closed_v_from, crate::specs::Private::closed_exps))]
 pub fn closed_v<T: Width>(
     sigma: T,
     z: T,
@@ -171,6 +178,7 @@ pub fn closed_v<T: Width>(
 }
 
 // All nine, from the same.
+#[tactic(auto, unfolding(crate::specs::Closed::closed_from, crate::specs::Closed::closed_v, crate::specs::Closed::closed_v_from, crate::specs::Closed::closed_only, crate::specs::Private::closed_exps))]
 pub fn closed_from<T: Width>(
     sigma: T,
     z: T,
@@ -197,6 +205,7 @@ pub struct Ends<T> {
 }
 
 // v0 and w0 at sigma, with the numbers x of the exponential, and at -sigma, with y.
+#[tactic(auto, unfolding(crate::specs::Private::closed_ends, crate::specs::Closed::closed_v0, crate::specs::Closed::closed_w0, series::specs::Series::g_series_pair))]
 fn ends_of<T: Width>(sigma: T, x: Exps<T>, y: Exps<T>, small: bool) -> Ends<T>
     ensures { as_ends T.float result ≡ closed_ends T.format (T.float sigma) (as_exps T.float x) (as_exps T.float y) small }
 {
@@ -231,6 +240,7 @@ pub fn ends_both<T: Width>(sigma: T, x: EtMt<T>, y: EtMt<T>, small: bool) -> End
 
 // All nine at sigma, from x, and at -sigma, from y, with v0 and w0 of both: the circle functions and
 // the squares are shared.
+#[tactic(auto, unfolding(crate::specs::Closed::closed_v, crate::specs::Closed::closed_only, crate::specs::Private::closed_exps, crate::specs::Private::closed_with))]
 pub fn closed_both<T: Width>(
     sigma: T,
     z: T,

@@ -16,7 +16,7 @@ ghost use Rattle.closed.specs.Floats.{as_values};
 
 use crate::closed_form::{Ends, EtMt, closed_both, closed_from, closed_v, ends_both};
 use crate::width::Width;
-use circle::kernel::{SincABD, five_group, two_group};
+use circle::kernel::{SincABD, five_group, two_group, unless_negative};
 use closed::limits::{Arm, SeriesArm, on_form_b, w0_small};
 use closed::values::{Values, at_zero};
 use linalg::refusal::Refusal;
@@ -52,6 +52,7 @@ pub type ArmedPair<T> = Signs<Armed<T>>;
 
 impl<T: Width> Scaled<Sim3Coeffs<T>> {
     // The coefficients times up where scaled, times 1 elsewhere: the last step of the scaled form.
+    #[tactic(auto, unfolding(crate::specs::Group::coeffs_unscale))]
     pub fn unscale(self, up: T) -> Sim3Coeffs<T>
         ensures { as_sim3_coeffs T.float result ≡ coeffs_unscale T.format (as_sim3_coeffs T.float self.c) (T.float up) self.scaled }
     {
@@ -73,6 +74,7 @@ impl<T: Width> Scaled<Sim3Coeffs<T>> {
 
 impl<T: Width> Scaled<Coeffs4<T>> {
     // The same on v and chi_delta alone.
+    #[tactic(auto, unfolding(crate::specs::Group::coeffs_unscale_v))]
     fn unscale_v(self, up: T) -> Coeffs4<T>
         ensures { as_coeffs4 T.float result ≡ coeffs_unscale_v T.format (as_coeffs4 T.float self.c) (T.float up) self.scaled }
     {
@@ -90,6 +92,7 @@ impl<T: Width> Scaled<Coeffs4<T>> {
 // ---- at any z: what the entries answer where they do not refuse
 
 // The coefficients by a series arm.
+#[tactic(auto, unfolding(crate::specs::Private::series_arm))]
 fn by_series<T: Width>(sigma: T, z: T, arm: SeriesArm) -> Scaled<Sim3Coeffs<T>>
     ensures { as_scaled T.float result ≡ series_arm T.format (T.float sigma) (T.float z) (series_number arm) }
 {
@@ -107,6 +110,7 @@ fn by_series<T: Width>(sigma: T, z: T, arm: SeriesArm) -> Scaled<Sim3Coeffs<T>>
 
 // The coefficients by the closed arm from the circle functions t, v0 and w0 by their series where
 // `small`.
+#[tactic(auto, unfolding(crate::specs::Private::closed_one))]
 fn closed_one<T: Width>(
     sigma: T,
     z: T,
@@ -179,6 +183,7 @@ fn at_plus<T: Width>(v: Values<T>) -> EtMt<T>
     EtMt { et: v.e, mt: v.m }
 }
 
+#[tactic(auto, unfolding(crate::specs::Private::minus_et_mt))]
 fn at_minus<T: Width>(sigma: T, v: Values<T>) -> EtMt<T>
     ensures { as_et_mt T.float result ≡ minus_et_mt (T.float sigma) (as_values T.float v) }
 {
@@ -190,6 +195,7 @@ fn at_minus<T: Width>(sigma: T, v: Values<T>) -> EtMt<T>
 }
 
 // v0 and w0 of the closed arm at sigma and at -sigma, by their series where `small`.
+#[tactic(auto, unfolding(crate::specs::Private::pair_ends))]
 fn pair_ends<T: Width>(sigma: T, small: bool, v: Values<T>) -> Ends<T>
     ensures { as_ends T.float result ≡ pair_ends T.format (T.float sigma) small (as_values T.float v) }
 {
@@ -198,6 +204,7 @@ fn pair_ends<T: Width>(sigma: T, small: bool, v: Values<T>) -> Ends<T>
 
 // The closed arm at sigma and at -sigma, from the same circle functions t and from v0 and w0 of
 // both: delta and form b are even in sigma.
+#[tactic(auto, unfolding(crate::specs::Private::closed_pair))]
 fn closed_pair<T: Width>(
     sigma: T,
     z: T,
@@ -231,41 +238,32 @@ fn closed_pair<T: Width>(
     }
 }
 
+// f of what is at sigma, and of what is at -sigma.
+fn each_sign<X: Copy, Y: Copy, F: Fn(X) -> Y>(p: Signs<X>, f: F) -> Signs<Y>
+    requires { F.IsAlwaysCallable f }
+    ensures { F.post f p.pos result.pos × F.post f p.neg result.neg }
+{
+    Signs {
+        pos: f(p.pos),
+        neg: f(p.neg),
+    }
+}
+
 // Both signs by a series arm.
+#[tactic(auto, unfolding(crate::specs::Private::series_arm, crate::specs::Private::series_arms))]
 fn pair_by_series<T: Width>(sigma: T, z: T, arm: SeriesArm) -> ScaledPair<T>
     ensures { as_scaled_pair T.float result ≡ series_arms T.format (T.float sigma) (T.float z) (series_number arm) }
 {
     let terms = T::arm_terms(arm);
     let p = series_pair_at(sigma, z, Count { terms });
-    let a = p.pos;
-    let b = p.neg;
-    let pos = Scaled {
-        c: a,
-        scaled: false,
-    };
-    let neg = Scaled {
-        c: b,
-        scaled: false,
-    };
-    Signs { pos, neg }
+    each_sign(p, |c| Scaled { c, scaled: false })
 }
 
 // Both signs with the arm told: it is even in sigma.
 fn tell_pair<T: Width>(p: ScaledPair<T>, arm: Arm, ends: bool) -> ArmedPair<T>
     ensures { as_armed_pair T.float result ≡ record { pos = record { s = as_scaled T.float p.pos; arm = arm_number arm; ends = ends }; neg = record { s = as_scaled T.float p.neg; arm = arm_number arm; ends = ends } } }
 {
-    Signs {
-        pos: Armed {
-            s: p.pos,
-            arm,
-            ends,
-        },
-        neg: Armed {
-            s: p.neg,
-            arm,
-            ends,
-        },
-    }
+    each_sign(p, |s| Armed { s, arm, ends })
 }
 
 // sim3_coeffs_armed_pair.
@@ -288,16 +286,16 @@ fn armed_pair_at<T: Width>(sigma: T, z: T, v: Values<T>) -> ArmedPair<T>
 // ---- at z = theta^2, refusal 1 for z < 0
 
 // The coefficients at (sigma, z) with the arm told.
+#[tactic(auto, unfolding(crate::specs::Entries::armed_answer))]
 pub fn sim3_coeffs_armed<T: Width>(sigma: T, z: T, v: Values<T>) -> Result<Armed<T>, Refusal>
     ensures { told (as_armed T.float) result ≡ armed_answer T.format (T.float sigma) (T.float z) (as_values T.float v) }
 {
-    if z.is_below(T::of(0.0)) {
-        return Err(Refusal::NegativeAngle);
-    }
+    unless_negative(z)?;
     Ok(armed_at(sigma, z, v))
 }
 
 // The coefficients at (sigma, z) and whether they are scaled: sim3_coeffs_armed without its arm.
+#[tactic(auto, unfolding(crate::specs::Entries::scaled_answer, crate::specs::Entries::armed_answer, crate::specs::Group::coeffs_armed))]
 pub fn sim3_coeffs_scaled<T: Width>(
     sigma: T,
     z: T,
@@ -309,6 +307,7 @@ pub fn sim3_coeffs_scaled<T: Width>(
 }
 
 // The coefficients at (sigma, z), unscaled.
+#[tactic(auto, unfolding(crate::specs::Entries::scaled_answer, crate::specs::Entries::coeffs_answer, crate::specs::Group::coeffs_plain))]
 pub fn sim3_coeffs<T: Width>(sigma: T, z: T, v: Values<T>) -> Result<Sim3Coeffs<T>, Refusal>
     ensures { told (as_sim3_coeffs T.float) result ≡ coeffs_answer T.format (T.float sigma) (T.float z) (as_values T.float v) }
 {
@@ -316,13 +315,13 @@ pub fn sim3_coeffs<T: Width>(sigma: T, z: T, v: Values<T>) -> Result<Sim3Coeffs<
     Ok(s.unscale(v.up))
 }
 
-// v and chi_delta of sim3_coeffs_scaled alone: the same bits.
+// v and chi_delta of sim3_coeffs_scaled alone: the same bits. PERF: a call of its own would copy the ten values.
+#[inline(always)]
+#[tactic(auto, unfolding(crate::specs::Entries::v_scaled_answer))]
 pub fn sim3_v_scaled<T: Width>(sigma: T, z: T, v: Values<T>) -> Result<VScaled<T>, Refusal>
     ensures { told (as_v_scaled T.float) result ≡ v_scaled_answer T.format (T.float sigma) (T.float z) (as_values T.float v) }
 {
-    if z.is_below(T::of(0.0)) {
-        return Err(Refusal::NegativeAngle);
-    }
+    unless_negative(z)?;
     Ok(v_at(sigma, z, v))
 }
 
@@ -343,15 +342,14 @@ pub fn sim3_coeffs_armed_pair<T: Width>(
 ) -> Result<ArmedPair<T>, Refusal>
     ensures { told (as_armed_pair T.float) result ≡ armed_pair_answer T.format (T.float sigma) (T.float z) (as_values T.float v) }
 {
-    if z.is_below(T::of(0.0)) {
-        return Err(Refusal::NegativeAngle);
-    }
+    unless_negative(z)?;
     Ok(armed_pair_at(sigma, z, v))
 }
 
 // sim3_coeffs_scaled at sigma and at -sigma, likewise: the armed pair without what it tells besides.
 // So a library has the pair's code once, and the closed arm's numbers are stored once: with callers
 // of its own, closed_pair would be a call, whose answer is copied.
+#[tactic(auto, unfolding(crate::specs::Entries::scaled_answer, crate::specs::Entries::beside, crate::specs::Entries::pair_answer, crate::specs::Entries::armed_answer, crate::specs::Entries::beside_armed, crate::specs::Entries::armed_pair_answer, crate::specs::Group::coeffs_armed))]
 pub fn sim3_coeffs_scaled_pair<T: Width>(
     sigma: T,
     z: T,
@@ -360,14 +358,13 @@ pub fn sim3_coeffs_scaled_pair<T: Width>(
     ensures { told (as_scaled_pair T.float) result ≡ pair_answer T.format (T.float sigma) (T.float z) (as_values T.float v) }
 {
     let p = sim3_coeffs_armed_pair(sigma, z, v)?;
-    let pos = p.pos.s;
-    let neg = p.neg.s;
-    Ok(Signs { pos, neg })
+    Ok(each_sign(p, |a| a.s))
 }
 
 // ---- at z = |phi|^2, which is never below zero: nothing is refused
 
 // sim3_coeffs_scaled at |phi|^2.
+#[tactic(auto, unfolding(crate::specs::Group::coeffs_armed))]
 pub fn sim3_coeffs_scaled_of<T: Width>(
     phi: Vec3<T>,
     sigma: T,
@@ -379,6 +376,7 @@ pub fn sim3_coeffs_scaled_of<T: Width>(
 }
 
 // sim3_coeffs at |phi|^2.
+#[tactic(auto, unfolding(crate::specs::Group::coeffs_plain))]
 pub fn sim3_coeffs_of<T: Width>(phi: Vec3<T>, sigma: T, v: Values<T>) -> Sim3Coeffs<T>
     ensures { as_sim3_coeffs T.float result ≡ coeffs_plain T.format (T.float sigma) (vec_norm_sq T.format (as_vec3 T.float phi)) (as_values T.float v) }
 {
@@ -386,6 +384,7 @@ pub fn sim3_coeffs_of<T: Width>(phi: Vec3<T>, sigma: T, v: Values<T>) -> Sim3Coe
 }
 
 // sim3_v at |phi|^2.
+#[tactic(auto, unfolding(crate::specs::Group::coeffs_plain, crate::specs::Group::coeffs_v, crate::specs::Group::coeffs_v_scaled, crate::specs::Group::coeffs_unscale, crate::specs::Group::coeffs_unscale_v, series::specs::Series::coeffs4))]
 pub fn sim3_v_of<T: Width>(phi: Vec3<T>, sigma: T, v: Values<T>) -> Coeffs4<T>
     ensures { as_coeffs4 T.float result ≡ coeffs_v T.format (T.float sigma) (vec_norm_sq T.format (as_vec3 T.float phi)) (as_values T.float v) }
 {
@@ -400,11 +399,9 @@ pub fn sim3_coeffs_armed_pair_of<T: Width>(phi: Vec3<T>, sigma: T, v: Values<T>)
 }
 
 // sim3_coeffs_scaled_pair at |phi|^2.
+#[tactic(auto, unfolding(crate::specs::Group::coeffs_armed, crate::specs::Group::coeffs_armed_pair, crate::specs::Group::coeffs_pair))]
 pub fn sim3_coeffs_scaled_pair_of<T: Width>(phi: Vec3<T>, sigma: T, v: Values<T>) -> ScaledPair<T>
     ensures { as_scaled_pair T.float result ≡ coeffs_pair T.format (T.float sigma) (vec_norm_sq T.format (as_vec3 T.float phi)) (as_values T.float v) }
 {
-    let p = sim3_coeffs_armed_pair_of(phi, sigma, v);
-    let pos = p.pos.s;
-    let neg = p.neg.s;
-    Signs { pos, neg }
+    each_sign(sim3_coeffs_armed_pair_of(phi, sigma, v), |a| a.s)
 }

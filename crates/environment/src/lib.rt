@@ -9,6 +9,7 @@ ghost use Rattle.environment.specs.Environment.{product_is_due};
 // 0x1.0000000000001p+1023 it is (proofs/Documented.antt). There 4.75 of the least doubles round up to 5,
 // which a processor that flushes, or that rounds down or toward zero, does not answer; and 5 times the
 // last number rounds down, which one that rounds up does not.
+#[tactic(auto, unfolding(crate::specs::Environment::product_is_due))]
 pub fn product_is_due(a: f64, b: f64, c: f64) -> bool
     ensures { result ≡ product_is_due a b c }
 {

@@ -17,6 +17,7 @@ use sides::side::ExpAndJl;
 use sim3::tangent::Sim3Tangent;
 
 // (Exp tau, J_l(tau)) from one evaluation of the coefficients, with the values of tau and J_l(phi).
+#[tactic(auto, unfolding(crate::specs::ExpAndJl::framed_exp_and_jl, frames::specs::Pose::framed_exp, sides::specs::Side::exp_and_jl))]
 pub fn exp_and_jl<T: Width>(
     tau: Sim3Tangent<T>,
     v: Values<T>,

@@ -8,7 +8,7 @@ use native.Mathlib.Omega.{arith}
 use borrow.Author.Tests.{eq-eqb, ne_eqb}
 use lib.Dec.{T, eqb, eqb→eq}
 use lib.Ieee.{Float, Format}
-use Rattle.ieee.proofs.Signed.{order}
+use Rattle.std.proofs.lemmas.Bool.{cases_lt}
 use Rattle.linalg.specs.Answer.{Answer, answers, refuses, and_then}
 use Rattle.linalg.proofs.Answers.{never}
 use Rattle.sim3.specs.Exp.{pose_rplus, pose_lplus}
@@ -34,7 +34,7 @@ held false x p e = never p 9 (sym e)
 
 -- the two frames of a test may change places
 same : (a b : ℕ) (x : Pose) → meets a b x ≡ meets b a x
-same a b x = elim (order a b) [ inl l ↦ apart (λ e. omega arith) | inr l ↦ elim (order b a) [ inl g ↦ apart (λ e. omega arith) | inr g ↦ rw (le_antisymm g l) refl ] ]
+same a b x = elim (cases_lt a b) [ inl l ↦ apart (λ e. omega arith) | inr l ↦ elim (cases_lt b a) [ inl g ↦ apart (λ e. omega arith) | inr g ↦ rw (le_antisymm g l) refl ] ]
   where
     apart : (a ≡ b → ⊥) → meets a b x ≡ meets b a x
     apart n = unmet a b x n ∙ sym (unmet b a x (λ e. n (sym e)))

@@ -49,6 +49,8 @@ fn between<T: Real>(sim3: Sim3<T>, frames: Frames) -> Pose<T>
 }
 
 // A product's numbers and frames, where the frames a and b, at which its operands meet, are one and the same.
+// PERF: it and `mul` are written into their callers, since a call would copy the poses.
+#[inline(always)]
 fn joined<T: Real>(a: u16, b: u16, sim3: Sim3<T>, frames: Frames) -> Result<Pose<T>, Refusal>
     ensures { told (as_pose T.float) result ≡ meets a b (framed (as_sim3 T.float sim3) frames.from frames.to) }
 {
@@ -68,13 +70,16 @@ impl<T: Real> Pose<T> {
         between(Sim3::from_parts(q, t, sigma), frames)
     }
 
+    #[tactic(auto, unfolding(crate::specs::Pose::framed_identity))]
     pub fn identity(frames: Frames) -> Pose<T>
         ensures { as_pose T.float result ≡ framed_identity frames.from frames.to }
     {
         between(Sim3::identity(), frames)
     }
 
-    // X Y, where X starts from the frame to which Y goes; up is e^sigma of X.
+    // X Y, where X starts from the frame to which Y goes; up is e^sigma of X. PERF: see `joined`.
+    #[inline(always)]
+    #[tactic(auto, unfolding(crate::specs::Joins::framed_mul))]
     pub fn mul(self, other: Pose<T>, up: T) -> Result<Pose<T>, Refusal>
         ensures { told (as_pose T.float) result
             ≡ framed_mul T.format (as_pose T.float self) (as_pose T.float other) (T.float up) }
@@ -87,6 +92,7 @@ impl<T: Real> Pose<T> {
     }
 
     // X^-1, back from `to` to `from`; down is e^-sigma.
+    #[tactic(auto, unfolding(crate::specs::Pose::framed_inverse))]
     pub fn inverse(self, down: T) -> Pose<T>
         ensures { as_pose T.float result ≡ framed_inverse T.format (as_pose T.float self) (T.float down) }
     {
@@ -99,6 +105,7 @@ impl<T: Real> Pose<T> {
 
     // X Y^-1, where both start from one frame; ds is the exponential of the difference of the two
     // log scales.
+    #[tactic(auto, unfolding(crate::specs::Joins::framed_mul_inv))]
     pub fn mul_inv(self, other: Pose<T>, ds: T) -> Result<Pose<T>, Refusal>
         ensures { told (as_pose T.float) result
             ≡ framed_mul_inv T.format (as_pose T.float self) (as_pose T.float other) (T.float ds) }
@@ -114,6 +121,7 @@ impl<T: Real> Pose<T> {
     }
 
     // Y^-1 X, where both go to one frame; down is e^-sigma of Y.
+    #[tactic(auto, unfolding(crate::specs::Joins::framed_inv_mul))]
     pub fn inv_mul(self, other: Pose<T>, down: T) -> Result<Pose<T>, Refusal>
         ensures { told (as_pose T.float) result
             ≡ framed_inv_mul T.format (as_pose T.float self) (as_pose T.float other) (T.float down) }
@@ -134,6 +142,7 @@ impl<T: Real> Pose<T> {
 
 impl<T: Width> Pose<T> {
     // Exp tau, which starts from no pose.
+    #[tactic(auto, unfolding(crate::specs::Pose::framed_exp))]
     pub fn exp(tau: Sim3Tangent<T>, v: Values<T>, frames: Frames) -> Pose<T>
         ensures { as_pose T.float result
             ≡ framed_exp T.format (as_sim3_tangent T.float tau) (as_values T.float v) frames.from frames.to }
@@ -142,6 +151,7 @@ impl<T: Width> Pose<T> {
     }
 
     // X Exp(tau), which keeps the frames; up is e^sigma of X, v the values of tau.
+    #[tactic(auto, unfolding(crate::specs::Pose::framed_rplus))]
     pub fn rplus(self, up: T, tau: Sim3Tangent<T>, v: Values<T>) -> Pose<T>
         ensures { as_pose T.float result
             ≡ framed_rplus T.format (as_pose T.float self) (T.float up) (as_sim3_tangent T.float tau)
@@ -154,6 +164,7 @@ impl<T: Width> Pose<T> {
     }
 
     // Exp(tau) X, which keeps the frames; v the values of tau.
+    #[tactic(auto, unfolding(crate::specs::Pose::framed_lplus))]
     pub fn lplus(self, tau: Sim3Tangent<T>, v: Values<T>) -> Pose<T>
         ensures { as_pose T.float result
             ≡ framed_lplus T.format (as_pose T.float self) (as_sim3_tangent T.float tau) (as_values T.float v) }
@@ -169,6 +180,7 @@ impl<T: Real> Renormalize for Pose<T> {
     ghost renormalizes = { λ x y. as_pose T.float y ≡ framed_renormalized T.format (as_pose T.float x) };
 
     // The quaternion's Newton step; the frames stay.
+    #[tactic(auto, unfolding(crate::specs::Pose::framed_renormalized))]
     fn renormalized(self) -> Pose<T>
         ensures { as_pose T.float result ≡ framed_renormalized T.format (as_pose T.float self) }
     {

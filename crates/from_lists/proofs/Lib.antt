@@ -1,4 +1,3 @@
 -- The laws of lists that are read whole.
 pub mod Back
-pub mod Items
 pub mod Lists

@@ -31,7 +31,7 @@ use so3::quat::Quat;
 pub const FRAMES: usize = 2;
 
 // What is made of a fixed number of numbers, in the order in which they stand in a list.
-pub trait FromNumbers<T: Real>: Copy {
+trait FromNumbers<T: Real>: Copy {
     const COUNT: usize;
 
     ghost COUNT: { ℕ };
@@ -54,7 +54,8 @@ fn front<T: Real, X: FromNumbers<T>>(l: &[T]) -> (X, &[T])
 }
 
 // What a list says that has just the numbers of one thing.
-pub fn from_list<T: Real, X: FromNumbers<T>>(l: &[T]) -> Result<X, Refusal>
+#[tactic(auto, unfolding(crate::specs::Lists::sized))]
+fn from_list<T: Real, X: FromNumbers<T>>(l: &[T]) -> Result<X, Refusal>
     ensures { told X.numbers result ≡ sized l.now X.COUNT (T.floats l.now) }
 {
     if l.len() != X::COUNT {
@@ -70,6 +71,7 @@ impl<T: Real> FromNumbers<T> for Vec3<T> {
 
     ghost numbers = { λ v. vec_numbers (as_vec3 T.float v) };
 
+    #[tactic(auto, unfolding(linalg::specs::Vector::vec_numbers))]
     fn from_numbers(l: &[T]) -> Vec3<T> {
         Vec3 {
             x: l[0],
@@ -86,6 +88,7 @@ impl<T: Real> FromNumbers<T> for Mat3<T> {
 
     ghost numbers = { λ m. mat_numbers (as_mat3 T.float m) };
 
+    #[tactic(auto, unfolding(layout::specs::Layout::mat_numbers))]
     fn from_numbers(l: &[T]) -> Mat3<T> {
         let (c0, rest) = front(l);
         let (c1, rest) = front(rest);
@@ -105,6 +108,7 @@ impl<T: Real> FromNumbers<T> for Quat<T> {
 
     ghost numbers = { λ q. quat_numbers (as_quat T.float q) };
 
+    #[tactic(auto, unfolding(layout::specs::Layout::quat_numbers))]
     fn from_numbers(l: &[T]) -> Quat<T> {
         Quat {
             w: l[0],
@@ -123,6 +127,7 @@ impl<T: Real> FromNumbers<T> for Sim3<T> {
 
     ghost numbers = { λ x. pose_numbers (as_sim3 T.float x) };
 
+    #[tactic(auto, unfolding(layout::specs::Layout::pose_numbers))]
     fn from_numbers(l: &[T]) -> Sim3<T> {
         let (q, rest) = front(l);
         let (t, rest) = front(rest);
@@ -142,6 +147,7 @@ impl<T: Real> FromNumbers<T> for Sim3Tangent<T> {
 
     ghost numbers = { λ t. tangent_numbers (as_sim3_tangent T.float t) };
 
+    #[tactic(auto, unfolding(crate::specs::Numbers::tangent_numbers))]
     fn from_numbers(l: &[T]) -> Sim3Tangent<T> {
         let (phi, rest) = front(l);
         let (rho, rest) = front(rest);
@@ -185,6 +191,7 @@ impl<T: Real> FromNumbers<T> for Sim3Jac<T> {
 
     ghost numbers = { λ j. block_numbers (as_sim3_jac T.float j) };
 
+    #[tactic(auto, unfolding(layout::specs::Layout::block_numbers))]
     fn from_numbers(l: &[T]) -> Sim3Jac<T> {
         let (a, rest) = front(l);
         let (b, rest) = front(rest);
@@ -237,6 +244,7 @@ pub fn block_from<T: Real>(l: &[T]) -> Result<Sim3Jac<T>, Refusal>
 }
 
 // From, to.
+#[tactic(auto, unfolding(crate::specs::Lists::frames_from, crate::specs::Lists::sized))]
 pub fn frames_from(l: &[u16]) -> Result<Frames, Refusal>
     ensures { answer result ≡ frames_from l.now }
 {
@@ -247,6 +255,7 @@ pub fn frames_from(l: &[u16]) -> Result<Frames, Refusal>
 }
 
 // A pose's numbers, and its frames from a list beside them.
+#[tactic(auto, unfolding(crate::specs::Lists::framed_from))]
 pub fn framed_from<T: Real>(l: &[T], k: &[u16]) -> Result<Pose<T>, Refusal>
     ensures { told (as_pose T.float) result ≡ framed_from (pose_lists (T.floats l.now) k.now) }
 {

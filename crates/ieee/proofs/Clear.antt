@@ -3,7 +3,7 @@
 use mathlib.Core.Path.{◌≡◌, refl, sym, ap, ◌∙◌, subst}
 use mathlib.Core.Logic.{◌⊎◌, inl, inr}
 use Prim.Native.Nat.{ℕ, zero, suc, ◌+◌, ◌-◌, ◌*◌, ◌^◌, ◌≤◌, ◌<◌}
-use native.Mathlib.Nat.{le_trans, le_of_eq, le_of_lt, zero-lt-suc, mul-one, one-mul, mul_comm as times-comm, mul-pos, mul-le-mul_right, mul-le-mul, add-sub_of_le, pow-succ', lt_of_mul-lt-mul_right}
+use native.Mathlib.Nat.{le_trans, le_of_eq, le_of_lt, zero-lt-suc, one-mul, mul_comm as times-comm, mul-pos, mul-le-mul_right, mul-le-mul, add-sub_of_le, pow-succ', lt_of_mul-lt-mul_right}
 use native.Mathlib.Omega.{arith}
 use mathlib.Core.Bool.{Bool, true, false, beq, cond}
 use lib.IntN.{ℤ, pos, negsuc}
@@ -15,18 +15,17 @@ use lib.Ieee.Fits.{up_pos, down_pos, and_l, and_r, round_is, add-fits}
 use lib.Ieee.Exact.{HasValue, round_exact}
 use lib.Ieee.Order.{round_mono}
 use lib.Ieee.Positive.{above, above_of_le, positive_of_value}
+use Rattle.std.proofs.lemmas.Bool.{cases_lt}
 use Rattle.ieee.specs.Signs.{plain, Same, not_minus_zero}
 use Rattle.ieee.proofs.Sign.{round-neg}
-use Rattle.ieee.proofs.Signed.{order, add_same, add_comm}
+use Rattle.ieee.proofs.Signed.{add_same, add_comm}
 
 -- ---- what `fits` says of the exponent
-two_up : (p : ℕ) → 0 < p → 2 * p ≡ 1 → ⊥
-two_up p h e = omega arith
 
 flat : (e : ℤ) → up e * down e ≡ 1 → e ≡ pos 0
 flat (pos zero) h = refl
-flat (pos (suc k)) h = absurd (two_up (2 ^ k) (pow_pos k) (sym (pow-succ' 2 k) ∙ sym (mul-one (2 ^ suc k)) ∙ h))
-flat (negsuc k) h = absurd (two_up (2 ^ k) (pow_pos k) (sym (pow-succ' 2 k) ∙ sym (one-mul (2 ^ suc k)) ∙ h))
+flat (pos (suc k)) h = absurd (omega (arith, rw (pow-succ' 2 k) at h))
+flat (negsuc k) h = absurd (omega (arith, rw (pow-succ' 2 k) at h))
 
 pub zero_exp : (f : Format) (s : Bool) (e : ℤ) → T (fits f (fin s zero e)) → e ≡ pos 0
 unfolding fits
@@ -81,13 +80,13 @@ sum_clear :
 unfolding sum
 sum_clear f false a false b c C h k l = round_clear_false f (a + b) c
 sum_clear f true a true b c C h k l = round_clear_true f (a + b) c C (le_trans (h tt) (mul-le-mul_right (2 ^ low f) (omega arith)))
-sum_clear f false a true b c C h k l = elim (order a b) [
+sum_clear f false a true b c C h k l = elim (cases_lt a b) [
   | inl o ↦ rw (lt-ltb a b o) (round_clear_true f (b - a) c C (k o))
   | inr o ↦ rw (le-ltb a b o) (round_clear_false f (a - b) c)
 ]
-sum_clear f true a false b c C h k l = elim (order a b) [
+sum_clear f true a false b c C h k l = elim (cases_lt a b) [
   | inl o ↦ rw (lt-ltb a b o) (round_clear_false f (b - a) c)
-  | inr o ↦ rw (le-ltb a b o) (elim (order b a) [ inl u ↦ rw (lt-ltb b a u) (round_clear_true f (a - b) c C (l u)) | inr u ↦ rw (le-ltb b a u) (round_clear_false f (a - b) c) ])
+  | inr o ↦ rw (le-ltb a b o) (elim (cases_lt b a) [ inl u ↦ rw (lt-ltb b a u) (round_clear_true f (a - b) c C (l u)) | inr u ↦ rw (le-ltb b a u) (round_clear_false f (a - b) c) ])
 ]
 
 -- ---- a difference of two multiples of 1 / de and 1 / dd that is not 0 is one unit at least
@@ -101,7 +100,7 @@ down_is (negsuc k) = refl
 
 -- one of the two divides the other
 ratio : (e d : ℤ) → ((r : ℕ) × (down d ≡ down e * r)) ⊎ ((r : ℕ) × (down e ≡ down d * r))
-ratio e d = elim (order (tail e) (tail d)) [
+ratio e d = elim (cases_lt (tail e) (tail d)) [
   | inl h ↦ inl (2 ^ (tail d - tail e), quotient e d (le_of_lt h))
   | inr h ↦ inr (2 ^ (tail e - tail d), quotient d e h)
 ]

@@ -3,8 +3,8 @@
 use mathlib.Core.Path.{◌≡◌, refl, sym, ap, ◌∙◌, subst}
 use mathlib.Core.Logic.{inl, inr}
 use Prim.Native.Nat.{ℕ, zero, suc, ◌+◌, ◌-◌, ◌*◌, ◌%◌, ◌^◌, ◌≤◌, ◌<◌}
-use native.Mathlib.Nat.{le_antisymm, not-le_of_lt, zero-lt-suc, zero-mul, mul-one, mul_assoc, mul_left_comm, mul-pos}
-use native.Mathlib.Nat.{mul-lt-mul_of_pos_right, lt_of_mul-lt-mul_right, eq_of_mul-eq-mul_right, pow-suc, pow-succ'}
+use native.Mathlib.Nat.{le_antisymm, not-le_of_lt, zero-lt-suc, zero-mul, mul-one, mul_assoc, mul-pos}
+use native.Mathlib.Nat.{mul-lt-mul_of_pos_right, lt_of_mul-lt-mul_right, pow-succ'}
 use native.Mathlib.Omega.{arith}
 use mathlib.Core.Bool.{Bool, true, false}
 use lib.IntN.{ℤ, pos, negsuc}
@@ -15,24 +15,21 @@ use lib.Ieee.Fits.{up_pos, down_pos, and_l, and_r, round-fits}
 use lib.Ieee.Exact.{HasValue, round_exact}
 use lib.Ieee.Positive.{den, den_pos}
 use lib.Ieee.Scale.{finite}
+use Rattle.std.proofs.lemmas.Bool.{cases_lt}
 use Rattle.ieee.specs.Numbers.{f0}
 use Rattle.ieee.specs.Signs.{plain, Same}
 use Rattle.ieee.proofs.Zero.{round-zero}
-use Rattle.ieee.proofs.Signed.{order, signed, signed_same, signed-plus, signed-minus, hi, lo, Level, add_is}
+use Rattle.ieee.proofs.Signed.{signed, signed_same, signed-plus, signed-minus, hi, lo, Level, add_is}
 use Rattle.ieee.proofs.Clear.{zero_exp, fits_down, tail, down_is}
 use Rattle.ieee.proofs.Order.{le→under}
 
 -- ---- a number above 0 is written in one way: an odd m times a power of two
-even_odd : (m t : ℕ) → m % 2 ≡ 1 → m ≡ 2 * t → ⊥
-even_odd m t o h = omega arith
-
 odd_pow : (m n a b : ℕ) → m % 2 ≡ 1 → n % 2 ≡ 1 → m * 2 ^ a ≡ n * 2 ^ b → (m ≡ n) × (a ≡ b)
 odd_pow m n zero zero o p h = (sym (mul-one m) ∙ h ∙ mul-one n, refl)
-odd_pow m n zero (suc b) o p h = absurd (even_odd m (n * 2 ^ b) o (sym (mul-one m) ∙ h ∙ ap (λ (x : ℕ). n * x) (pow-succ' 2 b) ∙ mul_left_comm n 2 (2 ^ b)))
-odd_pow m n (suc a) zero o p h = absurd (even_odd n (m * 2 ^ a) p (sym (mul-one n) ∙ sym h ∙ ap (λ (x : ℕ). m * x) (pow-succ' 2 a) ∙ mul_left_comm m 2 (2 ^ a)))
+odd_pow m n zero (suc b) o p h = absurd (omega (arith, rw (pow-succ' 2 b) at h))
+odd_pow m n (suc a) zero o p h = absurd (omega (arith, rw (pow-succ' 2 a) at h))
 odd_pow m n (suc a) (suc b) o p h =
-    let r = odd_pow m n a b o p (eq_of_mul-eq-mul_right 2 (zero-lt-suc 1) (m * 2 ^ a) (n * 2 ^ b)
-    (mul_assoc m (2 ^ a) 2 ∙ ap (λ (x : ℕ). m * x) (sym (pow-suc 2 a)) ∙ h ∙ ap (λ (x : ℕ). n * x) (pow-suc 2 b) ∙ sym (mul_assoc n (2 ^ b) 2))) in
+    let r = odd_pow m n a b o p (omega (arith, rw (pow-succ' 2 a, pow-succ' 2 b) at h)) in
     (r.0, ap suc r.1)
 
 -- up e is 2 ^ head e, as down e is 2 ^ tail e
@@ -73,7 +70,7 @@ one_way f s m e n d p q h =
 
 -- ---- a value that fits rounds to itself
 le_of_pow : (i j : ℕ) → 2 ^ i ≤ 2 ^ j → i ≤ j
-le_of_pow i j h = elim (order j i) [ inl l ↦ absurd (not-le_of_lt (pow-lt l) h) | inr l ↦ l ]
+le_of_pow i j h = elim (cases_lt j i) [ inl l ↦ absurd (not-le_of_lt (pow-lt l) h) | inr l ↦ l ]
 
 whole_part : (L t : ℕ) → t ≤ L → 2 ^ L ≡ 2 ^ (L - t) * 2 ^ t
 whole_part L t h = ap (λ (x : ℕ). 2 ^ x) (omega arith) ∙ pow-add 2 (L - t) t

@@ -11,9 +11,6 @@ use Rattle.ieee.specs.Signs.{plain}
 use Rattle.ieee.specs.Finite.{is_finite, ZeroIf}
 use Rattle.ieee.proofs.Product.{mul-zero_l}
 
-never : {A : Type 0} → ◌≡◌ {A = ℕ} 0 1 → A
-never z = absurd (omega arith)
-
 -- it begins
 pub zero-starts : (f : Format) → ZeroIf true (of_bits f 0)
 unfolding plain of_bits
@@ -30,49 +27,49 @@ zero_by f s e (fin t n d) = mul-zero_l f s e t n d
 -- one factor more
 pub zero-times : (f : Format) (b : Bool) (z x : Float) → ZeroIf b z → ZeroIf (b && is_finite x) (mul f z x)
 unfolding plain mul
-zero-times f true nan x h = never (cc)
+zero-times f true nan x h = cc
 zero-times f false nan x h = refl
-zero-times f true (inf s) x h = never (cc)
-zero-times f false (inf s) x h = never (cc)
+zero-times f true (inf s) x h = cc
+zero-times f false (inf s) x h = cc
 zero-times f true (fin s zero e) x h = zero_by f s e x
-zero-times f false (fin s zero e) x h = never (cc)
+zero-times f false (fin s zero e) x h = cc
 zero-times f true (fin s (suc m) e) x h = let q : suc m ≡ 0 = cc in absurd (omega arith)
-zero-times f false (fin s (suc m) e) x h = never (cc)
+zero-times f false (fin s (suc m) e) x h = cc
 
 -- such a product is finite exactly where it is a zero
 zero-finite : (b : Bool) (z : Float) → ZeroIf b z → is_finite z ≡ b
 unfolding plain is_finite
-zero-finite true nan h = never (cc)
+zero-finite true nan h = cc
 zero-finite false nan h = refl
-zero-finite true (inf s) h = never (cc)
+zero-finite true (inf s) h = cc
 zero-finite false (inf s) h = refl
 zero-finite true (fin s m e) h = refl
-zero-finite false (fin s zero e) h = never (cc)
-zero-finite false (fin s (suc m) e) h = never (cc)
+zero-finite false (fin s zero e) h = cc
+zero-finite false (fin s (suc m) e) h = cc
 
 -- the product of two
 pub zero-joins : (f : Format) (b c : Bool) (z w : Float) → ZeroIf b z → ZeroIf c w → ZeroIf (b && c) (mul f z w)
 zero-joins f b c z w h k = rw (zero-finite c w k) at (zero-times f b z w h)
 
 -- which of the two it is, by comparing it with itself
-equals_itself : (s : Bool) (m : ℕ) (e : ℤ) → eq (fin s m e) (fin s m e) ≡ true
+pub equals_itself : (s : Bool) (m : ℕ) (e : ℤ) → eq (fin s m e) (fin s m e) ≡ true
 unfolding eq
 equals_itself true m e = rw (eq-eqb (m * up e * down e) (m * up e * down e) refl)
 equals_itself false m e = rw (eq-eqb (m * up e * down e) (m * up e * down e) refl)
 
 pub zero-told : (b : Bool) (z : Float) → ZeroIf b z → eq z z ≡ b
 unfolding plain eq
-zero-told true nan h = never (cc)
+zero-told true nan h = cc
 zero-told false nan h = refl
-zero-told true (inf s) h = never (cc)
-zero-told false (inf s) h = never (cc)
+zero-told true (inf s) h = cc
+zero-told false (inf s) h = cc
 zero-told true (fin s m e) h = equals_itself s m e
-zero-told false (fin s zero e) h = never (cc)
-zero-told false (fin s (suc m) e) h = never (cc)
+zero-told false (fin s zero e) h = cc
+zero-told false (fin s (suc m) e) h = cc
 
 -- ---- a finite value is no NaN
 pub finite-no_nan : (x : Float) → is_finite x ≡ true → T (not (is_nan x))
 unfolding is_finite is_nan
-finite-no_nan nan h = never (cc)
+finite-no_nan nan h = cc
 finite-no_nan (inf s) h = tt
 finite-no_nan (fin s m e) h = tt

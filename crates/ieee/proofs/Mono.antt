@@ -11,11 +11,13 @@ use lib.Ieee.{Float, nan, inf, fin, Format, round, neg, add, le}
 use lib.Ieee.Positive.{den, den_pos}
 use lib.Ieee.Order.{round_mono}
 use lib.Ieee.Scale.{finite}
+use Rattle.std.proofs.lemmas.Float.{le_trans}
+use Rattle.std.proofs.lemmas.Bool.{cases_lt}
 use Rattle.ieee.specs.Signs.{Same}
 use Rattle.ieee.proofs.Sign.{round-neg}
 use Rattle.ieee.proofs.Zero.{round-zero}
-use Rattle.ieee.proofs.Signed.{order, signed, signed_lt, signed_ge, hi, lo, part, spread, add_is}
-use Rattle.ieee.proofs.Order.{number, le_refl, le_trans, le_same, le-neg, le→under}
+use Rattle.ieee.proofs.Signed.{signed, signed_lt, signed_ge, hi, lo, part, spread, add_is}
+use Rattle.ieee.proofs.Order.{number, le_refl, le_same, le-neg, le→under}
 
 -- ---- a negative fraction rounds to no more than a positive one
 below-zero : (f : Format) (a c b d : ℕ) → 0 < c → 0 < d → T (le (round f true a c) (round f false b d))
@@ -30,12 +32,12 @@ cross_le x p c x' p' c' h = omega arith
 
 -- (p - n) / c ≤ (p' - n') / c'
 pub signed_mono : (f : Format) (p n c p' n' c' : ℕ) → 0 < c → 0 < c' → p * c' + n' * c ≤ p' * c + n * c' → T (le (signed f p n c) (signed f p' n' c'))
-signed_mono f p n c p' n' c' C C' e = elim (order p n) [
-  | inl h ↦ rw (signed_lt f p n c h) (elim (order p' n') [
+signed_mono f p n c p' n' c' C C' e = elim (cases_lt p n) [
+  | inl h ↦ rw (signed_lt f p n c h) (elim (cases_lt p' n') [
     | inl k ↦ rw (signed_lt f p' n' c' k, round-neg f false (n - p) c, round-neg f false (n' - p') c', le-neg) (round_mono f (n' - p') c' (n - p) c C' C (both_less h k))
     | inr k ↦ rw (signed_ge f p' n' c' k) (below-zero f (n - p) c (p' - n') c' C C')
   ])
-  | inr h ↦ rw (signed_ge f p n c h) (elim (order p' n') [
+  | inr h ↦ rw (signed_ge f p n c h) (elim (cases_lt p' n') [
     | inl k ↦ absurd (no_way h k)
     | inr k ↦ rw (signed_ge f p' n' c' k) (round_mono f (p - n) c (p' - n') c' C C' (both_more h k))
   ])

@@ -9,8 +9,8 @@ use lib.IntN.{ℤ}
 use lib.Dec.{T}
 use lib.Ieee.{Float, fin, Format, of_bits, to_bits, fits, lt, le}
 use lib.Ieee.Bits.{of_bits-to_bits, to_bits-of_bits, of_bits-fits}
+use Rattle.std.proofs.lemmas.Bool.{cases_lt}
 use Rattle.ieee.specs.Patterns.{patterns}
-use Rattle.ieee.proofs.Signed.{order}
 use Rattle.ieee.proofs.Order.{lt_i, lt-e}
 use Rattle.ieee.proofs.Clear.{same-is}
 use Rattle.ieee.proofs.Exact.{le_antisym}
@@ -41,7 +41,7 @@ neighbours f p m e p-in h k =
     let q = to_bits f x in
     let is : of_bits f q ≡ x = of_bits-to_bits f x h in
     let few : q < patterns f = pattern_below f m e h in
-    elim (order p q) [
+    elim (cases_lt p q) [
       | inl l ↦ subst (λ (y : Float). T (le (of_bits f (p + 1)) y)) is (rising f (p + 1) q (omega arith) few)
       | inr l ↦ absurd (lt-e (of_bits f p) x k (subst (λ (y : Float). T (le y (of_bits f p))) is (rising f q p l p-in)))
     ]

@@ -1,20 +1,22 @@
--- The comparisons, as comparisons of signed fractions: `le` is reflexive and transitive, and respects `Same`; away from a NaN `lt` is its opposite, and a sign turns
+-- The comparisons, as comparisons of signed fractions: `le` is reflexive, and respects `Same`; away from a NaN `lt` is its opposite, and a sign turns
 -- both round. Assumes nothing.
 use mathlib.Core.Path.{◌≡◌, refl, sym, ap, ◌∙◌}
 use mathlib.Core.Logic.{◌⊎◌, inl, inr}
-use Prim.Native.Nat.{ℕ, zero, suc, ◌+◌, ◌*◌, ◌≤◌, ◌<◌, zero-le}
-use native.Mathlib.Nat.{le_of_eq, le_of_lt, zero-add, add-zero, add_comm as plus_comm, mul-le-mul_right, le_of_mul-le-mul_right}
+use Prim.Native.Nat.{ℕ, zero, suc, ◌+◌, ◌*◌, ◌≤◌, zero-le}
+use native.Mathlib.Nat.{le_of_eq, le_of_lt, zero-add, add-zero, add_comm as plus_comm}
 use native.Mathlib.Omega.{arith}
 use mathlib.Core.Bool.{Bool, true, false, not, ◌&&◌, ◌||◌, and-true}
 use lib.IntN.{pos}
-use lib.Dec.{T, leb, ltb, eqb, eqb→eq, leb→le, le→leb, T_not, not_T}
+use lib.Dec.{T, leb, ltb, eqb, eqb→eq, leb→le, le→leb, not_T}
 use borrow.Author.Tests.{lt-ltb, le-ltb, le-leb, lt-leb, eq-eqb, ne_eqb}
 use lib.Ieee.{Float, nan, inf, fin, up, down, below, level, lt, le, eq, neg}
 use lib.Ieee.Fits.{eq→eqb, and_i, and_l, and_r}
-use lib.Ieee.Positive.{den, den_pos}
+use lib.Ieee.Positive.{den}
 use lib.Ieee.Scale.{finite}
+use Rattle.std.proofs.lemmas.Float.{le_trans, lt_irrefl, lt_of_lt_of_le}
+use Rattle.std.proofs.lemmas.Bool.{cases_lt}
 use Rattle.ieee.specs.Signs.{plain, Same}
-use Rattle.ieee.proofs.Signed.{order, over, under, hi, lo, over-mul, under_mul, hi_neg, lo_neg, den-neg, finite-neg, Level, zero-level}
+use Rattle.ieee.proofs.Signed.{over, under, hi, lo, over-mul, under_mul, hi_neg, lo_neg, den-neg, finite-neg, Level, zero-level}
 
 -- not a NaN
 abbrev pub number : Float → Bool
@@ -30,9 +32,9 @@ iff false true p q = absurd (q tt)
 iff false false p q = refl
 
 leb_is : (a b : ℕ) → (ltb a b || eqb a b) ≡ leb a b
-leb_is a b = elim (order a b) [
+leb_is a b = elim (cases_lt a b) [
   | inl h ↦ rw (lt-ltb a b h, le-leb a b (le_of_lt h)) refl
-  | inr h ↦ rw (le-ltb a b h) (elim (order b a) [
+  | inr h ↦ rw (le-ltb a b h) (elim (cases_lt b a) [
     | inl k ↦ rw (ne_eqb a b (λ e. omega arith), lt-leb a b k) refl
     | inr k ↦ let e : a ≡ b = omega arith in rw (eq-eqb a b e, le-leb a b k) refl
   ])
@@ -106,43 +108,9 @@ le_refl (inf true) p = unfold le in tt
 le_refl (inf false) p = unfold le in tt
 le_refl (fin s m e) p = under→le (fin s m e) (fin s m e) tt tt (le_of_eq refl)
 
--- ---- transitive
-under_trans : (hx lx dx hy ly dy hz lz dz : ℕ) → 0 < dy → hx * dy + ly * dx ≤ hy * dx + lx * dy → hy * dz + lz * dy ≤ hz * dy + ly * dz → hx * dz + lz * dx ≤ hz * dx + lx * dz
-under_trans hx lx dx hy ly dy hz lz dz D h k = le_of_mul-le-mul_right (omega (arith, mul-le-mul_right dz h, mul-le-mul_right dx k)) D
-
-le_trans_finite : (x y z : Float) → T (finite x) → T (finite y) → T (finite z) → T (le x y) → T (le y z) → T (le x z)
-le_trans_finite x y z p q r h k =
-    under→le x z p r (under_trans (hi x) (lo x) (den x) (hi y) (lo y) (den y) (hi z) (lo z) (den z) (den_pos y) (le→under x y p q h) (le→under y z q r k))
-
-pub le_trans : (x y z : Float) → T (le x y) → T (le y z) → T (le x z)
-le_trans nan y z h k = absurd (unfold le in h)
-le_trans (inf s) nan z h k = absurd (unfold le in k)
-le_trans (fin s m e) nan z h k = absurd (unfold le in k)
-le_trans (inf true) (inf true) z h k = k
-le_trans (inf true) (inf false) nan h k = absurd (unfold le in k)
-le_trans (inf true) (inf false) (inf true) h k = unfold le in tt
-le_trans (inf true) (inf false) (inf false) h k = unfold le in tt
-le_trans (inf true) (inf false) (fin u o g) h k = absurd (unfold le in k)
-le_trans (inf true) (fin t n d) nan h k = absurd (unfold le in k)
-le_trans (inf true) (fin t n d) (inf true) h k = unfold le in tt
-le_trans (inf true) (fin t n d) (inf false) h k = unfold le in tt
-le_trans (inf true) (fin t n d) (fin u o g) h k = unfold le in tt
-le_trans (inf false) (inf true) z h k = absurd (unfold le in h)
-le_trans (inf false) (inf false) z h k = k
-le_trans (inf false) (fin t n d) z h k = absurd (unfold le in h)
-le_trans (fin s m e) (inf true) z h k = absurd (unfold le in h)
-le_trans (fin s m e) (inf false) nan h k = absurd (unfold le in k)
-le_trans (fin s m e) (inf false) (inf true) h k = absurd (unfold le in k)
-le_trans (fin s m e) (inf false) (inf false) h k = unfold le in tt
-le_trans (fin s m e) (inf false) (fin u o g) h k = absurd (unfold le in k)
-le_trans (fin s m e) (fin t n d) nan h k = absurd (unfold le in k)
-le_trans (fin s m e) (fin t n d) (inf true) h k = absurd (unfold le in k)
-le_trans (fin s m e) (fin t n d) (inf false) h k = unfold le in tt
-le_trans (fin s m e) (fin t n d) (fin u o g) h k = le_trans_finite (fin s m e) (fin t n d) (fin u o g) tt tt tt h k
-
 -- ---- away from a NaN `lt` is the opposite of `le`
 ltb_not : (a b : ℕ) → ltb a b ≡ not (leb b a)
-ltb_not a b = elim (order a b) [ inl h ↦ rw (lt-ltb a b h, lt-leb b a h) refl | inr h ↦ rw (le-ltb a b h, le-leb b a h) refl ]
+ltb_not a b = elim (cases_lt a b) [ inl h ↦ rw (lt-ltb a b h, lt-leb b a h) refl | inr h ↦ rw (le-ltb a b h, le-leb b a h) refl ]
 
 pub lt_not_le : (x y : Float) → T (number x) → T (number y) → lt x y ≡ not (le y x)
 lt_not_le nan y p q = absurd p
@@ -157,14 +125,6 @@ lt_not_le (inf false) (fin t n d) p q = unfold le in refl
 lt_not_le (fin s m e) (inf true) p q = unfold le in refl
 lt_not_le (fin s m e) (inf false) p q = unfold le in refl
 lt_not_le (fin s m e) (fin t n d) p q = rw (lt-is (fin s m e) (fin t n d) tt tt, le_is (fin t n d) (fin s m e) tt tt) (ltb_not (side (fin s m e) (fin t n d)) (side (fin t n d) (fin s m e)))
-
-pub lt→le : (x y : Float) → T (lt x y) → T (le x y)
-unfolding le
-lt→le x y t = go (lt x y) (eq x y) t
-  where
-    go : (a b : Bool) → T a → T (a || b)
-    go true b t = tt
-    go false b t = absurd t
 
 -- ---- a sign turns an order round
 pub lt-neg : (x y : Float) → lt (neg x) (neg y) ≡ lt y x
@@ -256,39 +216,11 @@ le-to-plain x y = elim (nan_or x) [
 pub le_same : (x x' y y' : Float) → Same x x' → Same y y' → le x y ≡ le x' y'
 le_same x x' y y' p q = le-to-plain x y ∙ ap (λ (z : Float). le z (plain y)) p ∙ ap (λ (z : Float). le (plain x') z) q ∙ sym (le-to-plain x' y')
 
--- ---- `lt`, chained
-pub lt-number : (x y : Float) → T (lt x y) → T (number x) × T (number y)
-unfolding lt
-lt-number nan y t = absurd t
-lt-number (inf s) nan t = absurd t
-lt-number (inf s) (inf u) t = (tt, tt)
-lt-number (inf s) (fin u n d) t = (tt, tt)
-lt-number (fin s m e) nan t = absurd t
-lt-number (fin s m e) (inf u) t = (tt, tt)
-lt-number (fin s m e) (fin u n d) t = (tt, tt)
-
-pub le-number : (x y : Float) → T (le x y) → T (number x) × T (number y)
-unfolding le
-le-number nan y t = absurd t
-le-number (inf s) nan t = absurd t
-le-number (inf s) (inf u) t = (tt, tt)
-le-number (inf s) (fin u n d) t = (tt, tt)
-le-number (fin s m e) nan t = absurd t
-le-number (fin s m e) (inf u) t = (tt, tt)
-le-number (fin s m e) (fin u n d) t = (tt, tt)
+-- ---- `lt` and `le` of the same two
 
 -- x < y from the refusal of y ≤ x, and back
 pub lt_i : (x y : Float) → T (number x) → T (number y) → (T (le y x) → ⊥) → T (lt x y)
 lt_i x y p q n = rw (lt_not_le x y p q) (not_T (le y x) n)
 
 pub lt-e : (x y : Float) → T (lt x y) → T (le y x) → ⊥
-lt-e x y t = T_not (le y x) (rw (lt_not_le x y (lt-number x y t).0 (lt-number x y t).1) at t)
-
-pub lt-le_trans : (x y z : Float) → T (lt x y) → T (le y z) → T (lt x z)
-lt-le_trans x y z h k = lt_i x z (lt-number x y h).0 (le-number y z k).1 (λ l. lt-e x y h (le_trans y z x k l))
-
-pub le_lt_trans : (x y z : Float) → T (le x y) → T (lt y z) → T (lt x z)
-le_lt_trans x y z h k = lt_i x z (le-number x y h).0 (lt-number y z k).1 (λ l. lt-e y z k (le_trans z x y l h))
-
-pub lt_trans : (x y z : Float) → T (lt x y) → T (lt y z) → T (lt x z)
-lt_trans x y z h k = lt-le_trans x y z h (lt→le y z k)
+lt-e x y t h = lt_irrefl x (lt_of_lt_of_le x y x t h)

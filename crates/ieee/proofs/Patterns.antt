@@ -17,8 +17,8 @@ use lib.Ieee.Bits.{of_bits-to_bits}
 use lib.Ieee.Exact.{HasValue, odd_sign}
 use lib.Ieee.Order.{le_of_values}
 use lib.Ieee.Scale.{finite}
+use Rattle.std.proofs.lemmas.Bool.{cases_lt}
 use Rattle.ieee.specs.Patterns.{patterns, units_of, field_units, pattern_units}
-use Rattle.ieee.proofs.Signed.{order}
 use Rattle.ieee.proofs.Values.{value-finite, unsigned}
 
 -- ---- a larger field outweighs all digits, so a larger pattern has at least as many units
@@ -48,9 +48,9 @@ fields_mono h p q H k =
     let Q : q / h * h + q % h ≡ q = div-add-mod' q h in
     let ph : p % h < h = mod-lt p H in
     let qh : q % h < h = mod-lt q H in
-    elim (order (p / h) (q / h)) [
+    elim (cases_lt (p / h) (q / h)) [
       | inl l ↦ outweighs h (p / h) (p % h) (q / h) (q % h) ph l
-      | inr l ↦ elim (order (q / h) (p / h)) [
+      | inr l ↦ elim (cases_lt (q / h) (p / h)) [
         | inl m ↦
             let over : (q / h + 1) * h ≤ p / h * h = mul-le-mul_right h (omega arith) in
             absurd (omega arith)
@@ -157,7 +157,7 @@ module _ (f : Format) (m : ℕ) (e : ℤ) (h : T (fits f (fin false m e))) where
 
 -- a value above 0 has at least one unit, and its pattern is not 0
 pub units_pos : (f : Format) (m : ℕ) (e : ℤ) → T (fits f (fin false (suc m) e)) → 0 < units_of f (suc m) e
-units_pos f m e h = elim (order 0 (units_of f (suc m) e)) [
+units_pos f m e h = elim (cases_lt 0 (units_of f (suc m) e)) [
   | inl l ↦ l
   | inr l ↦
       let none : units_of f (suc m) e ≡ 0 = omega arith in
@@ -166,7 +166,7 @@ units_pos f m e h = elim (order 0 (units_of f (suc m) e)) [
 ]
 
 pub pattern_pos : (f : Format) (m : ℕ) (e : ℤ) → T (fits f (fin false (suc m) e)) → 0 < to_bits f (fin false (suc m) e)
-pattern_pos f m e h = elim (order 0 (to_bits f (fin false (suc m) e))) [
+pattern_pos f m e h = elim (cases_lt 0 (to_bits f (fin false (suc m) e))) [
   | inl l ↦ l
   | inr l ↦
       let none : to_bits f (fin false (suc m) e) ≡ 0 = omega arith in

@@ -1,19 +1,20 @@
 -- A sum as one rounding of a signed fraction: (p - n) / c, for numbers p and n. Up to the sign of a zero, `add` is the rounded sum of the operands' fractions,
 -- and equal fractions round alike, so `add` and `sub` respect `Same`, and a sign can be taken out of a sum. Assumes nothing.
 use mathlib.Core.Path.{◌≡◌, refl, sym, ap, ◌∙◌, subst₂}
-use mathlib.Core.Logic.{◌⊎◌, inl, inr}
+use mathlib.Core.Logic.{inl, inr}
 use Prim.Native.Nat.{ℕ, zero, suc, ◌+◌, ◌-◌, ◌*◌, ◌≤◌, ◌<◌, zero-le}
 use native.Mathlib.Nat.{not-le_of_lt, le_of_lt, lt_of_mul-lt-mul_right, le_of_eq, zero-mul, zero-add, add-zero, add_comm as plus_comm, sub-zero}
 use native.Mathlib.Nat.{mul_comm as times-comm, mul-pos, eq-zero-or-pos, add-mul, mul-lt-mul_of_pos_right}
 use native.Mathlib.Omega.{arith}
 use mathlib.Core.Bool.{Bool, true, false, not, beq, cond}
 use lib.IntN.{ℤ, pos}
-use lib.Dec.{T, ltb, ltb→lt, nltb→le}
+use lib.Dec.{T, ltb}
 use borrow.Author.Tests.{lt-ltb, le-ltb}
 use lib.Ieee.{Float, nan, inf, fin, Format, up, down, round, neg, sum, add, sub}
 use lib.Ieee.Fits.{down_pos}
 use lib.Ieee.Positive.{den, den_pos}
 use lib.Ieee.Scale.{round_same, finite}
+use Rattle.std.proofs.lemmas.Bool.{cases_lt}
 use Rattle.ieee.specs.Signs.{plain, Same}
 use Rattle.ieee.proofs.Sign.{neg-cond, round-neg}
 use Rattle.ieee.proofs.Zero.{neg_same, round-zero}
@@ -32,13 +33,6 @@ unfoldable pub signed : Format → ℕ → ℕ → ℕ → Float
 signed f p n c = cond (ltb p n) (round f true (n - p) c) (round f false (p - n) c)
 
 -- ---- cases
-pub order : (a b : ℕ) → (a < b) ⊎ (b ≤ a)
-order a b = go (ltb a b) (ltb→lt a b) (nltb→le a b)
-  where
-    go : (t : Bool) → (T t → a < b) → (T (not t) → b ≤ a) → (a < b) ⊎ (b ≤ a)
-    go true h k = inl (h tt)
-    go false h k = inr (k tt)
-
 pub signed_lt : (f : Format) (p n c : ℕ) → p < n → signed f p n c ≡ round f true (n - p) c
 unfolding signed
 signed_lt f p n c h = rw (lt-ltb p n h)
@@ -59,7 +53,7 @@ lt_too : (p n c p' n' c' : ℕ) → 0 < c' → p * c' + n' * c ≡ p' * c + n * 
 lt_too p n c p' n' c' C' e h = lt_of_mul-lt-mul_right c (omega (arith, mul-lt-mul_of_pos_right h C'))
 
 pub signed_same : (f : Format) (p n c p' n' c' : ℕ) → 0 < c → 0 < c' → p * c' + n' * c ≡ p' * c + n * c' → signed f p n c ≡ signed f p' n' c'
-signed_same f p n c p' n' c' C C' e = elim (order p n) [ inl h ↦ below h | inr h ↦ above h ]
+signed_same f p n c p' n' c' C C' e = elim (cases_lt p n) [ inl h ↦ below h | inr h ↦ above h ]
   where
     below : p < n → signed f p n c ≡ signed f p' n' c'
     below h =
@@ -71,7 +65,7 @@ signed_same f p n c p' n' c' C C' e = elim (order p n) [ inl h ↦ below h | inr
 
     above : n ≤ p → signed f p n c ≡ signed f p' n' c'
     above h =
-        let h' : n' ≤ p' = elim (order p' n') [ inl k ↦ absurd (not-le_of_lt (lt_too p' n' c' p n c C (omega arith) k) h) | inr k ↦ k ] in
+        let h' : n' ≤ p' = elim (cases_lt p' n') [ inl k ↦ absurd (not-le_of_lt (lt_too p' n' c' p n c C (omega arith) k) h) | inr k ↦ k ] in
         signed_ge f p n c h
         ∙ round_same f false (p - n) c (p' - n') c' C C'
         (cross (p - n) n c (p' - n') n' c' (subst₂ (λ (u v : ℕ). n * c' + v * c ≡ n' * c + u * c') (part n p h) (part n' p' h') (omega arith)))
@@ -99,9 +93,9 @@ pub sum_is : (f : Format) (s : Bool) (a : ℕ) (t : Bool) (b c : ℕ) → 0 < c 
 unfolding sum
 sum_is f false a false b c C = signed-plus f (a + b) c
 sum_is f false a true b c C = rw (add-zero, zero-add) (unfold signed in refl)
-sum_is f true a false b c C = rw (add-zero, zero-add) (elim (order a b) [
+sum_is f true a false b c C = rw (add-zero, zero-add) (elim (cases_lt a b) [
   | inl h ↦ rw (lt-ltb a b h, signed_ge f b a c (le_of_lt h)) refl
-  | inr h ↦ rw (le-ltb a b h) (elim (order b a) [ inl k ↦ rw (lt-ltb b a k, signed_lt f b a c k) refl | inr k ↦ rw (le-ltb b a k, signed_ge f b a c k, no_difference a b k h) refl ])
+  | inr h ↦ rw (le-ltb a b h) (elim (cases_lt b a) [ inl k ↦ rw (lt-ltb b a k, signed_lt f b a c k) refl | inr k ↦ rw (le-ltb b a k, signed_ge f b a c k, no_difference a b k h) refl ])
 ])
 sum_is f true a true b c C = signed-minus f (a + b) c C
 
@@ -193,15 +187,13 @@ unfolding sub
 sub_same f x x' y y' p q = add_same f x x' (neg y) (neg y') p (neg_same y y' q)
 
 -- ---- a sign, taken out of a sum
-nothing : (a b : ℕ) → a ≤ b → a - b ≡ 0
-nothing a b h = omega arith
 
 neg-signed : (f : Format) (p n c : ℕ) → 0 < c → plain (signed f n p c) ≡ plain (neg (signed f p n c))
-neg-signed f p n c C = elim (order p n) [
+neg-signed f p n c C = elim (cases_lt p n) [
   | inl h ↦ rw (signed_lt f p n c h, signed_ge f n p c (le_of_lt h), ← round-neg f true (n - p) c) refl
-  | inr h ↦ rw (signed_ge f p n c h, ← round-neg f false (p - n) c) (elim (order n p) [
+  | inr h ↦ rw (signed_ge f p n c h, ← round-neg f false (p - n) c) (elim (cases_lt n p) [
     | inl k ↦ rw (signed_lt f n p c k) refl
-    | inr k ↦ rw (signed_ge f n p c k) (plain-zero f false true (n - p) (p - n) c C (nothing n p h) (nothing p n k))
+    | inr k ↦ rw (signed_ge f n p c k) (plain-zero f false true (n - p) (p - n) c C (omega arith) (omega arith))
   ])
 ]
 
@@ -267,13 +259,13 @@ pub sum_comm : (f : Format) (s : Bool) (a : ℕ) (t : Bool) (b c : ℕ) → sum 
 unfolding sum
 sum_comm f true a true b c = rw (plus_comm a b)
 sum_comm f false a false b c = rw (plus_comm a b)
-sum_comm f true a false b c = elim (order a b) [
+sum_comm f true a false b c = elim (cases_lt a b) [
   | inl h ↦ rw (lt-ltb a b h, le-ltb b a (le_of_lt h)) refl
-  | inr h ↦ rw (le-ltb a b h) (elim (order b a) [ inl k ↦ rw (lt-ltb b a k) refl | inr k ↦ rw (le-ltb b a k, no_difference a b k h) refl ])
+  | inr h ↦ rw (le-ltb a b h) (elim (cases_lt b a) [ inl k ↦ rw (lt-ltb b a k) refl | inr k ↦ rw (le-ltb b a k, no_difference a b k h) refl ])
 ]
-sum_comm f false a true b c = elim (order b a) [
+sum_comm f false a true b c = elim (cases_lt b a) [
   | inl h ↦ rw (lt-ltb b a h, le-ltb a b (le_of_lt h)) refl
-  | inr h ↦ rw (le-ltb b a h) (elim (order a b) [ inl k ↦ rw (lt-ltb a b k) refl | inr k ↦ rw (le-ltb a b k, no_difference a b h k) refl ])
+  | inr h ↦ rw (le-ltb b a h) (elim (cases_lt a b) [ inl k ↦ rw (lt-ltb a b k) refl | inr k ↦ rw (le-ltb a b k, no_difference a b h k) refl ])
 ]
 
 both_same : (s t : Bool) → cond (beq s t) (inf s) nan ≡ cond (beq s t) (inf t) nan

@@ -10,13 +10,13 @@ use lib.IntN.{ℤ}
 use lib.Dec.{T}
 use lib.Pow.{pow_pos, pow-add, pow_mono}
 use lib.Ieee.{fin, Format, hid, to_bits, fits}
+use Rattle.std.proofs.lemmas.Bool.{cases_lt}
 use Rattle.ieee.specs.Patterns.{units_of, pattern_units}
-use Rattle.ieee.proofs.Signed.{order}
 use Rattle.ieee.proofs.Patterns.{hid_pos, units_small, units_large, pattern_units_lem}
 
 -- a value is a number q of at most as many digits as the format keeps, times a power of two
 digits : (f : Format) (p : ℕ) → (q : ℕ) × (x : ℕ) × (q < 2 * hid f) × (pattern_units f p ≡ q * 2 ^ x)
-digits f p = elim (order p (hid f)) [
+digits f p = elim (cases_lt p (hid f)) [
   | inl l ↦ (p, 0, omega arith, units_small f p l ∙ sym (mul-one p))
   | inr l ↦ (hid f + p % hid f, p / hid f - 1, omega (arith, mod-lt p (hid_pos f)), units_large f p l)
 ]
@@ -34,7 +34,7 @@ module _ (H v h q x : ℕ) (full : H ≤ v) (few : q < 2 * H) where
       ap (λ (y : ℕ). q * y) (ap (λ (y : ℕ). 2 ^ y) e ∙ pow-add 2 (x - h) h) ∙ sym (mul_assoc q (2 ^ (x - h)) (2 ^ h))
 
   over : v * 2 ^ h < q * 2 ^ x → (v + 1) * 2 ^ h ≤ q * 2 ^ x
-  over g = elim (order x h) [
+  over g = elim (cases_lt x h) [
     | inl l ↦ absurd (not-le_of_lt g (le_trans (le_of_lt (finer l)) (mul-le-mul_right (2 ^ h) full)))
     | inr l ↦ rw (coarser l) (mul-le-mul_right (2 ^ h) (next (lt_of_mul-lt-mul_right (2 ^ h) (subst (λ (y : ℕ). v * 2 ^ h < y) (coarser l) g))))
   ]
@@ -43,7 +43,7 @@ module _ (H v h q x : ℕ) (full : H ≤ v) (few : q < 2 * H) where
       next k = omega arith
 
   under : q * 2 ^ x < v * 2 ^ h → (q * 2 ^ x ≤ (v - 1) * 2 ^ h) ⊎ (q * 2 ^ x < H * 2 ^ h)
-  under g = elim (order x h) [
+  under g = elim (cases_lt x h) [
     | inl l ↦ inr (finer l)
     | inr l ↦ inl (rw (coarser l) (mul-le-mul_right (2 ^ h) (last (lt_of_mul-lt-mul_right (2 ^ h) (subst (λ (y : ℕ). y < v * 2 ^ h) (coarser l) g)))))
   ]

@@ -2,7 +2,7 @@
 ghost use Rattle.std.specs.Prelude.{◌≡◌, ◌+◌, ◌≤◌, length, map};
 ghost use Rattle.std.proofs.lemmas.List.Edits.{sets};
 ghost use Rattle.sim3.specs.Tangent.{tangent, tangent_to_dense};
-ghost use Rattle.jacobian.specs.Dense.{column_at, seven_of, seven_flat, seven_transpose, seven_apply, jac_sandwich, jac_dense};
+ghost use Rattle.jacobian.specs.Dense.{seven_of, seven_flat, seven_transpose, seven_apply, jac_sandwich, jac_dense};
 ghost use Rattle.jacobian.specs.Floats.{as_seven, as_sim3_jac};
 ghost use Rattle.sim3.specs.Floats.{as_sim3_tangent};
 ghost use Rattle.linalg.specs.Floats.{as_vec3};
@@ -24,40 +24,20 @@ pub struct Seven<T> {
     pub c6: Sim3Tangent<T>,
 }
 
-// The seven numbers from place i on.
-fn column_at<T: Real>(m: &[T; 49], i: usize) -> Sim3Tangent<T>
-    requires { i ≤ 42 }
-    ensures { as_sim3_tangent T.float result ≡ column_at (map T.float m.now) i }
-{
-    let phi = Vec3 {
-        x: m[i],
-        y: m[i + 1],
-        z: m[i + 2],
-    };
-    let rho = Vec3 {
-        x: m[i + 3],
-        y: m[i + 4],
-        z: m[i + 5],
-    };
-    Sim3Tangent {
-        phi,
-        rho,
-        sigma: m[i + 6],
-    }
-}
-
 // The columns of a flat matrix.
+#[tactic(auto, unfolding(crate::specs::Dense::seven_of))]
 fn columns<T: Real>(m: [T; 49]) -> Seven<T>
     ensures { as_seven T.float result ≡ seven_of (map T.float m) }
 {
+    let (columns, _) = m.as_chunks::<7>();
     Seven {
-        c0: column_at(&m, 0),
-        c1: column_at(&m, 7),
-        c2: column_at(&m, 14),
-        c3: column_at(&m, 21),
-        c4: column_at(&m, 28),
-        c5: column_at(&m, 35),
-        c6: column_at(&m, 42),
+        c0: Sim3Tangent::from_dense(columns[0]),
+        c1: Sim3Tangent::from_dense(columns[1]),
+        c2: Sim3Tangent::from_dense(columns[2]),
+        c3: Sim3Tangent::from_dense(columns[3]),
+        c4: Sim3Tangent::from_dense(columns[4]),
+        c5: Sim3Tangent::from_dense(columns[5]),
+        c6: Sim3Tangent::from_dense(columns[6]),
     }
 }
 
@@ -66,18 +46,11 @@ fn put_column<T: Real>(out: &mut [T], at: usize, t: Sim3Tangent<T>)
     requires { at + 7 ≤ length out.old }
     ensures { map T.float out.new ≡ sets (map T.float out.old) at (tangent_to_dense (as_sim3_tangent T.float t)) }
 {
-    let phi = t.phi;
-    let rho = t.rho;
-    out[at] = phi.x;
-    out[at + 1] = phi.y;
-    out[at + 2] = phi.z;
-    out[at + 3] = rho.x;
-    out[at + 4] = rho.y;
-    out[at + 5] = rho.z;
-    out[at + 6] = t.sigma;
+    out[at..at + 7].copy_from_slice(&t.to_dense());
 }
 
 // The flat matrix of the columns.
+#[tactic(auto, unfolding(crate::specs::Dense::seven_flat, sim3::specs::Tangent::tangent_to_dense))]
 fn flat<T: Real>(m: Seven<T>) -> [T; 49]
     ensures { map T.float result ≡ seven_flat (as_seven T.float m) }
 {
@@ -93,6 +66,7 @@ fn flat<T: Real>(m: Seven<T>) -> [T; 49]
 }
 
 // Rows for columns.
+#[tactic(auto, unfolding(crate::specs::Dense::seven_transpose, sim3::specs::Tangent::tangent_from_dense))]
 fn transpose<T: Real>(m: Seven<T>) -> Seven<T>
     ensures { as_seven T.float result ≡ seven_transpose (as_seven T.float m) }
 {
@@ -144,6 +118,7 @@ fn column<T: Real>(phi: Vec3<T>, rho: Vec3<T>, sigma: T) -> Sim3Tangent<T>
 }
 
 // J applied to each column.
+#[tactic(auto, unfolding(crate::specs::Dense::seven_apply))]
 fn apply_each<T: Real>(j: Sim3Jac<T>, m: Seven<T>) -> Seven<T>
     ensures { as_seven T.float result ≡ seven_apply T.format (as_sim3_jac T.float j) (as_seven T.float m) }
 {
@@ -159,6 +134,7 @@ fn apply_each<T: Real>(j: Sim3Jac<T>, m: Seven<T>) -> Seven<T>
 }
 
 // J as 49 numbers, column by column.
+#[tactic(auto, unfolding(crate::specs::Dense::jac_dense))]
 pub fn write_dense<T: Real>(j: Sim3Jac<T>) -> [T; 49]
     ensures { map T.float result ≡ jac_dense (as_sim3_jac T.float j) }
 {
@@ -179,6 +155,7 @@ pub fn write_dense<T: Real>(j: Sim3Jac<T>) -> [T; 49]
 }
 
 // J cov J^T: M = J cov by columns, then row r of the result is J applied to row r of M.
+#[tactic(auto, unfolding(crate::specs::Dense::jac_sandwich))]
 pub fn sandwich<T: Real>(j: Sim3Jac<T>, cov: [T; 49]) -> [T; 49]
     ensures { map T.float result ≡ jac_sandwich T.format (as_sim3_jac T.float j) (map T.float cov) }
 {

@@ -22,6 +22,7 @@ pub struct Sim3Jac<T> {
 }
 
 impl<T: Real> Sim3Jac<T> {
+    #[tactic(auto, unfolding(crate::specs::Jac::jac_identity))]
     pub fn identity() -> Sim3Jac<T>
         ensures { as_sim3_jac T.float result ≡ jac_identity }
     {
@@ -35,6 +36,7 @@ impl<T: Real> Sim3Jac<T> {
     }
 
     // (A A', B A' + C B', C C', C f' + f e', e e').
+    #[tactic(auto, unfolding(crate::specs::Jac::jac_mul))]
     pub fn mul(self, o: Sim3Jac<T>) -> Sim3Jac<T>
         ensures { as_sim3_jac T.float result ≡ jac_mul T.format (as_sim3_jac T.float self) (as_sim3_jac T.float o) }
     {
@@ -52,6 +54,7 @@ impl<T: Real> Sim3Jac<T> {
     // (A^-1, -C^-1 B A^-1, C^-1, -C^-1 f / e, 1 / e), by the adjugates of A and C; refusal 2 where e
     // is a zero. A zero determinant is divided by. PERF (D122): C^-1 is formed first and before the test
     // of e, since the compiler then packs the products better.
+    #[tactic(auto, unfolding(crate::specs::Jac::jac_inverse_answer, crate::specs::Jac::jac_inverse, closed::specs::Values::at_zero))]
     pub fn inverse(self) -> Result<Sim3Jac<T>, Refusal>
         ensures { told (as_sim3_jac T.float) result ≡ jac_inverse_answer T.format (as_sim3_jac T.float self) }
     {
@@ -72,6 +75,7 @@ impl<T: Real> Sim3Jac<T> {
     }
 
     // Flips every sign bit.
+    #[tactic(auto, unfolding(crate::specs::Jac::jac_neg))]
     pub fn neg(self) -> Sim3Jac<T>
         ensures { as_sim3_jac T.float result ≡ jac_neg (as_sim3_jac T.float self) }
     {
@@ -84,6 +88,7 @@ impl<T: Real> Sim3Jac<T> {
         }
     }
 
+    #[tactic(auto, unfolding(crate::specs::Jac::jac_add))]
     pub fn add(self, o: Sim3Jac<T>) -> Sim3Jac<T>
         ensures { as_sim3_jac T.float result ≡ jac_add T.format (as_sim3_jac T.float self) (as_sim3_jac T.float o) }
     {
@@ -96,6 +101,7 @@ impl<T: Real> Sim3Jac<T> {
         }
     }
 
+    #[tactic(auto, unfolding(crate::specs::Jac::jac_scale))]
     pub fn scale(self, k: T) -> Sim3Jac<T>
         ensures { as_sim3_jac T.float result ≡ jac_scale T.format (as_sim3_jac T.float self) (T.float k) }
     {
@@ -109,6 +115,7 @@ impl<T: Real> Sim3Jac<T> {
     }
 
     // (A phi, (B phi + C rho) + f sigma, e sigma).
+    #[tactic(auto, unfolding(crate::specs::Jac::jac_apply))]
     pub fn apply(self, t: Sim3Tangent<T>) -> Sim3Tangent<T>
         ensures { as_sim3_tangent T.float result
             ≡ jac_apply T.format (as_sim3_jac T.float self) (as_sim3_tangent T.float t) }
@@ -127,6 +134,7 @@ impl<T: Real> Sim3Jac<T> {
     }
 
     // (A^T phi + B^T rho, C^T rho, f . rho + e sigma).
+    #[tactic(auto, unfolding(crate::specs::Jac::jac_apply_transpose))]
     pub fn apply_transpose(self, t: Sim3Tangent<T>) -> Sim3Tangent<T>
         ensures { as_sim3_tangent T.float result
             ≡ jac_apply_transpose T.format (as_sim3_jac T.float self) (as_sim3_tangent T.float t) }

@@ -1,15 +1,14 @@
 -- The job's counts: they are what is written last, of no more records than the limit, and the last three of the four add up to the first, as those by mark do. Assumes nothing.
-use Prim.Native.Nat.{ℕ, zero, suc, ◌+◌, ◌≤◌}
+use Prim.Native.Nat.{ℕ, zero, suc, ◌+◌}
 use mathlib.Core.Path.{◌≡◌, refl, sym, ap, ◌∙◌}
 use mathlib.Core.List.{List, [], ◌++◌, append_assoc}
 use native.Mathlib.Omega.{arith}
 use lib.ListN.{drop}
-use Rattle.outcome.specs.declared.Kind.{Kind}
 use Rattle.outcome.specs.declared.Kind.TheVariants.{Refused}
 use Rattle.outcome.specs.Outcome.{unknown_mark, cut_record, no_bytes, Found, took, ended, unknown, cut}
 use Rattle.marks.specs.Marks.{found_of}
 use Rattle.marks.specs.Rows.{row_at}
-use Rattle.job.specs.Counts.{counts_none, counts_more}
+use Rattle.job.specs.Counts.{counts_none}
 use Rattle.job.specs.Job.{Standing, standing_none, moved, trailer, job_on, job_from, counts_on, counts_from, CountsTheorem}
 use Rattle.job.specs.Private.{Sound}
 use Rattle.job.proofs.Rows.{none-total}

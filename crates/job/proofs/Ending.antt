@@ -1,12 +1,12 @@
 -- What is written at the end: the stores of the counts and of a refusal before them, and how many bytes they are. Assumes nothing.
 use Prim.Native.Nat.{ℕ, ◌+◌, ◌≤◌}
-use mathlib.Core.Path.{◌≡◌, refl, sym, ap, ◌∙◌}
+use mathlib.Core.Path.{◌≡◌, refl}
 use mathlib.Core.Bool.{true}
-use mathlib.Core.List.{List, ◌++◌, append_assoc}
+use mathlib.Core.List.{List, ◌++◌}
 use native.Mathlib.Nat.{add_assoc}
 use native.Mathlib.Omega.{arith}
-use lib.ListN.{length, take, drop, length-append}
-use lib.Seq.{sets, sets-eq, drop-drop}
+use lib.ListN.{length, length-append}
+use lib.Seq.{sets}
 use Rattle.wire.specs.Wire.{count_bytes}
 use Rattle.wire.proofs.Bytes.{count-length}
 use Rattle.layout.proofs.Runs.{sets_split}
@@ -26,11 +26,6 @@ use Rattle.job.proofs.Rows.{rows-length}
 ruleset sizes = (length-append, count-length)
 
 ruleset runs = (sets_split, add_assoc, sizes)
-
--- the bytes b, copied into the part of a list from a place on, are a run of stores
-pub stored : (b l r : List ℕ) (i k : ℕ) → r ≡ b → k ≡ length b → i + length b ≤ length l → take i l ++ (r ++ drop k (drop i l)) ≡ sets l i b
-stored b l r i k e n h =
-    rw (e, n) (ap (λ (x : List ℕ). take i l ++ (b ++ x)) (drop-drop (length b) i l) ∙ sym (sets-eq b l i h ∙ append_assoc (take i l) b (drop (i + length b) l)))
 
 pub trailer_run :
     (c : Counts) (l : List ℕ) (i : ℕ) →

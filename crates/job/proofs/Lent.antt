@@ -2,23 +2,22 @@
 -- what it would have left from its start. Assumes nothing.
 use Prim.Native.Nat.{ℕ, zero, suc, ◌+◌, ◌-◌, ◌≤◌, ◌<◌}
 use mathlib.Core.Path.{◌≡◌, refl, sym, ap, ◌∙◌}
-use mathlib.Core.Bool.{Bool, true, false, cond}
+use mathlib.Core.Bool.{Bool, false, cond}
 use mathlib.Core.List.{List}
-use native.Mathlib.Nat.{sub-zero}
 use native.Mathlib.Omega.{arith}
 use borrow.Author.Tests.{lt-ltb, le-ltb}
 use lib.Dec.{ltb}
 use lib.ListN.{length, take, drop}
 use lib.Seq.{sets, drop-drop}
+use Rattle.std.proofs.lemmas.Bool.{false≢true}
+use Rattle.wire.proofs.Lists.{one_of_two}
 use Rattle.outcome.specs.declared.Kind.{Kind}
 use Rattle.outcome.specs.declared.Step.{Step}
 use Rattle.outcome.specs.declared.Step.TheVariants as step
 use Rattle.outcome.specs.Outcome.{longest, Found, took, ended, unknown, cut, written_of, step_told}
-use Rattle.outcome.proofs.Never.{untrue}
 use Rattle.outcome.proofs.Told.{told-took, told_room}
 use Rattle.kept.specs.State.{State, state_of}
 use Rattle.marks.specs.Marks.{found_of, behind_of}
-use Rattle.marks.specs.Rows.{row_at}
 use Rattle.marks.proofs.Heads.{taking, bytes_still}
 use Rattle.job.specs.declared.Counts.{Counts}
 use Rattle.job.specs.declared.Fed.{Fed}
@@ -47,13 +46,9 @@ mem_took :
 unfolding mem_records mem_on
 mem_took n m xs room h how k b e = rw (le-ltb room longest h, e)
 
-same : {A : Type 0} (t : Bool) (x : A) → cond t x x ≡ x
-same true x = refl
-same false x = refl
-
 still_on : (f : Found) (m : List ℕ) (go : ℕ → List ℕ → List ℕ) → taking f ≡ false → mem_on f m go ≡ m
 unfolding mem_on
-still_on (took how k b) m go e = untrue (sym e)
+still_on (took how k b) m go e = absurd (false≢true (sym e))
 still_on ended m go e = refl
 still_on unknown m go e = refl
 still_on cut m go e = refl
@@ -65,7 +60,7 @@ mem_still zero m xs room f e k = refl
 mem_still (suc n) m xs room f e k =
     let go : ℕ → List ℕ → List ℕ = λ i bytes. mem_records n (behind_of m xs) (drop i xs) (room - length bytes) in
     let s : mem_on (found_of (state_of m) xs) m go ≡ m = ap (λ (x : Found). mem_on x m go) e ∙ still_on f m go k in
-    ap (λ (l : List ℕ). cond (ltb room longest) m l) s ∙ same (ltb room longest) m
+    ap (λ (l : List ℕ). cond (ltb room longest) m l) s ∙ one_of_two (ltb room longest) m
 
 -- The loop began with the bytes m₀, has m now, and `reply` has left m'.
 module _
@@ -122,7 +117,7 @@ module _
   stopped : (f : Found) → found_of j.state (drop at input) ≡ f → taking f ≡ false → m' ≡ final
   stopped f o k =
       let quiet : cond (ltb (length out - to) longest) m (behind_of m (drop at input)) ≡ m =
-      rw (bytes_still j.state m (drop at input) f o k) (same (ltb (length out - to) longest) m) in
+      rw (bytes_still j.state m (drop at input) f o k) (one_of_two (ltb (length out - to) longest) m) in
       let all : mem_records (limit - j.counts.four.begun) m (drop at input) (length out₀ - to) ≡ m =
       mem_still _ m _ _ f (in_bytes ∙ o) k in
       behind ∙ quiet ∙ sym (g ∙ all)

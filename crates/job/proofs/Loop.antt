@@ -1,9 +1,9 @@
 -- The record loop keeps to its definition: what holds at each turn, round the loop and out of it. Assumes nothing.
 use Prim.Native.Nat.{ℕ, suc, ◌+◌, ◌-◌, ◌≤◌}
 use mathlib.Core.Path.{◌≡◌, refl, sym, ap, ◌∙◌}
-use mathlib.Core.Bool.{Bool, true, false}
+use mathlib.Core.Bool.{Bool}
 use mathlib.Core.List.{List, ◌++◌, append-nil}
-use native.Mathlib.Nat.{zero-add, add-zero, sub-zero}
+use native.Mathlib.Nat.{add-zero}
 use native.Mathlib.Omega.{arith}
 use lib.ListN.{length, take, drop, length-drop, length-append, take-append-drop}
 use lib.Seq.{sets, sets-eq, length-sets, length-take-le, drop-drop, take_at, drop_at}
@@ -50,15 +50,16 @@ pub record Going (limit : ℕ) (input : List ℕ) (last : Bool) (j₀ : Standing
       records_of (limit - j₀.counts.four.begun) j₀ input last (length out₀) ≡
       after at (take to out) (records_of (limit - j.counts.four.begun) j (drop at input) last (length out₀ - to))
 
-pub going_start : (limit : ℕ) (input : List ℕ) (last : Bool) (j : Standing) (out : List ℕ) → Sound limit j.counts → Going limit input last j out j out 0 0
-going_start limit input last j out s = record {
-  sound = s;
-  inside = omega arith;
-  room = omega arith;
-  kept = refl;
-  rest = refl;
-  same = rw (zero-add, sub-zero);
-}
+-- its parts, for the check to find
+module _ {limit : ℕ} {input : List ℕ} {last : Bool} {j₀ : Standing} {out₀ : List ℕ} {j : Standing} {out : List ℕ} {at to : ℕ} (g : Going limit input last j₀ out₀ j out at to) where
+  pub going_sound : Sound limit j.counts
+  going_sound = g.sound
+
+  pub going_inside : at ≤ length input
+  going_inside = g.inside
+
+  pub going_room : to ≤ length out
+  going_room = g.room
 
 -- what the loop answers, what the output holds then, and the state
 abbrev pub Left : ℕ → List ℕ → Bool → Standing → List ℕ → Fed → List ℕ → State → Type 0

@@ -9,6 +9,7 @@ use borrow.Author.Tests.{leb-true, eqb-true, le-leb, eq-eqb}
 use lib.ListN.{length, drop, length-append, length-drop}
 use lib.Seq.{sets, length-sets}
 use lib.Dec.{leb, eqb}
+use Rattle.std.proofs.lemmas.Bool.{false≢true, and_parts}
 use Rattle.layout.proofs.Runs.{sets_front, sets_split}
 use Rattle.outcome.specs.declared.Kind.TheVariants.{Refused}
 use Rattle.outcome.specs.Outcome.{longest, unknown_mark, Found}
@@ -23,7 +24,6 @@ use Rattle.job.specs.Job.{Standing, job_limit}
 use Rattle.job.specs.Feed.{Part, halt, closed, closing, ends, records_of, mem_records, feed_of, fed_mem, Told, wants_bytes, wants_room, unsound, at_limit, at_end, refused}
 use Rattle.job.specs.Feed.{reason_told, CallTold, fed_told, part_told}
 use Rattle.job.specs.Private.{Sound, part_fed}
-use Rattle.outcome.proofs.Never.{untrue}
 use Rattle.marks.proofs.Heads.{taken}
 use Rattle.job.proofs.Turns.{Stops, at_end_lem, at_pause, at-unknown, at_cut, at_part, records_by, counted_begun}
 use Rattle.job.proofs.Loop.{counted_sound}
@@ -38,7 +38,7 @@ record Fits (xs : List ℕ) (room : ℕ) (p : Part) : Type 0 where
 records_fit : (n : ℕ) (j : Standing) (xs : List ℕ) (last : Bool) (room : ℕ) → Fits xs room (records_of n j xs last room)
 records_fit n j xs last room =
     records_by last (λ n j xs room p. Fits xs room p)
-    (λ n j xs room h. record { uses = omega arith; within = omega arith; spare = λ u. untrue u })
+    (λ n j xs room h. record { uses = omega arith; within = omega arith; spare = λ u. absurd (false≢true u) })
     (λ j xs room h. record { uses = omega arith; within = omega arith; spare = λ u. omega arith })
     (λ n j xs room h f r e q s. record { uses = omega arith; within = omega arith; spare = λ u. omega arith })
     (λ n j xs room h how k b q p i.
@@ -73,38 +73,21 @@ module _ (limit : ℕ) (last : Bool) where
       (limit - j.counts.four.begun) j xs room s refl
 
 -- ---- the counts handed in
-and_left : (a b : Bool) → a && b ≡ true → a ≡ true
-and_left true b e = refl
-and_left false b e = untrue e
-
-and_right : (a b : Bool) → a && b ≡ true → b ≡ true
-and_right true b e = e
-and_right false b e = untrue e
-
-pub both : (a b : Bool) → a ≡ true → b ≡ true → a && b ≡ true
-both a b e f = rw (e, f)
-
-pub first_false : (a b : Bool) → a ≡ false → a && b ≡ false
-first_false a b e = rw e
-
-pub second_false : (a b : Bool) → b ≡ false → a && b ≡ false
-second_false true b e = e
-second_false false b e = refl
-
 pub sound_is : (limit : ℕ) (c : Counts) → counts_sound limit c ≡ true → Sound limit c
 unfolding counts_sound
 sound_is limit c e =
-    let x = and_right (leb c.four.begun limit) _ e in
-    let y = and_right (leb c.four.answered c.four.begun) _ x in
-    let a : c.four.answered ≤ c.four.begun = leb-true _ _ (and_left (leb c.four.answered c.four.begun) _ x) in
-    let b : c.four.refused ≤ c.four.begun - c.four.answered = leb-true _ _ (and_left (leb c.four.refused (c.four.begun - c.four.answered)) _ y) in
-    let z = and_right (leb c.four.refused (c.four.begun - c.four.answered)) _ y in
-    let u : c.four.unusable ≡ c.four.begun - c.four.answered - c.four.refused = eqb-true _ _ (and_left (eqb c.four.unusable (c.four.begun - c.four.answered - c.four.refused)) _ z) in
-    let v = and_right (eqb c.four.unusable (c.four.begun - c.four.answered - c.four.refused)) _ z in
+    let x = and_parts (leb c.four.begun limit) _ e in
+    let y = and_parts (leb c.four.answered c.four.begun) _ x.1 in
+    let z = and_parts (leb c.four.refused (c.four.begun - c.four.answered)) _ y.1 in
+    let w = and_parts (eqb c.four.unusable (c.four.begun - c.four.answered - c.four.refused)) _ z.1 in
+    let v = and_parts (eqb (length c.rows) row_count) _ w.1 in
+    let a : c.four.answered ≤ c.four.begun = leb-true _ _ y.0 in
+    let b : c.four.refused ≤ c.four.begun - c.four.answered = leb-true _ _ z.0 in
+    let u : c.four.unusable ≡ c.four.begun - c.four.answered - c.four.refused = eqb-true _ _ w.0 in
     record {
-      few = leb-true _ _ (and_left (leb c.four.begun limit) _ e);
+      few = leb-true _ _ x.0;
       sum = omega arith;
-      each = (eqb-true _ _ (and_left (eqb (length c.rows) row_count) _ v), eqb-true _ _ (and_right (eqb (length c.rows) row_count) _ v));
+      each = (eqb-true _ _ v.0, eqb-true _ _ v.1);
     }
 
 pub is_sound : (limit : ℕ) (c : Counts) → Sound limit c → counts_sound limit c ≡ true
@@ -187,7 +170,7 @@ module _ {limit : ℕ} {held : Bool} {j : Standing} {xs : List ℕ} {last : Bool
   feed_within =
       let f = records_fit (limit - j.counts.four.begun) j xs last (length out) in
       let P = records_of (limit - j.counts.four.begun) j xs last (length out) in
-      let s = records_sound limit last j xs (length out) (sound_is limit j.counts (and_right held _ k.good)) in
+      let s = records_sound limit last j xs (length out) (sound_is limit j.counts (and_parts held _ k.good).1) in
       rw k.told (closing_fits P.reason P.standing.counts _ _ s.each.0 f.within f.spare)
 
   pub feed_told :

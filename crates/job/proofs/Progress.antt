@@ -2,17 +2,16 @@
 use Prim.Native.Nat.{ℕ, ◌+◌, ◌-◌, ◌≤◌, ◌<◌}
 use mathlib.Core.Path.{◌≡◌, refl}
 use mathlib.Core.Bool.{Bool, true, false}
-use mathlib.Core.List.{List, []}
+use mathlib.Core.List.{List}
 use native.Mathlib.Omega.{arith}
 use Rattle.outcome.specs.declared.Kind.TheVariants.{Refused}
 use Rattle.job.specs.declared.Reason.{Reason}
 use Rattle.job.specs.declared.Reason.TheVariants.{More, Room, Bad}
-use Rattle.job.specs.Counts.{counts_more, counts_sound}
+use Rattle.job.specs.Counts.{counts_sound}
 use Rattle.marks.specs.Rows.{row_at}
-use Rattle.job.specs.Job.{Standing, moved, lost}
+use Rattle.job.specs.Job.{Standing, moved}
 use Rattle.outcome.specs.Outcome.{longest, Found}
 use Rattle.job.specs.Feed.{Part, halt, records_of, feed_of}
-use Rattle.outcome.proofs.Never.{never}
 use Rattle.job.proofs.Turns.{Stops, at_end_lem, at_pause, at-unknown, at_cut, at_part, records_by, counted_begun}
 use Rattle.job.proofs.Pieces.{feed_good}
 
@@ -27,19 +26,19 @@ pub record Progress (last : Bool) (j : Standing) (room : ℕ) (p : Part) : Type 
 
 stop_goes :
     (last : Bool) (j : Standing) (xs : List ℕ) (room : ℕ) (f : Found) (r : Reason) (e : Standing) → Stops last j xs f r e → Progress last j room (halt r e)
-stop_goes last j xs room f r e (at_end_lem l) = record { more = λ u. never (cc); grows = omega arith; still = λ u. refl; roomy = λ h u. never (cc); fair = λ u. never (cc) }
-stop_goes last j xs room f r e (at_pause l) = record { more = λ u. l; grows = omega arith; still = λ u. refl; roomy = λ h u. never (cc); fair = λ u. never (cc) }
+stop_goes last j xs room f r e (at_end_lem l) = record { more = λ u. absurd (cc); grows = omega arith; still = λ u. refl; roomy = λ h u. absurd (cc); fair = λ u. absurd (cc) }
+stop_goes last j xs room f r e (at_pause l) = record { more = λ u. l; grows = omega arith; still = λ u. refl; roomy = λ h u. absurd (cc); fair = λ u. absurd (cc) }
 stop_goes last j xs room f r e at-unknown =
-    record { more = λ u. never (cc); grows = rw (counted_begun Refused (row_at xs) j.counts) (omega arith); still = λ u. refl; roomy = λ h u. never (cc); fair = λ u. never (cc) }
+    record { more = λ u. absurd (cc); grows = rw (counted_begun Refused (row_at xs) j.counts) (omega arith); still = λ u. refl; roomy = λ h u. absurd (cc); fair = λ u. absurd (cc) }
 stop_goes last j xs room f r e (at_cut l) =
-    record { more = λ u. never (cc); grows = rw (counted_begun Refused (row_at xs) j.counts) (omega arith); still = λ u. refl; roomy = λ h u. never (cc); fair = λ u. never (cc) }
-stop_goes last j xs room f r e (at_part l) = record { more = λ u. l; grows = omega arith; still = λ u. refl; roomy = λ h u. never (cc); fair = λ u. never (cc) }
+    record { more = λ u. absurd (cc); grows = rw (counted_begun Refused (row_at xs) j.counts) (omega arith); still = λ u. refl; roomy = λ h u. absurd (cc); fair = λ u. absurd (cc) }
+stop_goes last j xs room f r e (at_part l) = record { more = λ u. l; grows = omega arith; still = λ u. refl; roomy = λ h u. absurd (cc); fair = λ u. absurd (cc) }
 
 records_progress : (last : Bool) (n : ℕ) (j : Standing) (xs : List ℕ) (room : ℕ) → Progress last j room (records_of n j xs last room)
 records_progress last n j xs room =
     records_by last (λ n j xs room p. Progress last j room p)
-    (λ n j xs room h. record { more = λ u. never (cc); grows = omega arith; still = λ u. refl; roomy = λ k u. absurd (omega arith); fair = λ u. never (cc) })
-    (λ j xs room h. record { more = λ u. never (cc); grows = omega arith; still = λ u. refl; roomy = λ k u. never (cc); fair = λ u. never (cc) })
+    (λ n j xs room h. record { more = λ u. absurd (cc); grows = omega arith; still = λ u. refl; roomy = λ k u. absurd (omega arith); fair = λ u. absurd (cc) })
+    (λ j xs room h. record { more = λ u. absurd (cc); grows = omega arith; still = λ u. refl; roomy = λ k u. absurd (cc); fair = λ u. absurd (cc) })
     (λ n j xs room h f r e q s. stop_goes last j xs room f r e s)
     (λ n j xs room h how k b q p i.
     let b₁ : (moved how xs j).counts.four.begun ≡ j.counts.four.begun + 1 = counted_begun how (row_at xs) j.counts in

@@ -1,14 +1,14 @@
 -- The counts by mark: their sum, one more in one of them, and the stores by which they are written. Assumes nothing.
 use Prim.Native.Nat.{ℕ, zero, suc, ◌+◌, ◌*◌, ◌-◌, ◌≤◌, ◌<◌}
 use mathlib.Core.Path.{◌≡◌, refl, sym, ap, ◌∙◌}
-use mathlib.Core.Bool.{Bool, true, false}
+use mathlib.Core.Bool.{false}
 use mathlib.Core.List.{List, [], ◌∷◌, ◌++◌, append-nil, append_assoc}
 use native.Mathlib.Omega.{arith}
-use native.Mathlib.Numerals.{add-one}
-use borrow.Author.Tests.{eq-eqb, ne_eqb, eqb-true, eqb-false}
 use lib.Dec.{eqb}
 use lib.ListN.{length, take, set, get_or, replicate, length-append, length-set}
-use lib.Seq.{sets, take-suc, take_all, length-take-le}
+use lib.Seq.{sets, length-take-le}
+use Rattle.std.proofs.lemmas.List.{take_more}
+use Rattle.std.proofs.lemmas.Bool.Decides.{nat_tests}
 use Rattle.wire.specs.Wire.{count_bytes}
 use Rattle.wire.proofs.Bytes.{count-length}
 use Rattle.layout.proofs.Runs.{sets_split}
@@ -52,12 +52,9 @@ unfolding total
 total-append [] b = omega arith
 total-append (x ∷ a) b = let i = total-append a b in omega arith
 
-next : (l : List ℕ) (i : ℕ) → i < length l → take (i + 1) l ≡ take i l ++ (get_or l i 0 ∷ [])
-next l i h = ap (λ (k : ℕ). take k l) (add-one i) ∙ take-suc l i 0 h
-
 total_more : (l : List ℕ) (i : ℕ) → i < length l → total (take (i + 1) l) ≡ total (take i l) + get_or l i 0
 unfolding total
-total_more l i h = let e = total-append (take i l) (get_or l i 0 ∷ []) in ap total (next l i h) ∙ omega arith
+total_more l i h = let e = total-append (take i l) (get_or l i 0 ∷ []) in ap total (take_more l i 0 h) ∙ omega arith
 
 total-least : (l : List ℕ) (i : ℕ) → total (take i l) ≤ total l
 unfolding total
@@ -74,20 +71,10 @@ pub taken_short : (l : List ℕ) (i left n : ℕ) → i < length l → total (ta
 taken_short l i left n h e less =
     let a = total_more l i h in
     let b = total-least l (i + 1) in
-    sym (ne_eqb (total l) n (λ q. omega arith))
+    grind (arith, nat_tests)
 
 pub taken_more : (l : List ℕ) (i left n : ℕ) → i < length l → total (take i l) + left ≡ n → get_or l i 0 ≤ left → total (take (i + 1) l) + (left - get_or l i 0) ≡ n
 taken_more l i left n h e more = let a = total_more l i h in omega arith
-
-pub taken_all : (l : List ℕ) (i left n : ℕ) → length l ≤ i → total (take i l) + left ≡ n → eqb left 0 ≡ eqb (total l) n
-taken_all l i left n h e = by (eqb left 0) refl
-  where
-    sum : total l + left ≡ n
-    sum = rw (take_all i l h) at e
-
-    by : (t : Bool) → eqb left 0 ≡ t → t ≡ eqb (total l) n
-    by true q = let z = eqb-true left 0 q in let s = sum in sym (eq-eqb (total l) n (omega arith))
-    by false q = let z = eqb-false left 0 q in let s = sum in sym (ne_eqb (total l) n (λ x. z (omega arith)))
 
 -- ---- their bytes
 pub rows-length : (l : List ℕ) → length (rows_bytes l) ≡ 4 * length l
@@ -111,7 +98,7 @@ unfolding rows_bytes
 stored_more l out at i h =
     let n : length (rows_bytes (take i l)) ≡ 4 * i = rows-length (take i l) ∙ ap (λ (k : ℕ). 4 * k) (length-take-le i l (omega arith)) in
     sym
-    (ap (λ (x : List ℕ). sets out at (rows_bytes x)) (next l i h)
+    (ap (λ (x : List ℕ). sets out at (rows_bytes x)) (take_more l i 0 h)
     ∙ ap (sets out at) (bytes-append (take i l) (get_or l i 0 ∷ []) ∙ ap (λ (x : List ℕ). rows_bytes (take i l) ++ x) (append-nil (count_bytes (get_or l i 0))))
     ∙ sets_split (rows_bytes (take i l)) (count_bytes (get_or l i 0)) out at
     ∙ ap (λ (k : ℕ). sets (sets out at (rows_bytes (take i l))) (at + k) (count_bytes (get_or l i 0))) n)

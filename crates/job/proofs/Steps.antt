@@ -6,8 +6,8 @@ use mathlib.Core.List.{List, [], ◌++◌}
 use native.Mathlib.Omega.{arith}
 use borrow.Author.Tests.{lt-ltb, le-ltb, ltb-true, ltb-false}
 use lib.Dec.{ltb}
-use lib.ListN.{length, take, drop, length-append, length-drop}
-use lib.Seq.{sets, take_all, length-sets, length-take-le}
+use lib.ListN.{length, take, drop, length-drop}
+use lib.Seq.{sets, take_all, length-take-le}
 use Rattle.outcome.specs.declared.Kind.{Kind}
 use Rattle.outcome.specs.declared.Kind.TheVariants.{Refused}
 use Rattle.job.specs.declared.Counts.{Counts}
@@ -19,7 +19,7 @@ use Rattle.outcome.specs.Outcome.{longest, Found, ended, unknown, cut, became_of
 use Rattle.kept.specs.State.{State}
 use Rattle.marks.specs.Marks.{found_of, next_of}
 use Rattle.marks.specs.Rows.{row_count, row_at}
-use Rattle.job.specs.Job.{Standing, standing, moved, lost}
+use Rattle.job.specs.Job.{Standing, standing, lost}
 use Rattle.job.specs.Feed.{halt, records_of}
 use Rattle.job.specs.Private.{stop_of}
 use Rattle.layout.proofs.Runs.{sets-part}
@@ -79,14 +79,6 @@ module _
 
   abbrev after_it : List ℕ
   after_it = take to out ++ (R ++ drop (length out - to) (drop to out))
-
-  pub after-length : length after_it ≡ length out
-  after-length =
-      let room : to ≤ length out = t.going.room in
-      let b = written_of (found_of j.state (take (length input - at) (drop at input))) (length (take (length out - to) (drop to out))) in
-      let r : length R ≡ length out - to = ap length t.wrote ∙ length-sets (take (length out - to) (drop to out)) 0 b ∙ spare in
-      let n : length (take to out) ≡ to = length-take-le to out room in
-      simp (length-append, length-drop) (omega arith)
 
   pub told_here : step_told q ≡ became_of (found_of j.state (drop at input)) (length out - to)
   told_here = rw (here, spare) at t.told

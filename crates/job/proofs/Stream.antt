@@ -1,13 +1,11 @@
 -- The stream theorem: a call writes the beginning of what the job writes for the bytes at hand and all that follow, and leaves a standing and input with which the job goes on. Assumes nothing.
-use Prim.Native.Nat.{ℕ, suc, ◌+◌, ◌-◌, ◌≤◌, ◌<◌}
+use Prim.Native.Nat.{ℕ, suc, ◌-◌, ◌≤◌, ◌<◌}
 use mathlib.Core.Path.{◌≡◌, refl, sym, ap, ◌∙◌}
-use mathlib.Core.Bool.{Bool, true, false, cond}
-use mathlib.Core.List.{List, [], ◌∷◌, ◌++◌, append-nil, append_assoc}
+use mathlib.Core.Bool.{Bool, true, cond}
+use mathlib.Core.List.{List, [], ◌++◌, append-nil, append_assoc}
 use native.Mathlib.Omega.{arith}
-use borrow.Author.Tests.{ltb-false, le-ltb}
-use lib.ListN.{length, take, drop, length-append}
-use lib.Seq.{take-append-le, drop-append-le, drop-drop}
-use lib.Dec.{ltb}
+use lib.ListN.{length, drop}
+use lib.Seq.{drop-append-le, drop-drop}
 use Rattle.outcome.specs.declared.Kind.{Kind}
 use Rattle.outcome.specs.declared.Kind.TheVariants.{Refused}
 use Rattle.job.specs.declared.Reason.{Reason}
@@ -20,7 +18,6 @@ use Rattle.marks.specs.Rows.{row_at}
 use Rattle.job.specs.Job.{Standing, standing, moved, lost, job_on, job_from}
 use Rattle.job.specs.Feed.{goes_on, Part, halt, after, closing, closing_of, records_of, feed_of}
 use Rattle.job.specs.Run.{job_with}
-use Rattle.outcome.proofs.Never.{untrue}
 use Rattle.marks.proofs.Heads.{taken, found_more, next_more}
 use Rattle.marks.proofs.Rows.{row_more}
 use Rattle.job.proofs.Turns.{Stops, at_end_lem, at_pause, at-unknown, at_cut, at_part, records_by, counted_begun}

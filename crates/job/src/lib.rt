@@ -161,6 +161,7 @@ fn stop(
 
 // The whole records at hand. A record is asked for room where it is replied to, an end where the loop
 // is left.
+#[tactic(auto, using(crate::proofs::Loop::going_sound, crate::proofs::Loop::going_inside, crate::proofs::Loop::going_room))]
 fn records(c0: Counts, mem: &mut [u8], input: &[u8], last: bool, out: &mut [u8]) -> Fed
     requires sound { Sound job_limit c0 }
     requires mem_len { length mem.old ≡ memory }

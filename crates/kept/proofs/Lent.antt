@@ -1,5 +1,5 @@
 -- The bytes of the running join's state, of which what is stored reads back; and what CH and RN are told, write and leave. Assumes nothing.
-use Prim.Native.Nat.{ℕ, suc, ◌+◌, ◌≤◌, ◌<◌}
+use Prim.Native.Nat.{ℕ, suc, ◌<◌}
 use mathlib.Core.Path.{◌≡◌, refl, ap, ◌∙◌}
 use mathlib.Core.Bool.{Bool, true, false, cond}
 use mathlib.Core.List.{List, [], ◌∷◌, ◌++◌, append-nil}
@@ -21,8 +21,7 @@ use Rattle.wire.proofs.Bytes.{word-length}
 use Rattle.outcome.specs.declared.Kind.TheVariants as kind
 use Rattle.outcome.specs.declared.Step.{Step}
 use Rattle.outcome.specs.declared.Step.TheVariants as step
-use Rattle.outcome.proofs.Never.{never}
-use Rattle.outcome.specs.Outcome.{wrote, longest, mark_bytes, no_bytes, kind_of, reply_of, step_told}
+use Rattle.outcome.specs.Outcome.{wrote, mark_bytes, no_bytes, kind_of, reply_of, step_told}
 use Rattle.replies.specs.Table.{framed_in, framed_items}
 use Rattle.replies.proofs.Frames.{framed-length, framed-finite}
 use Rattle.sheets.proofs.Framed.{frame, Fit, short_back, framed_back}
@@ -94,7 +93,7 @@ produced_stood f false y n k p e = stood y p n k e
 product_stood : (f : Format) (r : Running) (a : Answer Pose) (p : Pose) → Stood (product_on f r a) p
 unfolding product_on produced_of
 product_stood f r (answers y) p e = produced_stood f (due r.every (one_more r.since)) y r.every (one_more r.since) p e
-product_stood f r (refuses k) p e = never (cc)
+product_stood f r (refuses k) p e = absurd (cc)
 
 joint_stood : (f : Format) (z : Start) (r : Running) (x : Pose) (up : Float) (p : Pose) → Stood (join_on f z r x up) p
 unfolding join_on
@@ -102,8 +101,8 @@ joint_stood f None r x up p e = stood x p r.every r.since e
 joint_stood f (Some q) r x up p e = product_stood f r (framed_mul f q x up) p e
 
 produced_kept : (f : Format) (t : Bool) (y : Pose) (n k e : ℕ) (r : Running) → let j = cond t (stands (framed_renormalized f y) n 0) (stands y n k) in j.answer ≡ refuses e → j.running ≡ r
-produced_kept f true y n k e r q = never (cc)
-produced_kept f false y n k e r q = never (cc)
+produced_kept f true y n k e r q = absurd (cc)
+produced_kept f false y n k e r q = absurd (cc)
 
 product-kept : (f : Format) (r : Running) (a : Answer Pose) (k : ℕ) → (product_on f r a).answer ≡ refuses k → (product_on f r a).running ≡ r
 unfolding product_on produced_of
@@ -112,7 +111,7 @@ product-kept f r (refuses e) k q = refl
 
 joint_kept : (f : Format) (z : Start) (r : Running) (x : Pose) (up : Float) (k : ℕ) → (join_on f z r x up).answer ≡ refuses k → (join_on f z r x up).running ≡ r
 unfolding join_on
-joint_kept f None r x up k e = never (cc)
+joint_kept f None r x up k e = absurd (cc)
 joint_kept f (Some q) r x up k e = product-kept f r (framed_mul f q x up) k e
 
 pub ch-joined :

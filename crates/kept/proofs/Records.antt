@@ -1,28 +1,25 @@
 -- A record by what its mark asks for: what is told, written and left where the lent bytes are no state, where it is cut, without room for its answer, and answered. Assumes nothing.
 use Prim.Native.Nat.{ℕ, ◌+◌, ◌≤◌, ◌<◌}
 use mathlib.Core.Path.{◌≡◌, refl, sym, ap}
-use mathlib.Core.Bool.{Bool, true, false, cond}
+use mathlib.Core.Bool.{true, false, cond}
 use mathlib.Core.List.{List}
 use borrow.Author.Tests.{lt-ltb, le-ltb, eq-eqb, ne_eqb}
 use native.Mathlib.Omega.{arith}
 use Rattle.std.proofs.Common.{inl, inr}
-use lib.ListN.{length, take, drop, length-drop}
+use lib.ListN.{length, take, length-drop}
 use lib.Seq.{sets, length-take-le}
 use lib.Dec.{ltb}
+use Rattle.wire.proofs.Lists.{one_of_two}
 use Rattle.outcome.specs.declared.Step.{Step}
 use Rattle.outcome.specs.declared.Step.TheVariants as step
 use Rattle.outcome.specs.Outcome.{longest, became_of, written_of, step_told}
 use Rattle.outcome.proofs.Record.{record_whole, reply-cut, reply-roomless}
-use Rattle.kept.specs.State.{State, state_of, memory, holds}
+use Rattle.kept.specs.State.{state_of, memory, holds}
 use Rattle.kept.specs.Records.{Asks, found_by, next_by, behind_by, met_by, bytes_by, state_by, mem_by, took_of, IsTaken, IsLeft}
 
 -- the bytes behind a mark are the record's but two
 pub own_length : (k : ℕ) (m s out b : List ℕ) → 2 ≤ k → IsTaken k m s out b → 2 + length b ≡ k
 own_length k m s out b h t = omega (arith, ap (λ (l : List ℕ). length l) t.bytes, length-drop 2 (take k s), length-take-le k s t.whole)
-
-pub same : {A : Type 0} (t : Bool) (z : A) → cond t z z ≡ z
-same true z = refl
-same false z = refl
 
 -- ---- whether the bytes hold a state, by the code's test
 pub held : (m : List ℕ) → length m ≡ memory → holds m ≡ true
@@ -67,8 +64,8 @@ module _ (a : Asks) (m s out : List ℕ) where
       (record {
         result_value = t.0;
         out_after = ap (sets out 0) t.1;
-        mem_after = sym (rw c (same (ltb (length out) longest) m));
-        mem_after_2 = sym (rw c (same (ltb (length out) longest) (state_of m)));
+        mem_after = sym (rw c (one_of_two (ltb (length out) longest) m));
+        mem_after_2 = sym (rw c (one_of_two (ltb (length out) longest) (state_of m)));
       })
 
   pub told-roomless : length m ≡ memory → a.bytes ≤ length s → length out < longest → Told a m s out step.Room out m

@@ -1,8 +1,7 @@
 -- What SH and SQ are told, write and leave. Assumes nothing.
-use Prim.Native.Nat.{ℕ, suc, ◌-◌, ◌/◌, ◌%◌, ◌≤◌, ◌<◌}
+use Prim.Native.Nat.{ℕ, suc, ◌-◌, ◌/◌, ◌%◌, ◌<◌}
 use mathlib.Core.Path.{◌≡◌, refl, ap, ◌∙◌}
-use mathlib.Core.Bool.{Bool}
-use mathlib.Core.List.{List, [], ◌∷◌, ◌++◌}
+use mathlib.Core.List.{List, ◌∷◌, ◌++◌}
 use native.Mathlib.Nat.{mod-eq_of_lt}
 use borrow.Author.Tests.{eq-eqb}
 use lib.ListN.{length, take, drop, set}
@@ -15,14 +14,15 @@ use Rattle.wire.specs.Wire.{word_at, word_bytes, item_bytes, items_bytes, all_fi
 use Rattle.outcome.specs.declared.Kind.TheVariants as kind
 use Rattle.outcome.specs.declared.Step.{Step}
 use Rattle.outcome.specs.declared.Step.TheVariants as step
-use Rattle.outcome.specs.Outcome.{longest, mark_bytes, no_bytes, kind_of, reply_of, wrote, step_told}
+use Rattle.outcome.specs.Outcome.{mark_bytes, no_bytes, kind_of, reply_of, wrote, step_told}
 use Rattle.replies.specs.Table.{framed_in, framed_items}
-use Rattle.replies.proofs.Frames.{rest_is, framed-length, framed-finite}
+use Rattle.std.proofs.lemmas.List.{take_rest}
+use Rattle.replies.proofs.Frames.{framed-length, framed-finite}
 use Rattle.sheets.specs.Sheets.{shelved, ask}
 use Rattle.sheets.specs.Store.{size, holds, sheets_of, shot_in, of_store, put_answer, put_sheets, put_bytes, get_answer}
 use Rattle.sheets.specs.declared.Shot.{Shot}
 use Rattle.sheets.proofs.Framed.{frame}
-use Rattle.kept.specs.State.{running_of, running_size, state_of, memory}
+use Rattle.kept.specs.State.{running_size, state_of}
 use Rattle.kept.specs.Records.{met_by, bytes_by, took_of, IsTaken}
 use Rattle.kept.specs.Retakes.{sh_size, sq_size, sh_of, sh_reply, sq_reply, sh_step, sq_step, sh_after, sh_asks, sq_asks}
 use Rattle.kept.proofs.Records.{Told, told-whole}
@@ -82,7 +82,7 @@ module _ (m s out b : List ℕ) where
   unfolding sh_step sh_after state_of
   sh-whole k q out' R told put became left =
       let t = told-whole sh_asks m s out k.state k.whole k.room in
-      let d = rest_is m running_size in
+      let d = take_rest m running_size in
       let all = ap (λ (x : List ℕ). take running_size m ++ x) (rest_none m k.state R ∙ (rw d at became)) in
       rw (t.0, t.1.0, t.1.1.0, t.1.1.1, ← k.bytes)
       (record {
@@ -99,5 +99,5 @@ module _ (m s out b : List ℕ) where
   unfolding sq_step state_of
   sq-whole k q out' told put =
       let t = told-whole sq_asks m s out k.state k.whole k.room in
-      let d = rest_is m running_size in
+      let d = take_rest m running_size in
       rw (t.0, t.1.0, ← k.bytes) (record { result_value = rw d at told; out_after = rw d at put })

@@ -1,17 +1,17 @@
 -- The lent bytes of the state: their two parts, each lent and back again, and the state made fresh. Assumes nothing.
-use Prim.Native.Nat.{ℕ, ◌+◌, ◌-◌}
+use Prim.Native.Nat.{ℕ, ◌-◌}
 use mathlib.Core.Path.{◌≡◌, refl, sym, ap, ◌∙◌}
 use mathlib.Core.Bool.{true, cond}
 use mathlib.Core.List.{List, [], ◌∷◌, ◌++◌, append-nil}
 use native.Mathlib.Omega.{arith}
 use borrow.Author.Tests.{eq-eqb, ne_eqb}
-use lib.ListN.{length, take, drop, replicate, length-set, length-append, length-drop, drop_of_length-le}
+use lib.ListN.{length, take, drop, replicate, length-set, length-drop, drop_of_length-le}
 use lib.Seq.{sets, length-take-le, take_at, drop_at}
 use Rattle.running.specs.Running.{running_none}
 use Rattle.running.specs.declared.Running.{Running}
 use Rattle.layout.proofs.Runs.{sets_front}
 use Rattle.wire.specs.Wire.{word_of, word_at}
-use Rattle.replies.proofs.Frames.{rest_is}
+use Rattle.std.proofs.lemmas.List.{take_rest}
 use Rattle.sheets.specs.Sheets.{Sheets, no_sheets}
 use Rattle.sheets.specs.Store.{size, sheets_of, holds as store_holds, fresh_bytes}
 use Rattle.kept.specs.State.{state_none, start_of, running_of, running_size, state_of, memory, holds, fresh_of}
@@ -32,7 +32,7 @@ module _ (m : List ℕ) (l : length m ≡ memory) where
 
   -- ---- the store, as the code lends it
   pub rest_length : length (take (length m - running_size) (drop running_size m)) ≡ size
-  rest_length = rw (rest_is m running_size) (simp length-drop (omega arith))
+  rest_length = rw (take_rest m running_size) (simp length-drop (omega arith))
 
   pub rest_none : (R : List ℕ) → R ++ drop (length m - running_size) (drop running_size m) ≡ R
   rest_none R =
@@ -82,7 +82,7 @@ pub made_fresh :
 unfolding holds fresh_of
 made_fresh m R e b k =
     let n = zeroed_length m ∙ e in
-    let all = ap (λ (x : List ℕ). take running_size (zeroed m) ++ x) (rest_none (zeroed m) n R ∙ (rw (rest_is (zeroed m) running_size) at b)) in
+    let all = ap (λ (x : List ℕ). take running_size (zeroed m) ++ x) (rest_none (zeroed m) n R ∙ (rw (take_rest (zeroed m) running_size) at b)) in
     rw (eq-eqb (length m) memory e)
     (record {
       mem_after = all;

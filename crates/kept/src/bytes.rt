@@ -16,6 +16,7 @@ pub(crate) fn number_at(b: &[u8], at: usize) -> f64
     wire::from_le_bytes(*b[at..].first_chunk().unwrap())
 }
 
+#[tactic(auto, using(wire::proofs::Places::short_read))]
 pub(crate) fn short_at(b: &[u8], at: usize) -> u16
     requires { at + 2 ≤ length b.now }
     ensures { result ≡ word_at 2 b.now at }
@@ -31,6 +32,7 @@ pub(crate) fn framed_at(b: &[u8], at: usize) -> Pose<f64>
 }
 
 // ---- written
+#[tactic(auto, using(wire::proofs::Places::short_stored))]
 pub(crate) fn put_short(out: &mut [u8], at: usize, n: u16)
     requires { at + 2 ≤ length out.old }
     ensures { out.new ≡ sets out.old at (word_bytes 2 n) }
@@ -43,4 +45,13 @@ pub(crate) fn put_framed(out: &mut [u8], at: usize, x: Pose<f64>)
     ensures { out.new ≡ sets out.old at (items_bytes binary64 (framed_items x)) }
 {
     out[at..at + FRAMED].copy_from_slice(&framed_bytes(x));
+}
+
+// The mark at the front.
+pub(crate) fn put_mark(out: &mut [u8], mark: &[u8; 2])
+    requires { 2 ≤ length out.old }
+    ensures { out.new ≡ sets out.old 0 mark.now }
+{
+    out[0] = mark[0];
+    out[1] = mark[1];
 }

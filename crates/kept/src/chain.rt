@@ -12,7 +12,7 @@ ghost use Rattle.kept.specs.Records.{met_by, bytes_by, state_by, mem_by, took_of
 ghost use Rattle.kept.specs.Chain.{ch_size, rn_size, ch_of, ch_reply, rn_reply, joint_bytes, ch_asks, rn_asks};
 
 use crate::RUNNING;
-use crate::bytes::{framed_at, number_at, put_framed, put_short, short_at};
+use crate::bytes::{framed_at, number_at, put_framed, put_mark, put_short, short_at};
 use crate::record::{counted, refuse, taken};
 use frames::Pose;
 use outcome::{Kind, Step};
@@ -28,6 +28,7 @@ const RN: usize = 2 + 2;
 type Memory = [u8; RUNNING];
 
 // ---- the state
+#[tactic(auto, unfolding(crate::specs::State::start_of))]
 fn pose_at(mem: &Memory) -> Option<Pose<f64>>
     ensures { result ≡ start_of mem.now }
 {
@@ -37,6 +38,7 @@ fn pose_at(mem: &Memory) -> Option<Pose<f64>>
     None
 }
 
+#[tactic(auto, unfolding(crate::specs::State::running_of))]
 fn running_at(mem: &Memory) -> Running
     ensures { result ≡ running_of mem.now }
 {
@@ -65,8 +67,7 @@ fn tell(out: &mut [u8], x: Pose<f64>) -> Step
     ensures result_value { step_told result ≡ took_of ch_size (ch_reply (answers x)) }
     ensures out_after { out.new ≡ sets out.old 0 (ch_reply (answers x)).bytes }
 {
-    out[0] = b'C';
-    out[1] = b'H';
+    put_mark(out, b"CH");
     put_framed(out, 2, x);
     counted(CH, x.sim3, 2 + FRAMED)
 }
@@ -119,8 +120,7 @@ fn renew(b: &[u8], mem: &mut Memory, out: &mut [u8]) -> Step
 {
     let n = short_at(b, 0);
     put_short(mem, 0, n);
-    out[0] = b'R';
-    out[1] = b'N';
+    put_mark(out, b"RN");
     put_short(out, 2, n);
     Step::Took(Kind::Answered, RN, 2 + 2)
 }

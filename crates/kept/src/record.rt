@@ -10,6 +10,7 @@ ghost use Rattle.outcome.specs.declared.Kind.{Kind};
 ghost use Rattle.kept.specs.Records.{IsTaken, IsLeft};
 
 use crate::MEMORY;
+use crate::bytes::put_mark;
 use linalg::refusal::Refusal;
 use outcome::{Kind, LONGEST, Step};
 use sim3::sim3::Sim3;
@@ -38,20 +39,17 @@ pub(crate) fn taken<'a>(size: usize, s: &'a [u8], mem: &[u8], out: &[u8]) -> Res
 pub(crate) fn counted(size: usize, x: Sim3<f64>, written: usize) -> Step
     ensures { step_told result ≡ wrote (kind_of (all_finite (numbers (pose_numbers x)))) size written }
 {
-    if finite::pose(x) {
-        return Step::Took(Kind::Answered, size, written);
-    }
-    Step::Took(Kind::Unusable, size, written)
+    Step::Took(Kind::of_answer(finite::pose(x)), size, written)
 }
 
 // NO and the refusal.
+#[tactic(auto, unfolding(outcome::specs::Outcome::no_bytes))]
 pub(crate) fn refuse(size: usize, out: &mut [u8], refusal: Refusal) -> Step
     requires { longest ≤ length out.old }
     ensures result_value { step_told result ≡ wrote Kind.Refused size 3 }
     ensures out_after { out.new ≡ sets out.old 0 (no_bytes (number refusal)) }
 {
-    out[0] = b'N';
-    out[1] = b'O';
+    put_mark(out, b"NO");
     out[2] = refusal.number();
     Step::Took(Kind::Refused, size, 3)
 }

@@ -12,7 +12,7 @@ ghost use Rattle.kept.specs.Records.{met_by, bytes_by, state_by, mem_by, took_of
 ghost use Rattle.kept.specs.Retakes.{sh_size, sq_size, sh_of, sh_reply, sq_reply, sh_asks, sq_asks};
 
 use crate::RUNNING;
-use crate::bytes::{framed_at, put_framed, put_short, short_at};
+use crate::bytes::{framed_at, put_framed, put_mark, put_short, short_at};
 use crate::record::{counted, refuse, taken};
 use linalg::refusal::Refusal;
 use outcome::{Kind, Step};
@@ -33,8 +33,7 @@ fn tell_put(out: &mut [u8], a: Result<Shelved, Refusal>) -> Step
 {
     match a {
         Ok(shelved) => {
-            out[0] = b'S';
-            out[1] = b'H';
+            put_mark(out, b"SH");
             out[2] = shelved.number();
             put_short(out, 3, shelved.before());
             Step::Took(Kind::Answered, SH, 2 + 1 + 2)
@@ -82,8 +81,7 @@ fn tell_get(out: &mut [u8], a: Result<Shot, Refusal>) -> Step
         Ok(x) => {
             let take = x.take;
             let shot = x.pose;
-            out[0] = b'S';
-            out[1] = b'Q';
+            put_mark(out, b"SQ");
             put_short(out, 2, take);
             put_framed(out, 4, shot);
             counted(SQ, shot.sim3, 2 + 2 + FRAMED)

@@ -36,6 +36,7 @@ fn of_three<A: Copy>(a: A, b: A, c: A, i: usize) -> Result<A, Refusal>
 }
 
 // v with component i set to x.
+#[tactic(auto, unfolding(crate::specs::Matrix::vec_put))]
 fn with_component<T: Real>(v: Vec3<T>, i: usize, x: T) -> Vec3<T>
     ensures { as_vec3 T.float result ≡ vec_put (as_vec3 T.float v) true i (T.float x) }
 {
@@ -84,6 +85,7 @@ impl<T: Real> Mat3<T> {
     }
 
     // The matrix with these rows.
+    #[tactic(auto, unfolding(crate::specs::Matrix::mat_of_rows))]
     pub fn from_rows(r0: Vec3<T>, r1: Vec3<T>, r2: Vec3<T>) -> Mat3<T>
         ensures { as_mat3 T.float result ≡ mat_of_rows (as_vec3 T.float r0) (as_vec3 T.float r1) (as_vec3 T.float r2) }
     {
@@ -107,6 +109,7 @@ impl<T: Real> Mat3<T> {
     }
 
     // Entry (r, c); refused for r or c above 2.
+    #[tactic(auto, unfolding(crate::specs::Matrix::mat_get, crate::specs::Matrix::mat_col, crate::specs::Matrix::vec_component))]
     pub fn get(self, r: usize, c: usize) -> Result<T, Refusal>
         ensures { told T.float result ≡ mat_get (as_mat3 T.float self) r c }
     {
@@ -115,6 +118,7 @@ impl<T: Real> Mat3<T> {
     }
 
     // The matrix with entry (r, c) set to v; refused for r or c above 2.
+    #[tactic(auto, unfolding(crate::specs::Matrix::mat_set, crate::specs::Matrix::mat_get, crate::specs::Matrix::mat_col, crate::specs::Matrix::vec_component, crate::specs::Matrix::vec_put))]
     pub fn set(self, r: usize, c: usize, v: T) -> Result<Mat3<T>, Refusal>
         ensures { told (as_mat3 T.float) result ≡ mat_set (as_mat3 T.float self) r c (T.float v) }
     {
@@ -138,6 +142,7 @@ impl<T: Real> Mat3<T> {
     }
 
     // Column c; refused for c above 2.
+    #[tactic(auto, unfolding(crate::specs::Matrix::mat_col))]
     pub fn col(self, c: usize) -> Result<Vec3<T>, Refusal>
         ensures { told (as_vec3 T.float) result ≡ mat_col (as_mat3 T.float self) c }
     {
@@ -145,12 +150,14 @@ impl<T: Real> Mat3<T> {
     }
 
     // Row r; refused for r above 2.
+    #[tactic(auto, unfolding(crate::specs::Matrix::mat_row))]
     pub fn row(self, r: usize) -> Result<Vec3<T>, Refusal>
         ensures { told (as_vec3 T.float) result ≡ mat_row (as_mat3 T.float self) r }
     {
         self.transpose().col(r)
     }
 
+    #[tactic(auto, unfolding(crate::specs::Matrix::mat_transpose))]
     pub fn transpose(self) -> Mat3<T>
         ensures { as_mat3 T.float result ≡ mat_transpose (as_mat3 T.float self) }
     {
@@ -158,6 +165,7 @@ impl<T: Real> Mat3<T> {
     }
 
     // s * self, entrywise.
+    #[tactic(auto, unfolding(crate::specs::Matrix::mat_scale))]
     pub fn scale(self, s: T) -> Mat3<T>
         ensures { as_mat3 T.float result ≡ mat_scale T.format (as_mat3 T.float self) (T.float s) }
     {
@@ -165,6 +173,7 @@ impl<T: Real> Mat3<T> {
     }
 
     // +1 on the diagonal, +0 elsewhere.
+    #[tactic(auto, unfolding(crate::specs::Matrix::mat_identity))]
     pub fn identity() -> Mat3<T>
         ensures { as_mat3 T.float result ≡ mat_identity }
     {
@@ -189,6 +198,7 @@ impl<T: Real> Mat3<T> {
 
     // (adj(self) / det, det): det = c0 . (c1 x c2), and the rows of adj are c1 x c2, c2 x c0,
     // c0 x c1. Each entry is one division by det, a zero det included.
+    #[tactic(auto, unfolding(crate::specs::Matrix::mat_inverse_adj))]
     pub fn inverse_adj(self) -> Inverse<T>
         ensures { as_inverse T.float result ≡ mat_inverse_adj T.format (as_mat3 T.float self) }
     {
@@ -202,12 +212,14 @@ impl<T: Real> Mat3<T> {
         }
     }
 
+    #[tactic(auto, unfolding(crate::specs::Matrix::mat_add))]
     pub fn add(self, o: Mat3<T>) -> Mat3<T>
         ensures { as_mat3 T.float result ≡ mat_add T.format (as_mat3 T.float self) (as_mat3 T.float o) }
     {
         self.zip_with(o, |v, w| v.add(w))
     }
 
+    #[tactic(auto, unfolding(crate::specs::Matrix::mat_sub))]
     pub fn sub(self, o: Mat3<T>) -> Mat3<T>
         ensures { as_mat3 T.float result ≡ mat_sub T.format (as_mat3 T.float self) (as_mat3 T.float o) }
     {
@@ -215,6 +227,7 @@ impl<T: Real> Mat3<T> {
     }
 
     // Flips every sign bit.
+    #[tactic(auto, unfolding(crate::specs::Matrix::mat_neg))]
     pub fn neg(self) -> Mat3<T>
         ensures { as_mat3 T.float result ≡ mat_neg (as_mat3 T.float self) }
     {
@@ -222,6 +235,7 @@ impl<T: Real> Mat3<T> {
     }
 
     // self * v.
+    #[tactic(auto, unfolding(crate::specs::Matrix::mat_mul_vec))]
     pub fn mul_vec(self, v: Vec3<T>) -> Vec3<T>
         ensures { as_vec3 T.float result ≡ mat_mul_vec T.format (as_mat3 T.float self) (as_vec3 T.float v) }
     {
@@ -236,6 +250,7 @@ impl<T: Real> Mat3<T> {
     }
 
     // self * o.
+    #[tactic(auto, unfolding(crate::specs::Matrix::mat_mul))]
     pub fn mul(self, o: Mat3<T>) -> Mat3<T>
         ensures { as_mat3 T.float result ≡ mat_mul T.format (as_mat3 T.float self) (as_mat3 T.float o) }
     {
@@ -244,6 +259,7 @@ impl<T: Real> Mat3<T> {
 }
 
 // The matrix of v x _: rows (0, -z, y), (z, 0, -x), (-y, x, 0), its zeros +0.
+#[tactic(auto, unfolding(crate::specs::Matrix::mat_hat))]
 pub fn hat<T: Real>(v: Vec3<T>) -> Mat3<T>
     ensures { as_mat3 T.float result ≡ mat_hat (as_vec3 T.float v) }
 {
@@ -267,6 +283,7 @@ pub fn hat<T: Real>(v: Vec3<T>) -> Mat3<T>
 }
 
 // a * hat(v), the zeros of hat skipped.
+#[tactic(auto, unfolding(crate::specs::Matrix::mat_mul_hat))]
 pub fn mul_hat<T: Real>(a: Mat3<T>, v: Vec3<T>) -> Mat3<T>
     ensures { as_mat3 T.float result ≡ mat_mul_hat T.format (as_mat3 T.float a) (as_vec3 T.float v) }
 {
@@ -284,6 +301,7 @@ pub fn mul_hat<T: Real>(a: Mat3<T>, v: Vec3<T>) -> Mat3<T>
 }
 
 // Column b of hat(v) * b, the zeros of hat skipped.
+#[tactic(auto, unfolding(crate::specs::Matrix::vec_hat_mul))]
 fn hat_col<T: Real>(v: Vec3<T>, b: Vec3<T>) -> Vec3<T>
     ensures { as_vec3 T.float result ≡ vec_hat_mul T.format (as_vec3 T.float v) (as_vec3 T.float b) }
 {
@@ -295,6 +313,7 @@ fn hat_col<T: Real>(v: Vec3<T>, b: Vec3<T>) -> Vec3<T>
 }
 
 // hat(v) * b, the zeros of hat skipped.
+#[tactic(auto, unfolding(crate::specs::Matrix::mat_hat_mul))]
 pub fn hat_mul<T: Real>(v: Vec3<T>, b: Mat3<T>) -> Mat3<T>
     ensures { as_mat3 T.float result ≡ mat_hat_mul T.format (as_vec3 T.float v) (as_mat3 T.float b) }
 {

@@ -42,6 +42,7 @@ impl<T: Real> Vec3<T> {
     }
 
     // s * self, componentwise.
+    #[tactic(auto, unfolding(crate::specs::Vector::vec_scale))]
     pub fn scale(self, s: T) -> Vec3<T>
         ensures { as_vec3 T.float result ≡ vec_scale T.format (as_vec3 T.float self) (T.float s) }
     {
@@ -49,6 +50,7 @@ impl<T: Real> Vec3<T> {
     }
 
     // The sum of self_i o_i, in index order.
+    #[tactic(auto, unfolding(crate::specs::Vector::vec_dot))]
     pub fn dot(self, o: Vec3<T>) -> T
         ensures { T.float result ≡ vec_dot T.format (as_vec3 T.float self) (as_vec3 T.float o) }
     {
@@ -56,6 +58,7 @@ impl<T: Real> Vec3<T> {
     }
 
     // self . self.
+    #[tactic(auto, unfolding(crate::specs::Vector::vec_norm_sq))]
     pub fn norm_sq(self) -> T
         ensures { T.float result ≡ vec_norm_sq T.format (as_vec3 T.float self) }
     {
@@ -63,6 +66,7 @@ impl<T: Real> Vec3<T> {
     }
 
     // self x o: (a1 b2 - a2 b1, a2 b0 - a0 b2, a0 b1 - a1 b0), right-handed.
+    #[tactic(auto, unfolding(crate::specs::Vector::vec_cross))]
     pub fn cross(self, o: Vec3<T>) -> Vec3<T>
         ensures { as_vec3 T.float result ≡ vec_cross T.format (as_vec3 T.float self) (as_vec3 T.float o) }
     {
@@ -73,12 +77,14 @@ impl<T: Real> Vec3<T> {
         }
     }
 
+    #[tactic(auto, unfolding(crate::specs::Vector::vec_add))]
     pub fn add(self, o: Vec3<T>) -> Vec3<T>
         ensures { as_vec3 T.float result ≡ vec_add T.format (as_vec3 T.float self) (as_vec3 T.float o) }
     {
         self.zip_with(o, |a, b| a + b)
     }
 
+    #[tactic(auto, unfolding(crate::specs::Vector::vec_sub))]
     pub fn sub(self, o: Vec3<T>) -> Vec3<T>
         ensures { as_vec3 T.float result ≡ vec_sub T.format (as_vec3 T.float self) (as_vec3 T.float o) }
     {
@@ -86,6 +92,7 @@ impl<T: Real> Vec3<T> {
     }
 
     // Flips every sign bit.
+    #[tactic(auto, unfolding(crate::specs::Vector::vec_neg))]
     pub fn neg(self) -> Vec3<T>
         ensures { as_vec3 T.float result ≡ vec_neg (as_vec3 T.float self) }
     {
@@ -93,6 +100,7 @@ impl<T: Real> Vec3<T> {
     }
 
     // Each component divided by s, zero included.
+    #[tactic(auto, unfolding(crate::specs::Vector::vec_over))]
     pub fn over(self, s: T) -> Vec3<T>
         ensures { as_vec3 T.float result ≡ vec_over T.format (as_vec3 T.float self) (T.float s) }
     {

@@ -5,23 +5,24 @@ use mathlib.Core.Bool.{Bool, true, false, cond}
 use mathlib.Core.List.{List, [], ◌∷◌, ◌++◌}
 use native.Mathlib.Omega.{arith}
 use borrow.Author.Tests.{le-ltb, ltb-false}
-use lib.ListN.{length, take, get_or, length-append}
+use lib.ListN.{length, get_or, length-append}
 use lib.Seq.{sets, take-append-le}
 use lib.Dec.{ltb}
 use lib.Ieee.{Format}
+use Rattle.std.proofs.lemmas.Bool.{false≢true}
 use Rattle.linalg.specs.Answer.{Answer, answers, refuses}
 use Rattle.outcome.specs.declared.Kind.{Kind}
 use Rattle.outcome.specs.declared.Entry.{Entry}
 use Rattle.outcome.specs.declared.Step.{Step}
 use Rattle.outcome.specs.declared.Step.TheVariants as step
 use Rattle.outcome.specs.Outcome.{longest, unknown_mark, Reply, Found, took, ended, unknown, cut, record_found, became_of, written_of, step_told}
-use Rattle.outcome.proofs.Never.{never, untrue}
 use Rattle.outcome.proofs.Record.{settled, record_by, record_whole, record_taken, record_few, record_not_ended, record_more}
 use Rattle.replies.specs.Table.{entry_found}
 use Rattle.kept.specs.State.{State, state_of, memory, holds}
 use Rattle.kept.specs.Records.{Asks, found_by, next_by, behind_by, met_by, bytes_by, state_by, mem_by}
 use Rattle.kept.specs.Retakes.{sq_size, sq_step, sq_asks}
-use Rattle.kept.proofs.Records.{same, held, unheld, Told, told_held}
+use Rattle.wire.proofs.Lists.{one_of_two}
+use Rattle.kept.proofs.Records.{held, unheld, Told, told_held}
 use Rattle.marks.specs.Marks.{entry_asks, Listed, mark_of, longest_record, found_at, next_at, behind_at, found_of, next_of, behind_of, met_of, met_bytes, met_state, met_mem}
 use Rattle.marks.proofs.Table.{Good, good}
 
@@ -86,19 +87,19 @@ unfolding found_at found_by
 taken_at c (answers l) g z s how k b q =
     let t = record_taken l.asks.bytes (λ r. (l.asks.step z r).reply) (g.1.reply z) s how k b q in
     record { whole = t.0; short = t.1 }
-taken_at c (refuses n) g z s how k b q = never (cc)
+taken_at c (refuses n) g z s how k b q = absurd (cc)
 
 pub taken : (z : State) (s : List ℕ) (how : Kind) (k : ℕ) (b : List ℕ) → found_of z s ≡ took how k b → Taken s k b
 unfolding found_of mark_of
-taken z [] how k b q = never (cc)
-taken z (x ∷ []) how k b q = never (cc)
+taken z [] how k b q = absurd (cc)
+taken z (x ∷ []) how k b q = absurd (cc)
 taken z (x ∷ y ∷ s) how k b q = taken_at (x * 256 + y) (mark_of x y) (good (x * 256 + y)) z (x ∷ y ∷ s) how k b q
 
 -- ---- a cut record is shorter than the longest
 at-few : (c : ℕ) (v : Answer Listed) → Good c v → (z : State) (s : List ℕ) → found_at v z s ≡ cut → length s < longest_record
 unfolding found_at found_by
 at-few c (answers l) g z s q = omega (arith, record_few l.asks.bytes (λ r. (l.asks.step z r).reply) s q, g.1.size)
-at-few c (refuses n) g z s q = never (cc)
+at-few c (refuses n) g z s q = absurd (cc)
 
 pub cut-few : (z : State) (s : List ℕ) → found_of z s ≡ cut → length s < longest_record
 unfolding found_of mark_of
@@ -110,12 +111,12 @@ cut-few z (x ∷ y ∷ s) q = at-few (x * 256 + y) (mark_of x y) (good (x * 256 
 at_not_ended : (v : Answer Listed) (z : State) (s : List ℕ) → found_at v z s ≡ ended → ⊥
 unfolding found_at found_by
 at_not_ended (answers l) z s q = record_not_ended l.asks.bytes (λ r. (l.asks.step z r).reply) s q
-at_not_ended (refuses n) z s q = never (cc)
+at_not_ended (refuses n) z s q = absurd (cc)
 
 pub ended-none : (z : State) (s : List ℕ) → found_of z s ≡ ended → length s ≡ 0
 unfolding found_of
 ended-none z [] q = refl
-ended-none z (x ∷ []) q = never (cc)
+ended-none z (x ∷ []) q = absurd (cc)
 ended-none z (x ∷ y ∷ s) q = absurd (at_not_ended (mark_of x y) z (x ∷ y ∷ s) q)
 
 -- ---- a record is what it is, whatever follows it
@@ -126,13 +127,13 @@ at_more (refuses n) z s ys f q k = q
 
 pub found_more : (z : State) (s ys : List ℕ) (f : Found) → found_of z s ≡ f → settled f ≡ true → found_of z (s ++ ys) ≡ f
 unfolding found_of
-found_more z [] ys f q k = untrue (rw (← q) at k)
-found_more z (x ∷ []) ys f q k = untrue (rw (← q) at k)
+found_more z [] ys f q k = absurd (false≢true (rw (← q) at k))
+found_more z (x ∷ []) ys f q k = absurd (false≢true (rw (← q) at k))
 found_more z (x ∷ y ∷ s) ys f q k = at_more (mark_of x y) z (x ∷ y ∷ s) ys f q k
 
 -- and so is the state behind it
 took-whole : (n : ℕ) (reply : List ℕ → Reply) (s : List ℕ) (how : Kind) (k : ℕ) (b : List ℕ) → record_found n reply s ≡ took how k b → n ≤ length s
-took-whole n reply s how k b = record_by n reply s (λ f. f ≡ took how k b → n ≤ length s) (λ h e. never (cc)) (λ h e. h)
+took-whole n reply s how k b = record_by n reply s (λ f. f ≡ took how k b → n ≤ length s) (λ h e. absurd (cc)) (λ h e. h)
 
 next-at_more : (v : Answer Listed) (z : State) (s ys : List ℕ) (how : Kind) (k : ℕ) (b : List ℕ) → found_at v z s ≡ took how k b → next_at v z (s ++ ys) ≡ next_at v z s
 unfolding found_at next_at found_by next_by
@@ -144,8 +145,8 @@ next-at_more (refuses n) z s ys how k b q = refl
 
 pub next_more : (z : State) (s ys : List ℕ) (how : Kind) (k : ℕ) (b : List ℕ) → found_of z s ≡ took how k b → next_of z (s ++ ys) ≡ next_of z s
 unfolding found_of next_of
-next_more z [] ys how k b q = never (cc)
-next_more z (x ∷ []) ys how k b q = never (cc)
+next_more z [] ys how k b q = absurd (cc)
+next_more z (x ∷ []) ys how k b q = absurd (cc)
 next_more z (x ∷ y ∷ s) ys how k b q = next-at_more (mark_of x y) z (x ∷ y ∷ s) ys how k b q
 
 -- ---- what a call tells and writes, and the state that it leaves: where the bytes m hold no state; by what stands at the head; and by what its mark asks for
@@ -170,8 +171,8 @@ met_still m s out h f t u q a b =
     (record {
       result_value = a;
       out_after = b;
-      mem_after = sym (same (ltb (length out) longest) m);
-      mem_after_2 = sym (same (ltb (length out) longest) (state_of m));
+      mem_after = sym (one_of_two (ltb (length out) longest) m);
+      mem_after_2 = sym (one_of_two (ltb (length out) longest) (state_of m));
     })
 
 pub met_by_lem :
@@ -187,14 +188,14 @@ pub entry-told :
 unfolding found_by next_by behind_by
 entry-told f e m s out h q out' a b =
     let t = told_held (entry_asks f e) m s out h in
-    let n = same (ltb (length s) (entry_asks f e).bytes) (state_of m) in
-    let u = same (ltb (length s) (entry_asks f e).bytes) m in
+    let n = one_of_two (ltb (length s) (entry_asks f e).bytes) (state_of m) in
+    let u = one_of_two (ltb (length s) (entry_asks f e).bytes) m in
     rw (t.0, t.1.0, t.1.1.0, t.1.1.1, n, u)
     (record {
       result_value = a;
       out_after = b;
-      mem_after = sym (same (ltb (length out) longest) m);
-      mem_after_2 = sym (same (ltb (length out) longest) (state_of m));
+      mem_after = sym (one_of_two (ltb (length out) longest) m);
+      mem_after_2 = sym (one_of_two (ltb (length out) longest) (state_of m));
     })
 
 -- SQ, which is lent the state to read
@@ -204,13 +205,13 @@ pub asked-told :
 unfolding next_by behind_by sq_step
 asked-told m s out h q out' a b =
     let t = told_held sq_asks m s out h in
-    let n = same (ltb (length s) sq_size) (state_of m) in
-    let u = same (ltb (length s) sq_size) m in
+    let n = one_of_two (ltb (length s) sq_size) (state_of m) in
+    let u = one_of_two (ltb (length s) sq_size) m in
     record {
       result_value = a;
       out_after = b;
-      mem_after = sym (t.1.1.0 ∙ rw u (same (ltb (length out) longest) m));
-      mem_after_2 = sym (t.1.1.1 ∙ rw n (same (ltb (length out) longest) (state_of m)));
+      mem_after = sym (t.1.1.0 ∙ rw u (one_of_two (ltb (length out) longest) m));
+      mem_after_2 = sym (t.1.1.1 ∙ rw n (one_of_two (ltb (length out) longest) (state_of m)));
     }
 
 -- what the contract says where the bytes hold a state
@@ -240,7 +241,7 @@ short_by a z s f q k = by (ltb (length s) a.bytes) refl
     by true t = t
     by false t =
         let w = record_whole a.bytes (λ r. (a.step z r).reply) s (ltb-false (length s) a.bytes t) in
-        untrue (sym (rw (← (sym w ∙ q)) at k))
+        absurd (false≢true (sym (rw (← (sym w ∙ q)) at k)))
 
 still_at :
     (v : Answer Listed) (z : State) (s : List ℕ) (f : Found) → found_at v z s ≡ f → taking f ≡ false → next_at v z s ≡ z

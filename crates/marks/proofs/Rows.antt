@@ -5,9 +5,9 @@ use mathlib.Core.Bool.{true}
 use mathlib.Core.List.{List, [], ◌∷◌, ◌++◌}
 use native.Mathlib.Omega.{arith}
 use lib.ListN.{length, get_or}
+use Rattle.std.proofs.lemmas.Bool.{false≢true}
 use Rattle.linalg.specs.Answer.{Answer, answers, refuses}
 use Rattle.outcome.specs.Outcome.{unknown_mark, Found}
-use Rattle.outcome.proofs.Never.{untrue}
 use Rattle.outcome.proofs.Record.{settled}
 use Rattle.kept.specs.State.{State, memory, holds}
 use Rattle.kept.proofs.Records.{held, unheld}
@@ -78,6 +78,6 @@ beside t e = record {
 -- ---- whatever follows
 pub row_more : (z : State) (s ys : List ℕ) (f : Found) → found_of z s ≡ f → settled f ≡ true → row_at (s ++ ys) ≡ row_at s
 unfolding found_of row_at
-row_more z [] ys f q k = untrue (rw (← q) at k)
-row_more z (x ∷ []) ys f q k = untrue (rw (← q) at k)
+row_more z [] ys f q k = absurd (false≢true (rw (← q) at k))
+row_more z (x ∷ []) ys f q k = absurd (false≢true (rw (← q) at k))
 row_more z (x ∷ y ∷ s) ys f q k = refl

@@ -9,11 +9,11 @@ use borrow.Author.Tests.{eqb-true}
 use lib.ListN.{length}
 use lib.Dec.{eqb, ltb}
 use lib.Ieee.{Format, binary32, binary64}
+use Rattle.std.proofs.lemmas.Bool.{false≢true}
 use Rattle.linalg.specs.Answer.{Answer, answers, refuses}
 use Rattle.outcome.specs.declared.Entry.{Entry}
 use Rattle.outcome.specs.declared.Entry.TheVariants.{Ex, Co, Pa, Ac, Mu, In, Ji, Ar}
 use Rattle.outcome.specs.Outcome.{longest}
-use Rattle.outcome.proofs.Never.{never, untrue}
 use Rattle.running.specs.History.{Event, after}
 use Rattle.running.specs.declared.Running.{Running}
 use Rattle.sheets.specs.Sheets.{Sheets}
@@ -23,7 +23,7 @@ use Rattle.kept.specs.State.{State}
 use Rattle.kept.specs.Records.{Asks, next_by}
 use Rattle.kept.specs.Chain.{ch_letters, rn_letters, ch_size, rn_size, ch_of, ch_step, rn_step, ch_asks, rn_asks}
 use Rattle.kept.specs.Retakes.{sh_letters, sq_letters, sh_size, sq_size, sh_of, sh_step, sq_step, sh_asks, sq_asks}
-use Rattle.kept.proofs.Records.{same}
+use Rattle.wire.proofs.Lists.{one_of_two}
 use Rattle.kept.proofs.Most.{ch-most, rn-most, sh-most, sq-most}
 use Rattle.marks.specs.Marks.{Row, entry_asks, table, Listed, listed, look_up, longest_record, next_at}
 use Rattle.marks.specs.Rows.{row_count}
@@ -73,8 +73,8 @@ entry_sound f e k c n s = record {
   least = omega arith;
   size = omega (arith, width-most f e);
   reply = λ z r. entry-most f e r;
-  event = λ z r h. ap (λ (w : State). after binary64 w.running h) (same (ltb (length r) (entry_asks f e).bytes) z) ∙ ap (after binary64 z.running) (other_event k r h c n);
-  shot = λ z r h. ap (λ (w : State). after_shots w.sheets h) (same (ltb (length r) (entry_asks f e).bytes) z) ∙ ap (after_shots z.sheets) (other-shot k r h s);
+  event = λ z r h. ap (λ (w : State). after binary64 w.running h) (one_of_two (ltb (length r) (entry_asks f e).bytes) z) ∙ ap (after binary64 z.running) (other_event k r h c n);
+  shot = λ z r h. ap (λ (w : State). after_shots w.sheets h) (one_of_two (ltb (length r) (entry_asks f e).bytes) z) ∙ ap (after_shots z.sheets) (other-shot k r h s);
 }
 
 -- ---- the four that read or move what is kept
@@ -114,8 +114,8 @@ sq_sound = record {
   least = omega arith;
   size = omega arith;
   reply = λ z r. sq-most _;
-  event = λ z r h. ap (λ (w : State). after binary64 w.running h) (same (ltb (length r) sq_size) z);
-  shot = λ z r h. ap (λ (w : State). after_shots w.sheets h) (same (ltb (length r) sq_size) z);
+  event = λ z r h. ap (λ (w : State). after binary64 w.running h) (one_of_two (ltb (length r) sq_size) z);
+  shot = λ z r h. ap (λ (w : State). after_shots w.sheets h) (one_of_two (ltb (length r) sq_size) z);
 }
 
 -- ---- of every row
@@ -154,7 +154,7 @@ At k l n = (l.place < n) × Sound k l.asks
 
 found-row : (k : ℕ) (l : Listed) (t : List Row) (n : ℕ) → Each t → look_up k n t ≡ answers l → At k l (n + length t)
 unfolding look_up
-found-row k l [] n none e = never (cc)
+found-row k l [] n none e = absurd (cc)
 found-row k l (r ∷ t) n (s ▸ g) e = by (eqb k r.letters) refl (found-row k l t (n + 1) g)
   where
     by : (b : Bool) → eqb k r.letters ≡ b → (look_up k (n + 1) t ≡ answers l → At k l (n + 1 + length t)) → At k l (n + length (r ∷ t))
@@ -174,7 +174,7 @@ unfolding listing
 absent k c n e a = by (eqb k c) refl
   where
     by : (b : Bool) → eqb k c ≡ b → eqb k c ≡ false
-    by true b = untrue (rw (← (eqb-true k c b), e) at a)
+    by true b = absurd (false≢true (rw (← (eqb-true k c b), e) at a))
     by false b = b
 
 -- ---- whatever two letters are

@@ -12,7 +12,6 @@ use lib.Dec.{ltb}
 use Rattle.linalg.specs.Answer.{Answer, answers, refuses}
 use Rattle.outcome.specs.declared.Kind.{Kind}
 use Rattle.outcome.specs.Outcome.{Reply, took, ended, unknown, cut}
-use Rattle.outcome.proofs.Never.{never}
 use Rattle.outcome.proofs.Record.{record_by, record_cut, record_whole}
 use Rattle.kept.specs.State.{State, state_none}
 use Rattle.kept.specs.Records.{Asks, found_by, next_by}
@@ -137,7 +136,7 @@ module _ (x y : ℕ) (s : List ℕ) (l : Listed) (e : mark_of x y ≡ answers l)
   whole-size =
       record_by l.asks.bytes (λ r. (l.asks.step state_none r).reply) whole
       (λ f. f ≡ took w.0 (length whole) w.1.0 → length whole ≡ l.asks.bytes)
-      (λ h c. never (cc))
+      (λ h c. absurd (cc))
       (λ h c. cc)
       (sym (found-whole state_none) ∙ w.1.1)
 

@@ -40,6 +40,7 @@ pub struct Heard {
 
 // The table: the mark of which the two bytes are this number, with its place among the counts by mark, a
 // line for each.
+#[tactic(auto, unfolding(crate::specs::Marks::look_up))]
 fn known(k: u16) -> Option<(Mark, usize)>
     ensures { look_told result ≡ look_up k 0 table }
 {

@@ -1,7 +1,7 @@
 -- The definition where the call is refused and where it is accepted. Assumes nothing.
 use mathlib.Core.Path.{◌≡◌, refl, ap}
 use Prim.Native.Nat.{ℕ}
-use mathlib.Core.Bool.{Bool, true, false, ◌&&◌}
+use mathlib.Core.Bool.{true, false, ◌&&◌}
 use lib.Ieee.{Float, Format, to_bits, lt}
 use Rattle.ieee.specs.Finite.{is_finite}
 use Rattle.ieee.specs.Numbers.{f0}
@@ -9,11 +9,6 @@ use Rattle.ieee.specs.Patterns.{patterns}
 use Rattle.ieee.specs.Signs.{plain}
 use Rattle.linalg.specs.Answer.{answers, refuses}
 use Rattle.nearest.specs.Nearest.{Way, nearest_from, arm_at, nearest_of}
-
-pub right : (a b : Bool) → a && b ≡ true → b ≡ true
-right true b h = h
-right false true h = refl
-right false false h = h
 
 module _ (f : Format) (first : Way) (sigma z : Float) where
   pub below-zero : lt z f0 ≡ true → refuses 1 ≡ nearest_of f first sigma z

@@ -3,19 +3,20 @@
 -- entry. Assumes nothing.
 use mathlib.Core.Path.{◌≡◌, refl, sym, ap, ◌∙◌, subst}
 use mathlib.Core.Logic.{inl, inr}
-use mathlib.Core.Bool.{Bool, true, false, ◌&&◌}
+use mathlib.Core.Bool.{true, false, ◌&&◌}
 use Prim.Native.Nat.{ℕ, zero, suc, ◌+◌, ◌-◌, ◌≤◌, ◌<◌}
 use native.Mathlib.Omega.{arith}
-use lib.Dec.{T}
+use lib.Dec.{T, not_T}
 use lib.Ieee.{Float, nan, inf, fin, Format, of_bits, to_bits, fits, lt, le}
-use lib.Ieee.Bits.{of_bits-to_bits, of_bits-fits}
+use lib.Ieee.Bits.{of_bits-to_bits, of_bits-fits, is_false}
 use lib.Ieee.Scale.{finite}
+use Rattle.std.proofs.lemmas.Float.{lt_trans}
+use Rattle.std.proofs.lemmas.Bool.{cases_lt}
 use Rattle.ieee.specs.Finite.{is_finite}
 use Rattle.ieee.specs.Numbers.{f0}
 use Rattle.ieee.specs.Patterns.{patterns}
 use Rattle.ieee.specs.Signs.{plain, Same}
-use Rattle.ieee.proofs.Signed.{order}
-use Rattle.ieee.proofs.Order.{le_same, lt-e, lt_trans}
+use Rattle.ieee.proofs.Order.{le_same, lt-e}
 use Rattle.ieee.proofs.Clear.{plain_id}
 use Rattle.ieee.proofs.Values.{value_clear}
 use Rattle.ieee.proofs.Finite.{zero-starts}
@@ -46,13 +47,6 @@ plain-same (inf s) = refl
 plain-same (fin s zero e) = refl
 plain-same (fin s (suc m) e) = refl
 
-plain-finite : (x : Float) → is_finite x ≡ true → is_finite (plain x) ≡ true
-unfolding plain is_finite
-plain-finite nan h = h
-plain-finite (inf s) h = h
-plain-finite (fin s zero e) h = refl
-plain-finite (fin s (suc m) e) h = refl
-
 is-finite : (x : Float) → T (finite x) → is_finite x ≡ true
 unfolding is_finite
 is-finite nan h = absurd h
@@ -71,10 +65,6 @@ inner_finite (inf s) v y p q h k = absurd p
 inner_finite (fin s m e) v nan p q h k = absurd q
 inner_finite (fin s m e) v (inf t) p q h k = absurd q
 
-not_below : (b : Bool) → (T b → ⊥) → b ≡ false
-not_below true h = absurd (h tt)
-not_below false h = refl
-
 module _ (f : Format) where
   -- no pattern's value is below zero
   from_zero : (p : ℕ) → p < patterns f → T (le f0 (of_bits f p))
@@ -87,7 +77,7 @@ module _ (f : Format) where
   permitted-at p h = record {
     value = of_bits-fits f p;
     finite = is-finite (of_bits f p) (pattern_finite f p h);
-    sign = not_below (lt (of_bits f p) f0) (λ t. lt-e (of_bits f p) f0 t (from_zero p h));
+    sign = is_false (lt (of_bits f p) f0) (not_T _ (λ t. lt-e (of_bits f p) f0 t (from_zero p h)));
     zero = value_clear (of_bits f p) _ _ (pattern_value f p h);
   }
 
@@ -108,18 +98,18 @@ module _ (f : Format) where
           let x = of_bits f p in
           let y = of_bits f (p + 1) in
           let number = inner_finite x v y (pattern_finite f p p_in) (pattern_finite f (p + 1) h) a b in
-          let sign = not_below (lt v f0) (λ l. lt-e x f0 (lt_trans x v f0 a l) (from_zero p p_in)) in
+          let sign = is_false (lt v f0) (not_T _ (λ l. lt-e x f0 (lt_trans x v f0 a l) (from_zero p p_in))) in
           let q = to_bits f (plain v) in
           let few : q < patterns f = start_below f v t sign number in
           let same : Same (of_bits f q) v = ap plain (of_bits-to_bits f (plain v) (plain_fits f v t)) ∙ plain-same v in
-          elim (order p q) [
+          elim (cases_lt p q) [
             | inl l ↦ lt-e v y b (rw (← le_same y y (of_bits f q) v refl same) (rising f (p + 1) q (omega arith) few))
             | inr l ↦ lt-e x v a (rw (← le_same (of_bits f q) v x x same refl) (rising f q p l p_in))
           ]
 
   next-only : (p q : ℕ) → p < patterns f → q < patterns f → Next f (of_bits f p) (of_bits f q) → q ≡ p + 1
-  next-only p q p_in q-in h = elim (order p q) [
-    | inl l ↦ elim (order (p + 1) q) [
+  next-only p q p_in q-in h = elim (cases_lt p q) [
+    | inl l ↦ elim (cases_lt (p + 1) q) [
       | inl m ↦
           let low = strictly_rising f p (p + 1) (omega arith) (omega arith) in
           let high = strictly_rising f (p + 1) q m q-in in

@@ -9,8 +9,9 @@ use mathlib.Core.Bool.{Bool, true, false, cond}
 use lib.Dec.{T}
 use lib.Ieee.{Float, nan, Format, of_bits, add, mul, lt, le}
 use lib.Ieee.Scale.{finite}
+use Rattle.std.proofs.lemmas.Float.{lt_of_le_of_lt}
 use Rattle.ieee.specs.Patterns.{patterns}
-use Rattle.ieee.proofs.Order.{number, nan_or, le_lt_trans}
+use Rattle.ieee.proofs.Order.{number, nan_or}
 use Rattle.ieee.proofs.Mono.{add_mono_r}
 use Rattle.ieee.proofs.Patterns.{rising, pattern_finite}
 use Rattle.closed.specs.Limits.{coeffs_delta, short_below, mid_below, upper_below, series_below}
@@ -63,7 +64,7 @@ ladder a b c d a' b' c' d' A B C D =
 arm_mono : (f : Format) (d d' : Float) → T (le d d') → coeffs_arm f d ≤ coeffs_arm f d'
 unfolding coeffs_arm
 arm_mono f d d' h =
-    let fall : (l : Float) → T (lt d' l) → T (lt d l) = λ l t. le_lt_trans d d' l h t in
+    let fall : (l : Float) → T (lt d' l) → T (lt d l) = λ l t. lt_of_le_of_lt d d' l h t in
     ladder (lt d (short_below f)) (lt d (mid_below f)) (lt d (upper_below f)) (lt d (series_below f)) (lt d' (short_below f)) (lt d' (mid_below f)) (lt d' (upper_below f)) (lt d' (series_below f))
     (fall (short_below f)) (fall (mid_below f)) (fall (upper_below f)) (fall (series_below f))
 

@@ -4,7 +4,7 @@ use mathlib.Core.Logic.{inl, inr}
 use Prim.Native.Nat.{ℕ, ◌+◌, ◌-◌, ◌≤◌, ◌<◌}
 use native.Mathlib.Omega.{arith}
 use lib.Dec.{T}
-use Rattle.ieee.proofs.Signed.{order}
+use Rattle.std.proofs.lemmas.Bool.{cases_lt}
 use Rattle.nearest.specs.Nearest.{Way, down, up, changes, step, none, nearest_from}
 use Rattle.nearest.specs.Theorem.{Least}
 use Rattle.nearest.specs.Private.{Parts}
@@ -36,13 +36,13 @@ weak up up n m k = k
 module _ {arm : ℕ → ℕ} {end p a low high : ℕ} (s : Ends arm end p a low high) where
   -- p lies between the ends
   pub from_low : low ≤ p
-  from_low = elim (order p low) [
+  from_low = elim (cases_lt p low) [
     | inl h ↦ let k = s.known in let n = s.some in let x : arm p ≤ a - 1 = s.lower.before p h in absurd (omega arith)
     | inr h ↦ h
   ]
 
   pub to_high : p < high
-  to_high = elim (order p high) [
+  to_high = elim (cases_lt p high) [
     | inl h ↦ h
     | inr h ↦ let k = s.known in let x : a < arm p = s.upper.after p h s.inside in absurd (omega arith)
   ]
@@ -59,7 +59,7 @@ module _ {arm : ℕ → ℕ} {end p a low high : ℕ} (s : Ends arm end p a low 
   down-least n c =
       let inside : n ≤ p = down-permitted arm end p n c in
       let m = from_low in
-      elim (order (p - n) low) [
+      elim (cases_lt (p - n) low) [
         | inl h ↦ omega arith
         | inr h ↦ let t = to_high in absurd (another arm end p down n c (between (p - n) h (omega arith) ∙ s.known))
       ]
@@ -67,7 +67,7 @@ module _ {arm : ℕ → ℕ} {end p a low high : ℕ} (s : Ends arm end p a low 
   up_least : (n : ℕ) → T (changes arm end p up n) → high - p ≤ n
   up_least n c =
       let m = from_low in
-      elim (order (p + n) high) [
+      elim (cases_lt (p + n) high) [
         | inl h ↦ absurd (another arm end p up n c (between (p + n) (omega arith) h ∙ s.known))
         | inr h ↦ omega arith
       ]

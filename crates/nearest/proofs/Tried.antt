@@ -6,7 +6,7 @@ use Prim.Native.Nat.{ℕ, zero, suc, ◌+◌, ◌-◌, ◌≤◌, ◌<◌}
 use native.Mathlib.Omega.{arith}
 use mathlib.Core.Bool.{Bool, true, false, cond}
 use lib.Dec.{T, eqb, eqb→eq, eqb_refl}
-use Rattle.ieee.proofs.Signed.{order}
+use Rattle.std.proofs.lemmas.Bool.{cases_lt}
 use Rattle.nearest.specs.Nearest.{Way, down, up, step, other, place, changes, least_from, nearest_from}
 use Rattle.nearest.specs.Theorem.{NearIs}
 use Rattle.nearest.proofs.Steps.{down-changes, up-changes, down-permitted, up-permitted, another}
@@ -37,7 +37,7 @@ module _ (arm : ℕ → ℕ) (end : ℕ) (first : Way) (p : ℕ) (inside : p < e
   like_p : ((e : Way) (m : ℕ) → T (changes arm end p e m) → ⊥) → (q : ℕ) → q < end → arm q ≡ arm p
   like_p never q h = elim (decide (arm q) (arm p)) [
     | inl e ↦ e
-    | inr apart ↦ elim (order q p) [
+    | inr apart ↦ elim (cases_lt q p) [
       | inl l ↦
           let back : p - (p - q) ≡ q = omega arith in
           absurd (never down (p - q) (down-changes arm end p (p - q) (omega arith) (λ e. apart (sym (ap arm back) ∙ e))))
@@ -49,7 +49,7 @@ module _ (arm : ℕ → ℕ) (end : ℕ) (first : Way) (p : ℕ) (inside : p < e
 
   -- ---- found: at the first count that changes the arm
   further : (n : ℕ) → Above n → changes arm end p first n ≡ false → changes arm end p (other first) n ≡ false → Above (n + 1)
-  further n h a b e m t = elim (order n m) [
+  further n h a b e m t = elim (cases_lt n m) [
     | inl l ↦ omega arith
     | inr l ↦
         let is : m ≡ n = let k = h e m t in omega arith in

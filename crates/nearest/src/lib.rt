@@ -69,6 +69,7 @@ fn edge<T: Neighbours>(sigma: T, a: u8) -> u64
 }
 
 // `count` steps from the pattern p in a direction, and the arm there.
+#[tactic(auto, unfolding(crate::specs::Nearest::step_told))]
 fn moved<T: Neighbours>(sigma: T, p: u64, direction: Direction, count: u64) -> Step
     requires { (p < patterns T.format) × (permitted (patterns T.format) (way_told direction) p count ≡ true) }
     ensures { step_told result

@@ -17,10 +17,9 @@ pub trait Neighbours: Arms {
     fn place(self) -> u64
         ensures { result ≡ to_bits Self.format (Self.float self) };
 
-    // The value with the pattern p.
+    // The value with the pattern p, where p is that of a finite value from +0 up.
     fn value(p: u64) -> Self
-        requires { p < patterns Self.format }
-        ensures { Self.float result ≡ of_bits Self.format p };
+        ensures { p < patterns Self.format → Self.float result ≡ of_bits Self.format p };
 }
 
 impl Neighbours for f64 {
@@ -47,6 +46,6 @@ impl Neighbours for f32 {
     }
 
     fn value(p: u64) -> f32 {
-        f32::from_pattern(p as u32)
+        f32::from_pattern((p % 0x1_0000_0000) as u32)
     }
 }

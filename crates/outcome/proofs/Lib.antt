@@ -1,4 +1,3 @@
 -- The laws of what is told and written for a record.
-pub mod Never
 pub mod Told
 pub mod Record

@@ -8,10 +8,10 @@ use borrow.Author.Tests.{ltb-true, ltb-false, lt-ltb, le-ltb}
 use lib.ListN.{length, take, set, length-append}
 use lib.Seq.{sets, take-append-le}
 use lib.Dec.{ltb}
+use Rattle.std.proofs.lemmas.Bool.{false≢true}
 use Rattle.outcome.specs.declared.Kind.{Kind}
 use Rattle.outcome.specs.declared.Step.TheVariants as step
 use Rattle.outcome.specs.Outcome.{longest, Reply, mark_bytes, no_bytes, Found, took, ended, unknown, cut, record_found, became_of, written_of, step_told}
-use Rattle.outcome.proofs.Never.{never, untrue}
 
 pub mark_length : (a b : ℕ) → length (mark_bytes a b) ≡ 2
 unfolding mark_bytes
@@ -47,15 +47,15 @@ module _ (k : ℕ) (reply : List ℕ → Reply) where
   record_taken most s q j b =
       record_by s
       (λ f. f ≡ took q j b → (j ≤ length s) × (length b ≤ longest))
-      (λ h e. never (cc))
+      (λ h e. absurd (cc))
       (λ h e. let n : k ≡ j = cc in let l : (reply (take k s)).bytes ≡ b = cc in (rw n at h, rw l at (most (take k s))))
 
   -- a cut one is shorter
   pub record_few : (s : List ℕ) → record_found k reply s ≡ cut → length s < k
-  record_few s = record_by s (λ f. f ≡ cut → length s < k) (λ h e. h) (λ h e. never (cc))
+  record_few s = record_by s (λ f. f ≡ cut → length s < k) (λ h e. h) (λ h e. absurd (cc))
 
   pub record_not_ended : (s : List ℕ) → record_found k reply s ≡ ended → ⊥
-  record_not_ended s = record_by s (λ f. f ≡ ended → ⊥) (λ h e. never (cc)) (λ h e. never (cc))
+  record_not_ended s = record_by s (λ f. f ≡ ended → ⊥) (λ h e. absurd (cc)) (λ h e. absurd (cc))
 
 -- ---- what more input cannot change
 abbrev pub settled : Found → Bool
@@ -69,7 +69,7 @@ pub record_more :
 record_more k reply s ys f =
     record_by k reply s
     (λ x. x ≡ f → settled f ≡ true → record_found k reply (s ++ ys) ≡ f)
-    (λ h e t. untrue (rw (← e) at t))
+    (λ h e t. absurd (false≢true (rw (← e) at t)))
     (λ h e t. record_whole k reply (s ++ ys) (simp length-append (omega arith)) ∙ rw (take-append-le k s ys h) e)
 
 -- ---- what a reply tells and writes: where the record is cut, where there is no room, and where there is

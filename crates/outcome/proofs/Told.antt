@@ -9,7 +9,6 @@ use lib.ListN.{length}
 use lib.Dec.{ltb}
 use Rattle.outcome.specs.declared.Kind.{Kind}
 use Rattle.outcome.specs.Outcome.{longest, unknown_mark, cut_record, Found, took, ended, unknown, cut, Became, wrote, roomless, over, refused, became_of, written_of}
-use Rattle.outcome.proofs.Never.{never}
 
 -- a record was taken, and there was room for its answer
 pub record Takes (f : Found) (room : ℕ) (q : Kind) (k n : ℕ) : Type 0 where
@@ -20,27 +19,27 @@ pub record Takes (f : Found) (room : ℕ) (q : Kind) (k n : ℕ) : Type 0 where
 takes_by :
     (t : Bool) (room : ℕ) (a q : Kind) (j k n : ℕ) (b : List ℕ) → ltb room longest ≡ t → cond t roomless (wrote a j (length b)) ≡ wrote q k n →
     (took a j b ≡ took q k (cond t [] b)) × (length (cond t [] b) ≡ n) × (longest ≤ room)
-takes_by true room a q j k n b t e = never (cc)
+takes_by true room a q j k n b t e = absurd (cc)
 takes_by false room a q j k n b t e = (cc, cc, ltb-false room longest t)
 
 pub told-took : (f : Found) (room : ℕ) (q : Kind) (k n : ℕ) → became_of f room ≡ wrote q k n → Takes f room q k n
 unfolding became_of written_of
 told-took (took a j b) room q k n e = let t = takes_by (ltb room longest) room a q j k n b refl e in record { found = t.0; long = t.1; roomy = t.2 }
-told-took ended room q k n e = never (cc)
-told-took unknown room q k n e = never (cc)
-told-took cut room q k n e = never (cc)
+told-took ended room q k n e = absurd (cc)
+told-took unknown room q k n e = absurd (cc)
+told-took cut room q k n e = absurd (cc)
 
 -- no room: nothing is written
 room_by : (t : Bool) (room : ℕ) (a : Kind) (j : ℕ) (b : List ℕ) → ltb room longest ≡ t → cond t roomless (wrote a j (length b)) ≡ roomless → (room < longest) × (cond t [] b ≡ [])
 room_by true room a j b t e = (ltb-true room longest t, refl)
-room_by false room a j b t e = never (cc)
+room_by false room a j b t e = absurd (cc)
 
 pub told_room : (f : Found) (room : ℕ) → became_of f room ≡ roomless → (room < longest) × (written_of f room ≡ [])
 unfolding became_of written_of
 told_room (took a j b) room e = room_by (ltb room longest) room a j b refl e
-told_room ended room e = never (cc)
-told_room unknown room e = never (cc)
-told_room cut room e = never (cc)
+told_room ended room e = absurd (cc)
+told_room unknown room e = absurd (cc)
+told_room cut room e = absurd (cc)
 
 -- the stops
 took-apart : {A : Type 0} (t : Bool) (a : Kind) (j n : ℕ) (x : Became) → cond t roomless (wrote a j n) ≡ x → (roomless ≡ x → A) → (wrote a j n ≡ x → A) → A
@@ -49,29 +48,29 @@ took-apart false a j n x e g h = h e
 
 pub told-ended : (f : Found) (room : ℕ) → became_of f room ≡ over → f ≡ ended
 unfolding became_of
-told-ended (took a j b) room e = took-apart (ltb room longest) a j (length b) over e (λ q. never (cc)) (λ q. never (cc))
+told-ended (took a j b) room e = took-apart (ltb room longest) a j (length b) over e (λ q. absurd (cc)) (λ q. absurd (cc))
 told-ended ended room e = refl
-told-ended unknown room e = never (cc)
-told-ended cut room e = never (cc)
+told-ended unknown room e = absurd (cc)
+told-ended cut room e = absurd (cc)
 
 pub told-unknown : (f : Found) (room : ℕ) → became_of f room ≡ refused unknown_mark → f ≡ unknown
 unfolding became_of
-told-unknown (took a j b) room e = took-apart (ltb room longest) a j (length b) (refused unknown_mark) e (λ q. never (cc)) (λ q. never (cc))
-told-unknown ended room e = never (cc)
+told-unknown (took a j b) room e = took-apart (ltb room longest) a j (length b) (refused unknown_mark) e (λ q. absurd (cc)) (λ q. absurd (cc))
+told-unknown ended room e = absurd (cc)
 told-unknown unknown room e = refl
 told-unknown cut room e = let n : cut_record ≡ unknown_mark = cc in absurd (omega arith)
 
 pub told-cut : (f : Found) (room : ℕ) → became_of f room ≡ refused cut_record → f ≡ cut
 unfolding became_of
-told-cut (took a j b) room e = took-apart (ltb room longest) a j (length b) (refused cut_record) e (λ q. never (cc)) (λ q. never (cc))
-told-cut ended room e = never (cc)
+told-cut (took a j b) room e = took-apart (ltb room longest) a j (length b) (refused cut_record) e (λ q. absurd (cc)) (λ q. absurd (cc))
+told-cut ended room e = absurd (cc)
 told-cut unknown room e = let n : unknown_mark ≡ cut_record = cc in absurd (omega arith)
 told-cut cut room e = refl
 
 -- nothing is written for them
 pub stop_bytes : (f : Found) (room : ℕ) → (f ≡ ended → written_of f room ≡ []) × (f ≡ unknown → written_of f room ≡ []) × (f ≡ cut → written_of f room ≡ [])
 unfolding written_of
-stop_bytes (took a j b) room = (λ e. never (cc), λ e. never (cc), λ e. never (cc))
+stop_bytes (took a j b) room = (λ e. absurd (cc), λ e. absurd (cc), λ e. absurd (cc))
 stop_bytes ended room = (λ e. refl, λ e. refl, λ e. refl)
 stop_bytes unknown room = (λ e. refl, λ e. refl, λ e. refl)
 stop_bytes cut room = (λ e. refl, λ e. refl, λ e. refl)

@@ -1,22 +1,19 @@
 -- Moving the points of a list one after another, for any motion g: after i turns the first i triples are moved and the rest is as it was. Assumes nothing.
-use Prim.Native.Nat.{ℕ, zero, suc, ◌+◌, ◌*◌, ◌/◌, ◌%◌, ◌<◌, ◌≤◌}
-use mathlib.Core.Path.{◌≡◌, refl, sym, ap, subst, ◌∙◌}
-use mathlib.Core.Bool.{true, ◌&&◌}
+use Prim.Native.Nat.{ℕ, zero, suc, ◌+◌, ◌*◌, ◌<◌, ◌≤◌}
+use mathlib.Core.Path.{◌≡◌, refl, sym, ap, ◌∙◌}
 use mathlib.Core.List.{List, [], ◌∷◌, ◌++◌, append_assoc, append-nil}
 use native.Mathlib.Nat.{add_comm}
 use native.Mathlib.Numerals.{add-one, unary_clauses}
 use native.Mathlib.Omega.{arith}
-use lib.Dec.{T, eqb, leb, eqb→eq}
 use lib.ListN.{get_or, set, length, take, drop, length-append, take-append-drop}
 use lib.Seq.{drop_at, length-take-le, drop-cons, drop-length, get_or-drop, drop-drop}
 use lib.Ieee.{Float, nan}
-use lib.Ieee.Fits.{and_l, and_r}
 use Rattle.std.specs.Simd.{first_chunks}
 use Rattle.std.specs.Prelude.{map}
-use Rattle.std.proofs.lemmas.List.{get_or-map, get_or-take, length-map, map-set, map-append, take-map, drop-map}
+use Rattle.std.proofs.lemmas.List.{get_or-take, length-map, map-set, map-append, take-map, drop-map}
 use Rattle.linalg.specs.Vector.{vec, vec_numbers}
 use Rattle.linalg.specs.Floats.{Vec3}
-use Rattle.point_lists.specs.Points.{point_at, points_moved, points_accepted}
+use Rattle.point_lists.specs.Points.{point_at, points_moved}
 use Rattle.point_lists.specs.Private.{put_point}
 
 pub moved_length : (g : Vec3 → Vec3) (l : List Float) (n : ℕ) → length (points_moved g l n) ≡ n * 3
@@ -70,8 +67,6 @@ pub moved_all : (g : Vec3 → Vec3) (l out : List Float) (i : ℕ) → i * 3 ≡
 moved_all g l out i e = rw (e, drop-length) (append-nil (points_moved g l i))
 
 -- ---- the lists of the code, whose numbers h reads
-pub read : {A : Type 0} (h : A → Float) (l : List A) (k : ℕ) (x : A) → k < length l → x ≡ get_or l k x → h x ≡ get_or (map h l) k nan
-read h l k x b e = ap h e ∙ sym (get_or-map h l k x nan b)
 
 pub put_map :
     {A : Type 0} (h : A → Float) (l : List A) (at : ℕ) (x y z : A) → map h (set (set (set l at x) (at + 1) y) (at + 2) z) ≡ put_point (map h l) at (vec (h x) (h y) (h z))
@@ -140,9 +135,3 @@ pub nothing_after : (x out : List Float) (n : ℕ) → n ≡ length out → x ++
 nothing_after x out n e = rw (e, drop-length) (append-nil x)
 
 -- ---- what the test of the lists says: whole triples, and an output as long
-pub accepted_thirds : (n k : ℕ) → points_accepted n k ≡ true → (n / 3 * 3 ≡ n) × (n / 3 * 3 ≡ k)
-accepted_thirds n k h =
-    let t : T (points_accepted n k) = subst T (sym h) tt in
-    let a : n % 3 ≡ 0 = eqb→eq (n % 3) 0 (and_l (eqb (n % 3) 0) (leb n 65535) (and_l (eqb (n % 3) 0 && leb n 65535) (eqb k n) t)) in
-    let b : k ≡ n = eqb→eq k n (and_r (eqb (n % 3) 0 && leb n 65535) (eqb k n) t) in
-    (omega arith, omega arith)

@@ -33,6 +33,7 @@ impl PointWidth for f32 {
     const BY_FOURS: bool = true;
 }
 
+#[tactic(auto, unfolding(crate::specs::Points::point_at))]
 pub(crate) fn point_at<T: Real>(pts: &[T], i: usize) -> Vec3<T>
     requires { i * 3 + 3 ≤ length pts.now }
     ensures { as_vec3 T.float result ≡ point_at (T.floats pts.now) i }
@@ -53,6 +54,7 @@ pub(crate) fn put_point<T: Real>(out: &mut [T], at: usize, p: Vec3<T>)
 }
 
 // m p + t.
+#[tactic(auto, unfolding(crate::specs::Points::mat_act))]
 pub(crate) fn mat_act<T: Real>(m: Mat3<T>, t: Vec3<T>, p: Vec3<T>) -> Vec3<T>
     ensures { as_vec3 T.float result ≡ mat_act T.format (as_mat3 T.float m) (as_vec3 T.float t) (as_vec3 T.float p) }
 {
@@ -82,6 +84,7 @@ fn accepted(n: usize, k: usize) -> bool
 
 // out = s R p + t for every triple p of pts, by the matrix s R; up is e^sigma of x. Refusal 5 for lists
 // that are not accepted, and nothing written.
+#[tactic(auto, unfolding(crate::specs::Points::points_answer, crate::specs::Points::points_out))]
 pub fn act_many<T: PointWidth>(x: Sim3<T>, up: T, pts: &[T], out: &mut [T]) -> Result<(), Refusal>
     ensures result_value { answer result ≡ points_answer (T.floats pts.now) (T.floats out.old) }
     ensures out_after { T.floats out.new ≡ points_out (pose_act_many T.format (as_sim3 T.float x) (T.float up)) (T.floats pts.now) (T.floats out.old) }
@@ -95,6 +98,7 @@ pub fn act_many<T: PointWidth>(x: Sim3<T>, up: T, pts: &[T], out: &mut [T]) -> R
 
 // out = X p for every triple p of pts, each as Sim3::act has it; up is e^sigma of x. Refused as by
 // act_many.
+#[tactic(auto, unfolding(crate::specs::Points::points_answer, crate::specs::Points::points_out))]
 pub fn act_each<T: Real>(x: Sim3<T>, up: T, pts: &[T], out: &mut [T]) -> Result<(), Refusal>
     ensures result_value { answer result ≡ points_answer (T.floats pts.now) (T.floats out.old) }
     ensures out_after { T.floats out.new ≡ points_out (pose_act_each T.format (as_sim3 T.float x) (T.float up)) (T.floats pts.now) (T.floats out.old) }

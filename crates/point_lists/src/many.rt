@@ -38,6 +38,7 @@ fn short<T: Real>(m: Mat3<T>, t: Vec3<T>, pts: &[T], out: &mut [T])
 // ---- long lists: four points a turn.
 
 // m with its last two columns turned round.
+#[tactic(auto, unfolding(crate::specs::Private::mat_turned))]
 fn turned<T: Real>(m: Mat3<T>) -> Mat3<T>
     ensures { as_mat3 T.float result ≡ mat_turned (as_mat3 T.float m) }
 {
@@ -65,6 +66,7 @@ fn less_act<T: Real>(m: Mat3<T>, t: Vec3<T>, p: Vec3<T>) -> Vec3<T>
 }
 
 // Two points, and four, from a place on.
+#[tactic(auto, unfolding(crate::specs::Private::put_two))]
 fn put_two<T: Real>(out: &mut [T], at: usize, a: Vec3<T>, b: Vec3<T>)
     requires { at + 6 ≤ length out.old }
     ensures { T.floats out.new ≡ put_two (T.floats out.old) at (as_vec3 T.float a) (as_vec3 T.float b) }
@@ -82,6 +84,7 @@ fn put_four<T: Real>(out: &mut [T], at: usize, a: Vec3<T>, b: Vec3<T>, c: Vec3<T
 }
 
 // The four points of p, into the places from `at` on: all are read before one is stored.
+#[tactic(auto, unfolding(crate::specs::Private::put_four))]
 fn four<T: Real>(m: Mat3<T>, t: Vec3<T>, p: &[T; 12], out: &mut [T], at: usize)
     requires { at + 12 ≤ length out.old }
     ensures { T.floats out.new ≡ put_four (mat_act T.format (mat_turned (as_mat3 T.float m)) (as_vec3 T.float t)) (T.floats p.now) (T.floats out.old) at }

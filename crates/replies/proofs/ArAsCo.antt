@@ -4,7 +4,7 @@ use mathlib.Core.Path.{◌≡◌, refl, sym, ap, ◌∙◌}
 use mathlib.Core.Bool.{Bool}
 use mathlib.Core.List.{List}
 use lib.ListN.{take, drop}
-use lib.Ieee.{Float, Format}
+use lib.Ieee.{Format}
 use Rattle.linalg.specs.Answer.{Answer, answers, refuses, and_then}
 use Rattle.linalg.proofs.Answers.{never, answers-is}
 use Rattle.coeffs.specs.Entries.{pair_answer}

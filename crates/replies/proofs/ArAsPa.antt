@@ -1,7 +1,5 @@
 -- AR's flags are PA's: they depend on σ and z alone, and |φ|² is not below zero, so AR is answered. Assumes nothing.
-use Prim.Native.Nat.{ℕ}
-use mathlib.Core.Path.{◌≡◌, refl, ap, ◌∙◌}
-use mathlib.Core.List.{List}
+use mathlib.Core.Path.{◌≡◌, refl, ap}
 use lib.Ieee.{Float, Format}
 use Rattle.linalg.specs.Answer.{Answer, answers, and_then}
 use Rattle.linalg.specs.Vector.{vec_norm_sq}
@@ -15,7 +13,7 @@ use Rattle.sides.proofs.Flags.{pair_by_flags}
 use Rattle.layout.specs.Layout.{tangent_in, values_in, mat_in, block_pair_numbers, coeffs_numbers, scaled_numbers, scaled_pair_numbers}
 use Rattle.wire.specs.Wire.{number_at, numbers}
 use Rattle.replies.specs.Table.{gives, arm_items, armed_items, ar_of, pa_of}
-use Rattle.replies.specs.ArAsPa.{ArAsPa, ArAsPaTheorem}
+use Rattle.replies.specs.ArAsPa.{ArAsPaTheorem}
 
 answered-at : (f : Format) (sigma : Float) (tau : Sim3Tangent) (z : Float) (v : Values) → sigma ≡ tau.sigma → z ≡ vec_norm_sq f tau.phi →
     armed_pair_answer f sigma z v ≡ answers (coeffs_armed_pair f tau.sigma (vec_norm_sq f tau.phi) v)

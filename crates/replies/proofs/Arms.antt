@@ -1,19 +1,15 @@
 -- The bytes of the arms and of the numbers behind them: how many they are; in either format. Assumes nothing.
-use Prim.Native.Nat.{ℕ, suc, ◌+◌, ◌-◌, ◌*◌, ◌≤◌}
-use mathlib.Core.Path.{◌≡◌, refl, sym, ap, ◌∙◌}
-use mathlib.Core.Bool.{Bool, true, false, cond}
+use Prim.Native.Nat.{ℕ, ◌+◌, ◌*◌}
+use mathlib.Core.Path.{◌≡◌, refl, ap, ◌∙◌}
 use mathlib.Core.List.{List, ◌++◌}
 use native.Mathlib.Omega.{arith}
-use lib.ListN.{length, take, drop, length-append}
-use lib.Seq.{sets, length-sets}
+use lib.ListN.{length, length-append}
 use lib.Ieee.{Format}
-use mir.Val.{bool_byte}
 use Rattle.coeffs.specs.Floats.{Armed}
 use Rattle.coeffs.specs.Floats.{ArmedPair}
 use Rattle.layout.specs.Layout.{scaled_pair_numbers, armed_scaled}
 use Rattle.layout.proofs.Numbers.{scaled-pair-count}
-use Rattle.layout.proofs.Runs.{run_behind, sets-part}
-use Rattle.wire.specs.Wire.{word, width, word_bytes, numbers_bytes, item_bytes, items_bytes, all_finite, numbers}
+use Rattle.wire.specs.Wire.{width, word_bytes, numbers_bytes, item_bytes, items_bytes, numbers}
 use Rattle.wire.proofs.Bytes.{numbers-length, items_append, items_numbers}
 use Rattle.replies.specs.Table.{arm_items, armed_items}
 

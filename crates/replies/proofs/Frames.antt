@@ -1,16 +1,13 @@
 -- The bytes of a pose and its frames: how many they are; in either format. Assumes nothing.
-use Prim.Native.Nat.{ℕ, ◌+◌, ◌-◌, ◌*◌}
-use mathlib.Core.Path.{◌≡◌, refl, sym, ap, ◌∙◌}
+use Prim.Native.Nat.{ℕ, ◌*◌}
+use mathlib.Core.Path.{◌≡◌, refl, ◌∙◌}
 use mathlib.Core.List.{List, [], ◌∷◌, ◌++◌}
-use native.Mathlib.Omega.{arith}
-use lib.ListN.{length, take, drop, length-append, length-drop}
-use lib.Seq.{sets, take_all}
+use lib.ListN.{length, length-append}
 use lib.Ieee.{Format}
 use Rattle.linalg.specs.Vector.{vec_numbers}
 use Rattle.frames.specs.Floats.{Pose}
 use Rattle.layout.specs.Layout.{pose_count, quat_numbers, pose_numbers}
 use Rattle.layout.proofs.Numbers.{pose-count}
-use Rattle.layout.proofs.Runs.{run_behind}
 use Rattle.wire.specs.Wire.{word, width, word_bytes, numbers_bytes, item_bytes, items_bytes, all_finite, numbers}
 use Rattle.wire.proofs.Bytes.{word-length, numbers-length, items_append, items_numbers}
 use Rattle.replies.specs.Table.{frame_width, framed_width, framed_items}
@@ -47,7 +44,3 @@ framed-length f x =
 pub framed-finite : (x : Pose) → all_finite (framed_items x) ≡ all_finite (numbers (pose_numbers x.sim3))
 unfolding framed_items pose_numbers quat_numbers vec_numbers numbers all_finite
 framed-finite x = refl
-
--- ---- a list without its first k, as the code lends it
-pub rest_is : (b : List ℕ) (k : ℕ) → take (length b - k) (drop k b) ≡ drop k b
-rest_is b k = take_all (length b - k) (drop k b) (rw (length-drop k b) (omega arith))

@@ -2,7 +2,6 @@
 pub mod Arms
 pub mod Calls
 pub mod Frames
-pub mod Front
 pub mod Replies
 pub mod Told
 mod ArAsCo

@@ -1,7 +1,6 @@
 -- Replies: what an entry tells and writes, and that no record and no reply is longer than the longest. Assumes nothing.
 use Prim.Native.Nat.{ℕ, suc, ◌+◌, ◌-◌, ◌*◌, ◌≤◌}
 use mathlib.Core.Path.{◌≡◌, refl, sym, ap, ◌∙◌}
-use mathlib.Core.Bool.{Bool, true, false}
 use mathlib.Core.List.{List, [], ◌∷◌, ◌++◌}
 use native.Mathlib.Omega.{arith}
 use lib.ListN.{length, take, drop, get_or, set, length-append, length-drop}
@@ -15,7 +14,7 @@ use Rattle.frames.specs.Joins.{framed_mul}
 use Rattle.frames.specs.Floats.{Pose}
 use Rattle.layout.specs.Layout.{block_pair_count, block_in, values_in, block_numbers, scaled_pair_numbers}
 use Rattle.layout.proofs.Numbers.{vec-count, block-count, block-pair-count, scaled-pair-count}
-use Rattle.wire.specs.Wire.{Item, width, number_at, numbers_bytes, items_bytes, all_finite, numbers}
+use Rattle.wire.specs.Wire.{Item, width, number_at, items_bytes, all_finite, numbers}
 use Rattle.wire.proofs.Bytes.{numbers-length, items_numbers}
 use Rattle.outcome.specs.declared.Entry.{Entry}
 use Rattle.outcome.specs.declared.Entry.TheVariants.{Ex, Co, Pa, Ac, Mu, In, Ji, Ar}
@@ -23,7 +22,7 @@ use Rattle.outcome.specs.declared.Kind.TheVariants as kind
 use Rattle.outcome.specs.declared.Wrote.{Wrote}
 use Rattle.outcome.specs.declared.Step.TheVariants as step
 use Rattle.layout.proofs.Runs.{sets-part}
-use Rattle.outcome.specs.Outcome.{longest, no_bytes, mark_bytes, Reply, reply_of, wrote_as, gave_of, gave_bytes, became_of, written_of, step_told}
+use Rattle.outcome.specs.Outcome.{longest, no_bytes, mark_bytes, reply_of, wrote_as, gave_of, gave_bytes, became_of, written_of, step_told}
 use Rattle.outcome.proofs.Record.{mark_length, no_length, marked, reply-whole}
 use Rattle.replies.specs.Table.{gives, numbers_of, width_of, framed_width, framed_in, framed_items, ex_of, co_of, pa_of, ac_of, mu_of, in_of, ji_of, armed_items, ar_of, answer_of, entry_reply, entry_found}
 use Rattle.replies.proofs.Arms.{armed-length}

@@ -1,14 +1,14 @@
 -- What the entries tell and write of a call's status and lists, as an answer's items; in either format. Assumes nothing.
-use Prim.Native.Nat.{ℕ, zero, suc, ◌+◌, ◌-◌, ◌*◌, ◌/◌, ◌%◌, ◌≤◌, ◌<◌}
+use Prim.Native.Nat.{ℕ, suc, ◌+◌, ◌-◌, ◌*◌, ◌/◌, ◌%◌, ◌≤◌, ◌<◌}
 use mathlib.Core.Path.{◌≡◌, refl, sym, ap, ◌∙◌}
-use mathlib.Core.Bool.{Bool, true, false, cond, ◌&&◌, and_assoc}
+use mathlib.Core.Bool.{Bool, true, ◌&&◌, and-true, and_assoc}
 use mathlib.Core.List.{List, [], ◌∷◌, ◌++◌, map}
 use native.Mathlib.Omega.{arith}
 use borrow.Author.Tests.{eq-eqb, ne_eqb}
 use lib.Dec.{T}
 use lib.ListN.{length, take, drop, get_or, get_or-map, length-append, length-drop}
 use lib.Seq.{sets, length-sets, length-take-le}
-use lib.Ieee.{Float, Format, binary32, binary64}
+use lib.Ieee.{Float, Format}
 use Rattle.std.specs.Prelude.{Result, Ok, Err}
 use Rattle.std.proofs.lemmas.List.{length-map, drop-map, take-map}
 use Rattle.linalg.specs.Answer.{Answer, answers, refuses, and_then, number, answer}
@@ -18,11 +18,11 @@ use Rattle.coeffs.specs.Floats.{ArmedPair}
 use Rattle.frames.specs.Floats.{Pose}
 use Rattle.layout.specs.Layout.{pose_count, scaled_pair_count, scaled_pair_numbers, armed_scaled}
 use Rattle.layout.proofs.Runs.{sets-part, run_behind}
-use Rattle.from_lists.specs.Lists.{PoseLists, pose_lists, frames_count}
+use Rattle.from_lists.specs.Lists.{PoseLists, frames_count}
 use Rattle.to_lists.specs.Written.{status, written, fitting, framed_numbers, framed_fitting}
 use Rattle.sim3_c_entries.specs.Calls.{ArmLists, arm_lists, arm_bytes, arms_fitting}
-use Rattle.wire.specs.Wire.{width, Item, word, word_bytes, item_bytes, items_bytes, item_finite, all_finite, numbers, numbers_bytes, words_bytes, fewer}
-use Rattle.wire.proofs.Bytes.{bytes-all, items_append, items_numbers, numbers-length}
+use Rattle.wire.specs.Wire.{width, Item, word_bytes, item_bytes, items_bytes, item_finite, all_finite, numbers, numbers_bytes, words_bytes, fewer}
+use Rattle.wire.proofs.Bytes.{mul-width-div, items_append, items_numbers, numbers-length}
 use Rattle.wire.proofs.Lists.{words-length, encoded}
 use Rattle.wire.proofs.Places.{part_stored}
 use Rattle.outcome.specs.Outcome.{wrote_as, gave_of, gave_bytes}
@@ -46,25 +46,17 @@ unfolding all_finite
 all_append [] m = refl
 all_append (i ∷ l) m = rw (all_append l m) (sym (and_assoc (item_finite i) (all_finite l) (all_finite m)))
 
-alone : (t : Bool) → t && true ≡ t
-alone true = refl
-alone false = refl
-
 -- whole numbers are finite by nature, behind numbers or before them
 pub behind_finite : (y : List Float) (k : ℕ) (l : List ℕ) → all_finite (numbers y ++ words k l) ≡ all_finite (numbers y)
-behind_finite y k l = all_append (numbers y) (words k l) ∙ rw (words-finite k l) (alone (all_finite (numbers y)))
+behind_finite y k l = all_append (numbers y) (words k l) ∙ rw (words-finite k l) (and-true (all_finite (numbers y)))
 
 pub before-finite : (y : List Float) (k : ℕ) (l : List ℕ) → all_finite (words k l ++ numbers y) ≡ all_finite (numbers y)
 before-finite y k l = all_append (words k l) (numbers y) ∙ rw (words-finite k l) refl
 
 -- ---- the numbers of a list at the front of an output
-counted : (f : Format) (n : ℕ) → n * width f / width f ≡ n
-counted binary32 n = omega arith
-counted binary64 n = omega arith
-
 -- n numbers of y in a part that has just their bytes
 pub part-whole : (f : Format) (y : List Float) (p : List ℕ) (n : ℕ) → length y ≡ n → length p ≡ n * width f → take (fewer (length y) (length p / width f)) y ≡ y
-part-whole f y p n h e = encoded y p (width f) n h (rw e (counted f n))
+part-whole f y p n h e = encoded y p (width f) n h (rw e (mul-width-div f n))
 
 pub ending :
     (f : Format) (out q : List ℕ) (y : List Float) (t : Bool) (r : Wrote) →

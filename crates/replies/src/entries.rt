@@ -1,10 +1,10 @@
 // What each entry answers: the numbers behind the mark are read to arrays, the function that C callers have is called,
 // and the lists that it wrote are encoded from the front of `out` on.
-ghost use Rattle.std.specs.Prelude.{◌≡◌, ◌+◌, ◌*◌, ◌≤◌, length, take, drop};
+ghost use Rattle.std.specs.Prelude.{◌≡◌, ◌+◌, ◌*◌, ◌≤◌, length};
 ghost use Rattle.std.proofs.lemmas.List.Edits.{sets};
 ghost use Rattle.linalg.specs.Answer.{answer};
 ghost use Rattle.layout.specs.Layout.{pose_count, scaled_pair_count};
-ghost use Rattle.wire.specs.Wire.{width, numbers, number_of, numbers_at, words_at};
+ghost use Rattle.wire.specs.Wire.{width, numbers, numbers_at, words_at};
 ghost use Rattle.to_lists.specs.Written.{status};
 ghost use Rattle.outcome.specs.Outcome.{longest, gave_of, gave_bytes};
 ghost use Rattle.outcome.specs.declared.Entry.{Entry};
@@ -30,7 +30,7 @@ fn read<T: Number, const N: usize>(b: &[u8]) -> [T; N]
     ensures { T.floats result ≡ numbers_at T.format b.now N }
 {
     let mut x = [T::of(0.0); N];
-    decode(b, &mut x);
+    decode(&b[..N * T::BYTES], &mut x);
     x
 }
 
@@ -45,16 +45,9 @@ fn frames(b: &[u8]) -> [u16; 2]
     ]
 }
 
-// One number at a place of the bytes; every NaN pattern reads as NaN.
-fn number_at<T: Number>(b: &[u8], at: usize) -> T
-    requires { at + width T.format ≤ length b.now }
-    ensures { T.float result ≡ number_of T.format (take (width T.format) (drop at b.now)) }
-{
-    T::from_pattern(T::word(&b[at..at + T::BYTES]))
-}
-
 // ---- what is written
 // What a call wrote to a list, or the refusal that it returned.
+#[tactic(auto, using(crate::proofs::Told::told_not), unfolding(outcome::specs::Outcome::gave_of, outcome::specs::Outcome::gave_bytes))]
 fn told<T: Number>(called: Result<(), Refusal>, y: &[T], out: &mut [u8]) -> Result<Wrote, Refusal>
     requires { length y.now * width T.format ≤ length out.old }
     ensures value { answer result
@@ -69,6 +62,7 @@ fn told<T: Number>(called: Result<(), Refusal>, y: &[T], out: &mut [u8]) -> Resu
 }
 
 // The same of a pose and its frames.
+#[tactic(auto, using(crate::proofs::Told::told_not), unfolding(outcome::specs::Outcome::gave_of, outcome::specs::Outcome::gave_bytes))]
 fn told_framed<T: Number>(
     called: Result<(), Refusal>,
     y: &[T],
@@ -92,6 +86,7 @@ fn told_framed<T: Number>(
 }
 
 // The same of the scaled pair with the arms before it.
+#[tactic(auto, using(crate::proofs::Told::told_not), unfolding(outcome::specs::Outcome::gave_of, outcome::specs::Outcome::gave_bytes))]
 fn told_armed<T: Number>(
     called: Result<(), Refusal>,
     arms: &[u8],
@@ -116,6 +111,7 @@ fn told_armed<T: Number>(
 
 // ---- the entries
 // The exponential of a tangent.
+#[tactic(auto, using(crate::proofs::Replies::poses_most))]
 pub(crate) fn ex<T: Width + Number>(b: &[u8], out: &mut [u8]) -> Result<Wrote, Refusal>
     requires b_len { length b.now ≡ width_of T.format Entry.Ex }
     requires longest_bound { longest ≤ 2 + length out.old }
@@ -138,6 +134,7 @@ pub(crate) fn ex<T: Width + Number>(b: &[u8], out: &mut [u8]) -> Result<Wrote, R
 }
 
 // The scaled pair of coefficients; refusal 1 for z < 0.
+#[tactic(auto, using(crate::proofs::Replies::widest))]
 pub(crate) fn co<T: Width + Number>(b: &[u8], out: &mut [u8]) -> Result<Wrote, Refusal>
     requires b_len { length b.now ≡ width_of T.format Entry.Co }
     requires longest_bound { longest ≤ 2 + length out.old }
@@ -152,6 +149,7 @@ pub(crate) fn co<T: Width + Number>(b: &[u8], out: &mut [u8]) -> Result<Wrote, R
 }
 
 // The block pair of a tangent.
+#[tactic(auto, using(crate::proofs::Replies::widest))]
 pub(crate) fn pa<T: Width + Number>(b: &[u8], out: &mut [u8]) -> Result<Wrote, Refusal>
     requires b_len { length b.now ≡ width_of T.format Entry.Pa }
     requires longest_bound { longest ≤ 2 + length out.old }
@@ -166,6 +164,7 @@ pub(crate) fn pa<T: Width + Number>(b: &[u8], out: &mut [u8]) -> Result<Wrote, R
 }
 
 // A pose's action on a point.
+#[tactic(auto, using(crate::proofs::Replies::widest))]
 pub(crate) fn ac<T: Width + Number>(b: &[u8], out: &mut [u8]) -> Result<Wrote, Refusal>
     requires b_len { length b.now ≡ width_of T.format Entry.Ac }
     requires longest_bound { longest ≤ 2 + length out.old }
@@ -181,6 +180,7 @@ pub(crate) fn ac<T: Width + Number>(b: &[u8], out: &mut [u8]) -> Result<Wrote, R
 }
 
 // The product of two poses; refusal 9 where their frames do not meet.
+#[tactic(auto, using(crate::proofs::Replies::poses_most))]
 pub(crate) fn mu<T: Width + Number>(b: &[u8], out: &mut [u8]) -> Result<Wrote, Refusal>
     requires b_len { length b.now ≡ width_of T.format Entry.Mu }
     requires longest_bound { longest ≤ 2 + length out.old }
@@ -193,7 +193,7 @@ pub(crate) fn mu<T: Width + Number>(b: &[u8], out: &mut [u8]) -> Result<Wrote, R
     let k = frames(&b[at..]);
     let y: [T; POSE] = read(&b[end..]);
     let l = frames(&b[end + at..]);
-    let up: T = number_at(b, 2 * end);
+    let [up]: [T; 1] = read(&b[2 * end..]);
     let mut z = [T::of(0.0); POSE];
     let mut m = [0; 2];
     let called = sim3_mul(&x, &k, &y, &l, up, &mut z, &mut m);
@@ -201,6 +201,7 @@ pub(crate) fn mu<T: Width + Number>(b: &[u8], out: &mut [u8]) -> Result<Wrote, R
 }
 
 // The inverse of a pose.
+#[tactic(auto, using(crate::proofs::Replies::poses_most))]
 pub(crate) fn inv<T: Width + Number>(b: &[u8], out: &mut [u8]) -> Result<Wrote, Refusal>
     requires b_len { length b.now ≡ width_of T.format Entry.In }
     requires longest_bound { longest ≤ 2 + length out.old }
@@ -209,7 +210,7 @@ pub(crate) fn inv<T: Width + Number>(b: &[u8], out: &mut [u8]) -> Result<Wrote, 
 {
     let x: [T; POSE] = read(b);
     let k = frames(&b[T::BYTES * POSE..]);
-    let down: T = number_at(b, framed::<T>());
+    let [down]: [T; 1] = read(&b[framed::<T>()..]);
     let mut z = [T::of(0.0); POSE];
     let mut m = [0; 2];
     let called = sim3_inverse(&x, &k, down, &mut z, &mut m);
@@ -217,6 +218,7 @@ pub(crate) fn inv<T: Width + Number>(b: &[u8], out: &mut [u8]) -> Result<Wrote, 
 }
 
 // The inverse of a block; refusal 2 where e is a zero.
+#[tactic(auto, using(crate::proofs::Replies::widest))]
 pub(crate) fn ji<T: Width + Number>(b: &[u8], out: &mut [u8]) -> Result<Wrote, Refusal>
     requires b_len { length b.now ≡ width_of T.format Entry.Ji }
     requires longest_bound { longest ≤ 2 + length out.old }
@@ -230,6 +232,7 @@ pub(crate) fn ji<T: Width + Number>(b: &[u8], out: &mut [u8]) -> Result<Wrote, R
 }
 
 // The scaled pair of coefficients with the arms that formed it; refusal 1 for z < 0.
+#[tactic(auto, using(crate::proofs::Replies::arms_most))]
 pub(crate) fn ar<T: Width + Number>(b: &[u8], out: &mut [u8]) -> Result<Wrote, Refusal>
     requires b_len { length b.now ≡ width_of T.format Entry.Ar }
     requires longest_bound { longest ≤ 2 + length out.old }

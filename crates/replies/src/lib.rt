@@ -44,6 +44,7 @@ fn width<T: Number>(e: Entry) -> usize
 }
 
 // The answer to the bytes b behind a mark, written from the front of `out` on.
+#[tactic(auto, unfolding(crate::specs::Table::answer_of))]
 fn give<T: Width + Number>(e: Entry, b: &[u8], out: &mut [u8]) -> Result<Wrote, Refusal>
     requires b_len { length b.now ≡ width_of T.format e }
     requires longest_bound { longest ≤ 2 + length out.old }

@@ -2,7 +2,7 @@
 use mathlib.Core.Path.{◌≡◌, refl, sym, ap, ◌∙◌, subst}
 use mathlib.Core.Logic.{◌⊎◌, inl, inr}
 use Prim.Native.Nat.{ℕ, zero, suc, ◌+◌, ◌-◌, ◌*◌, ◌/◌, ◌%◌, ◌^◌, ◌≤◌, ◌<◌}
-use native.Mathlib.Nat.{le_antisymm, lt_of_lt_of_le, not-le_of_lt, mul-div_cancel, le_of_mul-le-mul_right, lt_of_mul-lt-mul_right, mul-le-mul_right, mul-lt-mul_of_pos_right, pow-suc}
+use native.Mathlib.Nat.{one-le-pow, zero-lt-suc, le_antisymm, lt_of_lt_of_le, not-le_of_lt, mul-div_cancel, le_of_mul-le-mul_right, lt_of_mul-lt-mul_right, mul-le-mul_right, mul-lt-mul_of_pos_right, pow-suc}
 use native.Mathlib.Omega.{arith}
 use mathlib.Core.Bool.{false, cond}
 use borrow.Author.Tests.{le-leb, lt-leb}
@@ -13,8 +13,9 @@ use lib.Ieee.Digits.{size-lt, size-le}
 use lib.Ieee.Exact.{HasValue}
 use lib.Ieee.Scale.{round_same}
 use lib.Ieee.Bits.{of_bits-fits}
+use Rattle.std.proofs.lemmas.Nat.{mul-pow}
+use Rattle.std.proofs.lemmas.Bool.{cases_lt}
 use Rattle.ieee.specs.Patterns.{pattern_units}
-use Rattle.ieee.proofs.Signed.{order}
 use Rattle.ieee.proofs.Values.{value-rounds}
 use Rattle.ieee.proofs.Patterns.{units_large, pattern_value}
 use Rattle.root.specs.declared.RootParts.{RootParts}
@@ -28,7 +29,7 @@ use Rattle.root.proofs.Largest.{whole-root-is}
 pub size_is : (n y : ℕ) → 2 ^ y ≤ n → n < 2 ^ suc y → size n ≡ suc y
 size_is n y p q =
     le_antisymm (size-le n (suc y) q)
-    (elim (order (size n) (suc y)) [ inl l ↦ absurd (not-le_of_lt (lt_of_lt_of_le (size-lt n) (pow_mono (omega arith))) p) | inr l ↦ l ])
+    (elim (cases_lt (size n) (suc y)) [ inl l ↦ absurd (not-le_of_lt (lt_of_lt_of_le (size-lt n) (pow_mono (omega arith))) p) | inr l ↦ l ])
 
 module _ (n c y : ℕ) (h : ScaledTo n c y) where
   digits : size n ≡ suc y
@@ -42,9 +43,8 @@ module _ (n c y : ℕ) (h : ScaledTo n c y) where
   quarters-is = rw digits (omega arith)
 
 -- ---- powers of four
-pub four_is : (k : ℕ) → 2 ^ (k * 2) ≡ 4 ^ k
-four_is zero = refl
-four_is (suc k) = ap (λ (x : ℕ). 2 ^ x) (omega arith) ∙ pow-add 2 (k * 2) 2 ∙ ap (λ (x : ℕ). x * 4) (four_is k) ∙ sym (pow-suc 4 k)
+four_is : (k : ℕ) → 2 ^ (k * 2) ≡ 4 ^ k
+four_is k = ap (λ (x : ℕ). 2 ^ x) (omega arith) ∙ pow-add 2 k k ∙ sym (mul-pow 2 2 k)
 
 bit_is : (b : ℕ) → b < 2 → 2 ^ b ≡ 1 + b
 bit_is zero h = refl
@@ -54,9 +54,6 @@ bit_is (suc (suc b)) h = absurd (omega arith)
 power_is : (y : ℕ) → 2 ^ y ≡ 4 ^ (y / 2) * (1 + y % 2)
 power_is y = ap (λ (x : ℕ). 2 ^ x) (omega arith) ∙ pow-add 2 (y / 2 * 2) (y % 2) ∙ (λ i. four_is (y / 2) i * bit_is (y % 2) (omega arith) i)
 
-four_pos : (k : ℕ) → 0 < 4 ^ k
-four_pos k = rw (← four_is k) (pow_pos (k * 2))
-
 pub whole_even : (n c y : ℕ) → n * 2 ^ 52 ≡ c * 2 ^ y → n * 2 ^ 104 ≡ c * (1 + y % 2) * 2 ^ 52 * 4 ^ (y / 2)
 whole_even n c y e = go (4 ^ (y / 2)) (y % 2) (e ∙ ap (λ (x : ℕ). c * x) (power_is y))
   where
@@ -64,7 +61,7 @@ whole_even n c y e = go (4 ^ (y / 2)) (y % 2) (e ∙ ap (λ (x : ℕ). c * x) (p
     go F b k = omega arith
 
 pub whole-m : (n c y : ℕ) → n * 2 ^ 52 ≡ c * 2 ^ y → n * 2 ^ 104 / 4 ^ (y / 2) ≡ c * (1 + y % 2) * 2 ^ 52
-whole-m n c y e = ap (λ (x : ℕ). x / 4 ^ (y / 2)) (whole_even n c y e) ∙ mul-div_cancel (c * (1 + y % 2) * 2 ^ 52) (four_pos (y / 2))
+whole-m n c y e = ap (λ (x : ℕ). x / 4 ^ (y / 2)) (whole_even n c y e) ∙ mul-div_cancel (c * (1 + y % 2) * 2 ^ 52) (one-le-pow (y / 2) 4 (zero-lt-suc 3))
 
 -- ---- the double
 pub regroup : (v p a b : ℕ) → v * (p * a) * b ≡ v * p * (a * b)
@@ -87,7 +84,7 @@ nearest-is v j lo hi few =
 
 -- ---- r and v, which is r or r + 1, have 53 digits; r + 1 too, for of the largest m the remainder is r
 pub either : (r rest v : ℕ) → v ≡ nearer r rest → ((rest ≤ r) × (v ≡ r)) ⊎ ((r < rest) × (v ≡ r + 1))
-either r rest v e = elim (order r rest) [
+either r rest v e = elim (cases_lt r rest) [
   | inl l ↦ inr (l, e ∙ ap (λ b. cond b r (r + 1)) (lt-leb rest r l))
   | inr l ↦ inl (l, e ∙ ap (λ b. cond b r (r + 1)) (le-leb rest r l))
 ]
@@ -98,7 +95,7 @@ module _ (m r rest v : ℕ) (least : 2 ^ 104 ≤ m) (most : m ≤ (2 ^ 53 - 1) *
   r_range = bracket r rest m (2 ^ 52) (2 ^ 53) e k (omega arith) (omega arith)
 
   pub next_small : r < rest → r + 1 < 2 ^ 53
-  next_small l = elim (order (r + 1) (2 ^ 53)) [
+  next_small l = elim (cases_lt (r + 1) (2 ^ 53)) [
     | inl g ↦ g
     | inr g ↦
         let o : r ≡ 2 ^ 53 - 1 = omega (arith, r_range) in

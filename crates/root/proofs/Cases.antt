@@ -1,13 +1,13 @@
 -- The answer for each kind of double, by the tests that the code makes: below zero, equal to zero, and the pattern. Assumes nothing.
-use Rattle.std.proofs.lemmas.Bool.{true≢false}
+use Rattle.std.proofs.lemmas.Bool.{true≢false, and_left}
 use mathlib.Core.Path.{◌≡◌, refl, sym, ap, ◌∙◌}
 use Prim.Native.Nat.{ℕ, zero, suc, ◌+◌, ◌*◌, ◌≤◌, ◌<◌}
 use native.Mathlib.Nat.{zero-mul, zero-lt-suc, mul-pos, not-le_of_lt}
 use native.Mathlib.Omega.{arith}
-use mathlib.Core.Bool.{Bool, true, false, ◌&&◌}
+use mathlib.Core.Bool.{Bool, true, false}
 use borrow.Author.Tests.{lt-ltb, ne_eqb}
 use lib.IntN.{ℤ}
-use lib.Dec.{T, eqb, lit≤}
+use lib.Dec.{T, lit≤}
 use lib.Ieee.{Float, nan, inf, fin, binary64, up, down, lt, eq, fits, to_bits}
 use lib.Ieee.Fits.{up_pos}
 use Rattle.ieee.specs.Numbers.{f0}
@@ -29,8 +29,6 @@ unfolding root_of
 from z h = rw h
 
 -- ---- a zero
-no_zero : (a b : ℕ) (x : Bool) → (a ≡ b → ⊥) → (eqb a b && x) ≡ false
-no_zero a b x h = rw (ne_eqb a b h)
 
 not_zero : (m : ℕ) (e : ℤ) → suc m * up e * 1 ≡ 0 * 1 * down e → ⊥
 not_zero m e q = omega (arith, size_pos m e, q, zero-mul (down e))
@@ -40,7 +38,7 @@ unfolding eq root_from
 zeros nan h = absurd (true≢false (sym h))
 zeros (inf s) h = absurd (true≢false (sym h))
 zeros (fin s zero e) h = refl
-zeros (fin s (suc m) e) h = absurd (true≢false (sym h ∙ no_zero (suc m * up e * 1) (0 * 1 * down e) _ (not_zero m e)))
+zeros (fin s (suc m) e) h = absurd (true≢false (sym h ∙ and_left _ _ (ne_eqb (suc m * up e * 1) (0 * 1 * down e) (not_zero m e))))
 
 -- ---- neither
 zero-eq : (s : Bool) (e : ℤ) → eq (fin s zero e) f0 ≡ true

@@ -13,8 +13,8 @@ use mir.Val.{SFits, to_z, of_z}
 use mir.Facts.{to_z-of_z, to_z_pos}
 use lib.Count.{count_leading_zeros, leading_top}
 use lib.Ieee.{binary64}
+use Rattle.std.proofs.lemmas.Bool.{cases_lt}
 use Rattle.ieee.specs.Patterns.{patterns, pattern_units}
-use Rattle.ieee.proofs.Signed.{order}
 use Rattle.ieee.proofs.Patterns.{units_small, units_large}
 use Rattle.root.specs.Private.{ScaledTo}
 
@@ -40,7 +40,7 @@ lead b p h =
     let t = leading_top 64 b p (omega arith) in
     let j = t.0 in
     let e : count_leading_zeros 64 b + suc j ≡ 64 = t.1 in
-    let few : j < 52 = elim (order j 52) [ inl l ↦ l | inr l ↦ absurd (not-le_of_lt h (le_trans (pow_mono l) t.2)) ] in
+    let few : j < 52 = elim (cases_lt j 52) [ inl l ↦ l | inr l ↦ absurd (not-le_of_lt h (le_trans (pow_mono l) t.2)) ] in
     let i : 52 - (count_leading_zeros 64 b - 11) ≡ j = omega arith in
     (omega arith, omega arith, rw (units_small binary64 b h, i) (moved b j (count_leading_zeros 64 b - 11) (omega arith) t.2 t.3))
 
@@ -59,14 +59,14 @@ normal b l h =
 pub scaled : (b : ℕ) → 0 < b → b < patterns binary64 → (c : ℕ) × (y : ℕ) × ScaledTo (pattern_units binary64 b) c y
 scaled b p h =
     let k = count_leading_zeros 64 b - 11 in
-    elim (order b (2 ^ 52)) [
+    elim (cases_lt b (2 ^ 52)) [
       | inl l ↦ (b * 2 ^ k % 2 ^ 64, 52 - k, (lead b p l).2)
       | inr l ↦ (2 ^ 52 + b % 2 ^ 52, b / 2 ^ 52 + 51, normal b l h)
     ]
 
 -- ---- the exponent
 sub_mag : (j : ℕ) → j ≤ 1048 → mag (sub_ℕ j 589) < 2 ^ 63
-sub_mag j h = elim (order j 589) [ inl l ↦ rw (lt-ltb j 589 l) (omega arith) | inr l ↦ rw (le-ltb j 589 l) (omega arith) ]
+sub_mag j h = elim (cases_lt j 589) [ inl l ↦ rw (lt-ltb j 589 l) (omega arith) | inr l ↦ rw (le-ltb j 589 l) (omega arith) ]
 
 pub exponent_fits : (j : ℕ) → j ≤ 1048 → SFits w64 (to_z w64 j -ℤ pos 589)
 exponent_fits j h = rw (to_z_pos w64 {n = j} (omega arith)) (record { sfits = sub_mag j h })

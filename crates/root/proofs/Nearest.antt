@@ -10,8 +10,8 @@ use lib.IntN.{ℤ}
 use lib.Pow.{pow_pos}
 use lib.Ieee.{Float, nan, inf, fin, binary64, fits}
 use lib.Ieee.Exact.{HasValue}
+use Rattle.std.proofs.lemmas.Bool.{cases_lt}
 use Rattle.ieee.specs.Patterns.{units_of}
-use Rattle.ieee.proofs.Signed.{order}
 use Rattle.ieee.proofs.Values.{unsigned}
 use Rattle.ieee.proofs.Patterns.{units_are}
 use Rattle.ieee.proofs.Spacing.{next-above, next-below}
@@ -65,7 +65,7 @@ pub record Within (m w : ℕ) : Type 0 where
 
 module _ (n m h w : ℕ) (is : n * 2 ^ 1074 ≡ m * (2 ^ h * 2 ^ h)) (i : Within m w) where
   below-least : (b : ℕ) → b < 2 ^ 52 * 2 ^ h → ((w + 1) * 2 ^ h + b) * ((w + 1) * 2 ^ h + b) < 4 * (m * (2 ^ h * 2 ^ h))
-  below-least b g = elim (order (2 ^ 52) (w + 1)) [
+  below-least b g = elim (cases_lt (2 ^ 52) (w + 1)) [
     | inl l ↦ farther_below m w (2 ^ h) b (pow_pos h) i.low (omega (arith, mul-le-mul_right {m = 2 ^ 52} {n = w} (2 ^ h) (omega arith)))
     | inr l ↦
         let v : w + 1 ≡ 2 ^ 52 = omega arith in

@@ -11,7 +11,7 @@ use lib.Ieee.{Float, nan, inf, fin, binary64, up, down}
 use lib.Ieee.Exact.{HasValue}
 use lib.Ieee.Fits.{up_pos, down_pos}
 use lib.Ieee.Positive.{first_pos}
-use Rattle.ieee.proofs.Signed.{order}
+use Rattle.std.proofs.lemmas.Bool.{cases_lt}
 use Rattle.ieee.proofs.Values.{value-only}
 use Rattle.root.specs.declared.RootParts.{RootParts}
 use Rattle.root.specs.Root.{nearer}
@@ -20,9 +20,9 @@ use Rattle.root.proofs.Largest.{largest_only}
 
 -- ---- powers of two
 power_only : (a b : ℕ) → 2 ^ a ≡ 2 ^ b → a ≡ b
-power_only a b e = elim (order a b) [
+power_only a b e = elim (cases_lt a b) [
   | inl l ↦ absurd (lt_irrefl (2 ^ b) (subst (λ (x : ℕ). x < 2 ^ b) e (pow-lt l)))
-  | inr l ↦ elim (order b a) [ inl g ↦ absurd (lt_irrefl (2 ^ b) (subst (λ (x : ℕ). 2 ^ b < x) e (pow-lt g))) | inr g ↦ le_antisymm g l ]
+  | inr l ↦ elim (cases_lt b a) [ inl g ↦ absurd (lt_irrefl (2 ^ b) (subst (λ (x : ℕ). 2 ^ b < x) e (pow-lt g))) | inr g ↦ le_antisymm g l ]
 ]
 
 -- 2 ^ s / 2 ^ t over its denominators
@@ -57,9 +57,9 @@ not_less : (m n a b : ℕ) → m < 2 ^ 106 → 2 ^ 104 ≤ n → m * (2 ^ a * 2 
 not_less m n a b p q e l = four-times m n (2 ^ 104) (2 ^ a) (2 ^ b) p q (pow_pos a) (subst (λ (x : ℕ). x ≤ 2 ^ b) (pow-succ' 2 a) (pow_mono l)) e
 
 same_power : (m n a b : ℕ) → 2 ^ 104 ≤ m → m < 2 ^ 106 → 2 ^ 104 ≤ n → n < 2 ^ 106 → m * (2 ^ a * 2 ^ a) ≡ n * (2 ^ b * 2 ^ b) → a ≡ b
-same_power m n a b p q r s e = elim (order a b) [
+same_power m n a b p q r s e = elim (cases_lt a b) [
   | inl l ↦ absurd (not_less m n a b q r e l)
-  | inr l ↦ elim (order b a) [ inl g ↦ absurd (not_less n m b a s p (sym e) g) | inr g ↦ le_antisymm g l ]
+  | inr l ↦ elim (cases_lt b a) [ inl g ↦ absurd (not_less n m b a s p (sym e) g) | inr g ↦ le_antisymm g l ]
 ]
 
 -- ---- m and s

@@ -4,10 +4,10 @@ use mathlib.Core.Logic.{inl, inr}
 use Prim.Native.Nat.{ℕ, zero, suc, ◌+◌, ◌-◌, ◌*◌, ◌/◌, ◌%◌, ◌^◌, ◌≤◌, ◌<◌}
 use native.Mathlib.Nat.{mul-le-mul, mul-le-mul_right, mul-le-mul_left, mod-lt, div-add-mod'}
 use native.Mathlib.Omega.{arith}
-use Rattle.ieee.proofs.Signed.{order}
+use Rattle.std.proofs.lemmas.Bool.{cases_lt}
 
 pub square-lt : (a b : ℕ) → a * a < b * b → a < b
-square-lt a b h = elim (order a b) [ inl l ↦ l | inr l ↦ absurd (omega (arith, mul-le-mul l l)) ]
+square-lt a b h = elim (cases_lt a b) [ inl l ↦ l | inr l ↦ absurd (omega (arith, mul-le-mul l l)) ]
 
 pub square_le : (a b : ℕ) → a ≤ b → a * a ≤ b * b
 square_le a b h = mul-le-mul h h
@@ -37,7 +37,7 @@ module _ (s r b a l : ℕ) (h : Step s r b a l) where
 
   module _ (q u : ℕ) (e : q * (2 * s) + u ≡ r * b + a) (k : u < 2 * s) where
     quotient_le : q ≤ b
-    quotient_le = elim (order b q) [ inl g ↦ absurd (omega (arith, mul-le-mul_right (2 * s) g, mul-le-mul_right b h.rest)) | inr g ↦ g ]
+    quotient_le = elim (cases_lt b q) [ inl g ↦ absurd (omega (arith, mul-le-mul_right (2 * s) g, mul-le-mul_right b h.rest)) | inr g ↦ g ]
 
     quotient_small : q * q ≤ 2 ^ 52
     quotient_small = omega (arith, mul-le-mul quotient_le quotient_le, mul-le-mul h.base h.base)

@@ -18,9 +18,10 @@ use lib.Ieee.Exact.{HasValue, round_exact}
 use lib.Ieee.Nearest.{closest}
 use lib.Ieee.Scale.{round_same}
 use lib.Ieee.Fits.{down_pos, round-fits}
+use Rattle.std.proofs.lemmas.Nat.{mul-pow}
+use Rattle.std.proofs.lemmas.Bool.{cases_lt}
 use Rattle.ieee.specs.Numbers.{f0}
 use Rattle.ieee.specs.Patterns.{units_of, field_units, pattern_units}
-use Rattle.ieee.proofs.Signed.{order}
 use Rattle.ieee.proofs.Values.{value_cross}
 use Rattle.ieee.proofs.Patterns.{pattern_below, pattern_pos, pattern_units_lem, pattern_value, units_exact, units_are}
 use Rattle.linalg.specs.Answer.{answers}
@@ -31,7 +32,7 @@ use Rattle.root.proofs.Largest.{whole-root_largest}
 use Rattle.root.proofs.Cases.{below, from}
 use Rattle.root.proofs.Only.{root-only}
 use Rattle.root.proofs.Digits.{scaled}
-use Rattle.root.proofs.Assembly.{quarters-is, whole-m, whole_even, four_is, range, r_range, v_range, next_small}
+use Rattle.root.proofs.Assembly.{quarters-is, whole-m, whole_even, range, r_range, v_range, next_small}
 use Rattle.root.proofs.Assembly.{either, regroup}
 use Rattle.root.proofs.Level.{level_of, level-at}
 use Rattle.root.proofs.Rounding.{closest_down, closest_up, round_whole}
@@ -39,7 +40,7 @@ use Rattle.root.proofs.Nearest.{Within, half-below, half-above, double-nearer}
 
 -- ---- 2 ^ s for s = j − k: up s / down s is 2 ^ j / 2 ^ k
 power_of : (j k : ℕ) → up (sub_ℕ j k) * 2 ^ k ≡ 2 ^ j * down (sub_ℕ j k)
-power_of j k = elim (order j k) [
+power_of j k = elim (cases_lt j k) [
   | inl l ↦
       let e : j + suc (k - suc j) ≡ k = omega arith in
       rw (lt-ltb j k l) (one (2 ^ k) ∙ sym (ap (λ (x : ℕ). 2 ^ x) e) ∙ pow-add 2 j (suc (k - suc j)))
@@ -92,9 +93,6 @@ place n c y h =
       whole = whole_even n c y h.value ∙ (λ i. sym M i * 4 ^ sym J i);
     }
 
-four-square : (j : ℕ) → 4 ^ j ≡ 2 ^ j * 2 ^ j
-four-square j = let e : j * 2 ≡ j + j = omega arith in sym (four_is j) ∙ ap (λ (x : ℕ). 2 ^ x) e ∙ pow-add 2 j j
-
 -- from m alone
 module _ (n j m : ℕ) (p : Place n j m) where
   r : ℕ
@@ -139,7 +137,7 @@ module _ (n j m : ℕ) (p : Place n j m) where
       go a K J Q k e = eq_of_mul-eq-mul_right K k a (v * (J * Q)) (omega arith)
 
   square : n * 2 ^ 1074 ≡ m * (2 ^ (j + 485) * 2 ^ (j + 485))
-  square = rw (pow-add 2 j 485) (go (2 ^ 104) (2 ^ 485) (2 ^ j) (p.whole ∙ ap (λ (y : ℕ). m * y) (four-square j)))
+  square = rw (pow-add 2 j 485) (go (2 ^ 104) (2 ^ 485) (2 ^ j) (p.whole ∙ ap (λ (y : ℕ). m * y) (mul-pow 2 2 j)))
     where
       go : (X Q J : ℕ) → n * X ≡ m * (J * J) → n * (X * (Q * Q)) ≡ m * (J * Q * (J * Q))
       go X Q J e = omega (arith, ap (λ (y : ℕ). y * (Q * Q)) e)
@@ -159,7 +157,7 @@ module _ (n j m : ℕ) (p : Place n j m) where
   -- z is x' / d
   exact : (x' d : ℕ) → x' * 2 ^ 1074 ≡ n * d → x' * (down (sub_ℕ j 589) * down (sub_ℕ j 589)) ≡ m * (up (sub_ℕ j 589) * up (sub_ℕ j 589)) * d
   exact x' d h =
-      scale-square x' d m (2 ^ j) (2 ^ 589) (pow_pos 589) (go (2 ^ 1074) (2 ^ 104) h (p.whole ∙ ap (λ (y : ℕ). m * y) (four-square j)))
+      scale-square x' d m (2 ^ j) (2 ^ 589) (pow_pos 589) (go (2 ^ 1074) (2 ^ 104) h (p.whole ∙ ap (λ (y : ℕ). m * y) (mul-pow 2 2 j)))
       (up (sub_ℕ j 589)) (down (sub_ℕ j 589)) (power_of j 589)
     where
       go : (L S : ℕ) → x' * L ≡ n * d → n * S ≡ m * (2 ^ j * 2 ^ j) → x' * (L * S) ≡ m * (2 ^ j * 2 ^ j) * d

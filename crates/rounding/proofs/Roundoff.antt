@@ -1,7 +1,7 @@
 -- `round` is within half a place of the fraction that it rounds. Assumes nothing.
 use mathlib.Core.Path.{◌≡◌, refl, sym, ap, subst}
 use Prim.Native.Nat.{ℕ, zero, suc, ◌+◌, ◌-◌, ◌*◌, ◌/◌, ◌%◌, ◌^◌, ◌≤◌, ◌<◌, compare, Ordering}
-use native.Mathlib.Nat.{suc-mul, mul-le-mul_left, mul-le-mul_right, le_of_mul-le-mul_right, lt_of_mul-lt-mul_right, mul-lt-mul_of_pos_right, mul-pos, div-add-mod', mod-lt, pow-suc}
+use native.Mathlib.Nat.{div-lt_iff_lt-mul, le_of_lt, le_refl, suc-mul, mul-le-mul_left, mul-le-mul_right, le_of_mul-le-mul_right, lt_of_mul-lt-mul_right, mul-lt-mul_of_pos_right, mul-pos, div-add-mod', mod-lt, pow-suc}
 use native.Mathlib.Omega.{arith}
 use mathlib.Core.Bool.{Bool, true, false, not}
 use lib.Dec.{T, is_le, compare_is_eq, eqb, leb→le, nleb→lt, eqb→eq, eqb_refl}
@@ -91,16 +91,13 @@ scaled-down w x e l p num den q z h s b =
     le_of_mul-le-mul_right {k = 2 * p} (simp expand (omega (arith, simp expand at u, simp expand at v, simp expand at c))) (omega arith)
 
 -- ---- `rounding_error` is enough
-next : (a b : ℕ) → 0 < b → a ≤ suc (a / b) * b
-next a b h = let e : a / b * b + a % b ≡ a = div-add-mod' a b in let l : a % b < b = mod-lt a h in rw suc-mul (omega arith)
-
 pub rnd_enough : (f : Format) (w x : ℕ) → 2 * (x * 2 ^ low f) + w * 2 ^ prec f ≤ rounding_error f w x * (2 ^ prec f * (2 * 2 ^ low f))
 rnd_enough f w x = go (2 ^ prec f) (2 ^ low f) (2 ^ suc (low f)) (pow-suc 2 (low f)) (pow_pos (prec f)) (pow_pos (suc (low f)))
   where
     go : (p l m : ℕ) → m ≡ l * 2 → 0 < p → 0 < m → 2 * (x * l) + w * p ≤ (suc (x / p) + suc (w / m)) * (p * (2 * l))
     go p l m e hp hm =
-        let a = mul-le-mul_right (2 * l) (next x p hp) in
-        let b : w ≤ suc (w / m) * (l * 2) = subst (λ (y : ℕ). w ≤ suc (w / m) * y) e (next w m hm) in
+        let a = mul-le-mul_right (2 * l) (le_of_lt ((div-lt_iff_lt-mul hp).0 (le_refl (suc (x / p))))) in
+        let b : w ≤ suc (w / m) * (l * 2) = subst (λ (y : ℕ). w ≤ suc (w / m) * y) e (le_of_lt ((div-lt_iff_lt-mul hm).0 (le_refl (suc (w / m))))) in
         let c = mul-le-mul_right p b in
         simp expand (omega (arith, simp expand at a, simp expand at c))
 

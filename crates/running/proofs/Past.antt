@@ -12,7 +12,7 @@ use Rattle.frames.specs.Joins.{framed_mul}
 use Rattle.frames.specs.Floats.{Pose}
 use Rattle.std.specs.Prelude.{Some, None}
 use Rattle.running.specs.declared.Running.{Running}
-use Rattle.running.specs.Running.{Start, running_none, one_more, due, stands, produced_of, product_on, join_on, join_of, every_of}
+use Rattle.running.specs.Running.{Start, running_none, one_more, due, produced_of, product_on, join_on, every_of}
 use Rattle.running.specs.History.{Event, join, renew, after, product, renormalized_product, ran, Small, HistoryTheorem}
 
 -- ---- the count that is held at 65535

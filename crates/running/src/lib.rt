@@ -5,13 +5,11 @@
 
 ghost use Rattle.std.specs.Prelude.{◌≡◌};
 ghost use Rattle.std.specs.Float.{binary64};
-ghost use Rattle.frames.specs.Joins.{framed_mul};
 ghost use Rattle.linalg.specs.Answer.{answer};
 ghost use Rattle.running.specs.Running.{running_none, one_more, due, joint_told, stands, produced_of, join_of, every_of, all_renormalized};
 
 use frames::Pose;
 use linalg::refusal::Refusal;
-use sim3::sim3::Sim3;
 use so3::quat::Renormalize;
 
 // The running pose, none before the first pose comes; n, after every how many products it is renormalised,
@@ -31,6 +29,7 @@ pub struct Joined {
 }
 
 // One product more. No n is greater than 65535, so none can tell that many from more.
+#[tactic(auto, unfolding(crate::specs::Running::one_more))]
 fn one_more(k: u16) -> u16
     ensures { result ≡ one_more k }
 {
@@ -41,34 +40,11 @@ fn one_more(k: u16) -> u16
 }
 
 // Whether the product that is the kth since the last renormalisation is renormalised.
+#[tactic(auto, unfolding(crate::specs::Running::due))]
 fn due(n: u16, k: u16) -> bool
     ensures { result ≡ due n k }
 {
     (0 < n) & (n <= k)
-}
-
-// P X as `Pose::mul` has it, by its parts. The job's MU has that function for itself: with one caller it
-// is inlined there.
-fn product(p: Pose<f64>, x: Pose<f64>, up: f64) -> Result<Pose<f64>, Refusal>
-    ensures { answer result ≡ framed_mul binary64 p x up }
-{
-    if p.from != x.to {
-        return Err(Refusal::FramesDiffer);
-    }
-    let a = p.sim3;
-    let b = x.sim3;
-    let q = a.q.mul(b.q);
-    let t = a.act(up, b.t);
-    let sim3 = Sim3 {
-        q,
-        t,
-        sigma: a.sigma + b.sigma,
-    };
-    Ok(Pose {
-        sim3,
-        from: x.from,
-        to: p.to,
-    })
 }
 
 impl Running {
@@ -93,6 +69,7 @@ impl Running {
     }
 
     // The product p becomes the running pose, renormalised where it is due.
+    #[tactic(auto, unfolding(crate::specs::Running::produced_of))]
     fn produced(self, p: Pose<f64>) -> Joined
         ensures { joint_told result ≡ produced_of binary64 p self.every (one_more self.since) }
     {
@@ -105,12 +82,13 @@ impl Running {
 
     // The first pose is the running pose, and is no product; a further one is multiplied by it from the
     // left, up being e^sigma of the running pose. Where the frames do not meet (9) nothing changes.
+    #[tactic(auto, unfolding(crate::specs::Running::join_on, crate::specs::Running::product_on))]
     pub fn join(self, x: Pose<f64>, up: f64) -> Joined
         ensures { joint_told result ≡ join_of binary64 self x up }
     {
         match self.pose {
             None => self.stand(x),
-            Some(p) => match product(p, x, up) {
+            Some(p) => match p.mul(x, up) {
                 Ok(y) => self.produced(y),
                 Err(refusal) => Joined {
                     running: self,

@@ -7,9 +7,10 @@ use native.Mathlib.Omega.{arith}
 use mathlib.Core.Bool.{Bool, true, false, not}
 use borrow.Author.Tests.{eq-eqb, ne_eqb}
 use lib.Ieee.{Float, Format, neg, add, sub, mul}
+use Rattle.std.proofs.lemmas.Bool.{cases_lt}
 use Rattle.ieee.specs.Signs.{plain, Same}
 use Rattle.ieee.proofs.Sign.{mul-neg_l, mul-neg_r, mul-neg-neg}
-use Rattle.ieee.proofs.Signed.{order, add_same, sub_same, neg-add, neg-sub}
+use Rattle.ieee.proofs.Signed.{add_same, sub_same, neg-add, neg-sub}
 use Rattle.ieee.proofs.Product.{mul-same}
 use Rattle.series.specs.Series.{series_first, series_next, series_level}
 use Rattle.series.specs.Private.{odd}
@@ -78,7 +79,7 @@ next_mirror f false sigma z l m h =
     }
 
 pub odd_suc : (j : ℕ) → odd (suc j) ≡ not (odd j)
-odd_suc j = elim (order (j % 2) 1) [
+odd_suc j = elim (cases_lt (j % 2) 1) [
   | inl h ↦ rw (ne_eqb (j % 2) 1 (λ e. omega arith), eq-eqb (suc j % 2) 1 (omega arith)) refl
   | inr h ↦ rw (eq-eqb (j % 2) 1 (omega arith), ne_eqb (suc j % 2) 1 (λ e. omega arith)) refl
 ]

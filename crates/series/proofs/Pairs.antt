@@ -15,7 +15,7 @@ use Rattle.ieee.proofs.Clear.{add-is-same}
 use Rattle.tables.specs.Tables.{recip_fact}
 use Rattle.series.specs.Series.{series_level, level_terms, series_terms, series_sum, series_sums, coeffs_delta, series_chi, series_coeffs, series_full}
 use Rattle.series.specs.Private.{odd, gain_flip, sums_none, sums_gain, sums_gain_mirrored, tail_terms, sums_last_mirrored, pair_turn, pair_turns, pair_sums, pair_full}
-use Rattle.series.specs.Floats.{Sums, Sim3Coeffs, CoeffsPair}
+use Rattle.series.specs.Floats.{Sums}
 use Rattle.series.proofs.Mirror.{Turned, mul-turned_l, odd_suc, level_mirror}
 use Rattle.series.proofs.Sum.{sum_fits, sum_clear, sums_below, tail-is}
 use Rattle.series.proofs.Solo.{last_is}
@@ -136,6 +136,3 @@ coeffs_even f sigma z v0 w0 s = rw (mul-neg-neg f sigma sigma) refl
 pub pair_is : (f : Format) (sigma z : Float) (k : ℕ) → pair_full f sigma z k ≡ record { pos = series_full f sigma z k; neg = series_full f (neg sigma) z k }
 unfolding pair_full pair_sums series_full
 pair_is f sigma z k = simp (turns_are, last_is, last_mirrored-is, coeffs_even)
-
-abbrev pub beside : Sim3Coeffs → Sim3Coeffs → CoeffsPair
-beside p n = record { pos = p; neg = n }

@@ -5,19 +5,15 @@ use native.Mathlib.Omega.{arith}
 use native.Mathlib.Numerals.{add-one}
 use lib.Ieee.{Float, Format, add, mul}
 use Rattle.tables.specs.Tables.{recip_fact}
-use Rattle.series.specs.Series.{series_first, series_next, series_level, level_terms, series_terms, series_sum, series_sums}
-use Rattle.series.specs.Private.{sums_none, sums_gain, tail_terms, sums_last, solo_turn, solo_turns, v_none, v_turn, v_turns}
-use Rattle.series.specs.Floats.{TurnsV}
+use Rattle.series.specs.Series.{series_level, level_terms, series_terms, series_sum, series_sums}
+use Rattle.series.specs.Private.{sums_none, sums_gain, tail_terms, sums_last, solo_turn, solo_turns}
+use Rattle.series.specs.Floats.{Turns}
 use Rattle.series.proofs.Sum.{sums_below, sum_more, tail-is}
 
--- ---- a turn of each loop, at the code's j + 1
+-- ---- a turn of the loop, at the code's j + 1
 pub solo_more : (f : Format) (sigma z : Float) (j : ℕ) → solo_turns f sigma z (j + 1) ≡ solo_turn f sigma z (recip_fact f (j + 1)) (recip_fact f (j + 2)) (solo_turns f sigma z j)
 unfolding solo_turns
 solo_more f sigma z j = ap (solo_turns f sigma z) (add-one j)
-
-pub v_more : (f : Format) (sigma z : Float) (j : ℕ) → v_turns f sigma z (j + 1) ≡ v_turn f sigma z (recip_fact f (j + 1)) (v_turns f sigma z j)
-unfolding v_turns
-v_more f sigma z j = ap (v_turns f sigma z) (add-one j)
 
 -- ---- all six sums
 pub solo_are : (f : Format) (sigma z : Float) (n : ℕ) → solo_turns f sigma z n ≡ record { level = series_level f sigma z n; sums = sums_below f sigma z n }
@@ -45,29 +41,15 @@ last_is f sigma z k =
       sum_more f (λ j. (series_terms f sigma z j).dv2) (k + 3) (k + 4) d,
     ))
 
--- ---- v alone
-v_are :
-    (f : Format) (sigma z : Float) (n : ℕ) →
-    v_turns f sigma z n
-    ≡ record {
-      p = (series_level f sigma z n).p;
-      xi = (series_level f sigma z n).xi;
-      zeta = (series_level f sigma z n).zeta;
-      v1 = series_sum f (λ j. (series_terms f sigma z j).v1) n;
-      v2 = series_sum f (λ j. (series_terms f sigma z j).v2) n;
-    }
-unfolding v_turns v_none v_turn series_first series_next series_level level_terms series_sum
-v_are f sigma z zero = refl
-v_are f sigma z (suc n) = ap (v_turn f sigma z (recip_fact f (n + 1))) (v_are f sigma z n)
-
-pub v1-is : (f : Format) (sigma z : Float) (k : ℕ) → (v_turns f sigma z (k + 1)).v1 ≡ (series_sums f sigma z k).v1
+-- ---- v alone: its two sums, v2 with one term more
+pub v1-is : (f : Format) (sigma z : Float) (k : ℕ) → (solo_turns f sigma z (k + 1)).sums.v1 ≡ (series_sums f sigma z k).v1
 unfolding series_sums
-v1-is f sigma z k = ap (λ (s : TurnsV). s.v1) (v_are f sigma z (k + 1))
+v1-is f sigma z k = ap (λ (s : Turns). s.sums.v1) (solo_are f sigma z (k + 1))
 
 pub v2-is :
     (f : Format) (sigma z : Float) (k : ℕ) →
-    add f (v_turns f sigma z (k + 1)).v2 (mul f (v_turns f sigma z (k + 1)).zeta (recip_fact f (k + 2))) ≡ (series_sums f sigma z k).v2
+    add f (solo_turns f sigma z (k + 1)).sums.v2 (mul f (solo_turns f sigma z (k + 1)).level.zeta (recip_fact f (k + 2))) ≡ (series_sums f sigma z k).v2
 unfolding series_sums level_terms
 v2-is f sigma z k =
     let e : k + 2 ≡ k + 1 + 1 = omega arith in
-    rw (v_are f sigma z (k + 1), e) (sum_more f (λ j. (series_terms f sigma z j).v2) (k + 1) (k + 1 + 1) refl)
+    rw (solo_are f sigma z (k + 1), e) (sum_more f (λ j. (series_terms f sigma z j).v2) (k + 1) (k + 1 + 1) refl)

@@ -4,7 +4,6 @@ use Rattle.series.specs.declared.recurrence.Level as CodeLevel
 use Rattle.series.specs.declared.recurrence.Sums as CodeSums
 use Rattle.series.specs.declared.recurrence.Tail as CodeTail
 use Rattle.series.specs.declared.recurrence.Turns as CodeTurns
-use Rattle.series.specs.declared.recurrence.TurnsV as CodeTurnsV
 use Rattle.series.specs.declared.recurrence.TurnsPair as CodeTurnsPair
 use Rattle.series.specs.declared.sim3.Sim3Coeffs as CodeSim3Coeffs
 use Rattle.series.specs.declared.sim3.Coeffs4 as CodeCoeffs4
@@ -35,12 +34,6 @@ Turns = CodeTurns.Turns Float
 
 abbrev pub as_turns : {T : Type 0} → (T → Float) → CodeTurns.Turns T → Turns
 as_turns h a = record { level = as_level h a.level; sums = as_sums h a.sums }
-
-abbrev pub TurnsV : Type 0
-TurnsV = CodeTurnsV.TurnsV Float
-
-abbrev pub as_turns_v : {T : Type 0} → (T → Float) → CodeTurnsV.TurnsV T → TurnsV
-as_turns_v h a = record { p = h a.p; xi = h a.xi; zeta = h a.zeta; v1 = h a.v1; v2 = h a.v2 }
 
 abbrev pub TurnsPair : Type 0
 TurnsPair = CodeTurnsPair.TurnsPair Float

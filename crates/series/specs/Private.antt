@@ -2,7 +2,7 @@
 use Rattle.std.specs.Prelude.{ℕ, zero, suc, ◌+◌, ◌%◌, Bool, not, cond, eqb, Float}
 use Rattle.std.specs.Float.{Format}
 use Rattle.std.specs.Float.Ieee.{neg}
-use Rattle.ieee.specs.Numbers.{f0, f1}
+use Rattle.ieee.specs.Numbers.{f0}
 use Rattle.ieee.specs.Infix.{operations}
 use Rattle.tables.specs.Tables.{recip_fact}
 use Rattle.series.specs.Series.{series_first, series_next, level_terms, g_series, series_coeffs}
@@ -10,17 +10,13 @@ use Rattle.series.specs.Floats.{Level}
 use Rattle.series.specs.Floats.{Sums}
 use Rattle.series.specs.Floats.{Tail}
 use Rattle.series.specs.Floats.{Turns}
-use Rattle.series.specs.Floats.{TurnsV}
 use Rattle.series.specs.Floats.{TurnsPair}
 use Rattle.series.specs.Floats.{CoeffsPair}
 use Rattle.series.specs.Floats.{Signs}
 
--- the sums of one sign before the first term, and v alone before the first level
+-- the sums of one sign before the first term
 unfoldable pub sums_none : Sums
 sums_none = record { v1 = f0; v2 = f0; w1 = f0; w2 = f0; dv1 = f0; dv2 = f0 }
-
-unfoldable pub v_none : TurnsV
-v_none = record { p = f1; xi = f0; zeta = f0; v1 = f0; v2 = f0 }
 
 abbrev pub odd : ℕ → Bool
 odd j = eqb (j % 2) 1
@@ -94,17 +90,6 @@ module _ (f : Format) where
         dv2 = gain_flip odd (gain_flip (not odd) (gain_flip odd s.dv2 t.dv2) t.dv2_next) t.dv2_last;
       }
 
-  -- ---- a level of v alone
-  unfoldable pub v_turn : Float → Float → Float → TurnsV → TurnsV
-  v_turn sigma z r1 s =
-      record {
-        p = s.p ⊗ sigma;
-        xi = sigma ⊗ s.xi ⊕ s.p ⊖ z ⊗ s.zeta;
-        zeta = sigma ⊗ s.zeta ⊕ s.xi;
-        v1 = s.v1 ⊕ s.xi ⊗ r1;
-        v2 = s.v2 ⊕ s.zeta ⊗ r1;
-      }
-
   -- ---- Horner's sums at both signs: a term in front, with the reciprocal r
   unfoldable pub g_term : Float → Float → Float → Signs Float → Signs Float
   g_term sigma minus r g = record { pos = r ⊕ sigma ⊗ g.pos; neg = r ⊕ minus ⊗ g.neg }
@@ -117,11 +102,6 @@ solo_turn f sigma z r1 r2 s =
 unfoldable pub solo_turns : Format → Float → Float → ℕ → Turns
 solo_turns f sigma z zero = record { level = series_first; sums = sums_none }
 solo_turns f sigma z (suc j) = solo_turn f sigma z (recip_fact f (j + 1)) (recip_fact f (j + 2)) (solo_turns f sigma z j)
-
--- ---- v alone: n turns
-unfoldable pub v_turns : Format → Float → Float → ℕ → TurnsV
-v_turns f sigma z zero = v_none
-v_turns f sigma z (suc j) = v_turn f sigma z (recip_fact f (j + 1)) (v_turns f sigma z j)
 
 -- ---- both signs
 unfoldable pub pair_turn : Format → Float → Float → Float → Float → Bool → TurnsPair → TurnsPair

@@ -10,6 +10,7 @@ use crate::sim3::{Horner, Signs};
 use tables::Tables;
 
 // The sum of sigma^i/(i + l)! over i < terms, by Horner from the last term.
+#[tactic(auto, using(crate::proofs::PartialSums::stopped_last))]
 pub fn g_series<T: Tables>(sigma: T, l: usize, terms: usize) -> T
     requires { (l ≤ 2) × (terms ≤ 30) }
     ensures { T.float result ≡ g_series T.format (T.float sigma) l terms }
@@ -18,6 +19,7 @@ pub fn g_series<T: Tables>(sigma: T, l: usize, terms: usize) -> T
 }
 
 // That sum, stopped after n entries.
+#[tactic(auto, using(crate::proofs::PartialSums::stopped_more), unfolding(crate::specs::Pass::g_stopped))]
 pub fn g_stopped<T: Tables>(sigma: T, l: usize, terms: usize, n: usize) -> T
     requires { (l ≤ 2) × (terms ≤ 30) × (n ≤ terms) }
     ensures { T.float result ≡ g_stopped T.format (T.float sigma) l terms n }
@@ -40,22 +42,16 @@ pub fn horner_stopped<T: Tables>(sigma: T, k: usize, n: usize) -> Horner<T>
         } }
 {
     let minus = -sigma;
-    let mut v = T::of(0.0);
-    let mut v_neg = T::of(0.0);
-    let mut w = T::of(0.0);
-    let mut w_neg = T::of(0.0);
+    let mut v0 = Signs {
+        pos: T::of(0.0),
+        neg: T::of(0.0),
+    };
+    let mut w0 = v0;
     for i in 0..n {
-        let r1: T = recip(k - i);
-        let r2: T = recip(k - i + 1);
-        v = r1 + sigma * v;
-        v_neg = r1 + minus * v_neg;
-        w = r2 + sigma * w;
-        w_neg = r2 + minus * w_neg;
+        v0 = g_term(sigma, minus, recip(k - i), v0);
+        w0 = g_term(sigma, minus, recip(k - i + 1), w0);
     }
-    Horner {
-        v0: Signs { pos: v, neg: v_neg },
-        w0: Signs { pos: w, neg: w_neg },
-    }
+    Horner { v0, w0 }
 }
 
 // How many entries a sum of so many terms has read at a stop: all of them, if it has no more.
@@ -66,6 +62,7 @@ pub fn entries_read(stop: usize, terms: usize) -> usize
 }
 
 // One more term in front, with the reciprocal r.
+#[tactic(auto, unfolding(crate::specs::Private::g_term))]
 pub fn g_term<T: Tables>(sigma: T, minus: T, r: T, g: Signs<T>) -> Signs<T>
     ensures { as_signs T.float result
         ≡ g_term T.format (T.float sigma) (T.float minus) (T.float r) (as_signs T.float g) }

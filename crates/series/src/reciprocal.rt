@@ -5,6 +5,7 @@ ghost use Rattle.tables.specs.Tables.{recip_fact};
 use tables::Tables;
 
 // 1/n!, for an index that the table has.
+#[tactic(auto, using(tables::proofs::Every::recip_exists))]
 pub fn table_entry<T: Tables>(n: usize) -> T
     requires { n ≤ 32 }
     ensures { T.float result ≡ recip_fact T.format n }

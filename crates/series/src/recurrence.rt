@@ -2,8 +2,8 @@
 // sums of them, for one sign.
 ghost use Rattle.std.specs.Prelude.{◌≡◌};
 ghost use Rattle.series.specs.Series.{series_first, series_next, level_terms, series_chi, series_coeffs};
-ghost use Rattle.series.specs.Private.{sums_none, sums_gain, tail_terms, sums_last, v_none, v_turn};
-ghost use Rattle.series.specs.Floats.{as_level, as_sim3_coeffs, as_sums, as_tail, as_turns_v};
+ghost use Rattle.series.specs.Private.{sums_none, sums_gain, tail_terms, sums_last};
+ghost use Rattle.series.specs.Floats.{as_level, as_sim3_coeffs, as_sums, as_tail};
 
 use crate::sim3::Sim3Coeffs;
 use tables::Tables;
@@ -48,16 +48,6 @@ pub struct Turns<T> {
     pub sums: Sums<T>,
 }
 
-// A loop for v alone: what v reads of the next level, and its two sums.
-#[derive(Clone, Copy)]
-pub struct TurnsV<T> {
-    pub p: T,
-    pub xi: T,
-    pub zeta: T,
-    pub v1: T,
-    pub v2: T,
-}
-
 // The loop for both signs: the next level at sigma, and the sums at sigma and at -sigma.
 #[derive(Clone, Copy)]
 pub struct TurnsPair<T> {
@@ -67,6 +57,7 @@ pub struct TurnsPair<T> {
 }
 
 // Level 0.
+#[tactic(auto, unfolding(crate::specs::Series::series_first))]
 pub fn first<T: Tables>() -> Level<T>
     ensures { as_level T.float result ≡ series_first }
 {
@@ -80,6 +71,7 @@ pub fn first<T: Tables>() -> Level<T>
 }
 
 // Level j + 1 from level j, every part from the old ones.
+#[tactic(auto, unfolding(crate::specs::Series::series_next))]
 pub fn next<T: Tables>(sigma: T, z: T, l: Level<T>) -> Level<T>
     ensures { as_level T.float result ≡ series_next T.format (T.float sigma) (T.float z) (as_level T.float l) }
 {
@@ -93,6 +85,7 @@ pub fn next<T: Tables>(sigma: T, z: T, l: Level<T>) -> Level<T>
 }
 
 // The terms of level j, with r1 = 1/(j + 1)! and r2 = 1/(j + 2)!.
+#[tactic(auto, unfolding(crate::specs::Series::level_terms))]
 pub fn terms<T: Tables>(l: Level<T>, r1: T, r2: T) -> Sums<T>
     ensures { as_sums T.float result ≡ level_terms T.format (as_level T.float l) (T.float r1) (T.float r2) }
 {
@@ -107,6 +100,7 @@ pub fn terms<T: Tables>(l: Level<T>, r1: T, r2: T) -> Sums<T>
 }
 
 // The sums before their first terms.
+#[tactic(auto, unfolding(crate::specs::Private::sums_none))]
 pub fn none<T: Tables>() -> Sums<T>
     ensures { as_sums T.float result ≡ sums_none }
 {
@@ -121,6 +115,7 @@ pub fn none<T: Tables>() -> Sums<T>
 }
 
 // The sums with the terms t of a level.
+#[tactic(auto, unfolding(crate::specs::Private::sums_gain))]
 pub fn gain<T: Tables>(s: Sums<T>, t: Sums<T>) -> Sums<T>
     ensures { as_sums T.float result ≡ sums_gain T.format (as_sums T.float s) (as_sums T.float t) }
 {
@@ -136,6 +131,7 @@ pub fn gain<T: Tables>(s: Sums<T>, t: Sums<T>) -> Sums<T>
 
 // What the levels k + 1, k + 2 and k + 3 give, with l level k + 1 and r2, r3, r4 the reciprocals of
 // (k + 2)!, (k + 3)!, (k + 4)!.
+#[tactic(auto, unfolding(crate::specs::Private::tail_terms))]
 pub fn tail_terms<T: Tables>(sigma: T, z: T, l: Level<T>, r2: T, r3: T, r4: T) -> Tail<T>
     ensures { as_tail T.float result
         ≡ tail_terms T.format (T.float sigma) (T.float z) (as_level T.float l)
@@ -155,6 +151,7 @@ pub fn tail_terms<T: Tables>(sigma: T, z: T, l: Level<T>, r2: T, r3: T, r4: T) -
 }
 
 // The sums with the terms after level k.
+#[tactic(auto, unfolding(crate::specs::Private::sums_last))]
 pub fn last<T: Tables>(s: Sums<T>, t: Tail<T>) -> Sums<T>
     ensures { as_sums T.float result ≡ sums_last T.format (as_sums T.float s) (as_tail T.float t) }
 {
@@ -169,6 +166,7 @@ pub fn last<T: Tables>(s: Sums<T>, t: Tail<T>) -> Sums<T>
 }
 
 // (v0 - z v2)(sigma^2 + z).
+#[tactic(auto, unfolding(crate::specs::Series::series_chi, crate::specs::Series::coeffs_delta))]
 pub fn chi_delta<T: Tables>(sigma: T, z: T, v0: T, v2: T) -> T
     ensures { T.float result ≡ series_chi T.format (T.float sigma) (T.float z) (T.float v0) (T.float v2) }
 {
@@ -176,6 +174,7 @@ pub fn chi_delta<T: Tables>(sigma: T, z: T, v0: T, v2: T) -> T
 }
 
 // The coefficients from the Horner sums v0 and w0 and the six sums.
+#[tactic(auto, unfolding(crate::specs::Series::series_coeffs))]
 pub fn coeffs<T: Tables>(sigma: T, z: T, v0: T, w0: T, s: Sums<T>) -> Sim3Coeffs<T>
     ensures { as_sim3_coeffs T.float result
         ≡ series_coeffs T.format (T.float sigma) (T.float z) (T.float v0) (T.float w0) (as_sums T.float s) }
@@ -190,32 +189,5 @@ pub fn coeffs<T: Tables>(sigma: T, z: T, v0: T, w0: T, s: Sums<T>) -> Sim3Coeffs
         dv1: s.dv1,
         dv2: s.dv2,
         chi_delta: chi_delta(sigma, z, v0, s.v2),
-    }
-}
-
-// The loop for v alone before its first level.
-pub fn none_v<T: Tables>() -> TurnsV<T>
-    ensures { as_turns_v T.float result ≡ v_none }
-{
-    TurnsV {
-        p: T::of(1.0),
-        xi: T::of(0.0),
-        zeta: T::of(0.0),
-        v1: T::of(0.0),
-        v2: T::of(0.0),
-    }
-}
-
-// One level for v alone, with r1 = 1/(j + 1)!.
-pub fn turn_v<T: Tables>(sigma: T, z: T, r1: T, s: TurnsV<T>) -> TurnsV<T>
-    ensures { as_turns_v T.float result
-        ≡ v_turn T.format (T.float sigma) (T.float z) (T.float r1) (as_turns_v T.float s) }
-{
-    TurnsV {
-        p: s.p * sigma,
-        xi: (sigma * s.xi + s.p) - z * s.zeta,
-        zeta: sigma * s.zeta + s.xi,
-        v1: s.v1 + s.xi * r1,
-        v2: s.v2 + s.zeta * r1,
     }
 }

@@ -3,16 +3,16 @@
 // other sums run to the level that gives every coefficient the same total degree.
 ghost use Rattle.std.specs.Prelude.{◌≡◌, ◌+◌, ◌≤◌};
 ghost use Rattle.series.specs.Series.{series_sums, series_full, series_v, series_answer, series_v_answer};
-ghost use Rattle.series.specs.Private.{solo_turn, solo_turns, v_turns};
+ghost use Rattle.series.specs.Private.{solo_turn, solo_turns};
 ghost use Rattle.linalg.specs.Answer.{told};
-ghost use Rattle.series.specs.Floats.{as_coeffs4, as_sim3_coeffs, as_sums, as_turns, as_turns_v};
+ghost use Rattle.series.specs.Floats.{as_coeffs4, as_sim3_coeffs, as_sums, as_turns};
 
 use crate::admitted::admitted;
 use crate::count::{Count, FULL, V_ALONE};
 use crate::horner::g_series;
 use crate::reciprocal::recip;
 use crate::recurrence;
-use crate::recurrence::{Sums, Turns, TurnsV, none_v, turn_v};
+use crate::recurrence::{Sums, Turns};
 use crate::terms::Terms;
 use linalg::refusal::Refusal;
 use tables::Tables;
@@ -59,6 +59,7 @@ pub struct Horner<T> {
 }
 
 // The series at k terms; refusal 1 for z below zero, then 4 for k above 28.
+#[tactic(auto, unfolding(crate::specs::Series::series_answer))]
 pub fn series<T: Tables>(sigma: T, z: T, k: usize) -> Result<Sim3Coeffs<T>, Refusal>
     ensures { told (as_sim3_coeffs T.float) result ≡ series_answer T.format (T.float sigma) (T.float z) k }
 {
@@ -67,6 +68,7 @@ pub fn series<T: Tables>(sigma: T, z: T, k: usize) -> Result<Sim3Coeffs<T>, Refu
 }
 
 // The series for v alone; refusal 1 for z below zero, then 4 for k above 30.
+#[tactic(auto, unfolding(crate::specs::Series::series_v_answer))]
 pub fn series_v<T: Terms>(sigma: T, z: T, k: usize) -> Result<Coeffs4<T>, Refusal>
     ensures { told (as_coeffs4 T.float) result ≡ series_v_answer T.format (T.float sigma) (T.float z) k }
 {
@@ -75,6 +77,7 @@ pub fn series_v<T: Terms>(sigma: T, z: T, k: usize) -> Result<Coeffs4<T>, Refusa
 }
 
 // `series` for a k that is not refused, at any z: for a caller that has refused z already.
+#[tactic(auto, unfolding(crate::specs::Series::series_full))]
 pub fn series_at<T: Tables>(sigma: T, z: T, k: Count<FULL>) -> Sim3Coeffs<T>
     ensures { as_sim3_coeffs T.float result ≡ series_full T.format (T.float sigma) (T.float z) k.terms }
 {
@@ -85,6 +88,7 @@ pub fn series_at<T: Tables>(sigma: T, z: T, k: Count<FULL>) -> Sim3Coeffs<T>
 }
 
 // The six sums, each to its own last level.
+#[tactic(auto, using(crate::proofs::Solo::solo_are, crate::proofs::Solo::last_is))]
 fn sums_at<T: Tables>(sigma: T, z: T, k: Count<FULL>) -> Sums<T>
     ensures { as_sums T.float result ≡ series_sums T.format (T.float sigma) (T.float z) k.terms }
 {
@@ -94,9 +98,12 @@ fn sums_at<T: Tables>(sigma: T, z: T, k: Count<FULL>) -> Sums<T>
     recurrence::last(s.sums, t)
 }
 
-// The levels to k, which give a term to every sum.
+// The levels to k, which give a term to every sum. PERF (D122): written out where it is called, so that
+// the compiler leaves out what v alone does not read.
+#[inline(always)]
+#[tactic(auto, using(crate::proofs::Solo::solo_more), unfolding(crate::specs::Private::solo_turns))]
 fn turns_at<T: Tables>(sigma: T, z: T, k: usize) -> Turns<T>
-    requires { k ≤ 28 }
+    requires { k ≤ 30 }
     ensures { as_turns T.float result ≡ solo_turns T.format (T.float sigma) (T.float z) (k + 1) }
 {
     let mut s = Turns {
@@ -110,6 +117,7 @@ fn turns_at<T: Tables>(sigma: T, z: T, k: usize) -> Turns<T>
 }
 
 // One level, with r1 = 1/(j + 1)! and r2 = 1/(j + 2)!.
+#[tactic(auto, unfolding(crate::specs::Private::solo_turn))]
 fn turn<T: Tables>(sigma: T, z: T, r1: T, r2: T, s: Turns<T>) -> Turns<T>
     ensures { as_turns T.float result
         ≡ solo_turn T.format (T.float sigma) (T.float z) (T.float r1) (T.float r2) (as_turns T.float s) }
@@ -126,37 +134,25 @@ pub fn series_v_at<T: Terms>(sigma: T, z: T, k: Count<V_ALONE>) -> Coeffs4<T>
     ensures { as_coeffs4 T.float result ≡ series_v T.format (T.float sigma) (T.float z) k.terms }
 {
     let k = k.terms;
-    let s = turns_v_at(sigma, z, k);
+    let Turns { level, sums } = turns_v_at(sigma, z, k);
     let v0 = g_series(sigma, 1, k);
-    let v2 = s.v2 + s.zeta * recip(k + 2);
+    let v2 = sums.v2 + level.zeta * recip(k + 2);
     Coeffs4 {
         v0,
-        v1: s.v1,
+        v1: sums.v1,
         v2,
         chi_delta: recurrence::chi_delta(sigma, z, v0, v2),
     }
 }
 
-// The levels to k, for v alone. PERF (D122): the fewest levels that an arm takes are a constant, so
-// that the compiler writes their turns out: a loop costs them a fourth of their time.
-fn turns_v_at<T: Terms>(sigma: T, z: T, k: usize) -> TurnsV<T>
+// `turns_at` for v alone. PERF (D122): the fewest levels that an arm takes are a constant, so that the
+// compiler writes their turns out: a loop costs them a fourth of their time.
+fn turns_v_at<T: Terms>(sigma: T, z: T, k: usize) -> Turns<T>
     requires { k ≤ 30 }
-    ensures { as_turns_v T.float result ≡ v_turns T.format (T.float sigma) (T.float z) (k + 1) }
+    ensures { as_turns T.float result ≡ solo_turns T.format (T.float sigma) (T.float z) (k + 1) }
 {
     if k == T::fewest_terms() {
-        return turns_v(sigma, z, T::fewest_terms());
+        return turns_at(sigma, z, T::fewest_terms());
     }
-    turns_v(sigma, z, k)
-}
-
-// The loop of `turns_v_at`.
-fn turns_v<T: Tables>(sigma: T, z: T, k: usize) -> TurnsV<T>
-    requires { k ≤ 30 }
-    ensures { as_turns_v T.float result ≡ v_turns T.format (T.float sigma) (T.float z) (k + 1) }
-{
-    let mut s = none_v();
-    for j in 0..k + 1 {
-        s = turn_v(sigma, z, recip(j + 1), s);
-    }
-    s
+    turns_at(sigma, z, k)
 }

@@ -10,6 +10,7 @@ use crate::sim3::{Horner, Signs};
 use crate::terms::Terms;
 
 // v0 of the closed arm at small sigma: the first term, and sigma times the sum of `g2`.
+#[tactic(auto, unfolding(crate::specs::Series::g_series))]
 pub fn g1<T: Terms>(sigma: T) -> T
     ensures { T.float result ≡ g_series T.format (T.float sigma) 1 (w0_terms T.format + 1) }
 {
@@ -62,6 +63,7 @@ pub fn horner_small<T: Terms>(sigma: T) -> Horner<T>
 
 // The pass of `horner_small` stopped after `stop` entries: a stop behind the last entry of a sum is its
 // last.
+#[tactic(auto, using(crate::proofs::PartialSums::both_shared), unfolding(crate::specs::Pass::horner_stopped))]
 pub fn horner_small_stopped<T: Terms>(sigma: T, stop: usize) -> Horner<T>
     ensures { as_horner T.float result
         ≡ horner_stopped T.format (T.float sigma) (w0_terms T.format + 1) (w0_terms T.format) stop }

@@ -1,7 +1,7 @@
 -- A shot that is kept is the one that is asked for; and a pose's bytes that are read and written are the same, but that every NaN is written as the one NaN. Assumes nothing.
 use Prim.Native.Nat.{ℕ, zero, suc, ◌+◌, ◌*◌, ◌^◌, ◌/◌, ◌%◌, ◌<◌, ◌≤◌}
 use mathlib.Core.Path.{◌≡◌, refl, sym, ap, ◌∙◌}
-use mathlib.Core.Bool.{Bool, true, false, cond, not}
+use mathlib.Core.Bool.{Bool, true, false, not}
 use mathlib.Core.List.{List, [], ◌∷◌, ◌++◌, append-nil, append_assoc}
 use native.Mathlib.Nat.{pow-zero, pow-suc}
 use native.Mathlib.Omega.{arith}
@@ -9,15 +9,16 @@ use borrow.Author.Tests.{eq-eqb}
 use lib.ListN.{length, take, drop, length-drop, take-append-drop}
 use lib.Seq.{drop-drop, length-take-le, take_all}
 use lib.Dec.{T, ltb, eqb}
-use lib.Ieee.{Float, nan, inf, fin, is_nan, binary64, of_bits, to_bits}
+use lib.Ieee.{Float, is_nan, binary64, of_bits}
 use lib.Ieee.Bits.{to_bits-of_bits}
+use Rattle.std.proofs.lemmas.Bool.{false≢true}
+use Rattle.ieee.proofs.Nan.{the_nan}
 use Rattle.linalg.specs.Answer.{answers}
 use Rattle.linalg.specs.Vector.{vec_numbers}
 use Rattle.frames.specs.Floats.{Pose}
 use Rattle.layout.specs.Layout.{vec_in, quat_in, pose_in, quat_numbers, pose_numbers}
 use Rattle.wire.specs.Wire.{word, word_of, word_at, word_bytes, number_of, number_at, number_bytes, numbers_bytes, item_bytes, items_bytes, numbers}
 use Rattle.wire.proofs.Bytes.{items_append, items_numbers}
-use Rattle.outcome.proofs.Never.{untrue}
 use Rattle.replies.specs.Table.{framed_in, framed_items}
 use Rattle.sheets.specs.Back.{keeps, AskedTheorem, Bytes, one_nan, nans_one, SentBackTheorem}
 use Rattle.sheets.specs.Sheets.{Kept, none, kept, Sheets, most, keeping, shelve_on, shelve, ask_on, ask}
@@ -31,13 +32,13 @@ module _ (s : Sheets) (n : ℕ) (x : Shot) where
   asked-new : (t : Bool) → ltb s.count most ≡ t → Asked none
   unfolding shelve_on ask ask_on keeping
   asked-new true t h = rw (t, eq-eqb n n refl) refl
-  asked-new false t h = untrue (rw t at h)
+  asked-new false t h = absurd (false≢true (rw t at h))
 
   asked_old : (o : Shot) (q t : Bool) → eqb x.take o.take ≡ q → ltb o.take x.take ≡ t → Asked (kept o)
   unfolding shelve_on ask ask_on keeping
-  asked_old o true t q u h = untrue (rw q at h)
+  asked_old o true t q u h = absurd (false≢true (rw q at h))
   asked_old o false true q t h = rw (q, t, eq-eqb n n refl) refl
-  asked_old o false false q t h = untrue (rw (q, t) at h)
+  asked_old o false false q t h = absurd (false≢true (rw (q, t) at h))
 
   asked_by : (k : Kept) → Asked k
   asked_by none = asked-new (ltb s.count most) refl
@@ -79,12 +80,6 @@ pub word_of_lem : (k : ℕ) (b : List ℕ) → Bytes b → length b ≡ k → wo
 word_of_lem k b h e = ap (λ (n : ℕ). word_bytes n (word_of b)) (sym e) ∙ word_again b h
 
 -- ---- and so are those of a number that is not NaN
-is_nan_lem : (x : Float) → is_nan x ≡ true → x ≡ nan
-unfolding is_nan
-is_nan_lem nan e = refl
-is_nan_lem (inf s) e = untrue e
-is_nan_lem (fin s m x) e = untrue e
-
 same_bits : (b : List ℕ) → Bytes b → length b ≡ 8 → is_nan (number_of binary64 b) ≡ false → number_bytes binary64 (number_of binary64 b) ≡ b
 unfolding number_of number_bytes
 same_bits b h e t =
@@ -94,7 +89,7 @@ same_bits b h e t =
 
 again_by : (b : List ℕ) → Bytes b → length b ≡ 8 → (t : Bool) → is_nan (number_of binary64 b) ≡ t → number_bytes binary64 (number_of binary64 b) ≡ one_nan b
 unfolding one_nan
-again_by b h e true t = rw t (ap (number_bytes binary64) (is_nan_lem _ t))
+again_by b h e true t = rw t (ap (number_bytes binary64) (the_nan _ t))
 again_by b h e false t = rw t (same_bits b h e t)
 
 number_again : (b : List ℕ) → Bytes b → length b ≡ 8 → number_bytes binary64 (number_of binary64 b) ≡ one_nan b

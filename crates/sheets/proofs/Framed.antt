@@ -2,9 +2,9 @@
 use Prim.Native.Nat.{ℕ, ◌+◌, ◌≤◌, ◌<◌}
 use native.Mathlib.Omega.{arith}
 use mathlib.Core.Path.{◌≡◌, refl, sym, ap, ◌∙◌}
-use mathlib.Core.List.{List, [], ◌∷◌, ◌++◌, append-nil}
+use mathlib.Core.List.{List, ◌++◌, append-nil}
 use native.Mathlib.Nat.{add_assoc}
-use lib.ListN.{length, take, drop, length-drop}
+use lib.ListN.{length, take, drop}
 use lib.Seq.{sets, drop-drop}
 use lib.Dec.{T}
 use lib.Ieee.{Float, binary64, fits}
@@ -50,11 +50,11 @@ framed_read b at =
     }
 
 -- what stands behind the pose is not read
-pub framed_front : (b : List ℕ) (at : ℕ) → at + 68 ≤ length b → framed_in binary64 (take 68 (drop at b)) ≡ framed_in binary64 (drop at b)
+pub framed_front : (b : List ℕ) (at : ℕ) → framed_in binary64 (take 68 (drop at b)) ≡ framed_in binary64 (drop at b)
 unfolding framed_in pose_in quat_in vec_in number_at word_at
-framed_front b at h =
+framed_front b at =
     let in_front : (k s t : ℕ) → 68 ≡ k + t → s ≤ t → take s (drop k (take 68 (drop at b))) ≡ take s (drop k (drop at b)) =
-    λ k s t e g. within b at k s t 68 e (rw (length-drop at b) (omega (arith, h, e))) g ∙ sym (ap (take s) (drop-drop k at b)) in
+    λ k s t e g. within b at k s t 68 e g ∙ sym (ap (take s) (drop-drop k at b)) in
     let n : (k t : ℕ) → 68 ≡ k + t → 8 ≤ t → number_of binary64 (take 8 (drop k (take 68 (drop at b)))) ≡ number_of binary64 (take 8 (drop k (drop at b))) =
     λ k t e g. ap (number_of binary64) (in_front k 8 t e g) in
     let w : (k t : ℕ) → 68 ≡ k + t → 2 ≤ t → word_of (take 2 (drop k (take 68 (drop at b)))) ≡ word_of (take 2 (drop k (drop at b))) =

@@ -8,7 +8,7 @@ use mathlib.Core.List.{List, [], ◌∷◌}
 use native.Mathlib.Omega.{arith}
 use borrow.Author.Tests.{eq-eqb, eqb-true, ltb-true, ltb-false}
 use lib.Dec.{ltb, eqb}
-use Rattle.outcome.proofs.Never.{untrue}
+use Rattle.std.proofs.lemmas.Bool.{false≢true}
 use Rattle.sheets.specs.Sheets.{Kept, none, kept}
 use Rattle.sheets.specs.History.{Sent, sent, Among, Highest, higher, highest, HighestTheorem}
 use Rattle.sheets.specs.declared.Shot.{Shot}
@@ -23,7 +23,7 @@ From n h (kept k) (kept y) =
 -- ---- a shot of another sheet changes nothing
 module _ (n : ℕ) (x : Sent) (h : List Sent) (d : eqb n x.sheet ≡ false) where
   not_own : (y : Shot) → sent n y ≡ x → ⊥
-  not_own y e = untrue (sym d ∙ eq-eqb n x.sheet (ap (λ (s : Sent). s.sheet) e))
+  not_own y e = absurd (false≢true (sym d ∙ eq-eqb n x.sheet (ap (λ (s : Sent). s.sheet) e)))
 
   skip : (y : Shot) → Among (sent n y) (x ∷ h) → Among (sent n y) h
   unfolding Among

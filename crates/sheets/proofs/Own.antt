@@ -2,29 +2,16 @@
 -- are as many; and a search through the slots finds one that is no sheet's own unless 512 are kept. Assumes nothing.
 use Prim.Native.Nat.{ℕ, zero, suc, ◌+◌, ◌-◌, ◌≤◌, ◌<◌}
 use mathlib.Core.Path.{◌≡◌, refl, sym, ap, ◌∙◌, fun_ext}
-use mathlib.Core.Bool.{Bool, true, false, cond, ◌&&◌}
+use mathlib.Core.Bool.{Bool, true, false, cond, ◌&&◌, and-false}
 use mathlib.Core.List.{List}
 use native.Mathlib.Nat.{add-zero}
 use native.Mathlib.Omega.{arith}
 use borrow.Author.Tests.{lt-ltb, le-ltb, eq-eqb, ne_eqb, ltb-true, ltb-false, eqb-true, eqb-false}
 use lib.Dec.{ltb, eqb}
-use Rattle.outcome.proofs.Never.{untrue}
-use Rattle.sheets.specs.Sheets.{Kept, none, kept, Sheets, kept_below, sheet_numbers, no_sheets, most, keeping}
-use Rattle.sheets.specs.Store.{slot_width, slots, used_of, slot_of, slot_at, shot_in, held_at, kept_of, sheets_of, sheet_in, own_at, free_from, free_slot, own_below, OwnTheorem}
+use Rattle.std.proofs.lemmas.Bool.{false≢true, and_parts}
+use Rattle.sheets.specs.Sheets.{Kept, none, kept, kept_below, sheet_numbers, most, keeping}
+use Rattle.sheets.specs.Store.{used_of, slot_of, slot_at, shot_in, held_at, kept_of, sheets_of, sheet_in, own_at, free_from, free_slot, own_below, OwnTheorem}
 use Rattle.sheets.proofs.Counted.{above, empty}
-
--- ---- tests
-pub and_left : (a b : Bool) → a && b ≡ true → a ≡ true
-and_left true b e = refl
-and_left false b e = e
-
-pub and_right : (a b : Bool) → a && b ≡ true → b ≡ true
-and_right true b e = e
-and_right false b e = untrue e
-
-pub and_false : (a : Bool) → a && false ≡ false
-and_false true = refl
-and_false false = refl
 
 pub slot_few : (m : List ℕ) (n : ℕ) → slot_of m n < most
 unfolding slot_of
@@ -41,12 +28,9 @@ module _ (m : List ℕ) where
   unfolding own_at
   owned i e =
       let n = sheet_in m i in
-      let r = and_right (ltb n sheet_numbers) _ e in
-      record {
-        small = ltb-true _ _ (and_left (ltb n sheet_numbers) _ e);
-        used = ltb-true _ _ (and_left (ltb i (used_of m)) _ r);
-        named = eqb-true _ _ (and_right (ltb i (used_of m)) _ r);
-      }
+      let p = and_parts (ltb n sheet_numbers) _ e in
+      let r = and_parts (ltb i (used_of m)) _ p.1 in
+      record { small = ltb-true _ _ p.0; used = ltb-true _ _ r.0; named = eqb-true _ _ r.1 }
 
   pub owning : (i : ℕ) → Owned i → own_at m i ≡ true
   unfolding own_at
@@ -65,12 +49,9 @@ module _ (m : List ℕ) where
   holding : (n : ℕ) → ltb n sheet_numbers && held_at m n (slot_of m n) ≡ true → Holds n (slot_of m n)
   unfolding held_at sheet_in
   holding n e =
-      let h = and_right (ltb n sheet_numbers) _ e in
-      record {
-        inside = ltb-true _ _ (and_left (ltb n sheet_numbers) _ e);
-        used = ltb-true _ _ (and_left (ltb (slot_of m n) (used_of m)) _ h);
-        sheet = eqb-true _ _ (and_right (ltb (slot_of m n) (used_of m)) _ h);
-      }
+      let p = and_parts (ltb n sheet_numbers) _ e in
+      let r = and_parts (ltb (slot_of m n) (used_of m)) _ p.1 in
+      record { inside = ltb-true _ _ p.0; used = ltb-true _ _ r.0; sheet = eqb-true _ _ r.1 }
 
   -- a sheet whose slot is no sheet's own is not kept
   unkept_by :
@@ -85,7 +66,7 @@ module _ (m : List ℕ) where
         used = rw (← e) h.used;
         named = ap (slot_of m) s ∙ e;
       }) in
-      untrue (sym f ∙ o)
+      absurd (false≢true (sym f ∙ o))
   unkept_by n i e f false t = rw t
 
   pub unkept : (n i : ℕ) → slot_of m n ≡ i → own_at m i ≡ false → kept_of m n ≡ none
@@ -223,13 +204,13 @@ module _ (m : List ℕ) where
   -- a slot that is not in use is no sheet's own; one in use is, where it is named for its sheet
   pub unused : (i : ℕ) → used_of m ≤ i → own_at m i ≡ false
   unfolding own_at
-  unused i h = rw (le-ltb i (used_of m) h) (and_false (ltb (sheet_in m i) sheet_numbers))
+  unused i h = rw (le-ltb i (used_of m) h) (and-false (ltb (sheet_in m i) sheet_numbers))
 
   pub unnamed : (i : ℕ) → (slot_of m (sheet_in m i) ≡ i → ⊥) → own_at m i ≡ false
   unfolding own_at
   unnamed i d =
       let z = ne_eqb (slot_of m (sheet_in m i)) i d in
-      rw (z, and_false (ltb i (used_of m))) (and_false (ltb (sheet_in m i) sheet_numbers))
+      rw (z, and-false (ltb i (used_of m))) (and-false (ltb (sheet_in m i) sheet_numbers))
 
   -- ---- the search from i on among n slots: where it stops, and all before
   pub free_here : (n i : ℕ) → own_at m i ≡ false → free_from m (suc n) i ≡ i

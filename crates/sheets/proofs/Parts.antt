@@ -1,11 +1,11 @@
 -- Parts of a list after a run of stores: those beside the run, and the run's own. Assumes nothing.
-use Prim.Native.Nat.{ℕ, zero, suc, ◌+◌, ◌-◌, ◌*◌, ◌≤◌, ◌<◌}
+use Prim.Native.Nat.{ℕ, suc, ◌+◌, ◌-◌, ◌*◌, ◌≤◌, ◌<◌}
 use mathlib.Core.Path.{◌≡◌, refl, sym, ap, ◌∙◌}
 use mathlib.Core.List.{List, [], ◌∷◌, ◌++◌, append_assoc}
-use native.Mathlib.Nat.{sub-zero, suc-sub-suc}
 use native.Mathlib.Omega.{arith}
 use lib.ListN.{length, take, drop, set}
-use lib.Seq.{sets, sets-eq, length-take-le, take-set-le, drop-set-lt, drop_at, take-append-le, take-take, drop-drop, take-nil, take_all}
+use lib.Seq.{sets, sets-eq, length-take-le, take-set-le, drop-set-lt, drop_at, take-append-le, take-take, drop-drop, take_all}
+use Rattle.std.proofs.lemmas.List.{drop-take}
 use Rattle.wire.specs.Wire.{word_of, word_at, word_bytes}
 use Rattle.wire.proofs.Bytes.{word_back}
 use Rattle.sheets.specs.Store.{slot_width, slots, slot_at}
@@ -18,20 +18,8 @@ drop-sets : {A : Type 0} (vs l : List A) (i n : ℕ) → i + length vs ≤ n →
 drop-sets [] l i n h = refl
 drop-sets (v ∷ vs) l i n h = drop-sets vs (set l i v) (suc i) n (omega arith) ∙ drop-set-lt n l i v (omega arith)
 
-drop-take : {A : Type 0} (f t : ℕ) (l : List A) → f ≤ t → drop f (take t l) ≡ take (t - f) (drop f l)
-drop-take zero t l h = rw sub-zero
-drop-take (suc f) zero l h = absurd (omega arith)
-drop-take (suc f) (suc t) [] h = sym (take-nil (suc t - suc f))
-drop-take (suc f) (suc t) (x ∷ l) h = rw suc-sub-suc (drop-take f t l (omega arith))
-
--- a part as the end of a front
-part_front : {A : Type 0} (a k : ℕ) (l : List A) → take k (drop a l) ≡ drop a (take (a + k) l)
-part_front a k l =
-    let e : a + k - a ≡ k = omega arith in
-    sym (drop-take a (a + k) l (omega arith) ∙ ap (λ (n : ℕ). take n (drop a l)) e)
-
 part-before : {A : Type 0} (vs l : List A) (i a k : ℕ) → a + k ≤ i → take k (drop a (sets l i vs)) ≡ take k (drop a l)
-part-before vs l i a k h = part_front a k (sets l i vs) ∙ ap (drop a) (take-sets vs l i (a + k) h) ∙ sym (part_front a k l)
+part-before vs l i a k h = sym (drop-take a k (sets l i vs)) ∙ ap (drop a) (take-sets vs l i (a + k) h) ∙ drop-take a k l
 
 part-after : {A : Type 0} (vs l : List A) (i a k : ℕ) → i + length vs ≤ a → take k (drop a (sets l i vs)) ≡ take k (drop a l)
 part-after vs l i a k h = ap (take k) (drop-sets vs l i a h)
@@ -77,6 +65,6 @@ pub short_in : (l : List ℕ) (s : ℕ) → word_at 2 (slot_at l s) 2 ≡ word_a
 unfolding word_at slot_at
 short_in l s =
     ap word_of
-    (ap (take 2) (drop-take 2 slot_width (drop (slots + slot_width * s) l) (omega arith))
+    (ap (take 2) (drop-take 2 (slot_width - 2) (drop (slots + slot_width * s) l))
     ∙ take-take 2 (slot_width - 2) (drop 2 (drop (slots + slot_width * s) l)) (omega arith)
     ∙ ap (take 2) (drop-drop 2 (slots + slot_width * s) l))

@@ -6,7 +6,7 @@ use mathlib.Core.List.{List, [], ◌∷◌}
 use borrow.Author.Tests.{eqb-true}
 use lib.Dec.{ltb, eqb}
 use Rattle.linalg.specs.Answer.{Answer, answers, refuses}
-use Rattle.sheets.specs.Sheets.{Kept, none, kept, Sheets, no_sheets, most, keeping, Shelved, Shelf, shelve_on, shelve, ask_on, ask}
+use Rattle.sheets.specs.Sheets.{Kept, none, kept, Sheets, no_sheets, most, keeping, Shelved, shelve_on, shelve, ask_on, ask}
 use Rattle.sheets.specs.History.{Sent, after, unless_refused, accepted, higher, highest, HistoryTheorem}
 use Rattle.sheets.specs.declared.Shot.{Shot}
 

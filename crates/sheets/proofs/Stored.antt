@@ -1,27 +1,29 @@
 -- What is kept after the code's stores. Assumes nothing.
 use Prim.Native.Nat.{ℕ, ◌+◌, ◌*◌, ◌%◌, ◌≤◌, ◌<◌}
-use mathlib.Core.Path.{◌≡◌, refl, sym, ap, ◌∙◌, subst, fun_ext}
-use mathlib.Core.Bool.{Bool, true, false, cond, ◌&&◌}
-use mathlib.Core.List.{List, ◌++◌}
+use mathlib.Core.Path.{◌≡◌, refl, sym, ap, ◌∙◌, fun_ext}
+use mathlib.Core.Bool.{Bool, true, false, cond, ◌&&◌, and-false}
+use mathlib.Core.List.{List}
 use native.Mathlib.Omega.{arith}
 use native.Mathlib.Nat.{mod-eq_of_lt, add_assoc}
 use borrow.Author.Tests.{lt-ltb, le-ltb, eq-eqb, ne_eqb, ltb-true, ltb-false, eqb-true, eqb-false}
 use lib.ListN.{length, length-append}
 use lib.Seq.{sets, length-sets}
-use lib.Dec.{T, ltb, eqb}
+use lib.Dec.{ltb, eqb}
 use lib.Ieee.{binary64}
+use Rattle.std.proofs.lemmas.Bool.{and_parts}
+use Rattle.std.proofs.lemmas.Bool.Decides.{nat_tests}
 use Rattle.linalg.specs.Answer.{Answer, answers, refuses}
 use Rattle.layout.proofs.Runs.{sets_split}
 use Rattle.wire.specs.Wire.{word_at, word_bytes, item_bytes, items_bytes}
 use Rattle.wire.proofs.Bytes.{word-length}
 use Rattle.replies.specs.Table.{framed_in, framed_items}
 use Rattle.replies.proofs.Frames.{framed-length}
-use Rattle.sheets.specs.Sheets.{Kept, none, kept, Sheets, one, kept_below, sheet_numbers, no_sheets, most, no_room, never_kept, keeping, Shelved, shelved, Shelf, shelve_on, shelve, ask_on, ask}
-use Rattle.sheets.specs.Store.{slot_width, slots, tail, size, used_of, slot_of, slot_at, shot_in, held_at, kept_of, sheets_of, sheet_in, own_at, free_slot, slot_bytes, assign_of, add_of, Lent, lent, retake_told, retake_bytes}
+use Rattle.sheets.specs.Sheets.{Kept, none, kept, one, kept_below, sheet_numbers, no_sheets, most, no_room, never_kept, keeping, Shelved, shelved, shelve_on, shelve, ask_on, ask}
+use Rattle.sheets.specs.Store.{slot_width, slots, tail, size, used_of, slot_of, slot_at, shot_in, held_at, kept_of, sheets_of, sheet_in, own_at, free_slot, slot_bytes, assign_of, add_of, lent, retake_told, retake_bytes}
 use Rattle.sheets.specs.declared.Shot.{Shot}
 use Rattle.sheets.proofs.Framed.{frame, Fit, short_back, framed_back}
 use Rattle.sheets.proofs.Counted.{above, empty}
-use Rattle.sheets.proofs.Own.{and_left, and_right, and_false, slot_few, unkept, unkept_other, unused, count-used, free_own, free_found, free_none}
+use Rattle.sheets.proofs.Own.{slot_few, unkept, unkept_other, unused, count-used, free_own, free_found, free_none}
 use Rattle.sheets.proofs.Parts.{short_in, short-before, short-after, short_on, short-word, slot_before, slot_after, slot_on}
 
 -- ---- the bytes of a slot: how many they are, and that they read back
@@ -109,9 +111,8 @@ module _ {m m' : List ℕ} {n i : ℕ} {b : List ℕ} (k : Stored m m' n i b) wh
       λ i. record { count = c i; at = stored i }
 
 -- ---- tests
-less_next : (s u : ℕ) → (s ≡ u → ⊥) → (t : Bool) → ltb s u ≡ t → ltb s (u + 1) ≡ t
-less_next s u n true t = lt-ltb s (u + 1) (let h : s < u = ltb-true s u t in omega arith)
-less_next s u n false t = le-ltb s (u + 1) (let h : u ≤ s = ltb-false s u t in omega arith)
+less_next : (s u : ℕ) → (s ≡ u → ⊥) → ltb s (u + 1) ≡ ltb s u
+less_next s u n = grind (arith, nat_tests)
 
 -- ---- bytes in a slot
 module _ (m b : List ℕ) (i : ℕ) (h : i < most) (l : length m ≡ size) (e : length b ≡ slot_width) where
@@ -151,17 +152,17 @@ module _ (m b : List ℕ) (i : ℕ) (h : i < most) (l : length m ≡ size) (e : 
   replaced_stored : (n : ℕ) → word_at 2 b 0 ≡ n → n < 65536 → slot_of m n ≡ i → held_at m n i ≡ true → Stored m (sets m at b) n i b
   unfolding held_at sheet_in
   replaced_stored n p q o u =
-      let was : sheet_in m i ≡ n = eqb-true _ _ (and_right (ltb i (used_of m)) _ u) in
+      let was : sheet_in m i ≡ n = eqb-true _ _ (and_parts (ltb i (used_of m)) _ u).1 in
       record {
         sheet = p;
         inside = q;
         own = slot_same n q ∙ o;
         others = λ y k d. slot_same y k;
-        used = rw (used-same, head_own, p, and_left (ltb i (used_of m)) _ u, eq-eqb n n refl);
+        used = rw (used-same, head_own, p, (and_parts (ltb i (used_of m)) _ u).0, eq-eqb n n refl);
         slot = slot_own;
         apart = λ y s k d. let a = other s k d in (rw (used-same, a.0), a.1);
         free = λ y d s. (
-          rw (head_own, p, ne_eqb n y (λ e. d (sym e))) (and_false (ltb i (used_of (sets m at b)))),
+          rw (head_own, p, ne_eqb n y (λ e. d (sym e))) (and-false (ltb i (used_of (sets m at b)))),
           unkept_other m y i s (λ e. d (e ∙ was)),
         );
       }
@@ -244,7 +245,7 @@ module _
     used = rw (used_two, head_two, lt-ltb i (used_of m) v, eq-eqb n n refl);
     slot = slot_two;
     apart = λ y s k d. (rw (used_two, head_other s k d), bytes-other s k d);
-    free = λ y d s. (rw (head_two, ne_eqb n y (λ e. d (sym e))) (and_false (ltb i (used_of m2))), unkept m y i s w);
+    free = λ y d s. (rw (head_two, ne_eqb n y (λ e. d (sym e))) (and-false (ltb i (used_of m2))), unkept m y i s w);
   }
 
   -- the next, which is in use then
@@ -281,11 +282,11 @@ module _
     used = rw (used-three, head_three i h, head_two, lt-ltb i (i + 1) (omega arith), eq-eqb n n refl);
     slot = bytes-three i h ∙ slot_two;
     apart = λ y s k d. (
-      rw (used-three, head_three s k, head_other s k d, less_next s i d (ltb s i) refl, ← v),
+      rw (used-three, head_three s k, head_other s k d, less_next s i d, ← v),
       bytes-three s k ∙ bytes-other s k d,
     );
     free = λ y d s.
-        (rw (head_three i h, head_two, ne_eqb n y (λ e. d (sym e))) (and_false (ltb i (used_of m3))), unkept m y i s w);
+        (rw (head_three i h, head_two, ne_eqb n y (λ e. d (sym e))) (and-false (ltb i (used_of m3))), unkept m y i s w);
   }
 
 -- ---- the sheet n, whose slot is i: what is asked for

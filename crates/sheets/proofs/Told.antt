@@ -1,20 +1,20 @@
 -- What the public functions tell and leave, by the lent bytes and by the slot. Assumes nothing.
-use Prim.Native.Nat.{ℕ, ◌+◌, ◌-◌, ◌*◌, ◌≤◌, ◌<◌}
+use Prim.Native.Nat.{ℕ, ◌+◌, ◌≤◌, ◌<◌}
 use mathlib.Core.Path.{◌≡◌, refl, sym, ap, ◌∙◌}
 use mathlib.Core.Bool.{Bool, true, false, cond}
 use mathlib.Core.List.{List}
 use native.Mathlib.Omega.{arith}
 use borrow.Author.Tests.{eq-eqb, ne_eqb, lt-ltb, le-ltb, ltb-true, ltb-false}
-use lib.ListN.{length, take, drop}
+use lib.ListN.{length}
 use lib.Seq.{sets}
 use lib.Dec.{ltb}
 use Rattle.std.specs.Prelude.{Result, Ok, Err}
-use Rattle.linalg.specs.Answer.{Answer, answers, refuses, answer, told}
+use Rattle.linalg.specs.Answer.{answer, told}
 use Rattle.linalg.specs.declared.refusal.Refusal.{Refusal}
 use Rattle.linalg.specs.declared.refusal.Refusal.TheVariants as refusal
-use Rattle.wire.specs.Wire.{word_at, word_bytes}
-use Rattle.sheets.specs.Sheets.{no_sheets, most, shelved, shelve, ask}
-use Rattle.sheets.specs.Store.{slot_width, slots, tail, size, holds, used_of, slot_of, slot_at, shot_in, held_at, sheets_of, free_slot, next_slot, assign_of, add_of, Lent, lent, storeless}
+use Rattle.wire.specs.Wire.{word_bytes}
+use Rattle.sheets.specs.Sheets.{no_sheets, most, shelved, shelve}
+use Rattle.sheets.specs.Store.{tail, size, holds, used_of, slot_of, slot_at, shot_in, held_at, sheets_of, free_slot, next_slot, assign_of, add_of, lent}
 use Rattle.sheets.specs.Store.{shelved_of, of_store, put_answer, put_sheets, get_answer, retake_told, retake_bytes, add_told, add_bytes, put_bytes, fresh_bytes}
 use Rattle.sheets.specs.declared.Shot.{Shot}
 use Rattle.sheets.specs.declared.Shelved as code

@@ -4,7 +4,7 @@
 use Rattle.std.specs.Prelude.{ℕ, zero, suc, ◌+◌, ◌*◌, ◌%◌, ◌≤◌, ◌≡◌, Bool, cond, ◌&&◌, List, ◌++◌, length, take, drop, ltb, eqb, Option, Some, None}
 use Rattle.std.proofs.lemmas.List.Edits.{sets}
 use Rattle.std.specs.Float.{binary64}
-use Rattle.linalg.specs.Answer.{Answer, answers, refuses, number}
+use Rattle.linalg.specs.Answer.{Answer, refuses, number}
 use Rattle.linalg.specs.declared.refusal.Refusal.TheVariants.{ListLength}
 use Rattle.wire.specs.Wire.{word_at, word_bytes, items_bytes}
 use Rattle.replies.specs.Table.{framed_width, framed_in, framed_items}

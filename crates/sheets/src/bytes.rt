@@ -21,6 +21,7 @@ fn number_at(b: &[u8], at: usize) -> f64
     wire::from_le_bytes(*b[at..].first_chunk().unwrap())
 }
 
+#[tactic(auto, using(wire::proofs::Places::short_read))]
 pub(crate) fn short_at(b: &[u8], at: usize) -> u16
     requires { at + 2 ≤ length b.now }
     ensures { result ≡ word_at 2 b.now at }
@@ -66,6 +67,7 @@ fn put_number(out: &mut [u8], at: usize, x: f64)
     out[at..at + 8].copy_from_slice(&wire::to_le_bytes(x));
 }
 
+#[tactic(auto, using(wire::proofs::Places::short_stored))]
 pub(crate) fn put_short(out: &mut [u8], at: usize, n: u16)
     requires { at + 2 ≤ length out.old }
     ensures { out.new ≡ sets out.old at (word_bytes 2 n) }

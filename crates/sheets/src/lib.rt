@@ -71,6 +71,7 @@ impl Shelved {
 
 // ---- slots
 // The slot that the index names for a sheet.
+#[tactic(auto, unfolding(crate::specs::Store::slot_of))]
 fn slot_of(store: &Store, sheet: u16) -> Slot
     ensures { result.number ≡ slot_of store.now sheet }
 {
@@ -80,6 +81,7 @@ fn slot_of(store: &Store, sheet: u16) -> Slot
 }
 
 // Whether that slot is the sheet's.
+#[tactic(auto, unfolding(crate::specs::Store::held_at, crate::specs::Store::used_of))]
 fn held(store: &Store, sheet: u16, slot: Slot) -> bool
     ensures { result ≡ held_at store.now sheet slot.number }
 {
@@ -87,6 +89,7 @@ fn held(store: &Store, sheet: u16, slot: Slot) -> bool
 }
 
 // The shot in the bytes of a slot.
+#[tactic(auto, unfolding(crate::specs::Store::shot_in))]
 fn shot_in(b: &[u8; SLOT]) -> Shot
     ensures { result ≡ shot_in b.now }
 {
@@ -110,6 +113,7 @@ fn put_slot(store: &mut Store, slot: Slot, sheet: u16, shot: Shot)
 
 // ---- shots
 // A slot becomes the sheet's own: it is named for it, and holds its shot.
+#[tactic(auto, unfolding(crate::specs::Store::assign_of, wire::specs::Wire::item_bytes))]
 fn assign(store: &mut Store, sheet: u16, slot: Slot, shot: Shot)
     ensures { store.new ≡ assign_of store.old sheet slot.number shot }
 {
@@ -145,6 +149,7 @@ fn next_slot(store: &Store, used: u16) -> Option<Slot>
 
 // Of a sheet of which none is kept: a slot becomes its own. Where there is none, 512 sheets are kept.
 // PERF (D122): one place that writes a slot for a new sheet, whichever slot it is.
+#[tactic(auto, unfolding(crate::specs::Store::used_of))]
 fn add(store: &mut Store, sheet: u16, shot: Shot) -> Result<Shelved, Refusal>
     ensures result_value { lent (told shelved_of result) ≡ add_told store.old }
     ensures store_after { store.new ≡ add_bytes store.old sheet shot }
@@ -159,6 +164,7 @@ fn add(store: &mut Store, sheet: u16, shot: Shot) -> Result<Shelved, Refusal>
 }
 
 // Of a sheet of which that slot holds one: the higher take stays.
+#[tactic(auto, unfolding(crate::specs::Store::retake_told, crate::specs::Store::retake_bytes))]
 fn retake(store: &mut Store, sheet: u16, slot: Slot, shot: Shot) -> Result<Shelved, Refusal>
     ensures result_value { lent (told shelved_of result) ≡ retake_told store.old slot.number shot }
     ensures store_after { store.new ≡ retake_bytes store.old slot.number sheet shot }

@@ -26,6 +26,7 @@ pub struct JacAndInverse<T> {
 }
 
 // u v^T.
+#[tactic(auto, unfolding(crate::specs::Blocks::mat_outer))]
 fn outer<T: Real>(u: Vec3<T>, v: Vec3<T>) -> Mat3<T>
     ensures { as_mat3 T.float result ≡ mat_outer T.format (as_vec3 T.float u) (as_vec3 T.float v) }
 {
@@ -37,6 +38,7 @@ fn outer<T: Real>(u: Vec3<T>, v: Vec3<T>) -> Mat3<T>
 }
 
 // x0 I + x1 W + x2 W^2, W = hat(phi), as a matrix.
+#[tactic(auto, unfolding(crate::specs::Blocks::poly_matrix))]
 fn poly<T: Real>(phi: Vec3<T>, x: Three<T>) -> Mat3<T>
     ensures { as_mat3 T.float result ≡ poly_matrix T.format (as_vec3 T.float phi) (as_three T.float x) }
 {
@@ -48,6 +50,7 @@ fn poly<T: Real>(phi: Vec3<T>, x: Three<T>) -> Mat3<T>
 }
 
 // The coefficients of V^-1 from those of V: chi = v0 - z v2, lambda = chi^2 + z v1^2.
+#[tactic(auto, unfolding(crate::specs::Blocks::inv_coeffs))]
 fn inv_coeffs<T: Real>(v: Three<T>, z: T) -> Three<T>
     ensures { as_three T.float result ≡ inv_coeffs T.format (as_three T.float v) (T.float z) }
 {
@@ -85,6 +88,7 @@ fn q_block<T: Real>(tau: Sim3Tangent<T>, c: Sim3Coeffs<T>, jl: Mat3<T>) -> Mat3<
 }
 
 // J_l(tau) from the unscaled coefficients and J_l(phi).
+#[tactic(auto, unfolding(crate::specs::Blocks::jl_blocks))]
 pub fn jl_blocks_with<T: Real>(tau: Sim3Tangent<T>, c: Sim3Coeffs<T>, jl: Mat3<T>) -> Sim3Jac<T>
     ensures { as_sim3_jac T.float result
         ≡ jl_blocks T.format (as_vec3 T.float tau.phi) (as_vec3 T.float tau.rho) (as_sim3_coeffs T.float c)
@@ -111,7 +115,8 @@ pub fn jl_blocks_with<T: Real>(tau: Sim3Tangent<T>, c: Sim3Coeffs<T>, jl: Mat3<T
 
 // J_l(tau) and its inverse from the coefficients as their arm forms them at z: c of the inverse from
 // the scaled v, e^-sigma applied last; b and f from the unscaled block.
-pub(crate) fn jl_and_inverse_from<T: Width>(
+#[tactic(auto, unfolding(crate::specs::Blocks::jl_and_inverse_from))]
+pub fn jl_and_inverse_from<T: Width>(
     tau: Sim3Tangent<T>,
     z: T,
     s: Scaled<Sim3Coeffs<T>>,

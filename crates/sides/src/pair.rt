@@ -28,6 +28,7 @@ pub struct BlockPair<T> {
 // J_l(phi) and its inverse given. |phi|^2 is the same at -phi, and never below zero: nothing is
 // refused. The coefficients are read where the entry has put them, without a copy;
 // the entry is the one that tells the arms too, so that a program has the pair once.
+#[tactic(auto, using(linalg::proofs::Even::norm_sq_even), unfolding(crate::specs::Pair::block_pair, crate::specs::Blocks::jl_and_inverse, sim3::specs::Tangent::tangent_neg, coeffs::specs::Group::coeffs_armed_pair, coeffs::specs::Group::coeffs_armed, closed::specs::Values::mirrored))]
 pub fn block_pair<T: Width>(
     tau: Sim3Tangent<T>,
     v: Values<T>,

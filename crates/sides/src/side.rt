@@ -44,6 +44,7 @@ pub struct ExpAndJl<X, T> {
 }
 
 // Ad_X = [R 0 0; hat(t) R, s R, -t; 0 0 1]; up is e^sigma of x.
+#[tactic(auto, unfolding(crate::specs::Side::pose_adjoint))]
 pub fn adjoint<T: Real>(x: Sim3<T>, up: T) -> Sim3Jac<T>
     ensures { as_sim3_jac T.float result ≡ pose_adjoint T.format (as_sim3 T.float x) (T.float up) }
 {
@@ -60,6 +61,7 @@ pub fn adjoint<T: Real>(x: Sim3<T>, up: T) -> Sim3Jac<T>
 }
 
 // ad_tau = [W 0 0; Xi, W + sigma I, -rho; 0 0 0].
+#[tactic(auto, unfolding(crate::specs::Side::tangent_ad))]
 pub fn ad<T: Real>(tau: Sim3Tangent<T>) -> Sim3Jac<T>
     ensures { as_sim3_jac T.float result ≡ tangent_ad T.format (as_sim3_tangent T.float tau) }
 {
@@ -76,6 +78,7 @@ pub fn ad<T: Real>(tau: Sim3Tangent<T>) -> Sim3Jac<T>
 }
 
 // J_l(tau), with the values of tau and J_l(phi).
+#[tactic(auto, unfolding(crate::specs::Blocks::jac_jl))]
 pub fn jl<T: Width>(tau: Sim3Tangent<T>, v: Values<T>, jl_phi: Mat3<T>) -> Sim3Jac<T>
     ensures { as_sim3_jac T.float result
         ≡ jac_jl T.format (as_sim3_tangent T.float tau) (as_values T.float v) (as_mat3 T.float jl_phi) }
@@ -85,6 +88,7 @@ pub fn jl<T: Width>(tau: Sim3Tangent<T>, v: Values<T>, jl_phi: Mat3<T>) -> Sim3J
 }
 
 // J_r(tau) = J_l(-tau), with the values of -tau and J_l(-phi).
+#[tactic(auto, unfolding(crate::specs::Side::jac_jr))]
 pub fn jr<T: Width>(tau: Sim3Tangent<T>, v: Values<T>, jl_phi: Mat3<T>) -> Sim3Jac<T>
     ensures { as_sim3_jac T.float result
         ≡ jac_jr T.format (as_sim3_tangent T.float tau) (as_values T.float v) (as_mat3 T.float jl_phi) }
@@ -93,6 +97,7 @@ pub fn jr<T: Width>(tau: Sim3Tangent<T>, v: Values<T>, jl_phi: Mat3<T>) -> Sim3J
 }
 
 // J_l(tau) and its inverse, with the values of tau, J_l(phi) and its inverse.
+#[tactic(auto, unfolding(crate::specs::Blocks::jl_and_inverse))]
 pub fn jl_and_inverse<T: Width>(
     tau: Sim3Tangent<T>,
     v: Values<T>,
@@ -109,6 +114,7 @@ pub fn jl_and_inverse<T: Width>(
 }
 
 // J_l(tau)^-1 alone.
+#[tactic(auto, unfolding(crate::specs::Side::jac_jl_inv))]
 pub fn jl_inv<T: Width>(
     tau: Sim3Tangent<T>,
     v: Values<T>,
@@ -123,6 +129,7 @@ pub fn jl_inv<T: Width>(
 }
 
 // J_r(tau)^-1 = J_l(-tau)^-1, with the values of -tau, J_l(-phi) and its inverse.
+#[tactic(auto, unfolding(crate::specs::Side::jac_jr_inv))]
 pub fn jr_inv<T: Width>(
     tau: Sim3Tangent<T>,
     v: Values<T>,
@@ -137,6 +144,7 @@ pub fn jr_inv<T: Width>(
 }
 
 // (Exp tau, J_l(tau)) from one evaluation of the coefficients.
+#[tactic(auto, unfolding(crate::specs::Side::exp_and_jl, crate::specs::Blocks::jac_jl, sim3::specs::Exp::pose_exp, coeffs::specs::Group::coeffs_v, series::specs::Series::coeffs4))]
 pub fn exp_and_jl<T: Width>(
     tau: Sim3Tangent<T>,
     v: Values<T>,
@@ -172,6 +180,7 @@ pub fn exp_and_jl<T: Width>(
 }
 
 // (Ad_Exp(tau), J_l(tau)), of Exp(tau) X by X and by tau.
+#[tactic(auto, unfolding(crate::specs::Side::lplus_jacobians, crate::specs::Side::exp_and_jl))]
 pub fn lplus_jacobians<T: Width>(
     tau: Sim3Tangent<T>,
     v: Values<T>,
@@ -188,6 +197,7 @@ pub fn lplus_jacobians<T: Width>(
 }
 
 // (Ad_Exp(tau)^-1, J_r(tau)), of X Exp(tau) by X and by tau, with the values of -tau and J_l(-phi).
+#[tactic(auto, unfolding(crate::specs::Side::rplus_jacobians))]
 pub fn rplus_jacobians<T: Width>(
     tau: Sim3Tangent<T>,
     v: Values<T>,
@@ -200,6 +210,7 @@ pub fn rplus_jacobians<T: Width>(
 }
 
 // Right: ([-s R hat(p), s R, s R p], s R).
+#[tactic(auto, unfolding(crate::specs::Side::act_jacobians_right))]
 pub fn act_jacobians_right<T: Real>(x: Sim3<T>, up: T, p: Vec3<T>) -> ActJacobians<T>
     ensures { as_act_jacobians T.float result
         ≡ act_jacobians_right T.format (as_sim3 T.float x) (T.float up) (as_vec3 T.float p) }
@@ -215,6 +226,7 @@ pub fn act_jacobians_right<T: Real>(x: Sim3<T>, up: T, p: Vec3<T>) -> ActJacobia
 }
 
 // Left: ([-hat(X p), I, X p], s R).
+#[tactic(auto, unfolding(crate::specs::Side::act_jacobians_left))]
 pub fn act_jacobians_left<T: Real>(x: Sim3<T>, up: T, p: Vec3<T>) -> ActJacobians<T>
     ensures { as_act_jacobians T.float result
         ≡ act_jacobians_left T.format (as_sim3 T.float x) (T.float up) (as_vec3 T.float p) }
@@ -230,6 +242,7 @@ pub fn act_jacobians_left<T: Real>(x: Sim3<T>, up: T, p: Vec3<T>) -> ActJacobian
 }
 
 // Ad of x^-1; down is e^-sigma of x.
+#[tactic(auto, unfolding(crate::specs::Side::pose_inverse_adjoint))]
 fn inverse_adjoint<T: Real>(x: Sim3<T>, down: T) -> Sim3Jac<T>
     ensures { as_sim3_jac T.float result ≡ pose_inverse_adjoint T.format (as_sim3 T.float x) (T.float down) }
 {
@@ -237,6 +250,7 @@ fn inverse_adjoint<T: Real>(x: Sim3<T>, down: T) -> Sim3Jac<T>
 }
 
 // Right: (Ad_Y^-1, I) of the product X Y; down is e^-sigma of Y.
+#[tactic(auto, unfolding(crate::specs::Side::compose_jacobians_right))]
 pub fn compose_jacobians_right<T: Real>(y: Sim3<T>, down: T) -> TwoJacobians<T>
     ensures { as_two_jacobians T.float result ≡ compose_jacobians_right T.format (as_sim3 T.float y) (T.float down) }
 {
@@ -247,6 +261,7 @@ pub fn compose_jacobians_right<T: Real>(y: Sim3<T>, down: T) -> TwoJacobians<T>
 }
 
 // Left: (I, Ad_X) of the product X Y; up is e^sigma of X.
+#[tactic(auto, unfolding(crate::specs::Side::compose_jacobians_left))]
 pub fn compose_jacobians_left<T: Real>(x: Sim3<T>, up: T) -> TwoJacobians<T>
     ensures { as_two_jacobians T.float result ≡ compose_jacobians_left T.format (as_sim3 T.float x) (T.float up) }
 {
@@ -257,6 +272,7 @@ pub fn compose_jacobians_left<T: Real>(x: Sim3<T>, up: T) -> TwoJacobians<T>
 }
 
 // Right: -Ad_X; up is e^sigma of x.
+#[tactic(auto, unfolding(crate::specs::Side::inverse_jacobian_right))]
 pub fn inverse_jacobian_right<T: Real>(x: Sim3<T>, up: T) -> Sim3Jac<T>
     ensures { as_sim3_jac T.float result ≡ inverse_jacobian_right T.format (as_sim3 T.float x) (T.float up) }
 {
@@ -264,6 +280,7 @@ pub fn inverse_jacobian_right<T: Real>(x: Sim3<T>, up: T) -> Sim3Jac<T>
 }
 
 // Left: -Ad_X^-1; down is e^-sigma of x.
+#[tactic(auto, unfolding(crate::specs::Side::inverse_jacobian_left))]
 pub fn inverse_jacobian_left<T: Real>(x: Sim3<T>, down: T) -> Sim3Jac<T>
     ensures { as_sim3_jac T.float result ≡ inverse_jacobian_left T.format (as_sim3 T.float x) (T.float down) }
 {

@@ -54,6 +54,7 @@ impl<T: Real> Sim3<T> {
     }
 
     // self * other^-1; e is the exponential of the difference of the two log scales.
+    #[tactic(auto, unfolding(crate::specs::Pose::pose_mul_inv))]
     pub fn mul_inv(self, other: Sim3<T>, e: T) -> Sim3<T>
         ensures { as_sim3 T.float result ≡ pose_mul_inv T.format (as_sim3 T.float self) (as_sim3 T.float other) (T.float e) }
     {
@@ -69,6 +70,7 @@ impl<T: Real> Sim3<T> {
     }
 
     // other^-1 * self; down is e^-sigma of other.
+    #[tactic(auto, unfolding(crate::specs::Pose::pose_inv_mul))]
     pub fn inv_mul(self, other: Sim3<T>, down: T) -> Sim3<T>
         ensures { as_sim3 T.float result ≡ pose_inv_mul T.format (as_sim3 T.float self) (as_sim3 T.float other) (T.float down) }
     {
@@ -84,6 +86,7 @@ impl<T: Real> Sim3<T> {
     }
 
     // X p = s R p + t; up is e^sigma.
+    #[tactic(auto, unfolding(crate::specs::Pose::pose_act))]
     pub fn act(self, up: T, p: Vec3<T>) -> Vec3<T>
         ensures { as_vec3 T.float result ≡ pose_act T.format (as_sim3 T.float self) (T.float up) (as_vec3 T.float p) }
     {
@@ -93,7 +96,9 @@ impl<T: Real> Sim3<T> {
 
     // XY = (R_X R_Y, s_X R_X t_Y + t_X, sigma_X + sigma_Y); up is e^sigma of X. PERF (D111): the
     // operations of Quat::mul and of act are written out in an order in which the compiler keeps every
-    // number in a register: p.x and p.z times q, then t, then the sums of the quaternion.
+    // number in a register: p.x and p.z times q, then t, then the sums of the quaternion. PERF: it is written into its
+    // callers, since a call would copy both poses.
+    #[inline(always)]
     pub fn mul(self, o: Sim3<T>, up: T) -> Sim3<T>
         ensures { as_sim3 T.float result ≡ pose_mul T.format (as_sim3 T.float self) (as_sim3 T.float o) (T.float up) }
     {
@@ -134,6 +139,7 @@ impl<T: Real> Sim3<T> {
         }
     }
 
+    #[tactic(auto, unfolding(crate::specs::Pose::pose_identity))]
     pub fn identity() -> Sim3<T>
         ensures { as_sim3 T.float result ≡ pose_identity }
     {
@@ -162,6 +168,7 @@ impl<T: Real> Sim3<T> {
 
 impl<T: Width> Sim3<T> {
     // Exp tau = (Exp phi, V rho, sigma).
+    #[tactic(auto, unfolding(crate::specs::Exp::pose_exp))]
     pub fn exp(tau: Sim3Tangent<T>, v: Values<T>) -> Sim3<T>
         ensures { as_sim3 T.float result ≡ pose_exp T.format (as_sim3_tangent T.float tau) (as_values T.float v) }
     {
@@ -177,6 +184,7 @@ impl<T: Width> Sim3<T> {
     }
 
     // X Exp(tau); up is e^sigma of X, v the values of tau.
+    #[tactic(auto, unfolding(crate::specs::Exp::pose_rplus))]
     pub fn rplus(self, up: T, tau: Sim3Tangent<T>, v: Values<T>) -> Sim3<T>
         ensures { as_sim3 T.float result ≡ pose_rplus T.format (as_sim3 T.float self) (T.float up) (as_sim3_tangent T.float tau) (as_values T.float v) }
     {
@@ -184,6 +192,7 @@ impl<T: Width> Sim3<T> {
     }
 
     // Exp(tau) X, with the values of tau.
+    #[tactic(auto, unfolding(crate::specs::Exp::pose_lplus))]
     pub fn lplus(self, tau: Sim3Tangent<T>, v: Values<T>) -> Sim3<T>
         ensures { as_sim3 T.float result ≡ pose_lplus T.format (as_sim3 T.float self) (as_sim3_tangent T.float tau) (as_values T.float v) }
     {
@@ -252,6 +261,7 @@ impl<T: Real> Renormalize for Sim3<T> {
     ghost renormalizes = { λ x y. as_sim3 T.float y ≡ pose_renormalized T.format (as_sim3 T.float x) };
 
     // The quaternion's Newton step; t and sigma stay.
+    #[tactic(auto, unfolding(crate::specs::Pose::pose_renormalized))]
     fn renormalized(self) -> Sim3<T>
         ensures { as_sim3 T.float result ≡ pose_renormalized T.format (as_sim3 T.float self) }
     {

@@ -80,6 +80,7 @@ impl<T: Real> Sim3Tangent<T> {
         }
     }
 
+    #[tactic(auto, unfolding(crate::specs::Tangent::tangent_zero))]
     pub fn zero() -> Sim3Tangent<T>
         ensures { as_sim3_tangent T.float result ≡ tangent_zero }
     {
@@ -90,12 +91,14 @@ impl<T: Real> Sim3Tangent<T> {
         }
     }
 
+    #[tactic(auto, unfolding(crate::specs::Tangent::tangent_add, linalg::specs::Vector::vec_add))]
     pub fn add(self, o: Sim3Tangent<T>) -> Sim3Tangent<T>
         ensures { as_sim3_tangent T.float result ≡ tangent_add T.format (as_sim3_tangent T.float self) (as_sim3_tangent T.float o) }
     {
         self.zip_with(o, |a, b| a + b)
     }
 
+    #[tactic(auto, unfolding(crate::specs::Tangent::tangent_sub, linalg::specs::Vector::vec_sub))]
     pub fn sub(self, o: Sim3Tangent<T>) -> Sim3Tangent<T>
         ensures { as_sim3_tangent T.float result ≡ tangent_sub T.format (as_sim3_tangent T.float self) (as_sim3_tangent T.float o) }
     {
@@ -103,6 +106,7 @@ impl<T: Real> Sim3Tangent<T> {
     }
 
     // Flips every sign bit.
+    #[tactic(auto, unfolding(crate::specs::Tangent::tangent_neg, linalg::specs::Vector::vec_neg))]
     pub fn neg(self) -> Sim3Tangent<T>
         ensures { as_sim3_tangent T.float result ≡ tangent_neg (as_sim3_tangent T.float self) }
     {
@@ -110,6 +114,7 @@ impl<T: Real> Sim3Tangent<T> {
     }
 
     // k * self, the factor first.
+    #[tactic(auto, unfolding(crate::specs::Tangent::tangent_scale))]
     pub fn scale(self, k: T) -> Sim3Tangent<T>
         ensures { as_sim3_tangent T.float result ≡ tangent_scale T.format (as_sim3_tangent T.float self) (T.float k) }
     {
@@ -117,6 +122,7 @@ impl<T: Real> Sim3Tangent<T> {
     }
 
     // acc plus the seven products, one after another from the left.
+    #[tactic(auto, unfolding(crate::specs::Tangent::tangent_dot_acc))]
     pub fn dot_acc(self, o: Sim3Tangent<T>, acc: T) -> T
         ensures { T.float result ≡ tangent_dot_acc T.format (as_sim3_tangent T.float self) (as_sim3_tangent T.float o) (T.float acc) }
     {
@@ -129,6 +135,7 @@ impl<T: Real> Sim3Tangent<T> {
     }
 
     // The seven numbers phi, rho, sigma: the Rust's write_dense.
+    #[tactic(auto, unfolding(crate::specs::Tangent::tangent_to_dense))]
     pub fn to_dense(self) -> [T; 7]
         ensures { map T.float result ≡ tangent_to_dense (as_sim3_tangent T.float self) }
     {

@@ -12,6 +12,7 @@ use to_lists::put;
 use to_lists::whole::Whole;
 
 // At sigma; z is the squared angle.
+#[tactic(auto, unfolding(crate::specs::Calls::armed_call, to_lists::specs::Written::status, to_lists::specs::Written::written))]
 pub fn sim3_coeffs_armed<T: Width + Whole>(
     sigma: T,
     z: T,
@@ -29,6 +30,7 @@ pub fn sim3_coeffs_armed<T: Width + Whole>(
 }
 
 // At sigma and at -sigma.
+#[tactic(auto, unfolding(crate::specs::Calls::armed_pair_call, to_lists::specs::Written::status, to_lists::specs::Written::written))]
 pub fn sim3_armed_pair<T: Width + Whole>(
     sigma: T,
     z: T,

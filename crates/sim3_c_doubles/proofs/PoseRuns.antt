@@ -17,6 +17,9 @@ use Rattle.to_lists.specs.Written.{written, renormalize_call}
 use Rattle.to_lists.proofs.Fits.{fitted}
 use Rattle.sim3_c_doubles.specs.Join.{poses_renormalized}
 
+-- a pose has eight numbers
+pub ruleset sizes = (pose-count)
+
 run_length : (f : Format) (l : List Float) (n : ℕ) → length (poses_renormalized f l n) ≡ n * 8
 unfolding poses_renormalized
 run_length f l zero = refl

@@ -1,14 +1,10 @@
--- Lists of zeros as those of a running join without a pose, and a pose that is there by a flag. Assumes nothing.
+-- Lists of zeros as those of a running join without a pose. Assumes nothing.
 use Prim.Native.Nat.{ℕ}
-use mathlib.Core.Path.{◌≡◌, refl, ap, ◌∙◌}
-use mathlib.Core.Bool.{Bool, true, false, cond}
+use mathlib.Core.Path.{◌≡◌, ap, ◌∙◌}
 use mathlib.Core.List.{List, [], ◌∷◌}
 use lib.ListN.{length, replicate}
 use lib.Ieee.{Float}
-use Rattle.std.specs.Prelude.{Some, None}
-use Rattle.std.specs.Bool.{then_some}
 use Rattle.linalg.specs.Vector.{vec_numbers}
-use Rattle.frames.specs.Floats.{Pose}
 use Rattle.layout.specs.Layout.{quat_numbers, pose_numbers}
 use Rattle.sim3_c_doubles.specs.Join.{zero_pose}
 
@@ -18,7 +14,3 @@ zero_numbers l m h e = e ∙ ap (λ (n : ℕ). replicate n zero_pose.sim3.sigma)
 
 pub zero_state : (l m : List ℕ) → length l ≡ 5 → m ≡ replicate (length l) 0 → m ≡ 0 ∷ 0 ∷ 0 ∷ 0 ∷ 0 ∷ []
 zero_state l m h e = e ∙ ap (λ (n : ℕ). replicate n 0) h
-
-pub flagged : (b : Bool) (x : Pose) → then_some b x ≡ cond b (Some x) None
-flagged true x = refl
-flagged false x = refl

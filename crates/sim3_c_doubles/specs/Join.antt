@@ -1,6 +1,6 @@
 -- The running join between calls, and the Newton step on a list of poses. What a call answers and what the lists then hold is told as in Written.antt of crate `to_lists`.
 -- A running join stands in two lists: the eight numbers of the running pose; and its frames, from and to, n, how many products there were since the last renormalisation, and 1 where there is a pose.
-use Rattle.std.specs.Prelude.{ℕ, zero, suc, ◌*◌, ◌/◌, ◌%◌, ◌≡◌, Bool, cond, ◌&&◌, List, [], ◌∷◌, ◌++◌, eqb, get_or, set, length, Float, Some, None}
+use Rattle.std.specs.Prelude.{ℕ, zero, suc, ◌*◌, ◌/◌, ◌%◌, ◌≡◌, cond, ◌&&◌, List, [], ◌∷◌, ◌++◌, eqb, get_or, set, length, Float, Some, None}
 use Rattle.std.specs.Float.{Format}
 use Rattle.ieee.specs.Numbers.{f0}
 use Rattle.linalg.specs.Answer.{Answer, answers, refuses, and_then}

@@ -1,5 +1,5 @@
 -- The sheets between calls: bytes that the caller lends, as crate `sheets` has them. What a call answers and what the lists then hold is told as in Written.antt of crate `to_lists`.
-use Rattle.std.specs.Prelude.{ℕ, Bool, cond, ◌&&◌, List, [], ◌∷◌, eqb, length, Float}
+use Rattle.std.specs.Prelude.{ℕ, cond, ◌&&◌, List, [], ◌∷◌, eqb, length, Float}
 use Rattle.linalg.specs.Answer.{Answer, answers, refuses, and_then}
 use Rattle.frames.specs.Floats.{Pose}
 use Rattle.sheets.specs.Sheets.{Sheets, Shelved}

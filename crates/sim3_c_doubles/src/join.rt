@@ -19,6 +19,7 @@ use to_lists::{put_pose, renormalize_pose};
 
 const STATE: usize = 5;
 
+#[tactic(auto, unfolding(crate::specs::Join::running_from, crate::specs::Join::start_in, from_lists::specs::Lists::sized))]
 fn running_from(pose: &[f64], state: &[u16]) -> Result<Running, Refusal>
     ensures { answer result ≡ running_from (run_lists pose.now state.now) }
 {
@@ -39,6 +40,7 @@ fn running_from(pose: &[f64], state: &[u16]) -> Result<Running, Refusal>
 }
 
 // The running pose x, n and the count k; nothing is written where a list has another length.
+#[tactic(auto, using(crate::proofs::PoseRuns::sizes), unfolding(crate::specs::Join::run_fitting, to_lists::specs::Written::fitting, to_lists::specs::Written::status, to_lists::specs::Written::written))]
 fn put_posed(
     pose: &mut [f64],
     state: &mut [u16],
@@ -61,6 +63,7 @@ fn put_posed(
 }
 
 // What a pose left, or the refusal and nothing written.
+#[tactic(auto, unfolding(crate::specs::Join::joint_fitting, to_lists::specs::Written::status, to_lists::specs::Written::written))]
 fn put_joint(pose: &mut [f64], state: &mut [u16], j: Joined) -> Result<(), Refusal>
     ensures value { status (answer result) ≡ status (joint_fitting (run_lists pose.old state.old) (joint_told j)) }
     ensures state_after { run_lists pose.new state.new
@@ -72,6 +75,7 @@ fn put_joint(pose: &mut [f64], state: &mut [u16], j: Joined) -> Result<(), Refus
 }
 
 // No pose yet, and none will be renormalised: all numbers 0.
+#[tactic(auto, unfolding(crate::specs::Join::start_call, crate::specs::Join::run_fitting, to_lists::specs::Written::status, to_lists::specs::Written::written))]
 pub fn sim3_running_start(pose: &mut [f64], state: &mut [u16]) -> Result<(), Refusal>
     ensures value { status (answer result) ≡ status (start_call (run_lists pose.old state.old)) }
     ensures state_after { run_lists pose.new state.new ≡ run_written start_call (run_lists pose.old state.old) }
@@ -89,6 +93,7 @@ pub fn sim3_running_start(pose: &mut [f64], state: &mut [u16]) -> Result<(), Ref
 
 // The first pose is the running pose, its up unused; a further one is multiplied by it from the left, up
 // being e^sigma of the running pose. Where the frames do not meet (9) nothing changes.
+#[tactic(auto, unfolding(crate::specs::Join::push_call, to_lists::specs::Written::status, to_lists::specs::Written::written))]
 pub fn sim3_running_push(
     pose: &mut [f64],
     state: &mut [u16],
@@ -107,6 +112,7 @@ pub fn sim3_running_push(
 }
 
 // From here on the running quaternion is renormalised after every nth product, 0 for never.
+#[tactic(auto, unfolding(crate::specs::Join::every_call, from_lists::specs::Lists::sized, to_lists::specs::Written::status, to_lists::specs::Written::written))]
 pub fn sim3_running_every(state: &mut [u16], n: u16) -> Result<(), Refusal>
     ensures value { status (answer result) ≡ status (every_call state.old n) }
     ensures state_after { state.new ≡ written (every_call state.old n) state.old }
@@ -119,6 +125,7 @@ pub fn sim3_running_every(state: &mut [u16], n: u16) -> Result<(), Refusal>
 }
 
 // A Newton step towards a unit quaternion, in place, for every pose of the list, eight numbers each.
+#[tactic(auto, using(crate::proofs::PoseRuns::run_all), unfolding(crate::specs::Join::renormalize_all_call, crate::specs::Join::poses_renormalized, to_lists::specs::Written::status, to_lists::specs::Written::written))]
 pub fn sim3_renormalize_all(poses: &mut [f64]) -> Result<(), Refusal>
     ensures value { status (answer result) ≡ status (renormalize_all_call binary64 poses.old) }
     ensures poses_after { poses.new ≡ written (renormalize_all_call binary64 poses.old) poses.old }

@@ -9,6 +9,7 @@ const NUMBERS: usize = 3;
 
 // Whether the three numbers have the product that is due (`environment::product_is_due`). 4.75, 0x1p-1074
 // and 0x1.0000000000001p+1023 have it (proofs/Documented.antt).
+#[tactic(auto, unfolding(crate::specs::Probe::probe_call))]
 pub fn sim3_environment(probe: &[f64]) -> Result<bool, Refusal>
     ensures { probe_told result ≡ probe_call probe.now }
 {

@@ -21,6 +21,7 @@ const SHELVED: usize = 2;
 const TAKE: usize = 1;
 
 // Nothing is kept yet.
+#[tactic(auto, unfolding(crate::specs::Shelf::fresh_call, sheets::specs::Store::holds, to_lists::specs::Written::status, to_lists::specs::Written::written))]
 pub fn sim3_sheets_start(store: &mut [u8]) -> Result<(), Refusal>
     ensures value { status (answer result) ≡ status (fresh_call store.old) }
     ensures store_after { store.new ≡ written (fresh_call store.old) store.old }
@@ -33,6 +34,7 @@ pub fn sim3_sheets_start(store: &mut [u8]) -> Result<(), Refusal>
     Ok(())
 }
 
+#[tactic(auto, unfolding(crate::specs::Shelf::shelved_fitting, crate::specs::Shelf::two_fitting, to_lists::specs::Written::status, to_lists::specs::Written::written))]
 fn put_shelved(out: &mut [u16], a: Result<Shelved, Refusal>) -> Result<(), Refusal>
     ensures value { status (answer result) ≡ status (shelved_fitting out.old (told shelved_of a)) }
     ensures out_after { out.new ≡ written (shelved_fitting out.old (told shelved_of a)) out.old }
@@ -48,6 +50,7 @@ fn put_shelved(out: &mut [u16], a: Result<Shelved, Refusal>) -> Result<(), Refus
 }
 
 // A shot of a sheet: it is kept if none of that sheet is, or one of a lower take.
+#[tactic(auto, unfolding(crate::specs::Shelf::put_call, crate::specs::Shelf::store_after, crate::specs::Shelf::kept_after, to_lists::specs::Written::status, to_lists::specs::Written::written))]
 pub fn sim3_sheets_put(
     store: &mut [u8],
     sheet: u16,
@@ -69,6 +72,7 @@ pub fn sim3_sheets_put(
     put_shelved(out, sheets::put(store, sheet, Shot { take, pose }))
 }
 
+#[tactic(auto, unfolding(crate::specs::Shelf::shot_fitting, to_lists::specs::Written::framed_fitting, to_lists::specs::Written::status, to_lists::specs::Written::written))]
 fn put_shot(
     take: &mut [u16],
     out: &mut [f64],
@@ -93,6 +97,7 @@ fn put_shot(
 }
 
 // The take and the pose that are kept of a sheet.
+#[tactic(auto, unfolding(crate::specs::Shelf::get_call, to_lists::specs::Written::status, to_lists::specs::Written::written))]
 pub fn sim3_sheets_get(
     store: &[u8],
     sheet: u16,

@@ -1,8 +1,35 @@
--- A case as the byte that the code makes of it. Assumes nothing.
-use Rattle.std.proofs.Common.{◌≡◌, refl}
-use Rattle.std.specs.Prelude.{Bool, true, false, cond}
-use Rattle.std.specs.Int.{from_bool}
+-- Whether a list is as long as is due for a scaled pair, told by what `put` says. Assumes nothing.
+use Rattle.std.proofs.Common.{◌≡◌, ◌<◌, ℕ, List, refl, subst, length, arith}
+use Rattle.std.specs.Prelude.{Bool, true, false, cond, eqb, Float}
+use Rattle.linalg.specs.Answer.{answers, refuses, number}
+use Rattle.linalg.specs.declared.refusal.Refusal.{Refusal}
+use Rattle.linalg.specs.declared.refusal.Refusal.TheVariants.{NegativeAngle, ZeroScale, NoSuchEntry, TooManyTerms, BadLength, UnknownMark, CutInput, NotFinite, FramesDiffer, SameTake, NoRoom, NeverKept, ListLength}
+use Rattle.layout.proofs.Numbers.{scaled-pair-count}
+use Rattle.to_lists.specs.Written.{status, written, fitting}
 
-pub byte_is : (b : Bool) → from_bool b ≡ cond b 1 0
-byte_is true = refl
-byte_is false = refl
+-- a scaled pair has twenty numbers
+pub ruleset sizes = (scaled-pair-count)
+
+above_zero : (e : Refusal) → 0 < number e
+above_zero NegativeAngle = omega arith
+above_zero ZeroScale = omega arith
+above_zero NoSuchEntry = omega arith
+above_zero TooManyTerms = omega arith
+above_zero BadLength = omega arith
+above_zero UnknownMark = omega arith
+above_zero CutInput = omega arith
+above_zero NotFinite = omega arith
+above_zero FramesDiffer = omega arith
+above_zero SameTake = omega arith
+above_zero NoRoom = omega arith
+above_zero NeverKept = omega arith
+above_zero ListLength = omega arith
+
+by : (b : Bool) (o l : List Float) (e : Refusal) → number e ≡ status (cond b (answers l) (refuses 100)) → (b ≡ false) × (written (cond b (answers l) (refuses 100)) o ≡ o)
+unfolding status written
+by true o l e h = absurd (omega (arith, h, above_zero e))
+by false o l e h = (refl, refl)
+
+pub fits-not : (o l : List Float) (n : ℕ) (e : Refusal) → length l ≡ n → number e ≡ status (fitting o l) → (eqb (length o) n ≡ false) × (written (fitting o l) o ≡ o)
+unfolding fitting
+fits-not o l n e k h = subst (λ m. (eqb (length o) m ≡ false) × (written (fitting o l) o ≡ o)) k (by (eqb (length o) (length l)) o l e h)

@@ -17,16 +17,16 @@ use from_lists::{
     block_from, framed_from, frames_from, mat_from, pose_from, tangent_from, values_from, vec_from,
 };
 use ieee::Real;
-use layout::SCALED_PAIR;
 use linalg::refusal::Refusal;
 use series::sim3::Signs;
 use sides::pair::block_pair;
-use to_lists::{ToNumbers, put, put_framed};
+use to_lists::{put, put_framed};
 
 // How many bytes the arms of both signs have.
 pub const ARMS: usize = 4;
 
 // Exp of the tangent, with its ten function values and the frames that it is given.
+#[tactic(auto, unfolding(crate::specs::Calls::exp_call, to_lists::specs::Written::status, to_lists::specs::Written::written))]
 pub fn sim3_exp<T: Width>(
     tau: &[T],
     values: &[T],
@@ -48,6 +48,7 @@ pub fn sim3_exp<T: Width>(
 }
 
 // X Y, where X starts from the frame to which Y goes; up is e^sigma of X.
+#[tactic(auto, unfolding(crate::specs::Calls::mul_call, to_lists::specs::Written::joined_fitting, to_lists::specs::Written::status, to_lists::specs::Written::written))]
 pub fn sim3_mul<T: Real>(
     x: &[T],
     x_frames: &[u16],
@@ -70,6 +71,7 @@ pub fn sim3_mul<T: Real>(
 }
 
 // X^-1, with the frames exchanged; down is e^-sigma of X.
+#[tactic(auto, unfolding(crate::specs::Calls::inverse_call, to_lists::specs::Written::status, to_lists::specs::Written::written))]
 pub fn sim3_inverse<T: Real>(
     x: &[T],
     x_frames: &[u16],
@@ -89,6 +91,7 @@ pub fn sim3_inverse<T: Real>(
 }
 
 // The scaled-form coefficients at sigma and at -sigma; z is the squared angle.
+#[tactic(auto, unfolding(crate::specs::Calls::scaled_pair_call, to_lists::specs::Written::status, to_lists::specs::Written::written))]
 pub fn sim3_scaled_pair<T: Width>(
     sigma: T,
     z: T,
@@ -106,6 +109,7 @@ pub fn sim3_scaled_pair<T: Width>(
 }
 
 // J_l, its inverse, J_r and its inverse, with the values of the tangent, J_l(phi) and its inverse.
+#[tactic(auto, unfolding(crate::specs::Calls::block_pair_call, to_lists::specs::Written::status, to_lists::specs::Written::written))]
 pub fn sim3_block_pair<T: Width>(
     tau: &[T],
     values: &[T],
@@ -128,6 +132,7 @@ pub fn sim3_block_pair<T: Width>(
 }
 
 // The inverse of a block; refusal 2 where e is a zero.
+#[tactic(auto, unfolding(crate::specs::Calls::block_inverse_call, to_lists::specs::Written::status, to_lists::specs::Written::written))]
 pub fn sim3_block_inverse<T: Real>(j: &[T], out: &mut [T]) -> Result<(), Refusal>
     ensures value { status (answer result)
         ≡ status (block_inverse_call T.format (T.floats j.now) (T.floats out.old)) }
@@ -140,6 +145,7 @@ pub fn sim3_block_inverse<T: Real>(j: &[T], out: &mut [T]) -> Result<(), Refusal
 }
 
 // A pose's action on one point; up is e^sigma of X.
+#[tactic(auto, unfolding(crate::specs::Calls::act_call, to_lists::specs::Written::status, to_lists::specs::Written::written))]
 pub fn act_point<T: Real>(x: &[T], up: T, p: &[T], out: &mut [T]) -> Result<(), Refusal>
     ensures value { status (answer result)
         ≡ status (act_call T.format (T.floats x.now) (T.float up) (T.floats p.now) (T.floats out.old)) }
@@ -154,6 +160,7 @@ pub fn act_point<T: Real>(x: &[T], up: T, p: &[T], out: &mut [T]) -> Result<(), 
 
 // The arms of both signs as bytes, each with 1 or 0 for whether v0 and w0 of the closed arm come from series of their
 // own, and the scaled pair to a list; both or none.
+#[tactic(auto, using(crate::proofs::Arms::sizes), unfolding(crate::specs::Calls::arms_fitting, to_lists::specs::Written::fitting, to_lists::specs::Written::status, to_lists::specs::Written::written))]
 fn put_arms<T: Real>(arms: &mut [u8], out: &mut [T], p: ArmedPair<T>) -> Result<(), Refusal>
     ensures value { status (answer result)
         ≡ status (arms_fitting (arm_lists arms.old (T.floats out.old)) (as_armed_pair T.float p)) }
@@ -164,16 +171,13 @@ fn put_arms<T: Real>(arms: &mut [u8], out: &mut [T], p: ArmedPair<T>) -> Result<
     if arms.len() != ARMS {
         return Err(Refusal::ListLength);
     }
-    if out.len() != SCALED_PAIR {
-        return Err(Refusal::ListLength);
-    }
     let pos = p.pos;
     let neg = p.neg;
     let pair = Signs {
         pos: pos.s,
         neg: neg.s,
     };
-    pair.to_numbers(out);
+    put(out, pair)?;
     let ends = u8::from(pos.ends);
     let ends_neg = u8::from(neg.ends);
     let arm = pos.arm.number();
@@ -183,6 +187,7 @@ fn put_arms<T: Real>(arms: &mut [u8], out: &mut [T], p: ArmedPair<T>) -> Result<
 }
 
 // The scaled pair with the arms that formed it, the arms as bytes; z is the squared angle.
+#[tactic(auto, unfolding(crate::specs::Calls::arms_call, to_lists::specs::Written::status, to_lists::specs::Written::written))]
 pub fn armed_pair<T: Width>(
     sigma: T,
     z: T,

@@ -1,3 +1,2 @@
-mod Moves
 mod Underway
 mod Nearer

@@ -6,6 +6,7 @@ use mathlib.Core.List.{List}
 use native.Mathlib.Omega.{arith}
 use borrow.Author.Tests.{ltb-true, ltb-false}
 use lib.Dec.{ltb}
+use Rattle.std.proofs.lemmas.Bool.{false≢true}
 use Rattle.job.specs.declared.Counts.{Counts}
 use Rattle.job.specs.declared.Fed.{Fed}
 use Rattle.job.specs.declared.Reason.{Reason}
@@ -17,7 +18,6 @@ use Rattle.job.specs.Private.{part_fed}
 use Rattle.job.proofs.Pieces.{sound_is}
 use Rattle.job.proofs.Progress.{feed_progress}
 use Rattle.job.proofs.Whole.{feed_sound}
-use Rattle.outcome.proofs.Never.{untrue}
 
 -- ---- how far the end is: the records that may still be begun, each worth more than a whole buffer; then the room in the buffer; then whether a read comes next
 abbrev pub idle : Bool → ℕ
@@ -33,7 +33,7 @@ begun_more b b₁ have have₁ i i₁ h k j = omega arith
 same_more :
     (asked ended : Bool) (b have n used : ℕ) → used ≡ 0 → ended ≡ false → (asked ≡ true → n ≡ 0 → ended ≡ true) → have + n ≤ 65536 →
     (job_limit - b) * 131076 + ((65536 - (have + n - used)) * 2 + 0) < (job_limit - b) * 131076 + ((65536 - have) * 2 + idle asked)
-same_more true ended b have zero used u e h k = untrue (sym e ∙ h refl refl)
+same_more true ended b have zero used u e h k = absurd (false≢true (sym e ∙ h refl refl))
 same_more true ended b have (suc n) used u e h k = rw u (omega arith)
 same_more false ended b have n used u e h k = rw u (omega arith)
 
@@ -46,11 +46,11 @@ less_by false More asked ended b b₁ have n used t g w l u m o h k =
     let e : b₁ ≡ b = let x : b₁ ≤ b = ltb-false b b₁ t in omega arith in
     rw e (same_more asked ended b have n used (u e) (m refl) h k)
 less_by t Room asked ended b b₁ have n used q g w l u m o h k = begun_more b b₁ have _ _ _ (o refl) l (omega arith)
-less_by t Bad asked ended b b₁ have n used q g w l u m o h k = untrue g
-less_by t Full asked ended b b₁ have n used q g w l u m o h k = untrue g
-less_by t End asked ended b b₁ have n used q g w l u m o h k = untrue g
-less_by t Unknown asked ended b b₁ have n used q g w l u m o h k = untrue g
-less_by t Cut asked ended b b₁ have n used q g w l u m o h k = untrue g
+less_by t Bad asked ended b b₁ have n used q g w l u m o h k = absurd (false≢true g)
+less_by t Full asked ended b b₁ have n used q g w l u m o h k = absurd (false≢true g)
+less_by t End asked ended b b₁ have n used q g w l u m o h k = absurd (false≢true g)
+less_by t Unknown asked ended b b₁ have n used q g w l u m o h k = absurd (false≢true g)
+less_by t Cut asked ended b b₁ have n used q g w l u m o h k = absurd (false≢true g)
 
 pub nearer :
     (j : Standing) (kept : List ℕ) (asked ended : Bool) (have n room : ℕ) (f : Fed) → counts_sound job_limit j.counts ≡ true → answer_room ≤ room →
@@ -77,12 +77,12 @@ none_sound = refl
 
 pub asks_more : (r : Reason) → asks_for r ≡ true → r ≡ More
 asks_more More e = refl
-asks_more Room e = untrue e
-asks_more Bad e = untrue e
-asks_more Full e = untrue e
-asks_more End e = untrue e
-asks_more Unknown e = untrue e
-asks_more Cut e = untrue e
+asks_more Room e = absurd (false≢true e)
+asks_more Bad e = absurd (false≢true e)
+asks_more Full e = absurd (false≢true e)
+asks_more End e = absurd (false≢true e)
+asks_more Unknown e = absurd (false≢true e)
+asks_more Cut e = absurd (false≢true e)
 
 pub not_bad :
     (j : Standing) (kept : List ℕ) (last : Bool) (room : ℕ) (f : Fed) → counts_sound job_limit j.counts ≡ true →

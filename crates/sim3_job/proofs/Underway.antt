@@ -1,12 +1,17 @@
 -- A run from a tape to a sink. What stands in the sink, and what the job writes for the bytes that are kept and those still on the tape, is together what it
 -- writes for the whole tape; a read and a feed keep this. Assumes nothing.
-use Prim.Native.Nat.{ℕ, ◌+◌, ◌-◌, ◌≤◌, ◌<◌}
+use Prim.Native.Nat.{ℕ, ◌+◌, ◌≤◌, ◌<◌, min}
 use mathlib.Core.Path.{◌≡◌, refl, sym, ap, subst, ◌∙◌}
-use mathlib.Core.Bool.{Bool, true, false, cond}
+use mathlib.Core.Bool.{Bool, true, false, not, cond}
 use mathlib.Core.List.{List, [], ◌++◌, append-nil, append_assoc}
+use Rattle.std.proofs.Math.Bool.{not-not}
 use native.Mathlib.Nat.{sub-zero}
 use native.Mathlib.Omega.{arith}
+use borrow.Author.Tests.{eqb-true}
 use lib.Dec.{eqb}
+use Rattle.std.proofs.lemmas.Bool.{false≢true}
+use Rattle.std.specs.Bool.{then_some}
+use Rattle.std.specs.Option.{is_none, is_some, unwrap_or}
 use Rattle.std.specs.Prelude.{Result, Ok, Err}
 use lib.ListN.{length, take, drop, length-append, take-append-drop}
 use lib.Seq.{length-take-le, take-append_seam, take-take, take_at, drop-drop, drop-length}
@@ -20,16 +25,15 @@ use Rattle.job.proofs.Stream.{stream}
 use Rattle.sim3_job.specs.declared.Filled.{Filled}
 use Rattle.sim3_job.specs.declared.RunError.{RunError}
 use Rattle.sim3_job.specs.declared.RunError.TheVariants.{Unread, Unwritten}
-use Rattle.sim3_job.specs.Filled.{Within, FromTape, filled_of}
-use Rattle.sim3_job.specs.Sent.{WithinSink, ToSink}
-use Rattle.outcome.proofs.Never.{untrue}
+use Rattle.sim3_job.specs.Filled.{count_of, ended, given_of, Within, FromTape, filled_of}
+use Rattle.sim3_job.specs.Sent.{ToSink}
 
 pub record Underway (limit : ℕ) (tape sink : List ℕ) (j : Standing) (kept : List ℕ) (last : Bool) (at sent : ℕ) : Type 0 where
   pub same : take sent sink ++ job_with limit j (kept ++ drop at tape) ≡ job_of limit tape
   pub over : last ≡ true → at ≡ length tape
 
 pub underway_start : (limit : ℕ) (tape sink : List ℕ) → Underway limit tape sink standing_none [] false 0 0
-underway_start limit tape sink = record { same = rw (sub-zero limit); over = λ e. untrue e }
+underway_start limit tape sink = record { same = rw (sub-zero limit); over = λ e. absurd (false≢true e) }
 
 pub underway_read :
     (limit : ℕ) (tape sink : List ℕ) (j : Standing) (kept kept₁ : List ℕ) (last ended : Bool) (at n next sent : ℕ) → Underway limit tape sink j kept last at sent →
@@ -99,21 +103,37 @@ module _
 -- ---- what a read from the tape gives
 pub tape_any :
     (r : Result Filled RunError) (tape : List ℕ) (at have : ℕ) (buf buf₁ : List ℕ) (last : Bool) → FromTape r tape at have buf buf₁ false → FromTape r tape at have buf buf₁ last
-tape_any (Ok f) tape at have buf buf₁ last p = (p.0, p.1, λ u v. p.2 u (λ e. untrue e))
+tape_any (Ok f) tape at have buf buf₁ last p = (p.0, p.1, λ u v. p.2 u (λ e. absurd (false≢true e)))
 tape_any (Err e) tape at have buf buf₁ last p = p
 
 pub tape_kept :
     (r : Result Filled RunError) (tape : List ℕ) (at have : ℕ) (buf buf₁ : List ℕ) (last : Bool) → have ≤ length buf → FromTape r tape at have buf buf₁ last →
     take have buf₁ ≡ take have buf
 tape_kept (Ok f) tape at have buf buf₁ last h p =
-    sym (take-take have (have + f.count) buf₁ (omega arith)) ∙ ap (take have) p.1 ∙ take_at (take have buf) _ have (length-take-le have buf h)
+    sym (take-take have (have + count_of f) buf₁ (omega arith)) ∙ ap (take have) p.1 ∙ take_at (take have buf) _ have (length-take-le have buf h)
 tape_kept (Err e) tape at have buf buf₁ last h p = absurd p
 
 pub tape_read :
-    (limit : ℕ) (tape sink : List ℕ) (j : Standing) (f : Filled) (buf buf₁ : List ℕ) (last : Bool) (at have sent : ℕ) → FromTape (Ok f) tape at have buf buf₁ last →
-    Underway limit tape sink j (take have buf) last at sent → Underway limit tape sink j (take (have + f.count) buf₁) f.ended f.at sent
-tape_read limit tape sink j f buf buf₁ last at have sent z p =
-    underway_read limit tape sink j (take have buf) (take (have + f.count) buf₁) last f.ended at f.count f.at sent p z.0 z.1 z.2
+    (limit : ℕ) (tape sink : List ℕ) (j : Standing) (f : Filled) (n : ℕ) (none : Bool) (buf buf₁ : List ℕ) (last : Bool) (at have sent : ℕ) →
+    n ≡ count_of f → none ≡ ended f → FromTape (Ok f) tape at have buf buf₁ last →
+    Underway limit tape sink j (take have buf) last at sent → Underway limit tape sink j (take (have + n) buf₁) none f.at sent
+tape_read limit tape sink j f n none buf buf₁ last at have sent e g z p =
+    rw (e, g) (underway_read limit tape sink j (take have buf) (take (have + count_of f) buf₁) last (ended f) at (count_of f) f.at sent p z.0 z.1 z.2)
+
+-- how many bytes are given, and whether none are
+given_by : (k : ℕ) (t : Bool) → eqb k 0 ≡ t → (unwrap_or (then_some (not t) k) 0 ≡ k) × (is_none (then_some (not t) k) ≡ t)
+given_by k true e = (sym (eqb-true k 0 e), refl)
+given_by k false e = (refl, refl)
+
+pub given-count : (k : ℕ) → unwrap_or (given_of k) 0 ≡ k
+given-count k = (given_by k (eqb k 0) refl).0
+
+pub given-ended : (k : ℕ) → is_none (given_of k) ≡ eqb k 0
+given-ended k = (given_by k (eqb k 0) refl).1
+
+-- `is_none` by what it says of `is_some`
+pub none_by : (f : Filled) (t : Bool) → is_some f.count ≡ not t → t ≡ ended f
+none_by f t e = rw e (sym (not-not t))
 
 -- ---- what a write does
 pub sink_short :
@@ -136,7 +156,7 @@ handed b o o₁ w e q = rw (q, e) (take-append_seam b (drop (length b) o))
 filled_in :
     {E : Type 0} (z : Result ℕ E) (have room most at end : ℕ) → have + room ≤ most → at ≤ end → Within (filled_of z room at) have most true end
 unfolding filled_of
-filled_in (Ok k) have room most at end h i = (omega arith, i, λ u. refl)
+filled_in (Ok k) have room most at end h i = rw (given-count (min k room), given-ended (min k room)) (omega arith, i, λ u. refl)
 filled_in (Err e) have room most at end h i = tt
 
 pub filled_within :

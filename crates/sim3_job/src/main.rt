@@ -16,7 +16,7 @@ ghost use Rattle.kept.specs.State.{state_of, memory};
 ghost use Rattle.job.specs.Feed.{fed_of, asks_for, record_room};
 ghost use Rattle.job.specs.Private.{part_fed};
 ghost use Rattle.job.specs.declared.Reason.{Reason};
-ghost use Rattle.sim3_job.specs.Filled.{reads, over, Within, FromTape, filled_of};
+ghost use Rattle.sim3_job.specs.Filled.{reads, over, Within, FromTape, given_of, filled_of};
 ghost use Rattle.sim3_job.specs.Sent.{WithinSink, ToSink};
 ghost use Rattle.sim3_job.specs.Ran.{Performed};
 
@@ -57,11 +57,10 @@ pub enum Next {
     Ended,
 }
 
-// What a read gave: how many bytes, whether the input has ended, and where the tape then stands.
+// What a read gave: how many bytes, or None where the input has ended; and where the tape then stands.
 #[derive(Clone, Copy)]
 pub struct Filled {
-    pub count: usize,
-    pub ended: bool,
+    pub count: Option<usize>,
     pub at: usize,
 }
 
@@ -111,6 +110,13 @@ fn piece(cuts: &[usize], at: usize, most: usize) -> usize
     }
 }
 
+// So many bytes from a read that had room for one: none are the end of the input.
+fn given(count: usize) -> Option<usize>
+    ensures { result ≡ given_of count }
+{
+    (count != 0).then_some(count)
+}
+
 // A read from the tape, behind the bytes at hand.
 fn read_tape(tape: &[u8], cuts: &[usize], at: usize, buf: &mut [u8], have: usize) -> Filled
     requires at_in_bounds { at ≤ length tape.now }
@@ -123,23 +129,20 @@ fn read_tape(tape: &[u8], cuts: &[usize], at: usize, buf: &mut [u8], have: usize
     let count = piece(cuts, at, left.min(room));
     buf[have..have + count].copy_from_slice(&tape[at..at + count]);
     Filled {
-        count,
-        ended: count == 0,
+        count: given(count),
         at: at + count,
     }
 }
 
-// What std's read answered: an error, or how many bytes; 0 is the end of the input, since there was
-// room for a byte.
+// What std's read answered: an error, or how many bytes, where there was room for a byte.
 fn from_read(got: io::Result<usize>, room: &[u8], at: usize) -> Result<Filled, RunError>
     ensures { result ≡ filled_of got (length room.now) at }
 {
     let Ok(read) = got else {
         return Err(RunError::Unread);
     };
-    let count = read.min(room.len());
-    let ended = count == 0;
-    Ok(Filled { count, ended, at })
+    let count = given(read.min(room.len()));
+    Ok(Filled { count, at })
 }
 
 // A read from standard input, behind the bytes at hand.
@@ -185,16 +188,8 @@ fn fill(
             }
             Ok(read_tape(tape, cuts, at, buf, have))
         }
-        Next::Again => Ok(Filled {
-            count: 0,
-            ended: false,
-            at,
-        }),
-        Next::Ended => Ok(Filled {
-            count: 0,
-            ended: true,
-            at,
-        }),
+        Next::Again => Ok(Filled { count: Some(0), at }),
+        Next::Ended => Ok(Filled { count: None, at }),
     }
 }
 
@@ -263,9 +258,10 @@ fn run(
     *sent = 0;
     loop {
         let read = fill(rt, live, tape, cuts, at, buf, have, next)?;
-        have += read.count;
+        let last = read.count.is_none();
+        have += read.count.unwrap_or(0);
         at = read.at;
-        let fed = turn(buf, have, c, mem, read.ended, out);
+        let fed = turn(buf, have, c, mem, last, out);
         let end = put(rt, live, &out[..fed.written], sink, *sent)?;
         *sent = end;
         if !fed.reason.goes_on() {
@@ -273,7 +269,7 @@ fn run(
         }
         have -= fed.used;
         c = fed.counts;
-        next = next_after(fed.reason, read.ended);
+        next = next_after(fed.reason, last);
     }
 }
 

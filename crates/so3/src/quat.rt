@@ -26,6 +26,7 @@ impl<T: Real> Quat<T> {
     }
 
     // (w, x, y, z) / n, where n is the root of |q|² as the caller hands it in.
+    #[tactic(auto, unfolding(crate::specs::Quat::quat_normalized))]
     pub fn from_wxyz_normalized(w: T, x: T, y: T, z: T, n: T) -> Quat<T>
         ensures { as_quat T.float result ≡ quat_normalized T.format (T.float w) (T.float x) (T.float y) (T.float z) (T.float n) }
     {
@@ -38,6 +39,7 @@ impl<T: Real> Quat<T> {
     }
 
     // The quaternion of a list [x, y, z, w].
+    #[tactic(auto, unfolding(crate::specs::Quat::quat_of_xyzw))]
     pub fn from_xyzw(a: [T; 4]) -> Quat<T>
         ensures { as_quat T.float result ≡ quat_of_xyzw (map T.float a) }
     {
@@ -50,6 +52,7 @@ impl<T: Real> Quat<T> {
     }
 
     // [x, y, z, w], the inverse of `from_xyzw`.
+    #[tactic(auto, unfolding(crate::specs::Quat::quat_to_xyzw))]
     pub fn to_xyzw(self) -> [T; 4]
         ensures { map T.float result ≡ quat_to_xyzw (as_quat T.float self) }
     {
@@ -69,6 +72,7 @@ impl<T: Real> Quat<T> {
     }
 
     // (w, -x, -y, -z); the inverse of a unit quaternion.
+    #[tactic(auto, unfolding(crate::specs::Quat::quat_conjugate))]
     pub fn conjugate(self) -> Quat<T>
         ensures { as_quat T.float result ≡ quat_conjugate (as_quat T.float self) }
     {
@@ -81,6 +85,7 @@ impl<T: Real> Quat<T> {
     }
 
     // |q|² = w² + x² + y² + z², summed in that order.
+    #[tactic(auto, unfolding(crate::specs::Quat::quat_norm_sq))]
     pub fn norm_sq(self) -> T
         ensures { T.float result ≡ quat_norm_sq T.format (as_quat T.float self) }
     {
@@ -128,6 +133,7 @@ impl<T: Real> Quat<T> {
     }
 
     // The Hamilton product self * o; it does not normalise.
+    #[tactic(auto, unfolding(crate::specs::Quat::quat_mul))]
     pub fn mul(self, o: Quat<T>) -> Quat<T>
         ensures { as_quat T.float result ≡ quat_mul T.format (as_quat T.float self) (as_quat T.float o) }
     {
@@ -140,6 +146,7 @@ impl<T: Real> Quat<T> {
     }
 
     // The rotation that leaves every vector: (1, 0, 0, 0).
+    #[tactic(auto, unfolding(crate::specs::Quat::quat_identity))]
     pub fn identity() -> Quat<T>
         ensures { as_quat T.float result ≡ quat_identity }
     {

@@ -35,6 +35,7 @@ pub fn act<T: Real>(q: Quat<T>, v: Vec3<T>) -> Vec3<T>
 }
 
 // R⁻¹ v: the action of the conjugate.
+#[tactic(auto, unfolding(crate::specs::So3::so3_inv_act))]
 pub fn inv_act<T: Real>(q: Quat<T>, v: Vec3<T>) -> Vec3<T>
     ensures { as_vec3 T.float result ≡ so3_inv_act T.format (as_quat T.float q) (as_vec3 T.float v) }
 {
@@ -50,6 +51,7 @@ pub fn inverse<T: Real>(q: Quat<T>) -> Quat<T>
 
 // Exp(phi) = (cos(θ/2), k phi), k = sin(θ/2) / θ: root, sin_half and cos_half are θ = |phi| and the
 // sine and cosine of its half as the caller hands them in.
+#[tactic(auto, unfolding(crate::specs::So3::so3_exp))]
 pub fn exp<T: Limits>(phi: Vec3<T>, root: T, sin_half: T, cos_half: T) -> Quat<T>
     ensures { as_quat T.float result ≡ so3_exp T.format (as_vec3 T.float phi) (T.float root) (T.float sin_half) (T.float cos_half) }
 {

@@ -3,6 +3,7 @@ use mathlib.Core.Path.{◌≡◌, refl, sym, ap, ◌∙◌, subst}
 use mathlib.Core.Logic.{inl, inr}
 use mathlib.Core.Bool.{Bool, true, ◌&&◌}
 use mathlib.Core.List.{List, [], ◌∷◌}
+use Rattle.std.proofs.lemmas.Bool.{cases_lt}
 use Rattle.std.specs.Prelude.{Option, Some, None}
 use Rattle.std.specs.Option.{option_copied}
 use Rattle.std.specs.Slice.{IsItemAt}
@@ -19,7 +20,6 @@ use lib.Ieee.Fits.{and_l, and_r, round-fits}
 use Rattle.ieee.specs.Signs.{not_minus_zero}
 use Rattle.ieee.specs.Table.{factorial, Rational, rounded, entries}
 use Rattle.ieee.proofs.Table.{floats, right, floats_are}
-use Rattle.ieee.proofs.Signed.{order}
 use Rattle.ieee.proofs.Clear.{round_clear_false}
 use Rattle.tables.specs.Tables.{Row, cos_half_row, k_row, a_row, b_row, d_row, row_rule, row_table, recip_rule, Table, circle_table, recip_row, table_rule, table_length, recip_fact, recip_table}
 use Rattle.tables.specs.Patterns.{patterns}
@@ -126,7 +126,7 @@ pub recip_got : (f : Format) (n : ℕ) → slice_get (floats f (patterns f recip
 unfolding recip_fact
 recip_got f n =
     ap (λ (l : List Float). slice_get l n) (floats_are f recip_rule 0 (patterns f recip_row) (table-right f recip_row) ∙ ap (entries f recip_rule 0) (table-length f recip_row))
-    ∙ elim (order n 33) [
+    ∙ elim (cases_lt n 33) [
       | inl h ↦ (let e : 0 + n ≡ n = omega arith in entry_got f recip_rule 0 33 n h ∙ ap (λ (k : ℕ). Some (rounded f (recip_rule k))) e ∙ sym (recip_exists f n (omega arith)))
       | inr h ↦ slice_get_past (entries f recip_rule 0 33) n (rw (length-entries f recip_rule 0 33) h) ∙ sym (recip_past f n h)
     ]

@@ -20,6 +20,7 @@ ghost use Rattle.from_lists.specs.Lists.{pose_lists};
 ghost use Rattle.to_lists.specs.Written.{status, written, fitting, framed_written, framed_fitting, arm_numbers, armed_numbers, armed_pair_numbers, renormalize_call};
 ghost use Rattle.to_lists.specs.Counts.{arm-count, armed-count, armed-pair-count};
 
+use crate::numbers::ToNumbers;
 use crate::whole::Whole;
 use coeffs::sim3::{Armed, Scaled};
 use frames::Pose;
@@ -36,6 +37,7 @@ use sides::side::{ActJacobians, TwoJacobians};
 use sim3::sim3::Sim3;
 use so3::quat::{Quat, Renormalize};
 
+mod numbers; // what has numbers
 pub mod whole; // a byte as a number
 
 const QUAT: usize = 4;
@@ -51,22 +53,8 @@ const ARMED: usize = ARM + SCALED;
 
 const ARMED_PAIR: usize = 2 * ARMED;
 
-// What has a fixed number of numbers, in the order in which they stand in a list.
-pub trait ToNumbers<T: Real>: Copy {
-    const COUNT: usize;
-
-    ghost COUNT: { ℕ };
-
-    ghost numbers: { Self → List Float };
-
-    fn to_numbers(self, out: &mut [T])
-        requires { length out.old ≡ COUNT }
-        ensures { T.floats out.new ≡ numbers self };
-
-    ghost count_law: { (x : Self) → length (numbers x) ≡ COUNT };
-}
-
 // The numbers of x to a list that has just their length.
+#[tactic(auto, unfolding(crate::specs::Written::status, crate::specs::Written::written, crate::specs::Written::fitting))]
 pub fn put<T: Real, X: ToNumbers<T>>(out: &mut [T], x: X) -> Result<(), Refusal>
     ensures value { status (answer result) ≡ status (fitting (T.floats out.old) (X.numbers x)) }
     ensures out_after { T.floats out.new ≡ written (fitting (T.floats out.old) (X.numbers x)) (T.floats out.old) }
@@ -79,6 +67,7 @@ pub fn put<T: Real, X: ToNumbers<T>>(out: &mut [T], x: X) -> Result<(), Refusal>
 }
 
 // What a C function returns: 0, or the number of the refusal.
+#[tactic(auto, unfolding(crate::specs::Written::status))]
 pub fn status(done: Result<(), Refusal>) -> u32
     ensures { result ≡ status (answer done) }
 {
@@ -95,6 +84,7 @@ impl<T: Real> ToNumbers<T> for Vec3<T> {
 
     ghost numbers = { λ v. vec_numbers (as_vec3 T.float v) };
 
+    #[tactic(auto, unfolding(linalg::specs::Vector::vec_numbers))]
     fn to_numbers(self, out: &mut [T]) {
         out.copy_from_slice(&[self.x, self.y, self.z]);
     }
@@ -109,6 +99,7 @@ impl<T: Real> ToNumbers<T> for Mat3<T> {
 
     ghost numbers = { λ m. mat_numbers (as_mat3 T.float m) };
 
+    #[tactic(auto, unfolding(layout::specs::Layout::mat_numbers))]
     fn to_numbers(self, out: &mut [T]) {
         let (c0, rest) = out.split_at_mut(VEC);
         let (c1, c2) = rest.split_at_mut(VEC);
@@ -127,6 +118,7 @@ impl<T: Real> ToNumbers<T> for Quat<T> {
 
     ghost numbers = { λ q. quat_numbers (as_quat T.float q) };
 
+    #[tactic(auto, unfolding(layout::specs::Layout::quat_numbers))]
     fn to_numbers(self, out: &mut [T]) {
         out.copy_from_slice(&[self.w, self.x, self.y, self.z]);
     }
@@ -141,12 +133,13 @@ impl<T: Real> ToNumbers<T> for Sim3<T> {
 
     ghost numbers = { λ x. pose_numbers (as_sim3 T.float x) };
 
+    #[tactic(auto, unfolding(layout::specs::Layout::pose_numbers))]
     fn to_numbers(self, out: &mut [T]) {
         let (q, rest) = out.split_at_mut(QUAT);
         let (t, sigma) = rest.split_at_mut(VEC);
         self.q.to_numbers(q);
         self.t.to_numbers(t);
-        sigma.copy_from_slice(&[self.sigma]);
+        sigma[0] = self.sigma;
     }
 
     ghost count_law = { λ x. pose-count (as_sim3 T.float x) };
@@ -159,6 +152,7 @@ impl<T: Real> ToNumbers<T> for Sim3Jac<T> {
 
     ghost numbers = { λ j. block_numbers (as_sim3_jac T.float j) };
 
+    #[tactic(auto, unfolding(layout::specs::Layout::block_numbers))]
     fn to_numbers(self, out: &mut [T]) {
         let (a, rest) = out.split_at_mut(MAT);
         let (b, rest) = rest.split_at_mut(MAT);
@@ -168,7 +162,7 @@ impl<T: Real> ToNumbers<T> for Sim3Jac<T> {
         self.b.to_numbers(b);
         self.c.to_numbers(c);
         self.f.to_numbers(f);
-        e.copy_from_slice(&[self.e]);
+        e[0] = self.e;
     }
 
     ghost count_law = { λ j. block-count (as_sim3_jac T.float j) };
@@ -182,6 +176,7 @@ impl<T: Real> ToNumbers<T> for Scaled<Sim3Coeffs<T>> {
 
     ghost numbers = { λ s. scaled_numbers (as_scaled T.float s) };
 
+    #[tactic(auto, unfolding(layout::specs::Layout::coeffs_numbers, layout::specs::Layout::scaled_numbers))]
     fn to_numbers(self, out: &mut [T]) {
         let c = self.c;
         let flag = flag(self.scaled);
@@ -210,6 +205,7 @@ impl<T: Real> ToNumbers<T> for Signs<Scaled<Sim3Coeffs<T>>> {
 
     ghost numbers = { λ p. scaled_pair_numbers (as_scaled_pair T.float p) };
 
+    #[tactic(auto, unfolding(layout::specs::Layout::scaled_pair_numbers))]
     fn to_numbers(self, out: &mut [T]) {
         let (pos, neg) = out.split_at_mut(SCALED);
         self.pos.to_numbers(pos);
@@ -227,6 +223,7 @@ impl<T: Real> ToNumbers<T> for BlockPair<T> {
 
     ghost numbers = { λ p. block_pair_numbers (as_block_pair T.float p) };
 
+    #[tactic(auto, unfolding(layout::specs::Layout::block_pair_numbers))]
     fn to_numbers(self, out: &mut [T]) {
         let (left, rest) = out.split_at_mut(BLOCK);
         let (left_inv, rest) = rest.split_at_mut(BLOCK);
@@ -248,6 +245,7 @@ impl<T: Real> ToNumbers<T> for TwoJacobians<T> {
 
     ghost numbers = { λ t. two_numbers (as_two_jacobians T.float t) };
 
+    #[tactic(auto, unfolding(layout::specs::Layout::two_numbers))]
     fn to_numbers(self, out: &mut [T]) {
         let (first, second) = out.split_at_mut(BLOCK);
         self.first.to_numbers(first);
@@ -265,6 +263,7 @@ impl<T: Real> ToNumbers<T> for ActJacobians<T> {
 
     ghost numbers = { λ j. act_numbers (as_act_jacobians T.float j) };
 
+    #[tactic(auto, unfolding(layout::specs::Layout::act_numbers))]
     fn to_numbers(self, out: &mut [T]) {
         let (rot, rest) = out.split_at_mut(MAT);
         let (trans, rest) = rest.split_at_mut(MAT);
@@ -286,6 +285,7 @@ fn flag<T: Real>(holds: bool) -> T
 }
 
 // The arm, and 1 or 0 for whether v0 and w0 of the closed arm come from series of their own.
+#[tactic(auto, unfolding(crate::specs::Written::arm_numbers))]
 fn put_arm<T: Whole>(out: &mut [T], a: Armed<T>)
     requires { length out.old ≡ 2 }
     ensures { T.floats out.new ≡ arm_numbers T.format (as_armed T.float a) }
@@ -301,6 +301,7 @@ impl<T: Whole> ToNumbers<T> for Armed<T> {
 
     ghost numbers = { λ a. armed_numbers T.format (as_armed T.float a) };
 
+    #[tactic(auto, unfolding(crate::specs::Written::armed_numbers))]
     fn to_numbers(self, out: &mut [T]) {
         let (arm, s) = out.split_at_mut(ARM);
         put_arm(arm, self);
@@ -318,6 +319,7 @@ impl<T: Whole> ToNumbers<T> for Signs<Armed<T>> {
 
     ghost numbers = { λ p. armed_pair_numbers T.format (as_armed_pair T.float p) };
 
+    #[tactic(auto, unfolding(crate::specs::Written::armed_pair_numbers, layout::specs::Layout::scaled_pair_numbers))]
     fn to_numbers(self, out: &mut [T]) {
         let (arm, rest) = out.split_at_mut(ARM);
         let (arm_neg, rest) = rest.split_at_mut(ARM);
@@ -340,6 +342,7 @@ pub fn put_pose<T: Real>(out: &mut [T], x: Sim3<T>) -> Result<(), Refusal>
 }
 
 // A Newton step towards a unit quaternion, in place: the pose is read, and then written.
+#[tactic(auto, unfolding(crate::specs::Written::status, crate::specs::Written::written, crate::specs::Written::renormalize_call))]
 pub fn renormalize_pose<T: Real>(x: &mut [T]) -> Result<(), Refusal>
     ensures value { status (answer result) ≡ status (renormalize_call T.format (T.floats x.old)) }
     ensures x_after { T.floats x.new ≡ written (renormalize_call T.format (T.floats x.old)) (T.floats x.old) }
@@ -349,6 +352,7 @@ pub fn renormalize_pose<T: Real>(x: &mut [T]) -> Result<(), Refusal>
 }
 
 // The numbers to one list and the frames, from and to, to another; both or none.
+#[tactic(auto, unfolding(crate::specs::Written::status, crate::specs::Written::written, crate::specs::Written::framed_fitting))]
 pub fn put_framed<T: Real>(out: &mut [T], out_frames: &mut [u16], x: Pose<T>) -> Result<(), Refusal>
     ensures value { status (answer result)
         ≡ status (framed_fitting (pose_lists (T.floats out.old) out_frames.old) (as_pose T.float x)) }
@@ -362,6 +366,7 @@ pub fn put_framed<T: Real>(out: &mut [T], out_frames: &mut [u16], x: Pose<T>) ->
         return Err(Refusal::ListLength);
     }
     x.sim3.to_numbers(out);
-    out_frames.copy_from_slice(&[x.from, x.to]);
+    out_frames[0] = x.from;
+    out_frames[1] = x.to;
     Ok(())
 }

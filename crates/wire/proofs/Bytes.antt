@@ -32,6 +32,10 @@ one_more : (f : Format) (n : ℕ) → width f + n * width f ≡ suc n * width f
 one_more binary32 n = omega arith
 one_more binary64 n = omega arith
 
+pub mul-width-div : (f : Format) (n : ℕ) → n * width f / width f ≡ n
+mul-width-div binary32 n = omega arith
+mul-width-div binary64 n = omega arith
+
 pub numbers-length : (f : Format) (l : List Float) → length (numbers_bytes f l) ≡ length l * width f
 unfolding numbers_bytes
 numbers-length f [] = omega arith

@@ -1,22 +1,23 @@
 -- The stores by which bytes become a list, and a list bytes; whether all numbers of a list are finite. Assumes nothing.
 use Prim.Native.Nat.{ℕ, zero, suc, min, ◌+◌, ◌-◌, ◌*◌, ◌^◌, ◌/◌, ◌≤◌, ◌<◌}
-use mathlib.Core.Path.{◌≡◌, refl, sym, ap, subst, ◌∙◌}
-use mathlib.Core.Bool.{Bool, beq, true, false, not, cond, ◌&&◌, and_assoc}
+use mathlib.Core.Path.{◌≡◌, refl, sym, ap, ◌∙◌}
+use mathlib.Core.Bool.{Bool, beq, true, false, not, cond, ◌&&◌, and-true}
 use mathlib.Core.List.{List, [], ◌∷◌, ◌++◌, map, append-nil, append_assoc}
-use native.Mathlib.Nat.{min-eq_left, min-eq_right, min-le_left, min-le_right, add-zero, add-suc, suc-add, suc-mul, add_comm, zero-mul}
+use native.Mathlib.Nat.{min-le_left, min-le_right, add-zero, add-suc, suc-add, suc-mul, add_comm, zero-mul}
 use native.Mathlib.Numerals.{add-one}
 use native.Mathlib.Omega.{arith}
-use borrow.Author.Tests.{eq-eqb, ltb-true, ltb-false}
-use lib.Dec.{T, ltb}
+use lib.Dec.{ltb}
 use lib.ListN.{length, take, drop, set, get_or, get_or-map, length-append}
-use Rattle.std.proofs.lemmas.List.{length-map, drop-map, take-map, map-append}
-use lib.Seq.{sets, sets-eq, take-suc, take_all, length-take-le}
-use lib.IntN.{ℤ}
-use lib.Ieee.{Float, nan, inf, fin, Format, binary32, binary64, to_bits, up, down, low, emax, prec, odd, units, round, sum, neg, add, sub, eq}
+use Rattle.std.proofs.lemmas.Bool.{and_parts}
+use Rattle.std.proofs.lemmas.Bool.Decides.{nat_tests}
+use Rattle.std.proofs.lemmas.List.{length-map, drop-map, take-map, map-append, map-set, take_more, take_more_set, drop_all}
+use lib.Seq.{sets, sets-eq, take_all, length-take-le}
+use lib.Ieee.{Float, nan, inf, fin, Format, binary32, binary64, to_bits, low, emax, prec, odd, units, round, sum, neg, add, sub, eq}
 use Rattle.ieee.specs.Finite.{is_finite}
-use Rattle.wire.specs.Wire.{width, word_of, word_bytes, word_at, number_at, number_bytes, numbers_bytes, numbers, all_finite, fewer, firsts, numbers_at, words_at, words_bytes}
-use Rattle.wire.proofs.Bytes.{word-length, numbers-length, numbers-append}
-use Rattle.wire.proofs.Places.{within, part_read}
+use Rattle.ieee.proofs.Finite.{equals_itself}
+use Rattle.wire.specs.Wire.{width, word_bytes, number_at, number_bytes, numbers_bytes, numbers, all_finite, fewer, firsts, numbers_at, words_bytes}
+use Rattle.wire.proofs.Bytes.{word-length, mul-width-div, numbers-length, numbers-append, finite-append}
+use Rattle.wire.proofs.Places.{part_read}
 
 sets_split : {A : Type 0} (a b l : List A) (i : ℕ) → sets l i (a ++ b) ≡ sets (sets l i a) (i + length a) b
 sets_split [] b l i = rw add-zero
@@ -38,19 +39,12 @@ unfolding firsts
 decoded_more at l i = rw (add-one i) (one_behind (firsts at i) l (at i) i (firsts-length at i))
 
 -- ---- numbers of a type, by what each is: `float`
-taken_more : {X : Type 0} (float : X → Float) (l : List X) (i : ℕ) (x : X) → i < length l → take (suc i) (map float (set l i x)) ≡ take i (map float l) ++ (float x ∷ [])
-taken_more float [] i x h = absurd (omega arith)
-taken_more float (y ∷ l) zero x h = refl
-taken_more float (y ∷ l) (suc i) x h = ap (λ (k : List Float). float y ∷ k) (taken_more float l i x (omega arith))
-
 pub read_more :
     {X : Type 0} (float : X → Float) (at : ℕ → Float) (l : List X) (x : X) (i : ℕ) → i < length l → take i (map float l) ≡ firsts at i → float x ≡ at i →
     take (i + 1) (map float (set l i x)) ≡ firsts at (i + 1)
 unfolding firsts
-read_more float at l x i h e q = rw add-one (taken_more float l i x h ∙ rw (e, q) refl)
-
-pub read_all : {X : Type 0} (float : X → Float) (l : List X) (i : ℕ) (v : List Float) → take i (map float l) ≡ v → length l ≤ i → map float l ≡ v
-read_all float l i v h e = sym (take_all i (map float l) (simp length-map (omega arith))) ∙ h
+read_more float at l x i h e q =
+    ap (take (i + 1)) (map-set float l i x) ∙ take_more_set (map float l) i (float x) (simp length-map (omega arith)) ∙ rw (e, q, add-one) refl
 
 -- those at the front of a list
 pub read_front : {X : Type 0} (float : X → Float) (l k : List X) (v : List Float) (n : ℕ) → map float k ≡ v → length k ≡ n → n ≤ length l → map float (k ++ drop n l) ≡ sets (map float l) 0 v
@@ -62,9 +56,6 @@ read_front float l k v n h e g =
     (sym (sets-eq v (map float l) 0 (simp length-map (omega (arith, m))) ∙ ap (λ (i : ℕ). v ++ drop i (map float l)) j))
 
 -- ---- written: one more element, each of w bytes
-next : {A : Type 0} (l : List A) (d : A) (i : ℕ) → i < length l → take (i + 1) l ≡ take i l ++ (get_or l i d ∷ [])
-next l d i h = ap (λ (k : ℕ). take k l) (add-one i) ∙ take-suc l i d h
-
 stored_more :
     {A : Type 0} (g : List A → List ℕ) (w : ℕ) → ((l : List A) → length (g l) ≡ length l * w) → ((l m : List A) → g (l ++ m) ≡ g l ++ g m) →
     (l : List A) (d : A) (out : List ℕ) (i : ℕ) → i < length l →
@@ -73,7 +64,7 @@ stored_more g w lengths appends l d out i h =
     let m : length (g (take i l)) ≡ i * w = lengths (take i l) ∙ ap (λ (k : ℕ). k * w) (length-take-le i l (omega arith)) in
     let n : 0 + length (g (take i l)) ≡ i * w = omega (arith, m) in
     sym
-    (ap (λ x. sets out 0 (g x)) (next l d i h)
+    (ap (λ x. sets out 0 (g x)) (take_more l i d h)
     ∙ ap (sets out 0) (appends (take i l) (get_or l i d ∷ []))
     ∙ sets_split (g (take i l)) (g (get_or l i d ∷ [])) out 0
     ∙ ap (λ (k : ℕ). sets (sets out 0 (g (take i l))) k (g (get_or l i d ∷ []))) n)
@@ -125,21 +116,11 @@ words_more k l d out i h =
     ∙ stored_more (words_bytes k) k (words-length k) (words_append k) l d out i h
 
 -- ---- whether all are finite
-alone : (t : Bool) → t && true ≡ true && t
-alone true = refl
-alone false = refl
-
 all_one : (a : List Float) (x : Float) → all_finite (numbers (a ++ (x ∷ []))) ≡ all_finite (numbers a) && is_finite x
 unfolding all_finite numbers
-all_one [] x = alone (is_finite x)
-all_one (y ∷ a) x = ap (λ (t : Bool). is_finite y && t) (all_one a x) ∙ sym (and_assoc (is_finite y) (all_finite (numbers a)) (is_finite x))
+all_one a x = finite-append a (x ∷ []) ∙ ap (λ (t : Bool). all_finite (numbers a) && t) (and-true (is_finite x))
 
 -- what a rounding gives equals itself
-itself : (s : Bool) (m : ℕ) (e : ℤ) → eq (fin s m e) (fin s m e) ≡ true
-unfolding eq
-itself true m e = rw (eq-eqb (m * up e * down e) (m * up e * down e) refl)
-itself false m e = rw (eq-eqb (m * up e * down e) (m * up e * down e) refl)
-
 one_of : (t : Bool) (x y : Float) → eq x x ≡ true → eq y y ≡ true → eq (cond t x y) (cond t x y) ≡ true
 one_of true x y h k = h
 one_of false x y h k = k
@@ -151,8 +132,8 @@ endless false = refl
 
 odd_itself : (d : ℕ) (s : Bool) (q k l : ℕ) → eq (odd d s q k l) (odd d s q k l) ≡ true
 unfolding odd
-odd_itself d s zero k l = itself s _ _
-odd_itself d s (suc q) k l = itself s _ _
+odd_itself d s zero k l = equals_itself s _ _
+odd_itself d s (suc q) k l = equals_itself s _ _
 
 units_itself : (f : Format) (s : Bool) (q k : ℕ) → eq (units f s q k) (units f s q k) ≡ true
 unfolding units
@@ -185,12 +166,7 @@ finite-none l = refl
 pub finite_more :
     (f : Format) (l : List Float) (d : Float) (i : ℕ) (t : Bool) → i < length l → t ≡ all_finite (numbers (take i l)) →
     t && eq (sub f (get_or l i d) (get_or l i d)) (sub f (get_or l i d) (get_or l i d)) ≡ all_finite (numbers (take (i + 1) l))
-finite_more f l d i t h e = rw (told f (get_or l i d), e, next l d i h) (sym (all_one (take i l) (get_or l i d)))
-
-both : (a s : Bool) → a && s ≡ true → (a ≡ true) × (s ≡ true)
-both true true e = (refl, refl)
-both true false e = absurd (subst T (sym e) tt)
-both false s e = absurd (subst T (sym e) tt)
+finite_more f l d i t h e = rw (told f (get_or l i d), e, take_more l i d h) (sym (all_one (take i l) (get_or l i d)))
 
 pub finite_next :
     {X : Type 0} (f : Format) (float : X → Float) (l : List X) (y : X) (z : Float) (i : ℕ) (t r : Bool) → i < length l → y ≡ get_or l i y →
@@ -201,8 +177,8 @@ finite_next f float l y z i t r h e q w s =
 at_finite : (l : List Float) (d : Float) (i : ℕ) → all_finite (numbers l) ≡ true → i < length l → is_finite (get_or l i d) ≡ true
 unfolding all_finite numbers
 at_finite [] d i e h = absurd (omega arith)
-at_finite (x ∷ l) d zero e h = (both (is_finite x) (all_finite (numbers l)) e).0
-at_finite (x ∷ l) d (suc i) e h = at_finite l d i (both (is_finite x) (all_finite (numbers l)) e).1 (omega arith)
+at_finite (x ∷ l) d zero e h = (and_parts (is_finite x) (all_finite (numbers l)) e).0
+at_finite (x ∷ l) d (suc i) e h = at_finite l d i (and_parts (is_finite x) (all_finite (numbers l)) e).1 (omega arith)
 
 pub one-finite : {X : Type 0} (float : X → Float) (l : List X) (y : X) (i : ℕ) → all_finite (numbers (map float l)) ≡ true → i < length l → y ≡ get_or l i y → is_finite (float y) ≡ true
 one-finite float l y i e h q = rw (of_one float l y i q) at (at_finite (map float l) (float y) i e (simp length-map (omega arith)))
@@ -219,64 +195,24 @@ unfolding firsts
 numbers_front f b n zero h g = refl
 numbers_front f b n (suc m) h g = rw (numbers_front f b n m h (omega arith), front_read f b n m h (omega arith))
 
-drop_all : {A : Type 0} (n : ℕ) (l : List A) → length l ≤ n → drop n l ≡ []
-drop_all zero [] h = refl
-drop_all zero (x ∷ l) h = absurd (omega arith)
-drop_all (suc n) [] h = refl
-drop_all (suc n) (x ∷ l) h = drop_all n l (omega arith)
-
-one_of_two : {A : Type 0} (t : Bool) (x : A) → cond t x x ≡ x
+pub one_of_two : {A : Type 0} (t : Bool) (x : A) → cond t x x ≡ x
 one_of_two true x = refl
 one_of_two false x = refl
 
 pub all_stored : {A : Type 0} (l a : List A) → length l ≡ length a → sets l 0 a ≡ a
 all_stored l a h = sets-eq a l 0 (omega (arith, h)) ∙ rw (drop_all (0 + length a) l (omega (arith, h))) (append-nil a)
 
-many : (f : Format) (n : ℕ) → n * width f / width f ≡ n
-many binary32 n = omega arith
-many binary64 n = omega arith
-
+-- of bytes that have just the numbers for a list
 pub decoded :
     (f : Format) (b : List ℕ) (l : List Float) (n : ℕ) → n * width f ≤ length b → length l ≡ n →
     sets l 0 (numbers_at f (take (n * width f) b) (fewer (length (take (n * width f) b) / width f) (length l))) ≡ numbers_at f b n
 decoded f b l n h e =
-    let k : fewer (length (take (n * width f) b) / width f) (length l) ≡ n = rw (length-take-le (n * width f) b h, many f n, e) (one_of_two (ltb n n) n) in
+    let k : fewer (length (take (n * width f) b) / width f) (length l) ≡ n = rw (length-take-le (n * width f) b h, mul-width-div f n, e) (one_of_two (ltb n n) n) in
     rw (k, numbers_front f b n n h (omega arith)) (all_stored l (numbers_at f b n) (e ∙ sym (firsts-length (number_at f b) n)))
 
--- whole numbers of two bytes
-short_front : (b : List ℕ) (n k : ℕ) → n * 2 ≤ length b → k < n → word_at 2 (take (n * 2) b) (k * 2) ≡ word_at 2 b (k * 2)
-unfolding word_at
-short_front b n k h g =
-    let z : 0 + k * 2 ≡ k * 2 = omega arith in
-    ap word_of (rw z at (within b 0 (k * 2) 2 ((n - k) * 2) (n * 2) (omega arith) (omega arith) (omega arith)))
-
-shorts_front : (b : List ℕ) (n m : ℕ) → n * 2 ≤ length b → m ≤ n → words_at 2 (take (n * 2) b) m ≡ words_at 2 b m
-unfolding firsts
-shorts_front b n zero h g = refl
-shorts_front b n (suc m) h g = rw (shorts_front b n m h (omega arith), short_front b n m h (omega arith))
-
-pub shorts_decoded :
-    (b l : List ℕ) (n : ℕ) → n * 2 ≤ length b → length l ≡ n →
-    sets l 0 (words_at 2 (take (n * 2) b) (fewer (length (take (n * 2) b) / 2) (length l))) ≡ words_at 2 b n
-shorts_decoded b l n h e =
-    let m : n * 2 / 2 ≡ n = omega arith in
-    let k : fewer (length (take (n * 2) b) / 2) (length l) ≡ n = rw (length-take-le (n * 2) b h, m, e) (one_of_two (ltb n n) n) in
-    rw (k, shorts_front b n n h (omega arith)) (all_stored l (words_at 2 b n) (e ∙ sym (firsts-length (λ (i : ℕ). word_at 2 b (i * 2)) n)))
-
 -- ---- as many as both have
-min_by : (a b : ℕ) (t : Bool) → ltb a b ≡ t → min a b ≡ cond t a b
-min_by a b true e = let h = ltb-true a b e in min-eq_left (omega arith)
-min_by a b false e = let h = ltb-false a b e in min-eq_right (omega arith)
-
 pub min_fewer : (a b : ℕ) → min a b ≡ fewer a b
-min_fewer a b = min_by a b (ltb a b) refl
-
-pub fewer_least : (a b : ℕ) → (fewer a b ≤ a) × (fewer a b ≤ b)
-fewer_least a b = by (ltb a b) refl
-  where
-    by : (t : Bool) → ltb a b ≡ t → (cond t a b ≤ a) × (cond t a b ≤ b)
-    by true e = let h = ltb-true a b e in (omega arith, omega arith)
-    by false e = let h = ltb-false a b e in (omega arith, omega arith)
+min_fewer a b = grind (arith, nat_tests)
 
 -- of bytes to a list's front, and of a list's front to bytes
 fits_in : (f : Format) (n m : ℕ) → n ≤ m / width f → n * width f ≤ m

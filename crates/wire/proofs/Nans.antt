@@ -1,17 +1,22 @@
 -- Numbers looked through for a NaN, as code does it. Assumes nothing.
 use Prim.Native.Nat.{ℕ, zero, suc, ◌+◌, ◌*◌, ◌/◌, ◌%◌, ◌<◌}
-use mathlib.Core.Path.{◌≡◌, refl, sym, ap, subst, ◌∙◌}
+use mathlib.Core.Path.{◌≡◌, sym, ap, ◌∙◌}
 use mathlib.Core.Bool.{Bool, true, false, not, cond, ◌&&◌}
 use mathlib.Core.List.{List}
+use native.Mathlib.Numerals.{add-one}
 use native.Mathlib.Omega.{arith}
-use borrow.Author.Tests.{ltb-true, ltb-false, eq-eqb, ne_eqb}
+use borrow.Author.Tests.{ne_eqb, not-true}
+use borrow.Author.Count.{below_more}
 use lib.Bits.{bit_or, or_zero_r, or_add_and, and_le_l, or_shr}
 use lib.Dec.{T, eqb, ltb}
 use lib.ListN.{length}
 use lib.Ieee.{Format, binary32, binary64, of_bits, nan_bits, is_nan}
 use lib.Ieee.Bits.{nan_bits_is, nan_bits_above}
+use Rattle.std.proofs.lemmas.Bool.{and_parts}
+use Rattle.std.proofs.lemmas.Bool.Decides.{nat_tests}
 use Rattle.wire.specs.Wire.{width, word_at, number_of, number_at, none_nan, no_nan}
 use Rattle.wire.specs.Number.{sign_bit, high_bit_zero}
+use Rattle.wire.proofs.Bytes.{mul-width-div}
 
 -- all bits of the fraction
 abbrev pub fraction : Format → ℕ
@@ -28,28 +33,21 @@ nan_above binary32 w = sym (nan_bits_is binary32 w) ∙ nan_bits_above binary32 
 nan_above binary64 w = sym (nan_bits_is binary64 w) ∙ nan_bits_above binary64 w
 
 -- the fraction's bits carry such a pattern to the bit of the sign, and no other
-carried : (f : Format) (m : ℕ) (t : Bool) → m < sign_bit f → ltb (infinite f) m ≡ t → (m + fraction f) / sign_bit f ≡ cond t 1 0
-carried binary32 m true h e = let k = ltb-true _ m e in omega arith
-carried binary32 m false h e = let k = ltb-false _ m e in omega arith
-carried binary64 m true h e = let k = ltb-true _ m e in omega arith
-carried binary64 m false h e = let k = ltb-false _ m e in omega arith
+carried : (f : Format) (m : ℕ) → m < sign_bit f → (m + fraction f) / sign_bit f ≡ cond (ltb (infinite f) m) 1 0
+carried binary32 m h = grind (arith, nat_tests)
+carried binary64 m h = grind (arith, nat_tests)
 
 unsigned : (f : Format) (w : ℕ) → w % sign_bit f < sign_bit f
 unsigned binary32 w = omega arith
 unsigned binary64 w = omega arith
 
 nan_adds : (f : Format) (w : ℕ) → (w % sign_bit f + fraction f) / sign_bit f ≡ cond (is_nan (of_bits f w)) 1 0
-nan_adds f w = carried f (w % sign_bit f) _ (unsigned f w) refl ∙ ap (λ (t : Bool). cond t 1 0) (sym (nan_above f w))
+nan_adds f w = carried f (w % sign_bit f) (unsigned f w) ∙ ap (λ (t : Bool). cond t 1 0) (sym (nan_above f w))
 
 -- ---- one number more; of what was put together the bit of the sign is looked at
-cases : (f : Format) (n : ℕ) (t : Bool) → high_bit_zero f n ≡ t → t ≡ eqb (n / sign_bit f) 0
-cases binary32 n true e = let h = ltb-true n _ e in sym (eq-eqb (n / 0x8000_0000) 0 (omega arith))
-cases binary32 n false e = let h = ltb-false n _ e in sym (ne_eqb _ _ (λ (g : n / 0x8000_0000 ≡ 0). omega arith))
-cases binary64 n true e = let h = ltb-true n _ e in sym (eq-eqb (n / 0x8000_0000_0000_0000) 0 (omega arith))
-cases binary64 n false e = let h = ltb-false n _ e in sym (ne_eqb _ _ (λ (g : n / 0x8000_0000_0000_0000 ≡ 0). omega arith))
-
 halved : (f : Format) (n : ℕ) → high_bit_zero f n ≡ eqb (n / sign_bit f) 0
-halved f n = cases f n _ refl
+halved binary32 n = grind (arith, nat_tests)
+halved binary64 n = grind (arith, nat_tests)
 
 or_halved : (f : Format) (a b : ℕ) → bit_or a b / sign_bit f ≡ bit_or (a / sign_bit f) (b / sign_bit f)
 or_halved binary32 a b = or_shr a b 31
@@ -64,13 +62,6 @@ put_in true false n e = rw (or_zero_r n) e
 put_in false true n e = ne_eqb _ _ (marked n)
 put_in false false n e = rw (or_zero_r n) e
 
-next : (i : ℕ) → i + 1 ≡ suc i
-next i = omega arith
-
-many : (f : Format) (n : ℕ) → n * width f / width f ≡ n
-many binary32 n = omega arith
-many binary64 n = omega arith
-
 pub one_seen :
     (f : Format) (n w : ℕ) → high_bit_zero f (bit_or n (w % sign_bit f + fraction f)) ≡ high_bit_zero f n && not (is_nan (of_bits f w))
 one_seen f n w =
@@ -81,32 +72,21 @@ pub one_more :
     (f : Format) (b : List ℕ) (i w : ℕ) (t s : Bool) → w ≡ word_at (width f) b (i * width f) → t ≡ none_nan f b i → s ≡ t && not (is_nan (of_bits f w)) →
     s ≡ none_nan f b (i + 1)
 unfolding none_nan number_at number_of word_at
-one_more f b i w t s e h g = rw (next i, ← h, ← e) g
+one_more f b i w t s e h g = rw (add-one i, ← h, ← e) g
 
 -- ---- where none is a NaN, no single one is
-both : (a s : Bool) → a && not s ≡ true → (a ≡ true) × (s ≡ false)
-both true false e = (refl, refl)
-both true true e = absurd (subst T (sym e) tt)
-both false s e = absurd (subst T (sym e) tt)
-
-last_or :
-    (f : Format) (b : List ℕ) (n k : ℕ) (t : Bool) → (k < n → is_nan (number_at f b k) ≡ false) → is_nan (number_at f b n) ≡ false → k < suc n → ltb k n ≡ t →
-    is_nan (number_at f b k) ≡ false
-last_or f b n k true before last h e = before (ltb-true k n e)
-last_or f b n k false before last h e = let g = ltb-false k n e in let q : k ≡ n = omega arith in rw q last
-
 none_nan_lem : (f : Format) (b : List ℕ) (n k : ℕ) → none_nan f b n ≡ true → k < n → is_nan (number_at f b k) ≡ false
 unfolding none_nan
 none_nan_lem f b zero k e h = absurd (omega arith)
 none_nan_lem f b (suc n) k e h =
-    let p = both (none_nan f b n) (is_nan (number_at f b n)) e in
-    last_or f b n k _ (none_nan_lem f b n k p.0) p.1 h refl
+    let p = and_parts (none_nan f b n) (not (is_nan (number_at f b n))) e in
+    below_more (λ i. is_nan (number_at f b i) ≡ false) n (λ i. none_nan_lem f b n i p.0) (not-true _ p.1) k (omega arith)
 
 -- of the numbers of a part from the front, of which none is a NaN, each is its bits
 pub plain : (f : Format) (b : List ℕ) (n w i : ℕ) → length b ≡ n * width f → no_nan f b ≡ true → i < n → w ≡ word_at (width f) b (i * width f) → is_nan (of_bits f w) ≡ false
 unfolding no_nan number_at number_of word_at
 plain f b n w i h e g q =
-    let counted : length b / width f ≡ n = ap (λ (k : ℕ). k / width f) h ∙ many f n in
+    let counted : length b / width f ≡ n = ap (λ (k : ℕ). k / width f) h ∙ mul-width-div f n in
     rw q (none_nan_lem f b n i (rw counted at e) g)
 
 pub bits : (f : Format) (w : ℕ) → is_nan (of_bits f w) ≡ false → T (not (nan_bits f w))

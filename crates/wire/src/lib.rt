@@ -7,39 +7,21 @@ ghost use Rattle.std.specs.Float.Ieee.{of_bits, to_bits, is_nan};
 ghost use Rattle.std.specs.Float.{Format, binary32, binary64};
 ghost use Rattle.std.proofs.Common.{rules};
 ghost use Rattle.std.proofs.lemmas.List.Edits.{sets};
-ghost use Rattle.ieee.specs.Finite.{is_finite};
 ghost use Rattle.wire.specs.Wire.{width, word_of, word_bytes, word_at, number_of, number_bytes, no_nan, count_bytes};
 ghost use Rattle.wire.specs.Wire.{fewer, numbers_at, words_at, numbers, numbers_bytes, words_bytes, all_finite};
 ghost use Rattle.wire.specs.Number.{high_bit_zero};
 ghost use Rattle.wire.specs.Private.{Reads, Writes};
 
+use crate::word::{Here, Word};
 use ieee::Real;
 
+mod word; // the bits of one number in its bytes
+
 // A number that has bytes: eight for `f64`, four for `f32`.
-pub trait Number: Real {
+pub trait Number: Word {
     ghost BYTES: { ℕ };
 
     const BYTES: usize;
-
-    // The whole number that the bytes make.
-    fn word(b: &[u8]) -> Self::Bits
-        requires { length b.now ≡ BYTES }
-        ensures { Self.bits result ≡ word_of b.now };
-
-    // The bytes of a whole number.
-    fn put_word(word: Self::Bits, out: &mut [u8])
-        requires { length out.old ≡ BYTES }
-        ensures { out.new ≡ word_bytes BYTES (Self.bits word) };
-
-    // The number whose bits these are, taken as they are: no NaN's.
-    fn from_bits(word: Self::Bits) -> Self
-        requires { is_nan (of_bits Self.format (Self.bits word)) ≡ false }
-        ensures { Self.float result ≡ of_bits Self.format (Self.bits word) };
-
-    // The bits of a number as they are: no NaN's.
-    fn to_bits(self) -> Self::Bits
-        requires { is_finite (Self.float self) ≡ true }
-        ensures { Self.bits result ≡ to_bits Self.format (Self.float self) };
 
     // What is put together of words looked at for a NaN: of none, and of one more. Without its sign a NaN's pattern is
     // above that of the infinity, so that all bits of the fraction carry it to the bit of the sign, and no other.
@@ -62,22 +44,6 @@ impl Number for f64 {
 
     const BYTES: usize = 8;
 
-    fn word(b: &[u8]) -> u64 {
-        u64::from_le_bytes([b[0], b[1], b[2], b[3], b[4], b[5], b[6], b[7]])
-    }
-
-    fn put_word(word: u64, out: &mut [u8]) {
-        out.copy_from_slice(&word.to_le_bytes());
-    }
-
-    fn from_bits(word: u64) -> f64 {
-        f64::from_bits(word)
-    }
-
-    fn to_bits(self) -> u64 {
-        f64::to_bits(self)
-    }
-
     fn none_seen() -> u64 {
         0
     }
@@ -97,22 +63,6 @@ impl Number for f32 {
     ghost BYTES = { 4 };
 
     const BYTES: usize = 4;
-
-    fn word(b: &[u8]) -> u32 {
-        u32::from_le_bytes([b[0], b[1], b[2], b[3]])
-    }
-
-    fn put_word(word: u32, out: &mut [u8]) {
-        out.copy_from_slice(&word.to_le_bytes());
-    }
-
-    fn from_bits(word: u32) -> f32 {
-        f32::from_bits(word)
-    }
-
-    fn to_bits(self) -> u32 {
-        f32::to_bits(self)
-    }
 
     fn none_seen() -> u32 {
         0
@@ -134,14 +84,14 @@ fn word_at<T: Number>(b: &[u8], at: usize) -> T::Bits
     requires { at + width T.format ≤ length b.now }
     ensures { T.bits result ≡ word_at (width T.format) b.now at }
 {
-    T::word(&b[at..at + T::BYTES])
+    T::word(&b[at..at + T::BYTES], Here)
 }
 
 fn put_word_at<T: Number>(out: &mut [u8], at: usize, word: T::Bits)
     requires { at + width T.format ≤ length out.old }
     ensures { out.new ≡ sets out.old at (word_bytes (width T.format) (T.bits word)) }
 {
-    T::put_word(word, &mut out[at..at + T::BYTES]);
+    T::put_word(word, &mut out[at..at + T::BYTES], Here);
 }
 
 // ---- one value and an array of its bytes, the least first
@@ -153,6 +103,7 @@ pub fn from_le_bytes(b: [u8; 8]) -> f64
 }
 
 // The bytes of a double; those of 7ff8000000000000 for every NaN.
+#[tactic(auto, using(crate::proofs::Bytes::written_eight), unfolding(crate::specs::Wire::number_bytes))]
 pub fn to_le_bytes(x: f64) -> [u8; 8]
     ensures { result ≡ number_bytes binary64 x }
 {
@@ -160,6 +111,7 @@ pub fn to_le_bytes(x: f64) -> [u8; 8]
 }
 
 // The bytes of a whole number of 32 bits.
+#[tactic(auto, using(crate::proofs::Bytes::written_four), unfolding(crate::specs::Wire::count_bytes))]
 pub fn count_to_le_bytes(n: u32) -> [u8; 4]
     ensures { result ≡ count_bytes n }
 {
@@ -174,6 +126,7 @@ pub fn short_from_le_bytes(b: [u8; 2]) -> u16
 }
 
 // The two bytes of a whole number.
+#[tactic(auto, using(crate::proofs::Bytes::written_two))]
 pub fn short_to_le_bytes(n: u16) -> [u8; 2]
     ensures { result ≡ word_bytes 2 n }
 {
@@ -181,6 +134,7 @@ pub fn short_to_le_bytes(n: u16) -> [u8; 2]
 }
 
 // ---- one number at a place of a list
+#[tactic(auto, using(crate::proofs::Places::short_read))]
 fn short_at(b: &[u8], at: usize) -> u16
     requires { at + 2 ≤ length b.now }
     ensures { result ≡ word_at 2 b.now at }
@@ -188,6 +142,7 @@ fn short_at(b: &[u8], at: usize) -> u16
     short_from_le_bytes([b[at], b[at + 1]])
 }
 
+#[tactic(auto, using(crate::proofs::Places::short_stored))]
 fn put_short(out: &mut [u8], at: usize, n: u16)
     requires { at + 2 ≤ length out.old }
     ensures { out.new ≡ sets out.old at (word_bytes 2 n) }
@@ -197,6 +152,7 @@ fn put_short(out: &mut [u8], at: usize, n: u16)
 
 // ---- numbers read
 // Whether none of the numbers in the bytes is a NaN.
+#[tactic(auto, unfolding(crate::specs::Wire::none_nan))]
 pub fn no_nan<T: Number>(b: &[u8]) -> bool
     ensures { result ≡ no_nan T.format b.now }
 {
@@ -208,6 +164,7 @@ pub fn no_nan<T: Number>(b: &[u8]) -> bool
 }
 
 // As many numbers as the list has, each read from its bits.
+#[tactic(auto, unfolding(crate::specs::Wire::firsts))]
 fn decode_by<T: Number, F: Fn(T::Bits) -> T>(b: &[u8], out: &mut [T], read: F)
     requires bytes { length out.old * width T.format ≤ length b.now }
     requires reads { Reads T.format T.bits T.float (F.pre read) (F.post read) b.now (length out.old) }
@@ -228,7 +185,7 @@ pub fn decode<T: Number>(b: &[u8], out: &mut [T])
     let bytes = &b[..n * T::BYTES];
     let numbers = &mut out[..n];
     if no_nan::<T>(bytes) {
-        decode_by(bytes, numbers, |word| T::from_bits(word));
+        decode_by(bytes, numbers, |word| T::from_bits(word, Here));
     } else {
         decode_by(bytes, numbers, |word| T::from_pattern(word));
     }
@@ -249,6 +206,7 @@ fn all_finite<T: Number>(x: &[T]) -> bool
 }
 
 // All numbers of a list, each written by its bits.
+#[tactic(auto, unfolding(crate::specs::Wire::numbers_bytes))]
 fn encode_by<T: Number, F: Fn(T) -> T::Bits>(x: &[T], out: &mut [u8], write: F)
     requires bytes { length x.now * width T.format ≤ length out.old }
     requires writes { Writes T.format T.bits T.float (F.pre write) (F.post write) x.now }
@@ -271,7 +229,7 @@ pub fn encode<T: Number>(x: &[T], out: &mut [u8]) -> bool
     let numbers = &x[..n];
     let finite = all_finite(numbers);
     if finite {
-        encode_by(numbers, out, |y| y.to_bits());
+        encode_by(numbers, out, |y| y.to_bits(Here));
     } else {
         encode_by(numbers, out, |y| y.pattern());
     }
@@ -280,6 +238,7 @@ pub fn encode<T: Number>(x: &[T], out: &mut [u8]) -> bool
 
 // ---- whole numbers of two bytes
 // The whole numbers in the bytes, two bytes each, to a list.
+#[tactic(auto, unfolding(crate::specs::Wire::firsts))]
 pub fn decode_shorts(b: &[u8], out: &mut [u16])
     ensures { out.new ≡ sets out.old 0 (words_at 2 b.now (fewer (length b.now / 2) (length out.old))) }
 {
@@ -290,6 +249,7 @@ pub fn decode_shorts(b: &[u8], out: &mut [u16])
 }
 
 // The whole numbers of a list to bytes, two bytes each.
+#[tactic(auto, unfolding(crate::specs::Wire::words_bytes))]
 pub fn encode_shorts(x: &[u16], out: &mut [u8])
     ensures { out.new
         ≡ sets out.old 0 (words_bytes 2 (take (fewer (length x.now) (length out.old / 2)) x.now)) }

@@ -1,6 +1,6 @@
 -- `job::add_up` meets its contract: the turns so far have taken the sum of as many first counts. Assumes nothing.
 use native.Mathlib.Omega.{arith}
-use Rattle.job.proofs.Rows.{taken_none, taken_short, taken_more, taken_all}
+use Rattle.job.proofs.Rows.{taken_none, taken_short, taken_more}
 use Rattle.job.proofs.add_up.Goals as goal
 
 pub loop-x-init : goal.loop-x-init
@@ -15,8 +15,3 @@ pub loop-x-preserved : goal.loop-x-preserved
 loop-x-preserved c =
     let l = c.loop-x in
     taken_more c.args.rows l.x-index l.left c.args.n (omega (arith, c.loop-x-test.true)) l.invariant c.if-left-x.false
-
-pub returns : goal.returns
-returns c =
-    let l = c.loop-x in
-    taken_all c.args.rows l.x-index l.left c.args.n (omega (arith, c.loop-x-test.false)) l.invariant

@@ -1,13 +1,6 @@
 -- `job::put_rows` meets its contract: i turns have stored the first i counts. Assumes nothing.
-use borrow.Author.Rules.{rules}
 use native.Mathlib.Omega.{arith}
-use mathlib.Core.Path.{◌≡◌, refl, ap, ◌∙◌}
-use mathlib.Core.List.{List}
-use Prim.Native.Nat.{ℕ}
-use lib.ListN.{length}
-use lib.Seq.{sets, take_all}
-use Rattle.marks.specs.Rows.{row_count}
-use Rattle.job.specs.Counts.{rows_bytes}
+use mathlib.Core.Path.{refl, ◌∙◌}
 use Rattle.job.proofs.Rows.{stored_none, stored_more}
 use Rattle.job.proofs.put_rows.Goals as goal
 
@@ -21,9 +14,3 @@ loop-i-preserved c =
     let p = c.put_count in
     let n = stored_more a.rows a.out.now a.at l.i (omega (arith, c.loop-i-test.true)) in
     (rw l.invariant.0 at p.ensures ∙ n, p.auto.out ∙ l.invariant.1)
-
-pub returns : goal.returns
-returns c =
-    let a = c.args in
-    let l = c.loop-i in
-    l.invariant.0 ∙ ap (λ (x : List ℕ). sets a.out.now a.at (rows_bytes x)) (take_all l.i a.rows (omega (arith, c.loop-i-test.false)))

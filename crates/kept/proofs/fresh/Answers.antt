@@ -1,11 +1,11 @@
 -- `kept::fresh` meets its contract: five zeros are a running join without a pose, and the store is made fresh. Assumes nothing.
 use native.Mathlib.Omega.{arith}
-use mathlib.Core.Path.{◌≡◌, ap, ◌∙◌}
+use mathlib.Core.Path.{ap, ◌∙◌}
 use mathlib.Core.List.{List, ◌++◌}
 use Prim.Native.Nat.{ℕ, ◌-◌}
 use borrow.Rule.Slice.PartMut.{same_len_mid}
 use lib.ListN.{length, drop}
-use Rattle.kept.proofs.State.{zeroed, zeroed_is, zeroed_length, made_fresh, left_alone}
+use Rattle.kept.proofs.State.{zeroed_is, zeroed_length, made_fresh, left_alone}
 use Rattle.kept.proofs.fresh.Goals as goal
 
 pub slice_bounds-fresh-count : goal.slice_bounds-fresh-count

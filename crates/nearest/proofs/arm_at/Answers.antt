@@ -13,5 +13,5 @@ returns g c =
     let real = g.met.T.Real in
     let a = c.args in
     let e : arm_number c.at.result ≡ arm_at r.format (r.float a.sigma) a.p =
-    unfold arm_at coeffs_delta in simp (c.at.ensures, real.add_law _ _ _ c.add.ensures, real.mul_law _ _ _ c.mul.ensures, c.value.ensures) in
+    unfold arm_at coeffs_delta in simp (c.at.ensures, real.add_law _ _ _ c.add.ensures, real.mul_law _ _ _ c.mul.ensures, c.value.ensures c.requires) in
     (e, subst (λ (n : ℕ). 1 ≤ n) (sym e) (arm_from r.format (r.float a.sigma) a.p))

@@ -1,10 +1,11 @@
 -- `nearest::nearest_arm` meets its contract: its tests are those of the definition, in their order. Assumes nothing.
 use mathlib.Core.Path.{sym, ap, ◌∙◌}
 use lib.Ieee.{of_bits}
+use Rattle.std.proofs.lemmas.Bool.{and_parts}
 use Rattle.linalg.specs.Answer.{answers}
 use Rattle.ieee.specs.Finite.{is_finite}
 use Rattle.nearest.specs.Nearest.{first_told}
-use Rattle.nearest.proofs.Answers.{below-zero, not_finite, accepted, right}
+use Rattle.nearest.proofs.Answers.{below-zero, not_finite, accepted}
 use Rattle.nearest.proofs.nearest_arm.Goals as goal
 
 pub returns-then-is_below : goal.returns-then-is_below
@@ -26,7 +27,7 @@ unfolding of_bits
 start-requires g c =
     let r = g.T.Real in
     let b = simp (c.is_below.ensures, c.of.ensures) at c.if-is_below.false in
-    (b, right (is_finite (r.float c.args.sigma)) (is_finite (r.float c.args.z)) (sym c.both_finite.ensures ∙ c.if-not-both_finite.false))
+    (b, (and_parts (is_finite (r.float c.args.sigma)) (is_finite (r.float c.args.z)) (sym c.both_finite.ensures ∙ c.if-not-both_finite.false)).1)
 
 pub returns : goal.returns
 unfolding of_bits

@@ -1,19 +1,19 @@
 -- `replies::reply` meets its contract: a cut record and an output without room are told; else the mark or NO is stored before what the entry wrote. Assumes nothing.
 use native.Mathlib.Omega.{arith}
 use Prim.Native.Nat.{ℕ, ◌+◌, ◌-◌, ◌≤◌, ◌<◌}
-use mathlib.Core.Path.{◌≡◌, refl, sym, ap, ◌∙◌}
+use mathlib.Core.Path.{◌≡◌, ap}
 use mathlib.Core.List.{List}
 use lib.Ieee.{Format}
-use lib.ListN.{length, take, drop, length-set}
+use lib.ListN.{length, take, drop}
 use lib.Seq.{sets}
 use Rattle.std.specs.Prelude.{Ok, Err}
-use Rattle.linalg.specs.Answer.{Answer, answers, refuses, answer, number}
+use Rattle.linalg.specs.Answer.{Answer, answer, number}
 use Rattle.outcome.specs.Outcome.{longest, gave_of, gave_bytes}
 use Rattle.outcome.specs.declared.Entry.{Entry}
 use Rattle.outcome.specs.declared.Wrote.{Wrote}
 use Rattle.outcome.proofs.Record.{reply-cut, reply-roomless}
 use Rattle.replies.specs.Table.{width_of, answer_of, entry_reply}
-use Rattle.replies.proofs.Replies.{width-most, Given, given_length, given_most, given_wrote, given_refused}
+use Rattle.replies.proofs.Replies.{width-most, Given, given_most, given_wrote, given_refused}
 use Rattle.replies.proofs.reply.Goals as goal
 
 given :

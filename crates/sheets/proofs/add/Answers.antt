@@ -6,13 +6,9 @@ use Rattle.std.specs.Prelude.{Err}
 use Rattle.linalg.specs.declared.refusal.Refusal.TheVariants.{NoRoom}
 use Rattle.wire.specs.Wire.{item_bytes}
 use Rattle.sheets.specs.Sheets.{most}
-use Rattle.sheets.specs.Store.{used_of, slot_told, next_slot}
+use Rattle.sheets.specs.Store.{used_of, next_slot}
 use Rattle.sheets.proofs.Told.{add-full, add-next, add_free}
 use Rattle.sheets.proofs.add.Goals as goal
-
-pub next_slot-requires : goal.next_slot-requires
-unfolding used_of
-next_slot-requires c = c.short_at-used.ensures
 
 pub returns-in_err-slot : goal.returns-in_err-slot
 unfolding used_of

@@ -1,8 +1,8 @@
 -- `sheets::free_slot` meets its contract: all slots before the one looked at are a sheet's own. Assumes nothing.
 use borrow.Author.Rules.{rules}
 use native.Mathlib.Omega.{arith}
-use mathlib.Core.Path.{◌≡◌, sym, ap, ◌∙◌}
-use Rattle.sheets.specs.Store.{slot_of, sheet_in}
+use mathlib.Core.Path.{◌≡◌, sym, ◌∙◌}
+use Rattle.sheets.specs.Store.{sheet_in}
 use Rattle.sheets.proofs.Own.{search_start, search_none, search_free, search_next}
 use Rattle.sheets.proofs.free_slot.Goals as goal
 

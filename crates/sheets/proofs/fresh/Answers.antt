@@ -1,11 +1,7 @@
 -- `sheets::fresh` meets its contract: no slot is in use. Assumes nothing.
-use native.Mathlib.Omega.{arith}
 use Rattle.wire.specs.Wire.{item_bytes}
 use Rattle.sheets.proofs.Told.{fresh_made, fresh_left}
 use Rattle.sheets.proofs.fresh.Goals as goal
-
-pub put_short-requires : goal.put_short-requires
-put_short-requires c = omega (arith, c.if-store-eq-STORE.true)
 
 pub returns-then-store-eq-STORE : goal.returns-then-store-eq-STORE
 unfolding item_bytes

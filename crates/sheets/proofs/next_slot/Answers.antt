@@ -6,8 +6,5 @@ use Rattle.sheets.proofs.next_slot.Goals as goal
 pub returns-then-used-lt-MOST : goal.returns-then-used-lt-MOST
 returns-then-used-lt-MOST c = next-used c.args.store.now c.args.used c.requires c.if-used-lt-MOST.true
 
-pub free_slot-requires : goal.free_slot-requires
-free_slot-requires c = rw (← c.requires) c.if-used-lt-MOST.false
-
 pub returns : goal.returns
 returns c = c.free_slot.ensures ∙ next_free c.args.store.now c.args.used c.requires c.if-used-lt-MOST.false

@@ -1,9 +1,8 @@
 -- `sheets::put` meets its contract: by the length of the bytes, and by whether the slot is the sheet's. Assumes nothing.
 use borrow.Author.Rules.{rules}
 use mathlib.Core.Path.{◌≡◌, sym, ◌∙◌}
-use mathlib.Core.Bool.{true, false}
 use lib.ListN.{length}
-use Rattle.sheets.specs.Store.{size, held_at}
+use Rattle.sheets.specs.Store.{size}
 use Rattle.sheets.proofs.Framed.{Fit}
 use Rattle.sheets.proofs.Told.{put_storeless, put_added, put_again}
 use Rattle.sheets.proofs.put.Goals as goal

@@ -10,4 +10,4 @@ returns-in_default c = rw c.in_default.is refl
 
 pub returns : goal.returns
 unfolding filled_of
-returns c = rw (c.in-Ok.is, c.min-count.ensures) refl
+returns c = rw (c.in-Ok.is, c.given-count.ensures, c.min.ensures) refl

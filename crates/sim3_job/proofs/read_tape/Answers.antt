@@ -6,7 +6,7 @@ use Prim.Native.Nat.{◌+◌, ◌-◌}
 use mathlib.Core.Path.{◌≡◌, refl}
 use lib.ListN.{take, drop, length-drop}
 use lib.Seq.{length-take-le}
-use Rattle.sim3_job.proofs.Underway.{filled_front}
+use Rattle.sim3_job.proofs.Underway.{filled_front, given-count, given-ended}
 use Rattle.sim3_job.proofs.read_tape.Goals as goal
 
 pub returns : goal.returns
@@ -16,7 +16,8 @@ returns c =
     let p = c.piece-count.ensures in
     let m = c.min.ensures in
     let s : a.at + n - a.at ≡ n = omega arith in
-    record {
+    rw (c.given.ensures, given-count n, given-ended n)
+    (record {
       within = (omega (arith, p.upper_bound, m), omega (arith, p.upper_bound, m), λ u. refl);
       from_tape = (
         refl,
@@ -25,4 +26,4 @@ returns c =
             (length-take-le n (drop a.at a.tape.now) (omega (arith, length-drop a.at a.tape.now, p.upper_bound, m)))),
         λ u v. let z : n ≡ 0 = eqb-true _ _ u in omega (arith, p.most_value z, z, m),
       );
-    }
+    })

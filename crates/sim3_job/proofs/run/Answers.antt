@@ -6,7 +6,6 @@ use Prim.Native.Nat.{ℕ, ◌+◌, ◌-◌, ◌≤◌, ◌<◌}
 use mathlib.Core.Bool.{Bool, true, false}
 use mathlib.Core.Path.{◌≡◌, refl, sym, ap, subst, ◌∙◌}
 use mathlib.Core.List.{List, ◌++◌}
-use lib.Seq.{length-take-le}
 use lib.ListN.{length, take}
 use Rattle.job.specs.declared.Fed.{Fed}
 use Rattle.kept.specs.State.{state_none, state_of, holds}
@@ -17,7 +16,7 @@ use Rattle.job.proofs.Input.{input}
 use Rattle.std.specs.Prelude.{Err}
 use Rattle.sim3_job.specs.declared.RunError.TheVariants.{Unwritten}
 use Rattle.sim3_job.specs.Filled.{reads, over}
-use Rattle.sim3_job.proofs.Underway.{underway_start, underway_next, underway_feed, underway_done, underway_short, tape_read, sink_short, handed}
+use Rattle.sim3_job.proofs.Underway.{underway_start, underway_next, underway_feed, underway_done, underway_short, tape_read, none_by, sink_short, handed}
 use Rattle.sim3_job.proofs.Nearer.{to_go, nearer, still_sound, none_sound, asks_more}
 use Rattle.sim3_job.proofs.run.Goals as goal
 
@@ -40,36 +39,12 @@ loop-read-init c =
       mem_length = c.fresh.auto.mem;
     }
 
-pub fill-requires : goal.fill-requires
-fill-requires c = let i = c.loop-read.invariant in
-    record {
-      at_in_bounds = i.at_in_bounds;
-      have_in_bounds = omega (arith, i.have_in_bounds, i.buf_length);
-      have_in_bounds_2 = λ e. omega (arith, i.room_to_read e, i.buf_length);
-    }
-
-pub overflow_add-have : goal.overflow_add-have
-overflow_add-have c = omega (arith, c.in_ok-read.ensures.within.0, c.loop-read.invariant.buf_length)
-
-pub turn-fed-requires : goal.turn-fed-requires
-turn-fed-requires c =
-    record {
-      have_in_bounds = omega (arith, c.in_ok-read.ensures.within.0, c.fill.auto.buf);
-      c_value = c.loop-read.invariant.sound;
-      mem_len = c.loop-read.invariant.mem_length;
-    }
-
-pub put-requires : goal.put-requires
-put-requires c = c.loop-read.invariant.sent_in_bounds
-
-pub overflow_sub-have : goal.overflow_sub-have
-overflow_sub-have c = c.turn-fed.ensures.used_le_have.0
-
 pub loop-read-smaller : goal.loop-read-smaller
 loop-read-smaller c =
     let l = c.loop-read in
     let t = c.turn-fed in
-    let n = c.in_ok-read.read.count in
+    let n = c.unwrap_or-have.result in
+    let none = none_by c.in_ok-read.read c.is_none-last.result c.is_none-last.ensures in
     let h = c.in_ok-read.ensures.within in
     let room : answer_room ≤ length l.out = omega (arith, l.invariant.out_length) in
     let fits : l.have + n ≤ 65536 = omega (arith, h.0, l.invariant.buf_length) in
@@ -77,7 +52,7 @@ loop-read-smaller c =
     let on : goes_on t.result.reason ≡ true = sym c.goes_on.ensures ∙ c.if-not-goes_on.false in
     subst (λ (b : Bool). to_go t.result.counts (l.have + n - t.result.used) b < to_go l.c l.have (reads l.next)) (sym c.next_after-next.ensures.reads)
     (nearer (standing l.c (state_of l.mem)) (take (l.have + n) c.fill.new.buf) (reads l.next) _ l.have n (length l.out) t.result
-    l.invariant.sound room told on (λ u z. h.2 u ∙ rw z refl) fits)
+    l.invariant.sound room told on (λ u z. none ∙ h.2 u ∙ rw (← c.unwrap_or-have.ensures, z) refl) fits)
 
 pub loop-read-preserved : goal.loop-read-preserved
 loop-read-preserved c =
@@ -88,11 +63,13 @@ loop-read-preserved c =
     let t = c.turn-fed in
     let p = c.put in
     let r = c.in_ok-read.read in
+    let n = c.unwrap_or-have.result in
+    let ended = c.is_none-last.result in
     let end = c.in_ok-end.end in
     let h = c.in_ok-read.ensures.within in
     let buf₁ = f.new.buf in
     let sink₁ = p.new.sink in
-    let F = feed_of job_limit true (standing l.c (state_of l.mem)) (take (l.have + r.count) buf₁) r.ended (length l.out) in
+    let F = feed_of job_limit true (standing l.c (state_of l.mem)) (take (l.have + n) buf₁) ended (length l.out) in
     let held₁ = held l.mem i.mem_length in
     let told = rw held₁ at t.ensures.value in
     let wrote = rw held₁ at t.ensures.out_after in
@@ -102,20 +79,20 @@ loop-read-preserved c =
       buf_length = t.auto.buf ∙ f.auto.buf ∙ i.buf_length;
       out_length = t.auto.out ∙ i.out_length;
       room_to_read = λ e. t.ensures.used_bound (asks_more _ (sym c.next_after-next.ensures.reads ∙ e));
-      sound = still_sound (standing l.c (state_of l.mem)) (take (l.have + r.count) buf₁) r.ended (length l.out) t.result i.sound told;
+      sound = still_sound (standing l.c (state_of l.mem)) (take (l.have + n) buf₁) ended (length l.out) t.result i.sound told;
       at_in_bounds = h.1;
       sent_in_bounds = omega (arith, c.in_ok-end.ensures.within_sink, p.auto.sink);
       sink_length = p.auto.sink ∙ i.sink_length;
       underway = λ e.
-          let q = tape_read job_limit a.tape.now l.sink (standing l.c (state_of l.mem)) r
-          l.buf buf₁ (over l.next) l.at l.have l.sent (c.in_ok-read.ensures.from_tape e) (i.underway e) in
+          let q = tape_read job_limit a.tape.now l.sink (standing l.c (state_of l.mem)) r n ended
+          l.buf buf₁ (over l.next) l.at l.have l.sent c.unwrap_or-have.ensures (none_by r ended c.is_none-last.ensures) (c.in_ok-read.ensures.from_tape e) (i.underway e) in
           let b = handed F.bytes l.out _ t.result.written (ap (λ (x : Fed). x.written) told) wrote in
           let w : take end sink₁ ≡ take l.sent l.sink ++ F.bytes = c.in_ok-end.ensures.to_sink e ∙ ap (λ (x : List ℕ). take l.sent l.sink ++ x) b in
           let state : state_of t.new.mem ≡ F.standing.state = rw held₁ at t.ensures.mem_after in
           let stands : standing t.result.counts (state_of t.new.mem) ≡ F.standing = λ i. standing (ap (λ (x : Fed). x.counts) told i) (state i) in
           rw stands
-          (underway_next job_limit a.tape.now sink₁ F.standing _ r.ended (over c.next_after-next.result) r.at end
-          (underway_feed job_limit a.tape.now l.sink (standing l.c (state_of l.mem)) (take (l.have + r.count) buf₁) r.ended r.at l.sent q i.sound (length l.out) sink₁ _ end
+          (underway_next job_limit a.tape.now sink₁ F.standing _ ended (over c.next_after-next.result) r.at end
+          (underway_feed job_limit a.tape.now l.sink (standing l.c (state_of l.mem)) (take (l.have + n) buf₁) ended r.at l.sent q i.sound (length l.out) sink₁ _ end
           t.result told on w t.ensures.buf_after)
           c.next_after-next.ensures.over);
       mem_length = t.auto.mem ∙ i.mem_length;
@@ -140,19 +117,21 @@ returns-in_err-end c =
     let t = c.turn-fed in
     let p = c.put in
     let r = c.in_ok-read.read in
+    let n = c.unwrap_or-have.result in
+    let ended = c.is_none-last.result in
     let buf₁ = f.new.buf in
-    let F = feed_of job_limit true (standing l.c (state_of l.mem)) (take (l.have + r.count) buf₁) r.ended (length l.out) in
+    let F = feed_of job_limit true (standing l.c (state_of l.mem)) (take (l.have + n) buf₁) ended (length l.out) in
     let held₁ = held l.mem i.mem_length in
     let told = rw held₁ at t.ensures.value in
     let wrote = rw held₁ at t.ensures.out_after in
     record {
       sent_in_bounds = omega (arith, i.sent_in_bounds, i.sink_length);
       performed = λ e.
-          let q = tape_read job_limit a.tape.now l.sink (standing l.c (state_of l.mem)) r l.buf buf₁ (over l.next)
-          l.at l.have l.sent (c.in_ok-read.ensures.from_tape e) (i.underway e) in
+          let q = tape_read job_limit a.tape.now l.sink (standing l.c (state_of l.mem)) r n ended l.buf buf₁ (over l.next)
+          l.at l.have l.sent c.unwrap_or-have.ensures (none_by r ended c.is_none-last.ensures) (c.in_ok-read.ensures.from_tape e) (i.underway e) in
           let b = handed F.bytes l.out _ t.result.written (ap (λ (x : Fed). x.written) told) wrote in
           let w = sink_short _ _ l.sink _ l.sent (c.in_err-end.ensures.to_sink e) in
-          let s = underway_short job_limit a.tape.now l.sink (standing l.c (state_of l.mem)) (take (l.have + r.count) buf₁) r.ended r.at l.sent q i.sound (length l.out)
+          let s = underway_short job_limit a.tape.now l.sink (standing l.c (state_of l.mem)) (take (l.have + n) buf₁) ended r.at l.sent q i.sound (length l.out)
           i.sent_in_bounds (omega (arith, w.1.1, ap length b)) in
           let z : c.from_residual-in_err-end.result ≡ Err Unwritten = search (rules, w.0) in
           rw z (omega (arith, s.0, i.sink_length), rw w.1.0 s.1);
@@ -168,10 +147,12 @@ returns-then-not-goes_on c =
     let t = c.turn-fed in
     let p = c.put in
     let r = c.in_ok-read.read in
+    let n = c.unwrap_or-have.result in
+    let ended = c.is_none-last.result in
     let end = c.in_ok-end.end in
     let buf₁ = f.new.buf in
     let sink₁ = p.new.sink in
-    let F = feed_of job_limit true (standing l.c (state_of l.mem)) (take (l.have + r.count) buf₁) r.ended (length l.out) in
+    let F = feed_of job_limit true (standing l.c (state_of l.mem)) (take (l.have + n) buf₁) ended (length l.out) in
     let held₁ = held l.mem i.mem_length in
     let told = rw held₁ at t.ensures.value in
     let wrote = rw held₁ at t.ensures.out_after in
@@ -179,11 +160,11 @@ returns-then-not-goes_on c =
     record {
       sent_in_bounds = omega (arith, c.in_ok-end.ensures.within_sink, i.sink_length);
       performed = λ e.
-          let q = tape_read job_limit a.tape.now l.sink (standing l.c (state_of l.mem)) r l.buf buf₁ (over l.next)
-          l.at l.have l.sent (c.in_ok-read.ensures.from_tape e) (i.underway e) in
+          let q = tape_read job_limit a.tape.now l.sink (standing l.c (state_of l.mem)) r n ended l.buf buf₁ (over l.next)
+          l.at l.have l.sent c.unwrap_or-have.ensures (none_by r ended c.is_none-last.ensures) (c.in_ok-read.ensures.from_tape e) (i.underway e) in
           let b = handed F.bytes l.out _ t.result.written (ap (λ (x : Fed). x.written) told) wrote in
           let w : take end sink₁ ≡ take l.sent l.sink ++ F.bytes = c.in_ok-end.ensures.to_sink e ∙ ap (λ (x : List ℕ). take l.sent l.sink ++ x) b in
-          underway_done job_limit a.tape.now l.sink (standing l.c (state_of l.mem)) (take (l.have + r.count) buf₁) r.ended r.at l.sent q i.sound
+          underway_done job_limit a.tape.now l.sink (standing l.c (state_of l.mem)) (take (l.have + n) buf₁) ended r.at l.sent q i.sound
           (length l.out) sink₁ end t.result told off w;
       input_theorem = input job_limit a.tape.now (λ i. omega (arith, c.type_inv.tape i));
     }

@@ -1,11 +1,11 @@
 -- `sim3_job::turn` meets its contract: it is what `feed` ensures, with the bytes that are left moved to the front.
-use borrow.Author.Rules.{rules}
 use native.Mathlib.Omega.{arith}
 use Prim.Native.Nat.{ℕ, ◌-◌, ◌≤◌, ◌<◌}
 use mathlib.Core.Path.{◌≡◌, sym, ap, ◌∙◌}
 use native.Mathlib.Nat.{zero-add}
 use lib.Seq.{length-take-le, paste, take-paste}
 use lib.ListN.{length, take, drop, length-take, length-drop}
+use Rattle.std.proofs.lemmas.Slice.{between_is}
 use Rattle.job.specs.declared.Fed.{Fed}
 use Rattle.job.specs.declared.Reason.TheVariants.{More}
 use mathlib.Core.Bool.{true}
@@ -15,12 +15,8 @@ use Rattle.kept.specs.State.{state_of, holds}
 use Rattle.kept.proofs.Records.{held}
 use Rattle.job.proofs.Few.{feed_few}
 use Rattle.job.proofs.Pieces.{told_back}
-use Rattle.sim3_job.proofs.Moves.{drop-take}
 use Rattle.sim3_job.proofs.Nearer.{not_bad}
 use Rattle.sim3_job.proofs.turn.Goals as goal
-
-pub slice_bounds-feed-end-2 : goal.slice_bounds-feed-end-2
-slice_bounds-feed-end-2 c = sym (length-take-le _ _ (search rules))
 
 pub returns : goal.returns
 returns c =
@@ -43,7 +39,7 @@ returns c =
     let front =
     ap (λ (k : ℕ). take k (paste a.buf.now 0 rest n)) (sym (zero-add n))
     ∙ take-paste a.buf.now 0 rest n (omega (arith, c.requires.have_in_bounds)) (omega (arith, length-drop f.result.used a.buf.now, c.requires.have_in_bounds)) in
-    let left = ap (take n) c.copy_within.ensures.after ∙ front ∙ sym (drop-take f.result.used a.have a.buf.now used) in
+    let left = ap (take n) c.copy_within.ensures.after ∙ front ∙ between_is a.buf.now f.result.used a.have in
     record {
       value = told;
       out_after = f.ensures.out_after;

@@ -1,10 +1,5 @@
 -- `wire::all_finite` meets its contract: what is told so far is told of the numbers so far. Assumes nothing.
-use native.Mathlib.Omega.{arith}
-use mathlib.Core.Path.{◌≡◌, ap, ◌∙◌}
-use lib.ListN.{length}
-use lib.Seq.{take_all}
-use Rattle.std.proofs.lemmas.List.{length-map}
-use Rattle.wire.specs.Wire.{numbers, all_finite}
+use mathlib.Core.Path.{◌∙◌}
 use Rattle.wire.proofs.Lists.{finite-none, finite_next}
 use Rattle.wire.proofs.all_finite.Goals as goal
 
@@ -17,9 +12,3 @@ loop-y-preserved g c =
     rw r.floats_law
     (finite_next g.T.Real.format g.T.Real.float c.args.x.now c.y-item.result _ c.loop-y.y-index _ _ c.loop-y-test.true c.y-item.is
     (r.sub_law _ _ _ c.sub-z.ensures) (c.eq-finite.ensures ∙ r.eq_law _ _) (rw r.floats_law at c.loop-y.invariant))
-
-pub returns : goal.returns
-returns g c =
-    let x = g.T.Real.floats c.args.x.now in
-    let n : length x ≡ length c.args.x.now = ap length (g.met.T.Real.floats_law c.args.x.now) ∙ length-map c.args.x.now g.T.Real.float in
-    c.loop-y.invariant ∙ ap (λ (l : _). all_finite (numbers l)) (take_all c.loop-y.y-index x (omega (arith, n, c.loop-y-test.false)))

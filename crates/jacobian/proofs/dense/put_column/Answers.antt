@@ -1,9 +1,15 @@
--- `jacobian::dense::put_column` meets its contract: seven stores are the run of the column.
-use native.Mathlib.Numerals.{towards_suc}
-use Rattle.std.proofs.lemmas.List.{map-set}
+-- `jacobian::dense::put_column` meets its contract: the part that is lent is the run of the column. Assumes nothing.
+use native.Mathlib.Omega.{arith}
+use Prim.Native.Nat.{◌+◌, ◌-◌}
+use mathlib.Core.Path.{◌≡◌, refl, ap, ◌∙◌}
+use mathlib.Core.List.{map}
 use Rattle.sim3.specs.Tangent.{tangent_to_dense}
+use Rattle.jacobian.proofs.Columns.{stored}
 use Rattle.jacobian.proofs.dense.put_column.Goals as goal
 
 pub returns : goal.returns
 unfolding tangent_to_dense
-returns g c = simp (map-set, towards_suc)
+returns g c =
+    let h = g.T.Real.float in
+    let k : c.args.at + 7 - c.args.at ≡ 7 = omega arith in
+    rw k (stored h c.args.out.now _ _ c.args.at (ap (map h) c.copy_from_slice.ensures.after ∙ c.to_dense.ensures) refl c.requires)

@@ -10,12 +10,6 @@ use Rattle.kept.specs.Chain.{joint_bytes}
 use Rattle.kept.proofs.Lent.{ch_refused, ch-joined, ch_stood, ch-kept}
 use Rattle.kept.proofs.chain.join.Goals as goal
 
-pub tell-requires : goal.tell-requires
-tell-requires c = c.requires.longest_in_bounds
-
-pub refuse-requires : goal.refuse-requires
-refuse-requires c = c.requires.longest_in_bounds
-
 pub returns-in-Ok : goal.returns-in-Ok
 unfolding joint_bytes
 returns-in-Ok c =

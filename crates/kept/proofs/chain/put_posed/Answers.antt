@@ -1,8 +1,6 @@
 -- `kept::chain::put_posed` meets its contract: the stores are the whole state, and a pose of doubles reads back. Assumes nothing.
 use borrow.Author.Rules.{rules}
-use native.Mathlib.Omega.{arith}
 use mathlib.Core.Path.{◌∙◌, ap}
-use lib.ListN.{length-set}
 use Rattle.kept.specs.State.{running_of}
 use Rattle.sheets.proofs.Framed.{Fit}
 use Rattle.kept.proofs.Lent.{posed_stores, posed_stored}

@@ -1,30 +1,19 @@
 -- `kept::chain::renew` meets its contract: n is stored and written. Assumes nothing.
 use borrow.Author.Rules.{rules}
-use native.Mathlib.Omega.{arith}
 use mathlib.Core.Path.{◌∙◌, ap}
-use lib.ListN.{set, length-set}
 use Rattle.wire.specs.Wire.{item_bytes}
 use Rattle.kept.specs.State.{running_of}
 use Rattle.kept.proofs.Lent.{every_stored, every_replied}
 use Rattle.kept.proofs.chain.renew.Goals as goal
 
-pub put_short-requires-2 : goal.put_short-requires-2
-put_short-requires-2 c =
-    simp length-set (omega (arith, c.requires.longest_in_bounds))
-
-pub bounds-out-1 : goal.bounds-out-1
-bounds-out-1 c =
-    simp length-set (omega (arith, c.requires.longest_in_bounds))
-
 pub shape_of-out : goal.shape_of-out
-shape_of-out c =
-    let o = c.args.out.now in c.put_short-2.auto.out ∙ length-set (set o 0 0x52) 1 0x4e ∙ length-set o 0 0x52
+shape_of-out c = c.put_short-2.auto.out ∙ c.put_mark.auto.out
 
 pub returns : goal.returns
 unfolding item_bytes
 returns c =
     let n = c.short_at-n.ensures in
-    let t = every_replied c.short_at-n.result c.args.out.now _ c.put_short-2.ensures in
+    let t = every_replied c.short_at-n.result c.args.out.now _ (rw c.put_mark.ensures at c.put_short-2.ensures) in
     let w = c.put_short.ensures in
     rw (← n)
     (record {

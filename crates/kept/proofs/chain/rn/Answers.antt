@@ -1,11 +1,10 @@
 -- `kept::chain::rn` meets its contract: a record that is left is told; else the record's own bytes are taken. Assumes nothing.
 use borrow.Author.Rules.{rules}
 use native.Mathlib.Omega.{arith}
-use mathlib.Core.Path.{◌≡◌, ap}
-use lib.ListN.{length, take, drop, length-drop}
-use lib.Seq.{length-take-le}
+use mathlib.Core.Path.{◌≡◌}
+use lib.ListN.{take}
 use Rattle.kept.specs.State.{running_size}
-use Rattle.kept.specs.Chain.{rn_size, rn_asks}
+use Rattle.kept.specs.Chain.{rn_asks}
 use Rattle.kept.proofs.Records.{told_left, own_length}
 use Rattle.kept.proofs.Lent.{rn-whole}
 use Rattle.kept.proofs.chain.rn.Goals as goal

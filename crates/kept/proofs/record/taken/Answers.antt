@@ -1,7 +1,7 @@
 -- `kept::record::taken` meets its contract: by the three tests. Assumes nothing.
 use native.Mathlib.Omega.{arith}
 use Prim.Native.Nat.{ℕ, ◌+◌, ◌-◌}
-use mathlib.Core.Path.{◌≡◌, refl, sym, ap, ◌∙◌}
+use mathlib.Core.Path.{◌≡◌, sym, ap, ◌∙◌}
 use lib.ListN.{take, drop}
 use Rattle.std.proofs.lemmas.List.{drop-take}
 use Rattle.kept.proofs.record.taken.Goals as goal

@@ -1,28 +1,16 @@
 -- `replies::entries::ac` meets its contract: the call on lists is what the job asks for. Assumes nothing.
-use native.Mathlib.Omega.{arith}
-use Prim.Native.Nat.{ℕ, ◌+◌, ◌-◌, ◌*◌, ◌≤◌}
-use mathlib.Core.Path.{◌≡◌, refl, sym, ap, ◌∙◌}
+use mathlib.Core.Path.{ap, ◌∙◌}
 use mathlib.Core.List.{List}
-use lib.ListN.{length, get_or, take, drop, replicate, length-drop}
+use lib.ListN.{get_or, drop, replicate}
 use lib.Seq.{sets}
-use lib.Ieee.{Float}
 use Rattle.linalg.specs.Answer.{Answer}
-use Rattle.wire.specs.Wire.{Item, width, firsts, number_at, numbers_at, words_at}
-use Rattle.outcome.specs.Outcome.{longest, gave_of, gave_bytes}
-use Rattle.from_lists.specs.Lists.{pose_lists}
-use Rattle.sim3_c_entries.specs.Calls.{arm_lists}
+use Rattle.wire.specs.Wire.{Item, firsts, numbers_at}
+use Rattle.outcome.specs.Outcome.{gave_of, gave_bytes}
 use Rattle.replies.specs.Table.{framed_width}
 use Rattle.replies.proofs.Told.{floats-length, floats-part, floats-one}
-use Rattle.replies.proofs.Frames.{rest_is}
-use Rattle.replies.proofs.Replies.{poses_most, arms_most, widest}
-use Rattle.replies.proofs.Front.{first_at}
+use Rattle.std.proofs.lemmas.List.{take_rest}
 use Rattle.replies.proofs.Calls.{ac_told}
 use Rattle.replies.proofs.entries.ac.Goals as goal
-
-pub told-requires : goal.told-requires
-told-requires g c =
-    let k : length c.act_point-called.new.out ≡ 3 = c.act_point-called.auto.out in
-    rw k (omega (arith, c.requires.longest_bound, widest g.T.Real.format 3 (omega arith)))
 
 pub returns : goal.returns
 unfolding firsts
@@ -33,7 +21,7 @@ returns g c =
     let b = c.args.b.now in
     let s = c.act_point-called.ensures in
     let w = framed_width f in
-    let p = rw (c.framed.ensures, rest_is b w) at c.read-p.ensures in
+    let p = rw (c.framed.ensures, take_rest b w) at c.read-p.ensures in
     let part = floats-part fl g.T.Real.float law c.read-p.result (numbers_at f (drop w b) 4) 1 3 p in
     let o = fl (replicate 3 c.of-y.result) in
     let t = ac_told f b _ _ o _ _ _ c.read-x.ensures (floats-one fl g.T.Real.float law c.read-p.result (numbers_at f (drop w b) 4) 0 _ p (ap (get_or c.read-p.result 0) c.index-p-0.is)) part (floats-length fl g.T.Real.float law (replicate 3 c.of-y.result)) s.value s.out_after in

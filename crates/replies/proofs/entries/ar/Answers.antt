@@ -1,30 +1,16 @@
 -- `replies::entries::ar` meets its contract: the call on lists is what the job asks for. Assumes nothing.
-use native.Mathlib.Omega.{arith}
-use Prim.Native.Nat.{ℕ, ◌+◌, ◌-◌, ◌*◌, ◌≤◌}
-use mathlib.Core.Path.{◌≡◌, refl, sym, ap, ◌∙◌}
+use Prim.Native.Nat.{ℕ}
+use mathlib.Core.Path.{◌≡◌, refl, ap, ◌∙◌}
 use mathlib.Core.List.{List}
-use lib.ListN.{length, get_or, take, drop, replicate, length-drop}
+use lib.ListN.{get_or, take, drop, replicate}
 use lib.Seq.{sets}
-use lib.Ieee.{Float}
 use Rattle.linalg.specs.Answer.{Answer}
-use Rattle.wire.specs.Wire.{Item, width, firsts, number_at, numbers_at, words_at}
-use Rattle.outcome.specs.Outcome.{longest, gave_of, gave_bytes}
-use Rattle.from_lists.specs.Lists.{pose_lists}
+use Rattle.wire.specs.Wire.{Item, firsts, numbers_at}
+use Rattle.outcome.specs.Outcome.{gave_of, gave_bytes}
 use Rattle.sim3_c_entries.specs.Calls.{arm_lists}
-use Rattle.replies.specs.Table.{framed_width}
 use Rattle.replies.proofs.Told.{floats-length, floats-part, floats-one}
-use Rattle.replies.proofs.Frames.{rest_is}
-use Rattle.replies.proofs.Replies.{poses_most, arms_most, widest}
-use Rattle.replies.proofs.Front.{first_at}
 use Rattle.replies.proofs.Calls.{ar_told}
 use Rattle.replies.proofs.entries.ar.Goals as goal
-
-pub told_armed-requires : goal.told_armed-requires
-told_armed-requires g c = record {
-  arms_len = c.armed_pair-called.auto.arms;
-  y_len = c.armed_pair-called.auto.out;
-  bytes = omega (arith, c.requires.longest_bound, arms_most g.T.Real.format);
-}
 
 pub returns : goal.returns
 unfolding firsts

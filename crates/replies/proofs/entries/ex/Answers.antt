@@ -1,29 +1,18 @@
 -- `replies::entries::ex` meets its contract: the call on lists is what the job asks for. Assumes nothing.
 use native.Mathlib.Omega.{arith}
-use Prim.Native.Nat.{ℕ, ◌+◌, ◌-◌, ◌*◌, ◌≤◌}
-use mathlib.Core.Path.{◌≡◌, refl, sym, ap, ◌∙◌}
+use Prim.Native.Nat.{ℕ, ◌*◌}
+use mathlib.Core.Path.{◌≡◌, refl, ap, ◌∙◌}
 use mathlib.Core.List.{List}
-use lib.ListN.{length, take, drop, replicate, length-drop}
+use lib.ListN.{take, drop, replicate}
 use lib.Seq.{sets}
-use lib.Ieee.{Float}
 use Rattle.linalg.specs.Answer.{Answer}
-use Rattle.wire.specs.Wire.{Item, width, firsts, number_at, numbers_at, words_at}
-use Rattle.outcome.specs.Outcome.{longest, gave_of, gave_bytes}
+use Rattle.wire.specs.Wire.{Item, width, firsts, numbers_at}
+use Rattle.outcome.specs.Outcome.{gave_of, gave_bytes}
 use Rattle.from_lists.specs.Lists.{pose_lists}
-use Rattle.sim3_c_entries.specs.Calls.{arm_lists}
-use Rattle.replies.specs.Table.{framed_width}
-use Rattle.replies.proofs.Told.{floats-length, floats-part, floats-one}
-use Rattle.replies.proofs.Frames.{rest_is}
-use Rattle.replies.proofs.Replies.{poses_most, arms_most, widest}
+use Rattle.replies.proofs.Told.{floats-length, floats-part}
+use Rattle.std.proofs.lemmas.List.{take_rest}
 use Rattle.replies.proofs.Calls.{ex-told}
 use Rattle.replies.proofs.entries.ex.Goals as goal
-
-pub told_framed-requires : goal.told_framed-requires
-told_framed-requires g c = record {
-  y_len = c.sim3_exp-called.auto.out;
-  k_len = c.sim3_exp-called.auto.out_frames;
-  bytes = omega (arith, c.requires.longest_bound, poses_most g.T.Real.format);
-}
 
 pub returns : goal.returns
 unfolding firsts
@@ -36,7 +25,7 @@ returns g c =
     let x = c.read-x.ensures in
     let v : c.BYTES.result * 17 ≡ 17 * width f = omega (arith, c.BYTES.ensures, g.met.T.Number.bytes_law) in
     let part : (a n : ℕ) → fl (take n (drop a c.read-x.result)) ≡ take n (drop a (numbers_at f b 17)) = λ a n. floats-part fl g.T.Real.float law c.read-x.result (numbers_at f b 17) a n x in
-    let k = rw (v, rest_is b (17 * width f)) at c.frames-k.ensures in
+    let k = rw (v, take_rest b (17 * width f)) at c.frames-k.ensures in
     let o = pose_lists (fl (replicate 8 c.of-y.result)) (replicate 2 0) in
     let t = ex-told f b _ _ _ o _ _ (part 0 7) (part 7 10) k (floats-length fl g.T.Real.float law (replicate 8 c.of-y.result)) refl s.value s.out_frames_after in
     record {

@@ -1,6 +1,6 @@
 use native.Mathlib.Omega.{arith}
-use mathlib.Core.Path.{◌≡◌, refl, ◌∙◌}
-use Rattle.wire.specs.Wire.{firsts, word_at}
+use mathlib.Core.Path.{refl, ◌∙◌}
+use Rattle.wire.specs.Wire.{firsts}
 use Rattle.wire.proofs.Places.{short_read}
 use Rattle.replies.proofs.entries.frames.Goals as goal
 

@@ -1,30 +1,19 @@
 -- `replies::entries::mu` meets its contract: the call on lists is what the job asks for. Assumes nothing.
 use native.Mathlib.Omega.{arith}
-use Prim.Native.Nat.{ℕ, ◌+◌, ◌-◌, ◌*◌, ◌≤◌}
-use mathlib.Core.Path.{◌≡◌, refl, sym, ap, ◌∙◌}
+use Prim.Native.Nat.{◌+◌, ◌*◌}
+use mathlib.Core.Path.{◌≡◌, refl, ap, ◌∙◌}
 use mathlib.Core.List.{List}
-use lib.ListN.{length, take, drop, replicate, length-drop}
+use lib.ListN.{get_or, drop, replicate}
 use lib.Seq.{sets}
-use lib.Ieee.{Float}
 use Rattle.linalg.specs.Answer.{Answer}
-use Rattle.wire.specs.Wire.{Item, width, firsts, number_at, numbers_at, words_at}
-use Rattle.outcome.specs.Outcome.{longest, gave_of, gave_bytes}
+use Rattle.wire.specs.Wire.{Item, width, firsts, numbers_at}
+use Rattle.outcome.specs.Outcome.{gave_of, gave_bytes}
 use Rattle.from_lists.specs.Lists.{pose_lists}
-use Rattle.sim3_c_entries.specs.Calls.{arm_lists}
 use Rattle.replies.specs.Table.{framed_width}
-use Rattle.replies.proofs.Told.{floats-length, floats-part, floats-one}
-use Rattle.replies.proofs.Frames.{rest_is}
-use Rattle.replies.proofs.Replies.{poses_most, arms_most, widest}
-use Rattle.replies.proofs.Front.{first_at}
+use Rattle.replies.proofs.Told.{floats-length, floats-one}
+use Rattle.std.proofs.lemmas.List.{take_rest}
 use Rattle.replies.proofs.Calls.{mu_told}
 use Rattle.replies.proofs.entries.mu.Goals as goal
-
-pub told_framed-requires : goal.told_framed-requires
-told_framed-requires g c = record {
-  y_len = c.sim3_mul-called.auto.out;
-  k_len = c.sim3_mul-called.auto.out_frames;
-  bytes = omega (arith, c.requires.longest_bound, poses_most g.T.Real.format);
-}
 
 pub returns : goal.returns
 unfolding firsts
@@ -36,10 +25,11 @@ returns g c =
     let s = c.sim3_mul-called.ensures in
     let w = framed_width f in
     let v : c.BYTES-at.result * 8 ≡ 8 * width f = omega (arith, c.BYTES-at.ensures, g.met.T.Number.bytes_law) in
-    let k = rw (v, rest_is b (8 * width f)) at c.frames-k.ensures in
-    let y = rw (c.framed-end.ensures, rest_is b w) at c.read-y.ensures in
-    let l = rw (v, c.framed-end.ensures, rest_is b (w + 8 * width f)) at c.frames-l.ensures in
-    let u = rw c.framed-end.ensures at c.number_at-up.ensures ∙ first_at f b (2 * w) in
+    let k = rw (v, take_rest b (8 * width f)) at c.frames-k.ensures in
+    let y = rw (c.framed-end.ensures, take_rest b w) at c.read-y.ensures in
+    let l = rw (v, c.framed-end.ensures, take_rest b (w + 8 * width f)) at c.frames-l.ensures in
+    let r = rw (c.framed-end.ensures, take_rest b (2 * w)) at c.read.ensures in
+    let u = floats-one fl g.T.Real.float law c.read.result (numbers_at f (drop (2 * w) b) 1) 0 _ r (ap (get_or c.read.result 0) c.index-read-0.is) in
     let o = pose_lists (fl (replicate 8 c.of-z.result)) (replicate 2 0) in
     let t = mu_told f b _ _ o _ _ _ (rw (c.read-x.ensures, k) refl) (rw (y, l) refl) u (floats-length fl g.T.Real.float law (replicate 8 c.of-z.result)) refl s.value s.out_frames_after in
     record {

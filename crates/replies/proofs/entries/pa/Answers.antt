@@ -1,27 +1,15 @@
 -- `replies::entries::pa` meets its contract: the call on lists is what the job asks for. Assumes nothing.
-use native.Mathlib.Omega.{arith}
-use Prim.Native.Nat.{ℕ, ◌+◌, ◌-◌, ◌*◌, ◌≤◌}
-use mathlib.Core.Path.{◌≡◌, refl, sym, ap, ◌∙◌}
+use Prim.Native.Nat.{ℕ}
+use mathlib.Core.Path.{◌≡◌, ap, ◌∙◌}
 use mathlib.Core.List.{List}
-use lib.ListN.{length, take, drop, replicate, length-drop}
+use lib.ListN.{take, drop, replicate}
 use lib.Seq.{sets}
-use lib.Ieee.{Float}
 use Rattle.linalg.specs.Answer.{Answer}
-use Rattle.wire.specs.Wire.{Item, width, firsts, number_at, numbers_at, words_at}
-use Rattle.outcome.specs.Outcome.{longest, gave_of, gave_bytes}
-use Rattle.from_lists.specs.Lists.{pose_lists}
-use Rattle.sim3_c_entries.specs.Calls.{arm_lists}
-use Rattle.replies.specs.Table.{framed_width}
-use Rattle.replies.proofs.Told.{floats-length, floats-part, floats-one}
-use Rattle.replies.proofs.Frames.{rest_is}
-use Rattle.replies.proofs.Replies.{poses_most, arms_most, widest}
+use Rattle.wire.specs.Wire.{Item, firsts, numbers_at}
+use Rattle.outcome.specs.Outcome.{gave_of, gave_bytes}
+use Rattle.replies.proofs.Told.{floats-length, floats-part}
 use Rattle.replies.proofs.Calls.{pa-told}
 use Rattle.replies.proofs.entries.pa.Goals as goal
-
-pub told-requires : goal.told-requires
-told-requires g c =
-    let k : length c.sim3_block_pair-called.new.out ≡ 124 = c.sim3_block_pair-called.auto.out in
-    rw k (omega (arith, c.requires.longest_bound, widest g.T.Real.format 124 (omega arith)))
 
 pub returns : goal.returns
 unfolding firsts

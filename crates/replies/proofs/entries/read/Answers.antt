@@ -1,23 +1,17 @@
-use native.Mathlib.Omega.{arith}
-use borrow.Author.Rules.{rules}
-use Prim.Native.Nat.{ℕ, ◌+◌, ◌-◌, ◌*◌, ◌≤◌}
-use mathlib.Core.Path.{◌≡◌, refl, sym, ap, ◌∙◌}
-use mathlib.Core.List.{List}
-use lib.ListN.{length, length-replicate, take, drop, replicate, length-drop}
-use lib.Seq.{sets}
-use lib.Ieee.{Float}
-use Rattle.std.specs.Prelude.{Result, Ok, Err}
-use Rattle.linalg.specs.Answer.{Answer}
-use Rattle.wire.specs.Wire.{Item, width, word_at, firsts, number_of, number_at, numbers_at, words_at}
-use Rattle.outcome.specs.Outcome.{wrote_as, gave_of, gave_bytes}
-use Rattle.wire.proofs.Lists.{min_fewer}
+-- `replies::entries::read` meets its contract: the bytes that are read have just the numbers. Assumes nothing.
+use mathlib.Core.Path.{◌≡◌, refl, ◌∙◌}
+use Prim.Native.Nat.{◌*◌}
+use lib.ListN.{length-replicate, replicate}
+use Rattle.wire.specs.Wire.{width}
+use Rattle.wire.proofs.Lists.{decoded}
 use Rattle.replies.proofs.Told.{floats-length}
-use Rattle.replies.proofs.Front.{read_whole}
 use Rattle.replies.proofs.entries.read.Goals as goal
 
 pub returns : goal.returns
 returns g c =
-    let r = g.met.T.Real in
+    let f = g.T.Real.format in
     let z = replicate g.row.N c.of-x.result in
-    rw (length-replicate g.row.N c.of-x.result) at c.decode.ensures
-    ∙ read_whole g.T.Real.format c.args.b.now (g.T.Real.floats z) g.row.N c.requires.bytes (floats-length g.T.Real.floats g.T.Real.float r.floats_law z ∙ length-replicate g.row.N c.of-x.result)
+    let n = length-replicate g.row.N c.of-x.result in
+    let e = floats-length g.T.Real.floats g.T.Real.float g.met.T.Real.floats_law z ∙ n in
+    let v : g.row.N * c.BYTES.result ≡ g.row.N * width f = rw (c.BYTES.ensures, g.met.T.Number.bytes_law) refl in
+    rw (v, n) at c.decode.ensures ∙ rw e at (decoded f c.args.b.now (g.T.Real.floats z) g.row.N c.requires.bytes e)

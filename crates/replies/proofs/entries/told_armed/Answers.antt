@@ -1,31 +1,15 @@
 use native.Mathlib.Omega.{arith}
 use borrow.Author.Rules.{rules}
-use Prim.Native.Nat.{ℕ, ◌+◌, ◌-◌, ◌*◌, ◌≤◌}
-use mathlib.Core.Path.{◌≡◌, refl, sym, ap, ◌∙◌}
+use Prim.Native.Nat.{ℕ, ◌+◌, ◌-◌, ◌*◌}
+use mathlib.Core.Path.{◌≡◌, refl, ap, ◌∙◌}
 use mathlib.Core.List.{List, ◌++◌}
-use lib.ListN.{length, take, drop, replicate, length-drop}
-use lib.Seq.{sets}
-use lib.Ieee.{Float}
-use Rattle.std.specs.Prelude.{Result, Ok, Err}
-use Rattle.linalg.specs.Answer.{Answer}
-use Rattle.wire.specs.Wire.{Item, width, word_at, firsts, number_of, number_at, numbers_at, words_at}
-use Rattle.outcome.specs.Outcome.{wrote_as, gave_of, gave_bytes}
-use Rattle.wire.specs.Wire.{fewer, numbers, all_finite, numbers_bytes}
-use Rattle.layout.specs.Layout.{pose_count, scaled_pair_count}
-use Rattle.replies.specs.Table.{framed_width}
-use Rattle.replies.proofs.Told.{told_done, told_not, floats-length, ending_armed}
+use lib.ListN.{length, drop}
+use Rattle.std.specs.Prelude.{Ok}
+use Rattle.wire.specs.Wire.{width}
+use Rattle.outcome.specs.Outcome.{wrote_as}
+use Rattle.layout.specs.Layout.{scaled_pair_count}
+use Rattle.replies.proofs.Told.{told_done, floats-length, ending_armed}
 use Rattle.replies.proofs.entries.told_armed.Goals as goal
-
-pub returns-in_err-called : goal.returns-in_err-called
-unfolding gave_of gave_bytes
-returns-in_err-called g c =
-    let e : c.args.called ≡ Err c.in_err-called.field-0.0 = search rules in
-    let r : c.from_residual.result ≡ Err c.in_err-called.field-0.0 = search rules in
-    rw (told_not c.args.called c.in_err-called.field-0.0 _ e, r)
-    (record {
-      value = refl;
-      out_after = refl;
-    })
 
 pub returns : goal.returns
 returns g c =

@@ -15,5 +15,5 @@ returns g c =
       c.recip.ensures,
       ← v1-is,
       ← v2-is,
-      ← c.turns_v_at-s.ensures,
+      ← c.turns_v_at-level.ensures,
     )

@@ -1,5 +1,4 @@
-use Rattle.std.proofs.Common.{rules, ◌≡◌, ◌+◌, ◌*◌, ◌/◌, ap, ◌∙◌}
-use native.Mathlib.Omega.{arith}
+use Rattle.std.proofs.Common.{rules, ◌+◌, ◌∙◌}
 use Rattle.series.specs.Floats.{as_horner}
 use Rattle.series.specs.Pass.{pass_stopped, horner_stopped}
 use Rattle.series.proofs.Guard.{terms_refused, terms_accepted}

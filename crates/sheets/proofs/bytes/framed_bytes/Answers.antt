@@ -1,81 +1,10 @@
 -- `sheets::bytes::framed_bytes` meets its contract: the ten stores are one run. Assumes nothing.
-use native.Mathlib.Omega.{arith}
 use mathlib.Core.Path.{sym, ◌∙◌}
 use lib.Ieee.{binary64}
 use Rattle.wire.proofs.Lists.{all_stored}
 use Rattle.replies.proofs.Frames.{framed-length}
 use Rattle.sheets.proofs.Framed.{framed_stored}
 use Rattle.sheets.proofs.bytes.framed_bytes.Goals as goal
-
-pub put_number-requires-6 : goal.put_number-requires-6
-put_number-requires-6 c =
-    omega (
-      arith,
-      c.well_formed,
-      c.put_number-5.auto.out,
-      c.put_number-4.auto.out,
-      c.put_number-3.auto.out,
-      c.put_number-2.auto.out,
-      c.put_number.auto.out,
-    )
-
-pub put_number-requires-7 : goal.put_number-requires-7
-put_number-requires-7 c =
-    omega (
-      arith,
-      c.well_formed,
-      c.put_number-6.auto.out,
-      c.put_number-5.auto.out,
-      c.put_number-4.auto.out,
-      c.put_number-3.auto.out,
-      c.put_number-2.auto.out,
-      c.put_number.auto.out,
-    )
-
-pub put_number-requires-8 : goal.put_number-requires-8
-put_number-requires-8 c =
-    omega (
-      arith,
-      c.well_formed,
-      c.put_number-7.auto.out,
-      c.put_number-6.auto.out,
-      c.put_number-5.auto.out,
-      c.put_number-4.auto.out,
-      c.put_number-3.auto.out,
-      c.put_number-2.auto.out,
-      c.put_number.auto.out,
-    )
-
-pub put_short-requires : goal.put_short-requires
-put_short-requires c =
-    omega (
-      arith,
-      c.well_formed,
-      c.put_number-8.auto.out,
-      c.put_number-7.auto.out,
-      c.put_number-6.auto.out,
-      c.put_number-5.auto.out,
-      c.put_number-4.auto.out,
-      c.put_number-3.auto.out,
-      c.put_number-2.auto.out,
-      c.put_number.auto.out,
-    )
-
-pub put_short-requires-2 : goal.put_short-requires-2
-put_short-requires-2 c =
-    omega (
-      arith,
-      c.well_formed,
-      c.put_short.auto.out,
-      c.put_number-8.auto.out,
-      c.put_number-7.auto.out,
-      c.put_number-6.auto.out,
-      c.put_number-5.auto.out,
-      c.put_number-4.auto.out,
-      c.put_number-3.auto.out,
-      c.put_number-2.auto.out,
-      c.put_number.auto.out,
-    )
 
 pub returns : goal.returns
 returns c =

@@ -1,5 +1,4 @@
 -- `sheets::bytes::framed_of` meets its contract: the numbers stand one behind another, and behind them the frames. Assumes nothing.
-use mathlib.Core.Path.{◌∙◌}
 use Rattle.sheets.proofs.Framed.{framed_read}
 use Rattle.sheets.proofs.bytes.framed_of.Goals as goal
 

@@ -1,12 +1,8 @@
-use native.Mathlib.Omega.{arith}
-use Prim.Native.Nat.{◌+◌, ◌-◌}
-use mathlib.Core.Path.{◌≡◌, ◌∙◌}
+use mathlib.Core.Path.{◌∙◌}
 use lib.Ieee.{binary64}
-use Rattle.wire.proofs.Places.{part_stored}
+use Rattle.wire.proofs.Places.{lent_stored}
 use Rattle.replies.proofs.Frames.{framed-length}
 use Rattle.sheets.proofs.bytes.put_framed.Goals as goal
 
 pub returns : goal.returns
-returns c =
-    let k : c.args.at + 68 - c.args.at ≡ 68 = omega arith in
-    rw k (part_stored c.args.out.now _ _ c.args.at 68 (c.copy_from_slice.ensures.after ∙ c.framed_bytes.ensures) (framed-length binary64 c.args.x) c.requires)
+returns c = lent_stored _ _ _ c.args.at 68 (c.copy_from_slice.ensures.after ∙ c.framed_bytes.ensures) (framed-length binary64 c.args.x) c.requires

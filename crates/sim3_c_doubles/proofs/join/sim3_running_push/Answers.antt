@@ -7,14 +7,6 @@ use Rattle.to_lists.specs.Written.{status, written}
 use Rattle.sim3_c_doubles.specs.Join.{run_lists, running_from, push_call}
 use Rattle.sim3_c_doubles.proofs.join.sim3_running_push.Goals as goal
 
-pub returns-in_err-r : goal.returns-in_err-r
-unfolding status written push_call
-returns-in_err-r c = search rules
-
-pub returns-in_err-a : goal.returns-in_err-a
-unfolding status written push_call
-returns-in_err-a c = search rules
-
 pub returns : goal.returns
 unfolding status written push_call
 returns c =

@@ -1,9 +1,0 @@
--- `coeffs::closed_form::w_from` meets its contract: operation by operation, as the definition has it. Assumes nothing.
-use Rattle.std.proofs.Common.{rules}
-use Rattle.coeffs.specs.Closed.{closed_ws}
-use Rattle.closed.specs.Limits.{coeffs_delta}
-use Rattle.coeffs.proofs.closed_form.w_from.Goals as goal
-
-pub returns : goal.returns
-unfolding closed_ws coeffs_delta
-returns g c = let real = g.met.T.Real in search (rules, real.add_law, real.sub_law, real.mul_law, real.div_law)

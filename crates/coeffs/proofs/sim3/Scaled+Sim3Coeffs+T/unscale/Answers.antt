@@ -1,9 +1,0 @@
--- `coeffs::sim3::Scaled::unscale` meets its contract: by what its calls ensure. Assumes nothing.
-use Rattle.std.proofs.Common.{rules}
-use Rattle.coeffs.specs.Group.{coeffs_unscale}
-use lib.Ieee.{of_bits}
-use Rattle.coeffs.proofs.sim3.Scaled+Sim3Coeffs+T.unscale.Goals as goal
-
-pub returns : goal.returns
-unfolding coeffs_unscale of_bits
-returns g c = let real = g.met.T.Real in search (rules, real.mul_law)

@@ -1,2 +1,0 @@
--- The laws of calls on lists of points.
-pub mod Moved

@@ -1,6 +1,0 @@
-use lib.Ieee.{binary32}
-use Rattle.wire.proofs.Nans.{bits}
-use Rattle.wire.proofs.F32Number.from_bits.Goals as goal
-
-pub float_from_bits-result : goal.float_from_bits-result
-float_from_bits-result c = bits binary32 c.args.word c.requires
