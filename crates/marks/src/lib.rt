@@ -84,8 +84,8 @@ fn tell(step: Step, row: usize) -> Heard
 // Answers the record at the head of s at the front of `out`, and moves the state in `mem` behind it, or
 // tells why there is none. Nothing is written where s ends within the record, `out` is shorter than the
 // longest answer, or `mem` is not as long as a state. With it comes the record's place in the counts by
-// mark, which a cut record has too; half a mark counts as no mark. PERF: written into the record loop, since a call
-// costs every record some thirty instructions.
+// mark, which a cut record has too; half a mark counts as no mark. PERF: written into the record loop: a call costs
+// most records thirty instructions or more.
 #[inline(always)]
 pub fn reply(s: &[u8], mem: &mut [u8], out: &mut [u8]) -> Heard
     ensures step_value { step_told result.step ≡ met_of mem.old s.now (length out.old) }
