@@ -10,12 +10,12 @@ SAME_EVERYWHERE = {"GLIBC_TUNABLES": "glibc.cpu.hwcaps=-AVX512F,-AVX2,-AVX,-ERMS
 
 
 class Failed(Exception):
-    """A program did not end well under callgrind; the text says how."""
+    """A program failed under callgrind; the text says how."""
 
 
 def run(program, words, file, source=None, only=()):
-    """Runs a program with its counts in a file of that name, and gives what valgrind said. Only what the functions of
-    these names do is counted, if any is named."""
+    """Runs a program with its counts in a file of that name, and returns valgrind's messages. Counts only the
+    functions named in `only`, if there are any."""
     within = [f"--toggle-collect={name}" for name in only]
     call = ["valgrind", "--tool=callgrind", f"--callgrind-out-file={file}", *within, str(program), *words]
     with open(source or os.devnull, "rb") as read:
@@ -26,10 +26,10 @@ def run(program, words, file, source=None, only=()):
     return done.stderr
 
 
-def whole(program, source):
+def total_instructions(program, source):
     """The instructions of one run of a program on an input."""
-    said = run(program, [], os.devnull, source)
-    return int(re.search(r"Collected : (\d+)", said).group(1))
+    messages = run(program, [], os.devnull, source)
+    return int(re.search(r"Collected : (\d+)", messages).group(1))
 
 
 def parts(program, *words, only=()):

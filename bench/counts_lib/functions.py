@@ -29,7 +29,7 @@ def missing():
     return None
 
 
-def built(folder, flags, libraries):
+def build(folder, flags, libraries):
     program = folder / "rows"
     compiler = os.environ.get("CC", "cc")
     if not shutil.which(compiler):
@@ -41,8 +41,8 @@ def built(folder, flags, libraries):
     return program
 
 
-def called(flags):
-    """The names of the functions that rows.c calls: only what they do is counted, whatever compiles rows.c."""
+def function_names(flags):
+    """The names of the functions that rows.c calls: only they are counted, whatever compiles rows.c."""
     ending = "_f32" if "-DSINGLE" in flags else ""
     names = re.findall(r"AT\((sim3_\w+|call_\d+)\)", SOURCE.read_text(encoding="utf-8"))
     return sorted({name + ending for name in names})
@@ -52,6 +52,6 @@ def rows():
     """Yields (name, instructions) of each row."""
     for what, (flags, libraries) in PROGRAMS.items():
         with tempfile.TemporaryDirectory() as folder:
-            for name, total in parts(built(pathlib.Path(folder), flags, libraries), only=called(flags)):
+            for name, total in parts(build(pathlib.Path(folder), flags, libraries), only=function_names(flags)):
                 function, arm, count = name.split(" | ")
                 yield " | ".join(word for word in (what, function, arm.strip()) if word), total / int(count)

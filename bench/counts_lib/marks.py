@@ -3,7 +3,7 @@ import pathlib
 import subprocess
 import tempfile
 
-from counts_lib.callgrind import whole
+from counts_lib.callgrind import total_instructions
 
 top = pathlib.Path(__file__).resolve().parent.parent.parent
 PROGRAM = top / "target/bin/sim3_job"
@@ -39,12 +39,12 @@ SH = f"SH sheet 7; take 1; {pose('pose')}; frames 1 1"
 # A sheet is kept once with a take, so these are not repeated: as many new ones as replaced ones.
 SHEETS = [SH.replace("sheet 7; take 1", f"sheet {n % 500}; take {n // 500 + 1}") for n in range(RECORDS)]
 # Those of doubles alone, with the record that goes before them.
-ALONE = {"AR": ("", squares("AR")), "CH": (CH, [CH]), "RN": ("", ["RN n 5"]), "SH": ("", SHEETS),
+DOUBLES_ONLY = {"AR": ("", squares("AR")), "CH": (CH, [CH]), "RN": ("", ["RN n 5"]), "SH": ("", SHEETS),
          "SQ": (SH, ["SQ sheet 7"])}
-MARKS = {**{mark: ("", lines) for mark, lines in {**BOTH, **SINGLES}.items()}, **ALONE}
+MARKS = {**{mark: ("", lines) for mark, lines in {**BOTH, **SINGLES}.items()}, **DOUBLES_ONLY}
 
 
-def made(lines):
+def make_records(lines):
     """The bytes of records."""
     text = "\n".join(line for line in lines if line) + "\n"
     words = [top / "tools/jobs", "make", "-"]
@@ -54,7 +54,7 @@ def made(lines):
 def counted(folder, data):
     """The instructions of the program on a job."""
     (folder / "in").write_bytes(data)
-    return whole(PROGRAM, folder / "in")
+    return total_instructions(PROGRAM, folder / "in")
 
 
 def rows():
@@ -62,7 +62,7 @@ def rows():
     with tempfile.TemporaryDirectory() as name:
         folder, before = pathlib.Path(name), {}
         for mark, (first, lines) in MARKS.items():
-            head = made([first]) if first else b""
+            head = make_records([first]) if first else b""
             before[head] = before.get(head) or counted(folder, head)
-            records = made(lines) * (RECORDS // len(lines))
+            records = make_records(lines) * (RECORDS // len(lines))
             yield f"record | {mark}", (counted(folder, head + records) - before[head]) / RECORDS

@@ -7,7 +7,7 @@
 use crate::inputs::{self, Inputs};
 use crate::port::Call;
 use crate::rows::{Row, Step};
-use crate::timing::{pass, prepare, room};
+use crate::timing::{answers_len, pass, prepare};
 use core::arch::asm;
 use helicoid_linalg::float::Float;
 use std::ffi::CString;
@@ -37,7 +37,7 @@ fn request(number: usize, argument: usize) {
 }
 
 fn count(name: &str, steps: &[Step]) {
-    let mut out = vec![0.0; room(steps)];
+    let mut out = vec![0.0; answers_len(steps)];
     prepare(steps, &mut out);
     let calls: usize = steps.iter().map(|s| s.inputs.count()).sum();
     let name = format!("{name} | {} | {calls}", steps[0].inputs.count());

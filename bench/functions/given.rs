@@ -1,8 +1,8 @@
 //! The benchmark's scalar: a `Float`, `f64` or `f32`, whose functions return handed-in numbers,
 //! without a check.
 //!
-//! The port is handed its function values, so the Rust must not compute them either. Before a call
-//! `hand_in` lays down where the ten values stand, and each function reads its own by its name.
+//! The port takes its function values as arguments, so the Rust must not compute them either. Before a
+//! call `set_values` stores the address of the ten values, and each function reads its own.
 //! The three exponentials of a call (at −|σ|, σ and −σ) have one name, so they are one number: the
 //! inputs give the port the same number in all three places. Arithmetic and comparison are `Float`'s.
 
@@ -15,7 +15,7 @@ use helicoid_linalg::{Blend, Precision, Real, RotationJacobian};
 #[repr(transparent)]
 pub struct Given(pub Float);
 
-/// The ten values' places: √z, sine and cosine of half the root, sine of the root, e^t, e^t − 1.
+/// Indices of the ten values: √z, sine and cosine of half the root, sine of the root, e^t, e^t − 1.
 const ROOT: usize = 0;
 const SIN_HALF: usize = 1;
 const COS_HALF: usize = 2;
@@ -23,28 +23,28 @@ const SIN: usize = 3;
 const EXP: usize = 4;
 const EXP_M1: usize = 5;
 
-/// Where the values stand, and where the exponential does.
+/// The addresses of the values and of the exponential.
 static mut VALUES: *const Float = core::ptr::null();
 static mut EXPONENTIAL: *const Float = core::ptr::null();
 
-/// Hands in the ten values of a tangent.
+/// Sets the ten values of a tangent.
 #[inline(always)]
-pub fn hand_in(values: &[Float; 10]) {
+pub fn set_values(values: &[Float; 10]) {
     // SAFETY: one thread, and the values outlive the call that reads them.
     unsafe { VALUES = values.as_ptr() };
-    hand_in_exponential(&values[EXP]);
+    set_exponential(&values[EXP]);
 }
 
-/// Hands in an exponential alone, for a pose.
+/// Sets only the exponential, for a pose.
 #[inline(always)]
-pub fn hand_in_exponential(value: &Float) {
-    // SAFETY: as in `hand_in`.
+pub fn set_exponential(value: &Float) {
+    // SAFETY: as in `set_values`.
     unsafe { EXPONENTIAL = value };
 }
 
 #[inline(always)]
 fn value(place: usize) -> Given {
-    // SAFETY: `hand_in` was called with ten numbers that are still there.
+    // SAFETY: `set_values` was called with ten numbers that are still there.
     Given(unsafe { *VALUES.add(place) })
 }
 
@@ -129,7 +129,7 @@ impl Real for Given {
     }
     #[inline(always)]
     fn exp(self) -> Self {
-        // SAFETY: `hand_in` or `hand_in_exponential` was called with a number that is still there.
+        // SAFETY: `set_values` or `set_exponential` was called with a number that is still there.
         Given(unsafe { *EXPONENTIAL })
     }
     #[inline(always)]

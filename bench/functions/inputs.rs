@@ -44,9 +44,9 @@ pub const ARMS: [Arm; 10] = [
 ];
 
 /// A generator of numbers (splitmix64).
-struct Dice(u64);
+struct Generator(u64);
 
-impl Dice {
+impl Generator {
     /// From −1 to 1.
     fn next(&mut self) -> Float {
         self.0 = self.0.wrapping_add(0x9e37_79b9_7f4a_7c15);
@@ -55,7 +55,7 @@ impl Dice {
         x = (x ^ (x >> 27)).wrapping_mul(0x94d0_49bb_1331_11eb);
         (((x ^ (x >> 31)) >> 11) as f64 / (1u64 << 52) as f64 - 1.0) as Float
     }
-    fn several<const N: usize>(&mut self) -> [Float; N] {
+    fn array<const N: usize>(&mut self) -> [Float; N] {
         [(); N].map(|()| self.next())
     }
     /// Within a thousandth of a number.
@@ -63,19 +63,19 @@ impl Dice {
         x * (1.0 + 0.001 * self.next())
     }
     fn direction(&mut self) -> [Float; 3] {
-        let v: [Float; 3] = self.several();
+        let v: [Float; 3] = self.array();
         let n = v.iter().map(|x| x * x).sum::<Float>().sqrt();
         v.map(|x| x / n)
     }
 }
 
-fn rows(mut row: impl FnMut(&mut Dice) -> Vec<Float>) -> Inputs {
-    let mut dice = Dice(1);
-    let all: Vec<Vec<Float>> = (0..COUNT).map(|_| row(&mut dice)).collect();
+fn rows(mut row: impl FnMut(&mut Generator) -> Vec<Float>) -> Inputs {
+    let mut generator = Generator(1);
+    let all: Vec<Vec<Float>> = (0..COUNT).map(|_| row(&mut generator)).collect();
     Inputs { width: all[0].len(), numbers: all.concat() }
 }
 
-/// The ten values at σ and z. One number stands for all exponentials, one for those less 1: see
+/// The ten values at σ and z. All exponentials are one number, and those less 1 are one number: see
 /// `given.rs`.
 fn values(sigma: Float, z: Float) -> [Float; 10] {
     let root = z.sqrt();
@@ -84,7 +84,7 @@ fn values(sigma: Float, z: Float) -> [Float; 10] {
     [root, half.sin(), half.cos(), root.sin(), e, m, e, m, e, e]
 }
 
-/// σ, z, values; σ with its sign turned where `sign` is −1.
+/// σ, z, values; σ negated if `sign` is −1.
 pub fn coefficients(arm: &Arm, sign: Float) -> Inputs {
     rows(|d| {
         let (sigma, z) = (d.near(arm.sigma), d.near(arm.z));
@@ -92,10 +92,10 @@ pub fn coefficients(arm: &Arm, sign: Float) -> Inputs {
     })
 }
 
-fn tangent_and_values(d: &mut Dice, arm: &Arm) -> Vec<Float> {
+fn tangent_and_values(d: &mut Generator, arm: &Arm) -> Vec<Float> {
     let (sigma, z) = (d.near(arm.sigma), d.near(arm.z));
     let phi = d.direction().map(|x| x * z.sqrt());
-    [&phi[..], &d.several::<3>(), &[sigma], &values(sigma, z)].concat()
+    [&phi[..], &d.array::<3>(), &[sigma], &values(sigma, z)].concat()
 }
 
 /// Tangent, values.
@@ -104,8 +104,8 @@ pub fn tangents(arm: &Arm) -> Inputs {
 }
 
 /// A matrix that is near the identity.
-fn matrix(d: &mut Dice) -> [Float; 9] {
-    let mut m = d.several::<9>().map(|x| 0.2 * x);
+fn matrix(d: &mut Generator) -> [Float; 9] {
+    let mut m = d.array::<9>().map(|x| 0.2 * x);
     for i in [0, 4, 8] {
         m[i] += 1.0;
     }
@@ -118,10 +118,10 @@ pub fn tangents_with_jacobians(arm: &Arm) -> Inputs {
 }
 
 /// A unit quaternion, a translation, σ.
-fn pose(d: &mut Dice) -> Vec<Float> {
+fn pose(d: &mut Generator) -> Vec<Float> {
     let [x, y, z] = d.direction();
     let (sin, cos) = d.next().sin_cos();
-    [&[cos, sin * x, sin * y, sin * z][..], &d.several::<3>(), &[d.next()]].concat()
+    [&[cos, sin * x, sin * y, sin * z][..], &d.array::<3>(), &[d.next()]].concat()
 }
 
 /// Pose, its exponential (up or down).
@@ -136,14 +136,14 @@ pub fn two_poses() -> Inputs {
 
 /// Pose, up, point.
 pub fn poses_and_points() -> Inputs {
-    rows(|d| [&pose(d)[..], &[1.0 + 0.1 * d.next()], &d.several::<3>()].concat())
+    rows(|d| [&pose(d)[..], &[1.0 + 0.1 * d.next()], &d.array::<3>()].concat())
 }
 
 /// A block whose a and c are near the identity.
 pub fn blocks() -> Inputs {
     rows(|d| {
-        let (a, b, c) = (matrix(d), d.several::<9>(), matrix(d));
-        [&a[..], &b, &c, &d.several::<3>(), &[1.0 + 0.1 * d.next()]].concat()
+        let (a, b, c) = (matrix(d), d.array::<9>(), matrix(d));
+        [&a[..], &b, &c, &d.array::<3>(), &[1.0 + 0.1 * d.next()]].concat()
     })
 }
 
@@ -156,7 +156,7 @@ pub const fn list_at(off: usize) -> usize {
 
 /// One pose, up 1 and a list of points: a motion that keeps the numbers' size when repeated.
 pub fn list(points: usize, off: usize) -> Inputs {
-    let mut d = Dice(2);
+    let mut d = Generator(2);
     let mut numbers = [&pose(&mut d)[..], &[1.0]].concat();
     numbers.resize(list_at(off), 0.0);
     numbers.extend((0..3 * points).map(|_| d.next()));

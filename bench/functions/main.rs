@@ -17,7 +17,7 @@ mod timing;
 use helicoid_linalg::float::{by_width, Float};
 use rows::Row;
 use std::process::ExitCode;
-use timing::{least, most, pass, prepare, quantile, room, run, Times};
+use timing::{answers_len, least, most, pass, prepare, quantile, run, Times};
 
 fn tables() -> Vec<(&'static str, Vec<Row>)> {
     let [own, two, pair] = rows::pairs();
@@ -40,7 +40,7 @@ fn same(a: &Float, b: &Float) -> bool {
 /// Both sides of a row give the same numbers and refuse nothing.
 fn check(row: &Row) -> Result<(), String> {
     let name = format!("{} {}", row.what, row.arm);
-    let mut answers = [&row.over, &row.under].map(|steps| vec![0.0; room(steps)]);
+    let mut answers = [&row.over, &row.under].map(|steps| vec![0.0; answers_len(steps)]);
     for (steps, out) in [&row.over, &row.under].into_iter().zip(&mut answers) {
         prepare(steps, out);
         let refused = pass(steps, out, true);
@@ -101,8 +101,8 @@ fn main() -> ExitCode {
     let word = std::env::args().nth(1).unwrap_or("5".into());
     let tables = tables();
     for row in tables.iter().flat_map(|(_, rows)| rows) {
-        if let Err(said) = check(row) {
-            eprintln!("bench: {said}: the sides do not do the same work, nothing is timed");
+        if let Err(message) = check(row) {
+            eprintln!("bench: {message}: the sides do not do the same work, nothing is timed");
             return ExitCode::FAILURE;
         }
     }

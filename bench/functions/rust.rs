@@ -1,7 +1,7 @@
 //! The Rust's side: the published generic functions at the scalar `Given`, each behind a boundary
 //! of the same kind as the port's wrapper of the same number, and never inlined into the timing.
 
-use crate::given::{hand_in, hand_in_exponential, Given};
+use crate::given::{set_exponential, set_values, Given};
 use crate::layout::*;
 use helicoid::coefficients as c;
 use helicoid::sim3::access::{jl_and_inverse_from, squared_angle};
@@ -21,21 +21,21 @@ macro_rules! wrappers {
 
 wrappers! {
     coeffs(x: 12, out: 9) {
-        hand_in(values(x, 2));
+        set_values(values(x, 2));
         put(out, 0, c::sim3_coeffs(Given(x[0]), Given(x[1])));
     }
     coeffs_v(x: 12, out: 4) {
-        hand_in(values(x, 2));
+        set_values(values(x, 2));
         put(out, 0, c::sim3_v(Given(x[0]), Given(x[1])));
     }
     coeffs_scaled(x: 12, out: 10) {
-        hand_in(values(x, 2));
+        set_values(values(x, 2));
         let (row, scaled) = c::sim3_coeffs_scaled(Given(x[0]), Given(x[1]));
         put(out, 0, row);
         put_flag(out, 9, scaled);
     }
     coeffs_scaled_pair(x: 12, out: 20) {
-        hand_in(values(x, 2));
+        set_values(values(x, 2));
         let [pos, neg] = c::sim3_coeffs_scaled_pair(Given(x[0]), Given(x[1]));
         put(out, 0, pos.0);
         put_flag(out, 9, pos.1);
@@ -43,30 +43,30 @@ wrappers! {
         put_flag(out, 19, neg.1);
     }
     exp(x: 17, out: 8) {
-        hand_in(values(x, 7));
+        set_values(values(x, 7));
         put_pose(out, &Sim3::exp(&tangent(x, 0)));
     }
     mul(x: 17, out: 8) {
-        hand_in_exponential(&x[16]);
+        set_exponential(&x[16]);
         put_pose(out, &(pose(x, 0) * pose(x, 8)));
     }
     inverse(x: 9, out: 8) {
-        hand_in_exponential(&x[8]);
+        set_exponential(&x[8]);
         put_pose(out, &pose(x, 0).inverse());
     }
     act(x: 12, out: 3) {
-        hand_in_exponential(&x[8]);
+        set_exponential(&x[8]);
         put(out, 0, (pose(x, 0) * Point(vector(x, 9).0)).0);
     }
     adjoint(x: 9, out: 31) {
-        hand_in_exponential(&x[8]);
+        set_exponential(&x[8]);
         put_jacobian(out, 0, &pose(x, 0).adjoint());
     }
     block_inverse(x: 31, out: 31) {
         put_jacobian(out, 0, &jacobian(x, 0).inverse());
     }
     block_singles(x: 35, out: 124) {
-        hand_in(values(x, 7));
+        set_values(values(x, 7));
         let (tau, j, i) = (tangent(x, 0), matrix(x, 17), matrix(x, 26));
         let z = squared_angle(tau.phi);
         let at_tau = c::sim3_coeffs_scaled(tau.sigma, z);
@@ -77,7 +77,7 @@ wrappers! {
         put_side(out, 62, &minus, at_minus, (j.transpose(), i.transpose()));
     }
     block_pair(x: 35, out: 124) {
-        hand_in(values(x, 7));
+        set_values(values(x, 7));
         let (tau, j, i) = (tangent(x, 0), matrix(x, 17), matrix(x, 26));
         let [pos, neg] = c::sim3_coeffs_scaled_pair(tau.sigma, squared_angle(tau.phi));
         put_side(out, 0, &tau, pos, (j, i));
@@ -111,14 +111,14 @@ fn points(list: &mut [Float]) -> &mut [Point3<Given>] {
 /// `act_many` in place, as the Rust has it.
 #[inline(never)]
 pub fn act_many(x: &[Float; 9], list: &mut [Float]) {
-    hand_in_exponential(&x[8]);
+    set_exponential(&x[8]);
     pose(x, 0).act_many(points(list));
 }
 
 /// The single action on each point, in place.
 #[inline(never)]
 pub fn act_each(x: &[Float; 9], list: &mut [Float]) {
-    hand_in_exponential(&x[8]);
+    set_exponential(&x[8]);
     let x = pose(x, 0);
     for p in points(list) {
         *p = x * *p;

@@ -1,4 +1,4 @@
-//! Bursts of both sides in turn, and what their times say.
+//! Bursts of both sides in turn, and their times.
 
 use crate::inputs::list_at;
 use crate::rows::{Row, Step};
@@ -8,10 +8,10 @@ use std::time::Instant;
 
 /// Bursts of each side that a run counts, and those before them that it does not.
 const BURSTS: usize = 200;
-const WARMING: usize = 20;
+const WARM_UP: usize = 20;
 
-/// One pass of a side over its inputs. The answers go to the front of `out`, or, where `apart`, one
-/// after the other. Answers the sum of what the calls return.
+/// One pass of a side over its inputs. Each answer is written to the front of `out`, or, if `apart`, after
+/// the one before it. Returns the sum of the calls' results.
 pub fn pass(steps: &[Step], out: &mut [Float], apart: bool) -> u32 {
     let mut refusals = 0;
     let mut base = 0;
@@ -29,12 +29,12 @@ pub fn pass(steps: &[Step], out: &mut [Float], apart: bool) -> u32 {
     refusals
 }
 
-/// The room that a side's answers take when they stand apart.
-pub fn room(steps: &[Step]) -> usize {
+/// How many numbers a side's answers have.
+pub fn answers_len(steps: &[Step]) -> usize {
     steps.iter().map(|s| s.width * s.inputs.count()).sum()
 }
 
-/// Puts a list call's points where it works on them in place.
+/// Copies the points of a list call to `out`, where it works on them in place.
 pub fn prepare(steps: &[Step], out: &mut [Float]) {
     for step in steps {
         if let Some(off) = step.list {
@@ -60,21 +60,21 @@ pub struct Times {
     pub under: Vec<f64>,
 }
 
-/// One run of a row: the sides in turn, each first in every second turn.
+/// One run of a row: the sides in turn, each first in every second round.
 pub fn run(row: &Row) -> Times {
-    let mut out = vec![0.0; room(&row.over).max(room(&row.under))];
+    let mut out = vec![0.0; answers_len(&row.over).max(answers_len(&row.under))];
     let count = row.over[0].inputs.count() as f64;
     let mut times = Times::default();
-    for turn in 0..WARMING + BURSTS {
+    for round in 0..WARM_UP + BURSTS {
         let mut time = |steps: &[Step]| burst(steps, row.passes, &mut out) / count;
-        let (over, under) = if turn % 2 == 0 {
+        let (over, under) = if round % 2 == 0 {
             let over = time(&row.over);
             (over, time(&row.under))
         } else {
             let under = time(&row.under);
             (time(&row.over), under)
         };
-        if turn >= WARMING {
+        if round >= WARM_UP {
             times.over.push(over);
             times.under.push(under);
         }

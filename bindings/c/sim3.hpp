@@ -7,7 +7,7 @@
 // is empty, or all zeros and the pose that moves nothing.
 //
 // Where <Eigen/Core> and <Eigen/Geometry> are included first, quaternion(), translation() and matrix() of a pose and
-// matrix() of a block are there as Eigen's, and poses and tangents are made from them.
+// matrix() of a block are there as Eigen's, and poses and tangents are result from them.
 #ifndef SIM3_HPP
 #define SIM3_HPP
 
@@ -28,7 +28,7 @@
 
 namespace sim3 {
 
-/// What the engine does not answer: the number of sim3.h, and what to do, in words.
+/// A refusal of the engine: its number in sim3.h, and what to do, in words.
 class Refusal : public std::runtime_error {
 public:
     explicit Refusal(std::uint32_t number, const char *function)
@@ -41,7 +41,7 @@ private:
     std::uint32_t number_;
 };
 
-/// The number of a refusal, for calls that throw nothing; 0 where there was none.
+/// The number of a refusal, for calls that throw nothing; 0 for an answer.
 struct Status {
     std::uint32_t number = SIM3_OK;
     explicit operator bool() const noexcept { return number == SIM3_OK; }
@@ -55,9 +55,9 @@ template <class T> struct BasicTangent {
     const T &operator[](std::size_t i) const { return numbers[i]; }
 #ifdef EIGEN_CORE_H
     static BasicTangent from(const Eigen::Matrix<T, 7, 1> &vector) {
-        BasicTangent made;
-        Eigen::Map<Eigen::Matrix<T, 7, 1>>(made.numbers.data()) = vector;
-        return made;
+        BasicTangent result;
+        Eigen::Map<Eigen::Matrix<T, 7, 1>>(result.numbers.data()) = vector;
+        return result;
     }
     Eigen::Map<const Eigen::Matrix<T, 7, 1>> vector() const {
         return Eigen::Map<const Eigen::Matrix<T, 7, 1>>(numbers.data());
@@ -87,11 +87,11 @@ template <class T> struct BasicPose {
     }
     /// The matrix that maps (p, 1): s R and t, by Eigen's product and the host's e^sigma.
     Eigen::Matrix<T, 4, 4> matrix() const {
-        Eigen::Matrix<T, 4, 4> made = Eigen::Matrix<T, 4, 4>::Identity();
-        made.template topLeftCorner<3, 3>() =
+        Eigen::Matrix<T, 4, 4> result = Eigen::Matrix<T, 4, 4>::Identity();
+        result.template topLeftCorner<3, 3>() =
             static_cast<T>(std::exp(static_cast<double>(numbers[7]))) * quaternion().toRotationMatrix();
-        made.template topRightCorner<3, 1>() = translation();
-        return made;
+        result.template topRightCorner<3, 1>() = translation();
+        return result;
     }
 #endif
 };
@@ -120,11 +120,11 @@ template <class T> struct BasicBlock {
         return Eigen::Map<const Eigen::Matrix<T, 3, 1>>(numbers.data() + 27);
     }
     Eigen::Matrix<T, 7, 7> matrix() const {
-        Eigen::Matrix<T, 7, 7> made;
+        Eigen::Matrix<T, 7, 7> result;
         for (int row = 0; row < 7; row++)
             for (int column = 0; column < 7; column++)
-                made(row, column) = (*this)(static_cast<std::size_t>(row), static_cast<std::size_t>(column));
-        return made;
+                result(row, column) = (*this)(static_cast<std::size_t>(row), static_cast<std::size_t>(column));
+        return result;
     }
 #endif
 };
@@ -207,10 +207,10 @@ SIM3_WIDTH(float, _f32)
 
 namespace detail {
 
-/// Throws for a number of sim3.h, or stores it.
-inline void settle(std::uint32_t number, const char *function, Status *status) {
+/// Stores the number of a refusal, or throws a Refusal.
+inline void check(std::uint32_t number, const char *function, Status *status) {
 #ifndef NDEBUG
-    ask_environment(); // an answer of another environment is not given
+    ask_environment(); // no answer in another environment
 #endif
     if (status)
         status->number = number;
@@ -218,54 +218,54 @@ inline void settle(std::uint32_t number, const char *function, Status *status) {
         throw Refusal(number, function);
 }
 
-/// The parts of a list, copied one behind another.
+/// Copies the next N numbers of a list, and moves `at` behind them.
 template <class T, std::size_t N> std::array<T, N> part(const T *&at) {
-    std::array<T, N> made;
-    for (T &number : made) number = *at++;
-    return made;
+    std::array<T, N> result;
+    for (T &number : result) number = *at++;
+    return result;
 }
 
 template <class T, class F, class U>
-BasicPose<T> joined(F function, const char *name, Status *status, const BasicPose<T> &x, const BasicPose<T> &y,
-                    U value) {
-    BasicPose<T> made;
+BasicPose<T> join(F function, const char *name, Status *status, const BasicPose<T> &x, const BasicPose<T> &y,
+                  U value) {
+    BasicPose<T> result;
     const auto of_x = x.frames(), of_y = y.frames();
     std::array<std::uint16_t, 2> frames{};
-    settle(function(x.data(), 8, of_x.data(), 2, y.data(), 8, of_y.data(), 2, value, made.numbers.data(), 8,
-                    frames.data(), 2),
-           name, status);
-    made.from = frames[0], made.to = frames[1];
-    return made;
+    check(function(x.data(), 8, of_x.data(), 2, y.data(), 8, of_y.data(), 2, value, result.numbers.data(), 8,
+                   frames.data(), 2),
+          name, status);
+    result.from = frames[0], result.to = frames[1];
+    return result;
 }
 
 template <class T, class F>
-std::vector<T> moved(F function, const char *name, Status *status, const BasicPose<T> &x, const T *points,
-                     std::size_t count) {
+std::vector<T> move_points(F function, const char *name, Status *status, const BasicPose<T> &x, const T *points,
+                           std::size_t count) {
     constexpr std::size_t most = 65535; // numbers at one call
-    std::vector<T> made(count);
+    std::vector<T> result(count);
     const T up = Width<T>::up(x);
     if (count % 3 != 0) {
-        settle(SIM3_POINTS_LENGTH, name, status);
+        check(SIM3_POINTS_LENGTH, name, status);
         return {};
     }
     if (status) status->number = SIM3_OK;
     for (std::size_t at = 0; at < count; at += most) {
         const std::size_t size = count - at < most ? count - at : most;
-        settle(function(x.data(), 8, up, points + at, size, made.data() + at, size), name, status);
+        check(function(x.data(), 8, up, points + at, size, result.data() + at, size), name, status);
     }
-    return made;
+    return result;
 }
 
 template <class T, class F> BasicBlock<T> block_of(F function, const BasicPose<T> &x, T value, const char *name) {
-    BasicBlock<T> made;
-    settle(function(x.data(), 8, value, made.numbers.data(), 31), name, nullptr);
-    return made;
+    BasicBlock<T> result;
+    check(function(x.data(), 8, value, result.numbers.data(), 31), name, nullptr);
+    return result;
 }
 
 template <class T, class F>
 std::pair<BasicBlock<T>, BasicBlock<T>> blocks_of(F function, const BasicPose<T> &x, T value, const char *name) {
     std::array<T, 62> out{};
-    settle(function(x.data(), 8, value, out.data(), 62), name, nullptr);
+    check(function(x.data(), 8, value, out.data(), 62), name, nullptr);
     const T *at = out.data();
     BasicBlock<T> first{part<T, 31>(at)};
     return {first, BasicBlock<T>{part<T, 31>(at)}};
@@ -274,39 +274,39 @@ std::pair<BasicBlock<T>, BasicBlock<T>> blocks_of(F function, const BasicPose<T>
 template <class T, class F>
 BasicActJacobians<T> act_jacobians(F function, const BasicPose<T> &x, const std::array<T, 3> &p, const char *name) {
     std::array<T, 30> out{};
-    settle(function(x.data(), 8, Width<T>::up(x), p.data(), 3, out.data(), 30), name, nullptr);
+    check(function(x.data(), 8, Width<T>::up(x), p.data(), 3, out.data(), 30), name, nullptr);
     const T *at = out.data();
-    BasicActJacobians<T> made;
-    made.by_phi = part<T, 9>(at), made.by_rho = part<T, 9>(at), made.by_sigma = part<T, 3>(at),
-    made.by_point = part<T, 9>(at);
-    return made;
+    BasicActJacobians<T> result;
+    result.by_phi = part<T, 9>(at), result.by_rho = part<T, 9>(at), result.by_sigma = part<T, 3>(at),
+    result.by_point = part<T, 9>(at);
+    return result;
 }
 
 } // namespace detail
 
 /// The host's ten values of a tangent, and of a log scale and a squared angle.
 template <class T> BasicValues<T> values(const BasicTangent<T> &tau) {
-    BasicValues<T> made;
-    Width<T>::tangent_values(tau.data(), made.numbers.data());
-    return made;
+    BasicValues<T> result;
+    Width<T>::tangent_values(tau.data(), result.numbers.data());
+    return result;
 }
 template <class T> BasicValues<T> values(T sigma, T z) {
-    BasicValues<T> made;
-    Width<T>::values(sigma, z, made.numbers.data());
-    return made;
+    BasicValues<T> result;
+    Width<T>::values(sigma, z, result.numbers.data());
+    return result;
 }
 
 /// Exp(tau), with these frames.
 template <class T>
 BasicPose<T> exp(const BasicTangent<T> &tau, std::uint16_t from, std::uint16_t to, const BasicValues<T> &values) {
-    BasicPose<T> made;
+    BasicPose<T> result;
     const std::array<std::uint16_t, 2> given{from, to};
     std::array<std::uint16_t, 2> frames{};
-    detail::settle(
-        Width<T>::exp(tau.data(), 7, values.data(), 10, given.data(), 2, made.numbers.data(), 8, frames.data(), 2),
+    detail::check(
+        Width<T>::exp(tau.data(), 7, values.data(), 10, given.data(), 2, result.numbers.data(), 8, frames.data(), 2),
         "exp", nullptr);
-    made.from = frames[0], made.to = frames[1];
-    return made;
+    result.from = frames[0], result.to = frames[1];
+    return result;
 }
 template <class T> BasicPose<T> exp(const BasicTangent<T> &tau, std::uint16_t from, std::uint16_t to) {
     return exp(tau, from, to, values(tau));
@@ -314,35 +314,35 @@ template <class T> BasicPose<T> exp(const BasicTangent<T> &tau, std::uint16_t fr
 
 /// X Y, from where Y starts to where X goes; refusal 9 where X does not start where Y goes.
 template <class T> BasicPose<T> mul(const BasicPose<T> &x, const BasicPose<T> &y, Status *status = nullptr) {
-    return detail::joined(Width<T>::mul, "mul", status, x, y, Width<T>::up(x));
+    return detail::join(Width<T>::mul, "mul", status, x, y, Width<T>::up(x));
 }
 template <class T> BasicPose<T> operator*(const BasicPose<T> &x, const BasicPose<T> &y) { return mul(x, y); }
 
 /// X Y^-1, from where Y goes to where X goes; refusal 9 where they start from two frames.
 template <class T> BasicPose<T> mul_inv(const BasicPose<T> &x, const BasicPose<T> &y, Status *status = nullptr) {
-    return detail::joined(Width<T>::mul_inv, "mul_inv", status, x, y, Width<T>::ds(x, y));
+    return detail::join(Width<T>::mul_inv, "mul_inv", status, x, y, Width<T>::ds(x, y));
 }
 
 /// Y^-1 X, from where X starts to where Y starts; refusal 9 where they go to two frames.
 template <class T> BasicPose<T> inv_mul(const BasicPose<T> &x, const BasicPose<T> &y, Status *status = nullptr) {
-    return detail::joined(Width<T>::inv_mul, "inv_mul", status, x, y, Width<T>::down(y));
+    return detail::join(Width<T>::inv_mul, "inv_mul", status, x, y, Width<T>::down(y));
 }
 
 /// X^-1, with the frames exchanged.
 template <class T> BasicPose<T> inverse(const BasicPose<T> &x) {
-    BasicPose<T> made;
+    BasicPose<T> result;
     const auto given = x.frames();
     std::array<std::uint16_t, 2> frames{};
-    detail::settle(
-        Width<T>::inverse(x.data(), 8, given.data(), 2, Width<T>::down(x), made.numbers.data(), 8, frames.data(), 2),
+    detail::check(
+        Width<T>::inverse(x.data(), 8, given.data(), 2, Width<T>::down(x), result.numbers.data(), 8, frames.data(), 2),
         "inverse", nullptr);
-    made.from = frames[0], made.to = frames[1];
-    return made;
+    result.from = frames[0], result.to = frames[1];
+    return result;
 }
 
 /// The pose after one Newton step that brings its quaternion nearer to length 1.
 template <class T> BasicPose<T> renormalize(BasicPose<T> x) {
-    detail::settle(Width<T>::renormalize(x.numbers.data(), 8), "renormalize", nullptr);
+    detail::check(Width<T>::renormalize(x.numbers.data(), 8), "renormalize", nullptr);
     return x;
 }
 
@@ -350,18 +350,18 @@ template <class T> BasicPose<T> renormalize(BasicPose<T> x) {
 /// of 3. act_many forms the matrix s R once; act_each moves each point by itself.
 template <class T, class Points>
 std::vector<T> act_many(const BasicPose<T> &x, const Points &points, Status *status = nullptr) {
-    return detail::moved<T>(Width<T>::act_many, "act_many", status, x, points.data(), points.size());
+    return detail::move_points<T>(Width<T>::act_many, "act_many", status, x, points.data(), points.size());
 }
 template <class T, class Points>
 std::vector<T> act_each(const BasicPose<T> &x, const Points &points, Status *status = nullptr) {
-    return detail::moved<T>(Width<T>::act_each, "act_each", status, x, points.data(), points.size());
+    return detail::move_points<T>(Width<T>::act_each, "act_each", status, x, points.data(), points.size());
 }
 
 /// The coefficients at sigma and at -sigma; refusal 1 where z is below zero.
 template <class T>
 std::pair<BasicCoefficients<T>, BasicCoefficients<T>> scaled_pair(T sigma, T z, Status *status = nullptr) {
     std::array<T, 20> out{};
-    detail::settle(Width<T>::scaled_pair(sigma, z, values(sigma, z).data(), 10, out.data(), 20), "scaled_pair", status);
+    detail::check(Width<T>::scaled_pair(sigma, z, values(sigma, z).data(), 10, out.data(), 20), "scaled_pair", status);
     const T *at = out.data();
     BasicCoefficients<T> first = detail::part<T, 10>(at);
     return {first, detail::part<T, 10>(at)};
@@ -370,7 +370,7 @@ std::pair<BasicCoefficients<T>, BasicCoefficients<T>> scaled_pair(T sigma, T z, 
 /// The arm and the coefficients at sigma; refusal 1 where z is below zero.
 template <class T> std::pair<BasicArm<T>, BasicCoefficients<T>> coeffs_armed(T sigma, T z, Status *status = nullptr) {
     std::array<T, 12> out{};
-    detail::settle(Width<T>::coeffs_armed(sigma, z, values(sigma, z).data(), 10, out.data(), 12), "coeffs_armed",
+    detail::check(Width<T>::coeffs_armed(sigma, z, values(sigma, z).data(), 10, out.data(), 12), "coeffs_armed",
                    status);
     const T *at = out.data();
     BasicArm<T> arm = detail::part<T, 2>(at);
@@ -384,12 +384,12 @@ template <class T> struct BasicArmedPair {
 };
 template <class T> BasicArmedPair<T> armed_pair(T sigma, T z, Status *status = nullptr) {
     std::array<T, 24> out{};
-    detail::settle(Width<T>::armed_pair(sigma, z, values(sigma, z).data(), 10, out.data(), 24), "armed_pair", status);
+    detail::check(Width<T>::armed_pair(sigma, z, values(sigma, z).data(), 10, out.data(), 24), "armed_pair", status);
     const T *at = out.data();
-    BasicArmedPair<T> made;
-    made.arm = detail::part<T, 2>(at), made.minus_arm = detail::part<T, 2>(at);
-    made.coefficients = detail::part<T, 10>(at), made.minus_coefficients = detail::part<T, 10>(at);
-    return made;
+    BasicArmedPair<T> result;
+    result.arm = detail::part<T, 2>(at), result.minus_arm = detail::part<T, 2>(at);
+    result.coefficients = detail::part<T, 10>(at), result.minus_coefficients = detail::part<T, 10>(at);
+    return result;
 }
 
 /// J_l(tau), its inverse, J_r(tau) and its inverse, from one evaluation; the rotation's own Jacobians are the host's.
@@ -397,21 +397,21 @@ template <class T> BasicBlockPair<T> block_pair(const BasicTangent<T> &tau) {
     std::array<T, 9> jl{}, jl_inv{};
     std::array<T, 124> out{};
     Width<T>::rotation_jacobians(tau.data(), jl.data(), jl_inv.data());
-    detail::settle(
+    detail::check(
         Width<T>::block_pair(tau.data(), 7, values(tau).data(), 10, jl.data(), 9, jl_inv.data(), 9, out.data(), 124),
         "block_pair", nullptr);
     const T *at = out.data();
-    BasicBlockPair<T> made;
-    for (BasicBlock<T> *block : {&made.left, &made.left_inv, &made.right, &made.right_inv})
+    BasicBlockPair<T> result;
+    for (BasicBlock<T> *block : {&result.left, &result.left_inv, &result.right, &result.right_inv})
         block->numbers = detail::part<T, 31>(at);
-    return made;
+    return result;
 }
 
 /// The inverse of a block; refusal 2 where e is a zero.
 template <class T> BasicBlock<T> block_inverse(const BasicBlock<T> &j, Status *status = nullptr) {
-    BasicBlock<T> made;
-    detail::settle(Width<T>::block_inverse(j.data(), 31, made.numbers.data(), 31), "block_inverse", status);
-    return made;
+    BasicBlock<T> result;
+    detail::check(Width<T>::block_inverse(j.data(), 31, result.numbers.data(), 31), "block_inverse", status);
+    return result;
 }
 
 /// Ad_X, and the Jacobians of composition (by X and by Y) and inverse, for X Exp(tau) (right) and Exp(tau) X (left).
@@ -441,18 +441,18 @@ template <class T> BasicActJacobians<T> act_jacobians_left(const BasicPose<T> &x
 /// product the quaternion is renormalised.
 class Running {
 public:
-    Running() { detail::settle(sim3_running_start(numbers_.data(), 8, state_.data(), 5), "Running", nullptr); }
-    /// Joins a pose, and gives the running pose as it then is. Refusal 9 where the running pose does not start where x
+    Running() { detail::check(sim3_running_start(numbers_.data(), 8, state_.data(), 5), "Running", nullptr); }
+    /// Joins a pose, and returns the new running pose. Refusal 9 where the running pose does not start where x
     /// goes; then nothing changes.
     Pose push(const Pose &x, Status *status = nullptr) {
         const auto frames = x.frames();
         const double up = sim3_host_up(numbers_.data());
-        detail::settle(sim3_running_push(numbers_.data(), 8, state_.data(), 5, x.data(), 8, frames.data(), 2, up),
+        detail::check(sim3_running_push(numbers_.data(), 8, state_.data(), 5, x.data(), 8, frames.data(), 2, up),
                        "Running::push", status);
         return pose();
     }
     /// From here on after every nth product, 0 for never.
-    void every(std::uint16_t n) { detail::settle(sim3_running_every(state_.data(), 5, n), "Running::every", nullptr); }
+    void every(std::uint16_t n) { detail::check(sim3_running_every(state_.data(), 5, n), "Running::every", nullptr); }
     bool started() const noexcept { return state_[4] != 0; }
     Pose pose() const { return Pose{numbers_, state_[0], state_[1]}; }
 
@@ -466,15 +466,15 @@ class Sheets {
 public:
     enum Outcome { New = 1, Replaces = 2, Older = 3 };
     Sheets() : store_(SIM3_SHEETS_SIZE) {
-        detail::settle(sim3_sheets_start(store_.data(), store_.size()), "Sheets", nullptr);
+        detail::check(sim3_sheets_start(store_.data(), store_.size()), "Sheets", nullptr);
     }
-    /// A shot: what became of it, and the take that stood before. Refusal 10 where that take is kept, 11 at a 513th
+    /// A shot: its outcome, and the take that was kept before. Refusal 10 if the same take is kept, 11 at a 513th
     /// sheet; then nothing changes.
     std::pair<Outcome, std::uint16_t> put(std::uint16_t sheet, std::uint16_t take, const Pose &x,
                                           Status *status = nullptr) {
         const auto frames = x.frames();
         std::array<std::uint16_t, 2> out{};
-        detail::settle(
+        detail::check(
             sim3_sheets_put(store_.data(), store_.size(), sheet, take, x.data(), 8, frames.data(), 2, out.data(), 2),
             "Sheets::put", status);
         return {static_cast<Outcome>(out[0]), out[1]};
@@ -483,20 +483,19 @@ public:
     std::pair<std::uint16_t, Pose> get(std::uint16_t sheet, Status *status = nullptr) const {
         std::uint16_t take = 0;
         std::array<std::uint16_t, 2> frames{};
-        Pose made;
-        detail::settle(
-            sim3_sheets_get(store_.data(), store_.size(), sheet, &take, 1, made.numbers.data(), 8, frames.data(), 2),
+        Pose result;
+        detail::check(
+            sim3_sheets_get(store_.data(), store_.size(), sheet, &take, 1, result.numbers.data(), 8, frames.data(), 2),
             "Sheets::get", status);
-        made.from = frames[0], made.to = frames[1];
-        return {take, made};
+        result.from = frames[0], result.to = frames[1];
+        return {take, result};
     }
 
 private:
     std::vector<std::uint8_t> store_;
 };
 
-/// The square root in whole numbers with what is left; refusal 1 where z is below zero, 8 where it is a NaN or
-/// +infinity.
+/// The square root in integers with its remainder; refusal 1 if z is below zero, 8 if it is a NaN or +infinity.
 struct Root {
     std::uint64_t root = 0, remainder = 0;
     std::int64_t exponent = 0;
@@ -504,10 +503,10 @@ struct Root {
 };
 inline Root root(double z, Status *status = nullptr) {
     std::array<std::uint64_t, 2> whole{};
-    Root made;
-    detail::settle(sim3_root(z, whole.data(), 2, &made.exponent, 1, &made.nearest, 1), "root", status);
-    made.root = whole[0], made.remainder = whole[1];
-    return made;
+    Root result;
+    detail::check(sim3_root(z, whole.data(), 2, &result.exponent, 1, &result.nearest, 1), "root", status);
+    result.root = whole[0], result.remainder = whole[1];
+    return result;
 }
 
 /// Tangents in the order of sim3.h, by the bits of their numbers: -1, 0 or 1; and at most 1,024 put in order, else
@@ -517,19 +516,19 @@ inline int compare_tangents(const Tangent &a, const Tangent &b) {
     std::memcpy(of_a.data(), a.data(), sizeof of_a);
     std::memcpy(of_b.data(), b.data(), sizeof of_b);
     std::int64_t out = 0;
-    detail::settle(sim3_compare_tangents(of_a.data(), 7, of_b.data(), 7, &out, 1), "compare_tangents", nullptr);
+    detail::check(sim3_compare_tangents(of_a.data(), 7, of_b.data(), 7, &out, 1), "compare_tangents", nullptr);
     return static_cast<int>(out);
 }
 inline void sort_tangents(std::vector<Tangent> &tangents, Status *status = nullptr) {
-    std::vector<std::uint64_t> patterns(7 * tangents.size() + 1); // one more, so that an empty list has a place
+    std::vector<std::uint64_t> patterns(7 * tangents.size() + 1); // one more, so that data() is not null
     for (std::size_t i = 0; i < tangents.size(); i++)
         std::memcpy(&patterns[7 * i], tangents[i].data(), 7 * sizeof(double));
-    detail::settle(sim3_sort_tangents(patterns.data(), 7 * tangents.size()), "sort_tangents", status);
+    detail::check(sim3_sort_tangents(patterns.data(), 7 * tangents.size()), "sort_tangents", status);
     for (std::size_t i = 0; i < tangents.size(); i++)
         std::memcpy(tangents[i].numbers.data(), &patterns[7 * i], 7 * sizeof(double));
 }
 
-/// How many neighbouring numbers z is from another arm: 0 where there is none; whether that lies up; and the arm there.
+/// How many neighbouring numbers z is from another arm, 0 if there is none; whether that is above z; and that arm.
 /// Refusals 1 and 8.
 struct Near {
     std::uint64_t count = 0;
@@ -538,7 +537,7 @@ struct Near {
 };
 template <class T> Near nearest_arm(T sigma, T z, Status *status = nullptr) {
     std::array<std::uint64_t, 3> out{};
-    detail::settle(Width<T>::nearest_arm(sigma, z, out.data(), 3), "nearest_arm", status);
+    detail::check(Width<T>::nearest_arm(sigma, z, out.data(), 3), "nearest_arm", status);
     return {out[0], out[1] != 0, out[2]};
 }
 

@@ -19,10 +19,11 @@ namespace sim3 {
 class OtherEnvironment : public std::runtime_error {
 public:
     explicit OtherEnvironment(std::uint32_t differs)
-        : std::runtime_error("sim3: this thread flushes, rounds or traps other than is proved, as a library linked with "
-                             "-ffast-math, fesetround or feenableexcept sets it; sim3::environment sets what is proved"),
+        : std::runtime_error(
+              "sim3: this thread flushes, rounds or traps other than is proved, as a library linked with -ffast-math, "
+              "fesetround or feenableexcept sets it; sim3::environment sets what is proved"),
           differs_(differs) {}
-    /// What sim3_environment_differs gave.
+    /// The result of sim3_environment_differs.
     std::uint32_t differs() const noexcept { return differs_; }
 
 private:

@@ -1,5 +1,5 @@
-/* sim3_host_f32.h: the host's function values for the functions of sim3.h that end in _f32: those of sim3_host.h, computed in double, and each rounded once to
- * float. Link -lm.
+/* sim3_host_f32.h: the host's function values for the functions of sim3.h that end in _f32: those of sim3_host.h,
+ * computed in double, and each rounded once to float. Link -lm.
  */
 #ifndef SIM3_HOST_F32_H
 #define SIM3_HOST_F32_H
@@ -39,7 +39,9 @@ static inline void sim3_host_tangent_values_f32(const float tau[7], float values
 /* e^sigma and e^-sigma of a pose; e^(sigma of X - sigma of Y), which sim3_mul_inv_f32 reads. */
 static inline float sim3_host_up_f32(const float x[8]) { return (float)exp((double)x[7]); }
 static inline float sim3_host_down_f32(const float x[8]) { return (float)exp(-(double)x[7]); }
-static inline float sim3_host_ds_f32(const float x[8], const float y[8]) { return (float)exp((double)x[7] - (double)y[7]); }
+static inline float sim3_host_ds_f32(const float x[8], const float y[8]) {
+    return (float)exp((double)x[7] - (double)y[7]);
+}
 
 /* SO(3)'s left Jacobian at phi and its inverse, each column by column. */
 static inline void sim3_host_rotation_jacobians_f32(const float *phi, float jl[9], float jl_inv[9]) {

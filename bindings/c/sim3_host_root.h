@@ -1,4 +1,5 @@
-/* sim3_host_root.h: the square root by the engine's own sim3_root, for a host that has none to rely on. It has the bits of a correctly rounded sqrt:
+/* sim3_host_root.h: the square root by the engine's own sim3_root, for a host without a correctly rounded one. It has
+ * the bits of a correctly rounded sqrt:
  *     sim3_host_values_by(sim3_host_root, sigma, z, values);
  */
 #ifndef SIM3_HOST_ROOT_H
@@ -7,7 +8,7 @@
 #include "sim3.h"
 #include "sim3_host.h"
 
-/* What is refused has the root that IEEE 754 gives it: a NaN below zero; a NaN and +infinity are their own. */
+/* Where sim3_root refuses, the root is that of IEEE 754: a NaN below zero; a NaN and +infinity themselves. */
 static inline double sim3_host_root(double z) {
     uint64_t whole[2];
     int64_t exponent[1];

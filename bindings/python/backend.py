@@ -24,7 +24,7 @@ LIBRARY = "libsim3.so"
 
 
 def field(name):
-    """A text of pyproject.toml's table of the project."""
+    """A text of the project table of pyproject.toml."""
     return re.search(rf'^{name} = "(.*)"$', (HERE / "pyproject.toml").read_text(encoding="utf-8"), re.M)[1]
 
 
@@ -42,25 +42,25 @@ def library():
 
 
 def loops(folder, library):
-    """The module of loops over arrays, compiled into a folder: its path, or None where the compiler or Python's headers
-    are missing, which is said. It finds the library by its soname, since the package has loaded that before."""
+    """Compiles the module of loops over arrays into a folder: its path, or None and a message if the compiler or
+    Python's headers are missing. The module finds the library by its soname, which the package has loaded before."""
     include, cc = sysconfig.get_path("include"), os.environ.get("CC") or "cc"
     if not os.path.exists(os.path.join(include, "Python.h")) or not shutil.which(cc):
         print(f"sim3: no loops over arrays, since {cc!r} or the headers of Python in {include} are missing; all else "
               "is there", file=sys.stderr)
         return None
-    made, top = os.path.join(folder, "rows" + sysconfig.get_config_var("EXT_SUFFIX")), HERE.parent.parent
+    module, top = os.path.join(folder, "rows" + sysconfig.get_config_var("EXT_SUFFIX")), HERE.parent.parent
     words = [cc, "-std=c99", "-O2", "-fPIC", "-shared", "-s", "-DNDEBUG", "-ffp-contract=off", f"-I{include}",
              f"-I{top}/include", f"-I{top}/bindings/c",
-             "-o", made + ".new", str(HERE / "rows.c"), str(library), "-lm"]
+             "-o", module + ".new", str(HERE / "rows.c"), str(library), "-lm"]
     if subprocess.run(words).returncode:
         raise SystemExit(f"sim3: {cc} did not compile {HERE}/rows.c; its message is above")
-    os.replace(made + ".new", made)
-    return pathlib.Path(made)
+    os.replace(module + ".new", module)
+    return pathlib.Path(module)
 
 
 def metadata():
-    """A wheel's own file about the package, the README behind it."""
+    """The METADATA of a wheel, with the README."""
     fields = (("Metadata-Version", "2.1"), ("Name", field("name")), ("Version", field("version")),
               ("Summary", field("description")),
               ("License", re.search(r'^license = \{ text = "(.*)" \}$',
@@ -71,7 +71,7 @@ def metadata():
 
 
 def files(tag, shared, compiled):
-    """What a wheel holds: its paths, and their bytes."""
+    """The files of a wheel: paths and bytes."""
     about = f"{field('name')}-{field('version')}.dist-info"
     for path in sorted([*HERE.glob("sim3/*.py"), HERE / "sim3/py.typed"]):
         yield f"sim3/{path.name}", path.read_bytes()
@@ -85,28 +85,28 @@ def files(tag, shared, compiled):
         yield f"{about}/NOTICE", notice.read_bytes()
 
 
-def recorded(path, data):
-    """A wheel's line for a file."""
+def record_line(path, data):
+    """The line of a file in RECORD."""
     digest = base64.urlsafe_b64encode(hashlib.sha256(data).digest()).rstrip(b"=").decode()
     return f"{path},sha256={digest},{len(data)}\n"
 
 
 def build_wheel(wheel_directory, config_settings=None, metadata_directory=None):
-    """pip's question: the name of the wheel that now stands in a folder."""
+    """Called by pip: writes a wheel into a folder, and returns its name."""
     shared = library()
     with tempfile.TemporaryDirectory() as folder:
-        return packed(wheel_directory, shared, loops(folder, shared))
+        return write_wheel(wheel_directory, shared, loops(folder, shared))
 
 
-def packed(wheel_directory, shared, compiled):
-    """The wheel's name; it is for one Python where the loops are in it, else for any."""
+def write_wheel(wheel_directory, shared, compiled):
+    """Writes a wheel, for one Python if it has the loops, else for any; returns its name."""
     python = f"cp{sys.version_info[0]}{sys.version_info[1]}"
     tag = (f"{python}-{python}-" if compiled else "py3-none-") + re.sub(r"[-.]", "_", sysconfig.get_platform())
     name, lines = f"{field('name')}-{field('version')}-{tag}.whl", ""
     with zipfile.ZipFile(os.path.join(wheel_directory, name), "w", zipfile.ZIP_DEFLATED) as wheel:
         for path, data in files(tag, shared, compiled):
             wheel.writestr(zipfile.ZipInfo(path), data)
-            lines += recorded(path, data)
+            lines += record_line(path, data)
         record = f"{field('name')}-{field('version')}.dist-info/RECORD"
         wheel.writestr(zipfile.ZipInfo(record), lines + f"{record},,\n")
     return name

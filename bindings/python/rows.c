@@ -1,7 +1,7 @@
-/* sim3.rows: the functions of sim3.h over all rows of arrays, and the action on a list of points with few layers; for
- * the Python package, whose arrays.py and points.py say what is handed in. It is trusted, as all C here: loops over the
- * proved single functions, and a look at the size and the type of every buffer. bindings/python/backend.py compiles it.
- * The library itself is not in it: the package loads that first. */
+/* sim3.rows: the functions of sim3.h over all rows of arrays, and a fast action on a list of points; for the Python
+ * package, whose arrays.py and points.py prepare the arguments. It is trusted, like all C here: loops over the proved
+ * single functions, and checks of the size and the type of every buffer. bindings/python/backend.py compiles it. The
+ * library itself is not in it: the package loads that first. */
 #define PY_SSIZE_T_CLEAN
 #include <Python.h>
 
@@ -31,8 +31,8 @@ typedef uint32_t row_function(const list *in, const list *out, size_t row);
 #define ROW(name) row_##name##_f32
 #include "rows_of_width.h"
 
-/* What a list is made of: numbers of the width, that may be left out where the letter is large; frames; whole numbers
- * of 64 bits, and such with a sign. */
+/* The numbers of a list: r of the width, R of the width or none, h frames, q unsigned and i signed integers of 64
+ * bits. */
 typedef struct {
     char kind; /* r, R, h, q, i */
     int count;
@@ -40,7 +40,7 @@ typedef struct {
 
 enum { MOST_IN = 5, MOST_OUT = 3 };
 
-/* What there is in doubles alone. */
+/* The functions over doubles only. */
 #define AT(lists, i, type) ((type *)(lists[i].at + row * lists[i].step))
 static uint32_t row_root(const list *in, const list *out, size_t row) {
     return sim3_root(*AT(in, 0, double), AT(out, 0, uint64_t), 2, AT(out, 1, int64_t), 1, AT(out, 2, double), 1);
@@ -49,7 +49,7 @@ static uint32_t row_compare_tangents(const list *in, const list *out, size_t row
     return sim3_compare_tangents(AT(in, 0, uint64_t), 7, AT(in, 1, uint64_t), 7, AT(out, 0, int64_t), 1);
 }
 
-/* The running join: its numbers and its state are the last two lists, one for all rows, and are written. */
+/* The running join: its numbers and its state are the last two lists, one for all rows; both are written. */
 static uint32_t row_push(const list *in, const list *out, size_t row) {
     double *const running = (double *)in[3].at;
     uint16_t *const state = (uint16_t *)in[4].at;
@@ -57,7 +57,7 @@ static uint32_t row_push(const list *in, const list *out, size_t row) {
     const uint32_t refused = sim3_running_push(running, 8, state, 5, AT(in, 0, double), 8, AT(in, 1, uint16_t), 2, up);
     if (refused) return refused;
     memcpy(AT(out, 0, double), running, 8 * sizeof(double));
-    memcpy(AT(out, 1, uint16_t), state, 2 * sizeof(uint16_t)); /* from and to stand first */
+    memcpy(AT(out, 1, uint16_t), state, 2 * sizeof(uint16_t)); /* from and to come first */
     return 0;
 }
 
@@ -100,27 +100,29 @@ static size_t size_of(char kind, int single) { return kind == 'h' ? 2 : kind == 
 static int has_format(const char *format, char kind, int single) {
     if (!format) return 0;
     if (*format == '<' || *format == '=' || *format == '@') format++;
-    const char *due = kind == 'h' ? "H" : kind == 'q' ? "QL" : kind == 'i' ? "ql" : single ? "f" : "d";
-    return *format && strchr(due, *format) && !format[1];
+    const char *letters = kind == 'h' ? "H" : kind == 'q' ? "QL" : kind == 'i' ? "ql" : single ? "f" : "d";
+    return *format && strchr(letters, *format) && !format[1];
 }
 
-/* A buffer of `rows` lists of a form, or of one list for all rows where it is read. 0, or -1 with an exception. */
-static int lent(PyObject *from, form due, int single, Py_ssize_t rows, int written, Py_buffer *view, list *made) {
-    const size_t size = size_of(due.kind, single), step = size * (size_t)due.count;
-    made->at = NULL, made->step = 0;
-    if (due.kind == 'R' && from == Py_None) return 0;
+/* Gets a buffer of `rows` lists of a form, or, if it is only read, of one list for all rows. 0, or -1 with an
+ * exception. */
+static int get_list(PyObject *from, form expected, int single, Py_ssize_t rows, int written, Py_buffer *view,
+                    list *result) {
+    const size_t size = size_of(expected.kind, single), step = size * (size_t)expected.count;
+    result->at = NULL, result->step = 0;
+    if (expected.kind == 'R' && from == Py_None) return 0;
     if (PyObject_GetBuffer(from, view, PyBUF_FORMAT | PyBUF_C_CONTIGUOUS | (written ? PyBUF_WRITABLE : 0))) return -1;
-    if (!has_format(view->format, due.kind, single) || (size_t)view->buf % size) {
+    if (!has_format(view->format, expected.kind, single) || (size_t)view->buf % size) {
         PyErr_SetString(PyExc_TypeError, "sim3.rows: a buffer has numbers of another type");
         return -1;
     }
-    made->at = view->buf, made->step = (size_t)view->len == step * (size_t)rows ? step : 0;
-    if (made->step || rows == 0 || (!written && (size_t)view->len == step)) return 0;
+    result->at = view->buf, result->step = (size_t)view->len == step * (size_t)rows ? step : 0;
+    if (result->step || rows == 0 || (!written && (size_t)view->len == step)) return 0;
     PyErr_SetString(PyExc_ValueError, "sim3.rows: a buffer has another length");
     return -1;
 }
 
-/* A row that was refused: no numbers, no frames, no whole numbers. */
+/* The row of a refusal: NaNs, and zeros for frames and integers. */
 static void blank(const form *forms, const list *out, int single, size_t row) {
     for (int i = 0; i < MOST_OUT && forms[i].kind; i++) {
         char *at = out[i].at + row * out[i].step;
@@ -134,73 +136,73 @@ static void blank(const form *forms, const list *out, int single, size_t row) {
     }
 }
 
-static void over_rows(const function *asked, int single, const list *in, const list *out, Py_ssize_t rows,
+static void call_rows(const function *called, int single, const list *in, const list *out, Py_ssize_t rows,
                       uint32_t *refused) {
     for (size_t row = 0; row < (size_t)rows; row++) {
-        refused[row] = asked->rows[single](in, out, row);
-        if (refused[row]) blank(asked->out, out, single, row);
+        refused[row] = called->rows[single](in, out, row);
+        if (refused[row]) blank(called->out, out, single, row);
     }
 }
 
-static const function *found(const char *name, int single) {
+static const function *find_function(const char *name, int single) {
     for (size_t i = 0; i < sizeof functions / sizeof *functions; i++)
         if (!strcmp(functions[i].name, name) && functions[i].rows[single]) return &functions[i];
     PyErr_Format(PyExc_KeyError, "%s", name);
     return NULL;
 }
 
-/* The buffers of a tuple as lists; how many were taken stands in `taken`. */
-static int all_lent(PyObject *from, const form *forms, int most, int single, Py_ssize_t rows, int written,
-                    Py_buffer *views, list *made, int *taken) {
-    int due = 0;
-    while (due < most && forms[due].kind) due++;
-    if (!PyTuple_Check(from) || PyTuple_GET_SIZE(from) != due) {
+/* Gets the buffers of a tuple as lists; `count` is how many views must be released. */
+static int get_lists(PyObject *from, const form *forms, int most, int single, Py_ssize_t rows, int written,
+                     Py_buffer *views, list *results, int *count) {
+    int expected = 0;
+    while (expected < most && forms[expected].kind) expected++;
+    if (!PyTuple_Check(from) || PyTuple_GET_SIZE(from) != expected) {
         PyErr_SetString(PyExc_TypeError, "sim3.rows: another number of buffers");
         return -1;
     }
-    for (int i = 0; i < due; i++) {
+    for (int i = 0; i < expected; i++) {
         views[i].obj = NULL;
-        *taken = i + 1;
-        if (lent(PyTuple_GET_ITEM(from, i), forms[i], single, rows, written, &views[i], &made[i])) return -1;
+        *count = i + 1;
+        if (get_list(PyTuple_GET_ITEM(from, i), forms[i], single, rows, written, &views[i], &results[i])) return -1;
     }
     return 0;
 }
 
-static void give_back(Py_buffer *views, int taken) {
-    for (int i = 0; i < taken; i++)
+static void release_views(Py_buffer *views, int count) {
+    for (int i = 0; i < count; i++)
         if (views[i].obj) PyBuffer_Release(&views[i]);
 }
 
 /* run(name, single, rows, inputs, outs, refused): a function over all rows. The outs share no bytes with the inputs. */
 static PyObject *run(PyObject *self, PyObject *arguments) {
     const char *name;
-    int single, taken_in = 0, taken_out = 0, good = 0;
+    int single, in_count = 0, out_count = 0, good = 0;
     Py_ssize_t rows;
     PyObject *inputs, *outs, *numbers;
     Py_buffer in_views[MOST_IN], out_views[MOST_OUT], refused;
     list in[MOST_IN], out[MOST_OUT];
     (void)self;
     if (!PyArg_ParseTuple(arguments, "spnOOO", &name, &single, &rows, &inputs, &outs, &numbers)) return NULL;
-    const function *asked = found(name, single);
-    if (!asked || PyObject_GetBuffer(numbers, &refused, PyBUF_C_CONTIGUOUS | PyBUF_WRITABLE)) return NULL;
+    const function *called = find_function(name, single);
+    if (!called || PyObject_GetBuffer(numbers, &refused, PyBUF_C_CONTIGUOUS | PyBUF_WRITABLE)) return NULL;
     if (refused.len != rows * 4)
         PyErr_SetString(PyExc_ValueError, "sim3.rows: refused has another length");
-    else if (!all_lent(inputs, asked->in, MOST_IN, single, rows, 0, in_views, in, &taken_in) &&
-             !all_lent(outs, asked->out, MOST_OUT, single, rows, 1, out_views, out, &taken_out)) {
+    else if (!get_lists(inputs, called->in, MOST_IN, single, rows, 0, in_views, in, &in_count) &&
+             !get_lists(outs, called->out, MOST_OUT, single, rows, 1, out_views, out, &out_count)) {
         Py_BEGIN_ALLOW_THREADS;
-        over_rows(asked, single, in, out, rows, refused.buf);
+        call_rows(called, single, in, out, rows, refused.buf);
         Py_END_ALLOW_THREADS;
         good = 1;
     }
-    give_back(in_views, taken_in);
-    give_back(out_views, taken_out);
+    release_views(in_views, in_count);
+    release_views(out_views, out_count);
     PyBuffer_Release(&refused);
     if (!good) return NULL;
     Py_RETURN_NONE;
 }
 
-/* Eight numbers of a list or a tuple. */
-static int listed_numbers(PyObject *x, double numbers[8]) {
+/* The eight numbers of a list or a tuple; whether they are such. */
+static int sequence_numbers(PyObject *x, double numbers[8]) {
     if (PySequence_Fast_GET_SIZE(x) != 8) return 0;
     for (Py_ssize_t i = 0; i < 8; i++) {
         numbers[i] = PyFloat_AsDouble(PySequence_Fast_GET_ITEM(x, i));
@@ -209,11 +211,12 @@ static int listed_numbers(PyObject *x, double numbers[8]) {
     return 1;
 }
 
-/* Eight numbers of a pose: a buffer of doubles, a list or a tuple, or such a one as the first field of a Pose. */
+/* The eight numbers of a pose: a buffer of doubles, a list or a tuple, or a Pose whose first field is one; whether they
+ * are such. */
 static int pose_numbers(PyObject *x, double numbers[8]) {
     Py_buffer view;
     if (PyTuple_Check(x) && PyTuple_GET_SIZE(x) == 3) x = PyTuple_GET_ITEM(x, 0);
-    if (PyList_CheckExact(x) || PyTuple_CheckExact(x)) return listed_numbers(x, numbers);
+    if (PyList_CheckExact(x) || PyTuple_CheckExact(x)) return sequence_numbers(x, numbers);
     if (!PyObject_CheckBuffer(x) || PyObject_GetBuffer(x, &view, PyBUF_FORMAT | PyBUF_C_CONTIGUOUS)) return 0;
     const int good = view.len == 8 * sizeof(double) && has_format(view.format, 'r', 0);
     if (good) memcpy(numbers, view.buf, 8 * sizeof(double));
@@ -221,8 +224,9 @@ static int pose_numbers(PyObject *x, double numbers[8]) {
     return good;
 }
 
-/* move(each, x, up, pts, out): a list of points in doubles, moved into out, a buffer as long that shares no bytes with
- * it. True; False, with nothing written, where anything is not as the shortest way wants it: points.py then looks. */
+/* move(each, x, up, pts, out): moves a list of points in doubles into out, a buffer of the same length that shares no
+ * bytes with it. True; or False, with nothing written, if an argument has another type or is refused: points.py then
+ * checks all of them. */
 static PyObject *move(PyObject *self, PyObject *const *words, Py_ssize_t count) {
     double x[8], up;
     Py_buffer pts, out;

@@ -1,9 +1,9 @@
 /* The functions of sim3.h at one width, each for one row of its lists; rows.c includes this once for each width, with
  * REAL, CALL, HOST and ROW defined.
  *
- * `in` are the lists that a function takes, in the order of sim3.h, and `out` those that it writes. A list that was not
- * handed in is a host's value, and is computed here by sim3_host.h; so every row has what the single call has. What is
- * returned is the number that the function returns. */
+ * `in` are the lists that a function takes, in the order of sim3.h, and `out` those that it writes. A list that is None
+ * is a host's value, and is computed here by sim3_host.h, so that every row has the bits of the single call. The result
+ * is that of the function. */
 
 #define READ(i) ((const REAL *)(in[i].at ? in[i].at + row * in[i].step : NULL))
 #define FRAMES(i) ((const uint16_t *)(in[i].at + row * in[i].step))

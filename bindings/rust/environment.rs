@@ -49,7 +49,8 @@ impl fmt::Display for OtherEnvironment {
         write!(
             f,
             "sim3: this thread {} (MXCSR is {:04x}, and {PROVED:04x} is what is proved), as a library linked with \
-             -ffast-math, fesetround or feenableexcept sets it; sim3::environment::enter() sets what is proved for a scope",
+             -ffast-math, fesetround or feenableexcept sets it; sim3::environment::enter() sets what is proved for a \
+             scope",
             words.join(", "),
             self.mxcsr
         )

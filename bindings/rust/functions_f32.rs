@@ -1,12 +1,12 @@
-// Written by tools/widths from bindings/rust/functions.rs: edit that one. Digest d409d9d56b1989bd.
+// Written by tools/widths from bindings/rust/functions.rs: edit that one. Digest 47b85bd5837bd33a.
 //! The functions over `f32`, each by one C function.
 
 #![forbid(unsafe_code)]
 
 use crate::lists::list;
-use crate::near::{told, Near};
+use crate::near::Near;
 use crate::raw::single as raw;
-use crate::{foreign, Arm, Join, Refusal};
+use crate::{unexpected, Arm, Join, Refusal};
 
 /// A pose, which maps points of the frame `from` to points of the frame `to`.
 #[derive(Clone, Copy, Debug, PartialEq)]
@@ -92,26 +92,26 @@ impl Block {
     }
 }
 
-// ---- what a C function answered
+// ---- the results of C functions
 
-/// N numbers from a place on; `all` has them.
+/// The N numbers of `all` from `at` on.
 fn part<const N: usize>(all: &[f32], at: usize) -> [f32; N] {
     let mut found = [0.0; N];
     found.copy_from_slice(&all[at..at + N]);
     found
 }
 
-/// A block from a place on.
+/// The block of `all` from `at` on.
 fn block(all: &[f32], at: usize) -> Block {
     Block(part(all, at))
 }
 
-/// The numbers of a call that refuses nothing, since the lengths are in the types.
-fn sure<const N: usize>(call: impl FnOnce(&mut [f32]) -> u32) -> [f32; N] {
+/// The numbers of a call that cannot be refused, since the lengths are in the types.
+fn infallible<const N: usize>(call: impl FnOnce(&mut [f32]) -> u32) -> [f32; N] {
     let mut out = [0.0; N];
     match call(&mut out) {
         0 => out,
-        refused => foreign(refused),
+        refused => unexpected(refused),
     }
 }
 
@@ -124,44 +124,44 @@ fn or_refusal<const N: usize>(
     match call(&mut out) {
         0 => Ok(out),
         refused if refused == refusal.number() => Err(refusal),
-        refused => foreign(refused),
+        refused => unexpected(refused),
     }
 }
 
-/// Whether a list was written.
-fn listed(refused: u32, pts: usize, out: usize) -> Result<(), Refusal> {
+/// The result of a call over a list.
+fn list_result(refused: u32, pts: usize, out: usize) -> Result<(), Refusal> {
     let refusal = Refusal::PointsLength { pts, out };
     or_refusal::<0>(refusal, |_| refused).map(|_| ())
 }
 
 // ---- poses
 
-/// What a call says, and the pose that it wrote where it says 0.
-fn posed(call: impl FnOnce(&mut [f32], &mut [u16]) -> u32) -> (u32, Pose) {
+/// What a call returns, and the pose that it wrote if that is 0.
+fn call_for_pose(call: impl FnOnce(&mut [f32], &mut [u16]) -> u32) -> (u32, Pose) {
     let (mut numbers, mut frames) = ([0.0; 8], [0; 2]);
-    let told = call(&mut numbers, &mut frames);
-    (told, Pose { numbers, from: frames[0], to: frames[1] })
+    let status = call(&mut numbers, &mut frames);
+    (status, Pose { numbers, from: frames[0], to: frames[1] })
 }
 
-/// The pose of a call that refuses nothing.
-fn sure_pose((told, pose): (u32, Pose)) -> Pose {
-    match told {
+/// The pose of a call that cannot be refused.
+fn infallible_pose((status, pose): (u32, Pose)) -> Pose {
+    match status {
         0 => pose,
-        refused => foreign(refused),
+        refused => unexpected(refused),
     }
 }
 
-/// Two poses joined; `x` and `y` are the frames that must be one.
-fn joined((told, pose): (u32, Pose), join: Join, x: u16, y: u16) -> Result<Pose, Refusal> {
-    match told {
+/// The product of two poses; `x` and `y` are the frames that must be equal.
+fn join_result((status, pose): (u32, Pose), join: Join, x: u16, y: u16) -> Result<Pose, Refusal> {
+    match status {
         0 => Ok(pose),
         9 => Err(Refusal::Frames { join, x, y }),
-        refused => foreign(refused),
+        refused => unexpected(refused),
     }
 }
 
 impl Pose {
-    /// From, to: as the C functions take them.
+    /// From and to, as the C functions take them.
     fn frames(&self) -> [u16; 2] {
         [self.from, self.to]
     }
@@ -169,44 +169,46 @@ impl Pose {
 
 /// Exp(tau), with the frames that it is given.
 pub fn exp(tau: &Tangent, values: &Values, from: u16, to: u16) -> Pose {
-    sure_pose(posed(|out, frames| raw::exp(tau, values, &[from, to], out, frames)))
+    infallible_pose(call_for_pose(|out, frames| raw::exp(tau, values, &[from, to], out, frames)))
 }
 
 /// X Y, from where Y starts to where X goes; refused where X does not start from the frame to which Y
 /// goes. `up` is e^sigma of X.
 pub fn mul(x: &Pose, y: &Pose, up: f32) -> Result<Pose, Refusal> {
-    let told = posed(|out, frames| {
+    let result = call_for_pose(|out, frames| {
         raw::mul(&x.numbers, &x.frames(), &y.numbers, &y.frames(), up, out, frames)
     });
-    joined(told, Join::Mul, x.from, y.to)
+    join_result(result, Join::Mul, x.from, y.to)
 }
 
 /// X⁻¹, back from X's to to its from; `down` is e^-sigma of X.
 pub fn inverse(x: &Pose, down: f32) -> Pose {
-    sure_pose(posed(|out, frames| raw::inverse(&x.numbers, &x.frames(), down, out, frames)))
+    infallible_pose(call_for_pose(|out, frames| {
+        raw::inverse(&x.numbers, &x.frames(), down, out, frames)
+    }))
 }
 
 /// X Y⁻¹, from where Y goes to where X goes; refused where they start from two frames. `ds` is
 /// e^(sigma of X - sigma of Y).
 pub fn mul_inv(x: &Pose, y: &Pose, ds: f32) -> Result<Pose, Refusal> {
-    let told = posed(|out, frames| {
+    let result = call_for_pose(|out, frames| {
         raw::mul_inv(&x.numbers, &x.frames(), &y.numbers, &y.frames(), ds, out, frames)
     });
-    joined(told, Join::MulInv, x.from, y.from)
+    join_result(result, Join::MulInv, x.from, y.from)
 }
 
 /// Y⁻¹ X, from where X starts to where Y starts; refused where they go to two frames. `down` is
 /// e^-sigma of Y.
 pub fn inv_mul(x: &Pose, y: &Pose, down: f32) -> Result<Pose, Refusal> {
-    let told = posed(|out, frames| {
+    let result = call_for_pose(|out, frames| {
         raw::inv_mul(&x.numbers, &x.frames(), &y.numbers, &y.frames(), down, out, frames)
     });
-    joined(told, Join::InvMul, x.to, y.to)
+    join_result(result, Join::InvMul, x.to, y.to)
 }
 
 /// One Newton step that brings the quaternion nearer to length 1, in place; the frames stay.
 pub fn renormalize(x: &mut Pose) {
-    sure::<0>(|_| raw::renormalize(&mut x.numbers));
+    infallible::<0>(|_| raw::renormalize(&mut x.numbers));
 }
 
 // ---- lists of points, flat: x y z of every point, at most 65,535 numbers, `out` as long as `pts`.
@@ -215,13 +217,13 @@ pub fn renormalize(x: &mut Pose) {
 /// Every point moved by the matrix s R, formed once: the bits of helicoid's act_many. `up` is e^sigma
 /// of X. A refusal leaves `out` as it was.
 pub fn act_many(x: &Pose, up: f32, pts: &[f32], out: &mut [f32]) -> Result<(), Refusal> {
-    listed(raw::act_many(&x.numbers, up, pts, out), pts.len(), out.len())
+    list_result(raw::act_many(&x.numbers, up, pts, out), pts.len(), out.len())
 }
 
 /// Every point moved by itself: the bits of the job's mark AC, `ac` at f32. `up` is e^sigma of X. A
 /// refusal leaves `out` as it was.
 pub fn act_each(x: &Pose, up: f32, pts: &[f32], out: &mut [f32]) -> Result<(), Refusal> {
-    listed(raw::act_each(&x.numbers, up, pts, out), pts.len(), out.len())
+    list_result(raw::act_each(&x.numbers, up, pts, out), pts.len(), out.len())
 }
 
 // ---- both signs, both sides, from one evaluation
@@ -265,17 +267,17 @@ pub fn armed_pair(
 pub fn nearest_arm(sigma: f32, z: f32) -> Result<Option<Near>, Refusal> {
     let mut near = [0; 3];
     match raw::nearest_arm(sigma, z, &mut near) {
-        0 => Ok(told(near)),
+        0 => Ok(Near::from_numbers(near)),
         1 => Err(Refusal::BelowZero),
         8 => Err(Refusal::NotFinite),
-        refused => foreign(refused),
+        refused => unexpected(refused),
     }
 }
 
 /// J_l(tau), its inverse, J_r(tau), its inverse; `jl` is J_l(phi) of the rotation, `jl_inv` its
 /// inverse.
 pub fn block_pair(tau: &Tangent, values: &Values, jl: &Matrix, jl_inv: &Matrix) -> BlockPair {
-    let out: [f32; 124] = sure(|out| raw::block_pair(tau, values, jl, jl_inv, out));
+    let out: [f32; 124] = infallible(|out| raw::block_pair(tau, values, jl, jl_inv, out));
     BlockPair {
         left: block(&out, 0),
         left_inv: block(&out, 31),
@@ -293,7 +295,7 @@ pub fn block_inverse(j: &Block) -> Result<Block, Refusal> {
 
 /// Ad_X; `up` is e^sigma of X.
 pub fn adjoint(x: &Pose, up: f32) -> Block {
-    Block(sure(|out| raw::adjoint(&x.numbers, up, out)))
+    Block(infallible(|out| raw::adjoint(&x.numbers, up, out)))
 }
 
 fn act_jacobians(out: [f32; 30]) -> ActJacobians {
@@ -307,32 +309,32 @@ fn act_jacobians(out: [f32; 30]) -> ActJacobians {
 
 /// Of X p for X Exp(tau); `up` is e^sigma of X.
 pub fn act_jacobians_right(x: &Pose, up: f32, p: &Vector) -> ActJacobians {
-    act_jacobians(sure(|out| raw::act_jacobians_right(&x.numbers, up, p, out)))
+    act_jacobians(infallible(|out| raw::act_jacobians_right(&x.numbers, up, p, out)))
 }
 
 /// Of X p for Exp(tau) X; `up` is e^sigma of X.
 pub fn act_jacobians_left(x: &Pose, up: f32, p: &Vector) -> ActJacobians {
-    act_jacobians(sure(|out| raw::act_jacobians_left(&x.numbers, up, p, out)))
+    act_jacobians(infallible(|out| raw::act_jacobians_left(&x.numbers, up, p, out)))
 }
 
 /// Of X Y, right: by X and by Y, which read Y alone; `down` is e^-sigma of Y.
 pub fn compose_jacobians_right(y: &Pose, down: f32) -> (Block, Block) {
-    let out: [f32; 62] = sure(|out| raw::compose_jacobians_right(&y.numbers, down, out));
+    let out: [f32; 62] = infallible(|out| raw::compose_jacobians_right(&y.numbers, down, out));
     (block(&out, 0), block(&out, 31))
 }
 
 /// Of X Y, left: by X and by Y, which read X alone; `up` is e^sigma of X.
 pub fn compose_jacobians_left(x: &Pose, up: f32) -> (Block, Block) {
-    let out: [f32; 62] = sure(|out| raw::compose_jacobians_left(&x.numbers, up, out));
+    let out: [f32; 62] = infallible(|out| raw::compose_jacobians_left(&x.numbers, up, out));
     (block(&out, 0), block(&out, 31))
 }
 
 /// Of X⁻¹, right; `up` is e^sigma of X.
 pub fn inverse_jacobian_right(x: &Pose, up: f32) -> Block {
-    Block(sure(|out| raw::inverse_jacobian_right(&x.numbers, up, out)))
+    Block(infallible(|out| raw::inverse_jacobian_right(&x.numbers, up, out)))
 }
 
 /// Of X⁻¹, left; `down` is e^-sigma of X.
 pub fn inverse_jacobian_left(x: &Pose, down: f32) -> Block {
-    Block(sure(|out| raw::inverse_jacobian_left(&x.numbers, down, out)))
+    Block(infallible(|out| raw::inverse_jacobian_left(&x.numbers, down, out)))
 }

@@ -1,4 +1,4 @@
-//! How near another arm of the coefficients is: what `nearest_arm` of either width gives.
+//! How near another arm of the coefficients is: the result of `nearest_arm` at either width.
 
 #![forbid(unsafe_code)]
 
@@ -8,8 +8,8 @@ pub enum Direction {
     Up,
 }
 
-/// What `nearest_arm` gives: `count` neighbouring numbers from z in the `direction` the arm is `arm`,
-/// and no fewer change it.
+/// The result of `nearest_arm`: at the `count`th neighbour of z in the `direction` the arm is `arm`, and no
+/// nearer number has another arm.
 #[derive(Clone, Copy, Debug, PartialEq, Eq)]
 pub struct Near {
     pub count: u64,
@@ -17,8 +17,10 @@ pub struct Near {
     pub arm: u8,
 }
 
-/// The three numbers of a call as a step; a count of 0 says that there is none.
-pub(crate) fn told([count, direction, arm]: [u64; 3]) -> Option<Near> {
-    let direction = if direction == 0 { Direction::Down } else { Direction::Up };
-    (count != 0).then_some(Near { count, direction, arm: arm as u8 })
+impl Near {
+    /// From the three numbers of a call; None for a count of 0.
+    pub(crate) fn from_numbers([count, direction, arm]: [u64; 3]) -> Option<Near> {
+        let direction = if direction == 0 { Direction::Down } else { Direction::Up };
+        (count != 0).then_some(Near { count, direction, arm: arm as u8 })
+    }
 }

@@ -266,7 +266,7 @@ pub fn environment_enter() -> u32 {
     unsafe { sim3_environment_enter() }
 }
 
-// Puts back what environment_enter gave; the guard, which calls it, holds nothing else.
+// Restores what environment_enter returned; the guard, which calls it, has no other value.
 pub fn environment_leave(was: u32) {
     // SAFETY: the register held that value before, so it is none that the processor refuses.
     unsafe { sim3_environment_leave(was) }

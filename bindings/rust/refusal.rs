@@ -64,7 +64,11 @@ impl fmt::Display for Refusal {
                 write!(f, "z is below zero; hand in a squared angle, as host::norm_sq gives it")
             }
             Refusal::EIsZero => {
-                write!(f, "e, the last number of the block, is zero; such a block has no inverse, so leave it out or look at e first")
+                write!(
+                    f,
+                    "e, the last number of the block, is zero; such a block has no inverse, so leave it out or \
+                     look at e first"
+                )
             }
             Refusal::PointsLength { pts, .. } if pts % 3 != 0 => {
                 write!(f, "pts has {pts} numbers, which is no multiple of 3; hand in x y z of every point, flat")
@@ -79,19 +83,39 @@ impl fmt::Display for Refusal {
                 write!(f, "pts has {pts} numbers; at most 65535 (21845 points) are taken at once, so move it in pieces")
             }
             Refusal::NotFinite => {
-                write!(f, "z, or sigma where nearest_arm was asked, is a NaN or infinite; it has no root with what is left and no neighbours, so look at it first")
+                write!(
+                    f,
+                    "z, or sigma where nearest_arm was asked, is a NaN or infinite; it has no root with what is \
+                     left and no neighbours, so look at it first"
+                )
             }
             Refusal::Frames { join: Join::Mul, x, y } => {
-                write!(f, "x starts from frame {x}, and y goes to frame {y}; X Y wants one frame there, so hand the poses in the other way round, or an inverse")
+                write!(
+                    f,
+                    "x starts from frame {x}, and y goes to frame {y}; X Y wants one frame there, so hand the \
+                     poses in the other way round, or an inverse"
+                )
             }
             Refusal::Frames { join: Join::MulInv, x, y } => {
-                write!(f, "x starts from frame {x}, and y from frame {y}; X Y^-1 wants one frame there, so hand in two poses that start from it")
+                write!(
+                    f,
+                    "x starts from frame {x}, and y from frame {y}; X Y^-1 wants one frame there, so hand in \
+                     two poses that start from it"
+                )
             }
             Refusal::Frames { join: Join::InvMul, x, y } => {
-                write!(f, "x goes to frame {x}, and y to frame {y}; Y^-1 X wants one frame there, so hand in two poses that go to it")
+                write!(
+                    f,
+                    "x goes to frame {x}, and y to frame {y}; Y^-1 X wants one frame there, so hand in two \
+                     poses that go to it"
+                )
             }
             Refusal::Frames { join: Join::Push, x, y } => {
-                write!(f, "the running pose starts from frame {x}, and x goes to frame {y}; running X wants one frame there, so hand in a pose that goes to it")
+                write!(
+                    f,
+                    "the running pose starts from frame {x}, and x goes to frame {y}; running X wants one frame \
+                     there, so hand in a pose that goes to it"
+                )
             }
             Refusal::SameTake { sheet, take } => {
                 write!(f, "take {take} is the one that is kept of sheet {sheet}; number the takes of a sheet anew")

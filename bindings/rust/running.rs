@@ -1,7 +1,7 @@
 //! A running join: poses are joined as they come. And the Newton step on every pose of a list.
 #![forbid(unsafe_code)]
 
-use crate::{foreign, raw, Join, Pose, Refusal};
+use crate::{raw, unexpected, Join, Pose, Refusal};
 
 /// Poses joined as they come: the first is the running pose, and each later one replaces it by
 /// running X. After every nth product, as [`Running::every`] says, its quaternion is renormalised.
@@ -21,21 +21,21 @@ impl Default for Running {
 impl Running {
     /// No pose yet, and none will be renormalised.
     pub fn new() -> Running {
-        let mut made = Running { numbers: [0.0; 8], state: [0; 5] };
-        match raw::running_start(&mut made.numbers, &mut made.state) {
-            0 => made,
-            refused => foreign(refused),
+        let mut running = Running { numbers: [0.0; 8], state: [0; 5] };
+        match raw::running_start(&mut running.numbers, &mut running.state) {
+            0 => running,
+            refused => unexpected(refused),
         }
     }
 
-    /// Joins a pose, and gives the running pose as it then is. `up` is e^sigma of the running pose, and
+    /// Joins a pose, and returns the new running pose. `up` is e^sigma of the running pose, and
     /// unused at the first pose. Refused where the running pose does not start from the frame to which
     /// X goes; then nothing changes.
     pub fn push(&mut self, x: &Pose, up: f64) -> Result<Pose, Refusal> {
         match raw::running_push(&mut self.numbers, &mut self.state, &x.numbers, &[x.from, x.to], up) {
-            0 => Ok(self.held()),
+            0 => Ok(self.current()),
             9 => Err(Refusal::Frames { join: Join::Push, x: self.state[0], y: x.to }),
-            refused => foreign(refused),
+            refused => unexpected(refused),
         }
     }
 
@@ -45,26 +45,26 @@ impl Running {
     pub fn every(&mut self, n: u16) {
         match raw::running_every(&mut self.state, n) {
             0 => (),
-            refused => foreign(refused),
+            refused => unexpected(refused),
         }
     }
 
     /// The running pose; None before the first.
     pub fn pose(&self) -> Option<Pose> {
-        (self.state[4] == 1).then(|| self.held())
+        (self.state[4] == 1).then(|| self.current())
     }
 
-    fn held(&self) -> Pose {
+    fn current(&self) -> Pose {
         Pose { numbers: self.numbers, from: self.state[0], to: self.state[1] }
     }
 }
 
-/// One Newton step towards a unit quaternion in every pose of the list; nothing else is altered.
+/// One Newton step towards a unit quaternion in every pose of the list; nothing else changes.
 pub fn renormalize_all(poses: &mut [Pose]) {
     let mut numbers: Vec<f64> = poses.iter().flat_map(|x| x.numbers).collect();
     match raw::renormalize_all(&mut numbers) {
         0 => (),
-        refused => foreign(refused),
+        refused => unexpected(refused),
     }
     for (x, now) in poses.iter_mut().zip(numbers.chunks_exact(8)) {
         x.numbers.copy_from_slice(now);

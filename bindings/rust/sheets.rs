@@ -1,12 +1,12 @@
 //! Retaken sheets: the pose of the highest take for each of up to 512 sheets.
 #![forbid(unsafe_code)]
 
-use crate::{foreign, raw, Pose, Refusal};
+use crate::{raw, unexpected, Pose, Refusal};
 
 /// How many bytes the store of the C functions has.
 const SIZE: usize = 167_938;
 
-/// What became of a shot; the take that stood before.
+/// The outcome of [`Sheets::put`], with the take that was kept before.
 #[derive(Clone, Copy, Debug, PartialEq, Eq)]
 pub enum Shelved {
     /// It is the first of its sheet.
@@ -32,26 +32,27 @@ impl Default for Sheets {
 impl Sheets {
     /// Nothing is kept yet.
     pub fn new() -> Sheets {
-        let mut made = Sheets { store: vec![0; SIZE] };
-        match raw::sheets_start(&mut made.store) {
-            0 => made,
-            refused => foreign(refused),
+        let mut sheets = Sheets { store: vec![0; SIZE] };
+        match raw::sheets_start(&mut sheets.store) {
+            0 => sheets,
+            refused => unexpected(refused),
         }
     }
 
     /// A shot of a sheet: it is kept if none of that sheet is, or one of a lower take. Refused where the
     /// take is the one that is kept, and where the sheet would be the 513th; then nothing changes.
     pub fn put(&mut self, sheet: u16, take: u16, x: &Pose) -> Result<Shelved, Refusal> {
-        let mut told = [0; 2];
-        match raw::sheets_put(&mut self.store, sheet, take, &x.numbers, &[x.from, x.to], &mut told) {
-            0 => Ok(match told {
+        let mut outcome = [0; 2];
+        let frames = [x.from, x.to];
+        match raw::sheets_put(&mut self.store, sheet, take, &x.numbers, &frames, &mut outcome) {
+            0 => Ok(match outcome {
                 [1, _] => Shelved::New,
                 [2, before] => Shelved::Replaced(before),
                 [_, before] => Shelved::Older(before),
             }),
             10 => Err(Refusal::SameTake { sheet, take }),
             11 => Err(Refusal::TooManySheets { sheet }),
-            refused => foreign(refused),
+            refused => unexpected(refused),
         }
     }
 
@@ -61,7 +62,7 @@ impl Sheets {
         match raw::sheets_get(&self.store, sheet, &mut take, &mut numbers, &mut frames) {
             0 => Ok((take[0], Pose { numbers, from: frames[0], to: frames[1] })),
             12 => Err(Refusal::NeverKept { sheet }),
-            refused => foreign(refused),
+            refused => unexpected(refused),
         }
     }
 }

@@ -67,8 +67,8 @@ pub struct Arm {
     pub ends: bool,
 }
 
-/// An answer that the proofs rule out.
-fn foreign(refused: u32) -> ! {
+/// Panics for a refusal that the proofs rule out.
+fn unexpected(refused: u32) -> ! {
     panic!("sim3: refusal {refused}: the archive does not belong to this crate; bindings/build makes it")
 }
 

@@ -1,14 +1,14 @@
-//! The square root with what is left.
+//! The square root with its remainder.
 
 #![forbid(unsafe_code)]
 
-use crate::{foreign, raw, Refusal};
+use crate::{raw, unexpected, Refusal};
 
-/// What [`root`] gives. For a finite z > 0, z = m·4^exponent with m whole, 2^104 <= m < 2^106; a zero
-/// gives zeros.
+/// The result of [`root`]. For a finite z > 0, z = m·4^exponent with an integer m, 2^104 <= m < 2^106; for
+/// a zero, zeros.
 #[derive(Clone, Copy, Debug, PartialEq)]
 pub struct Root {
-    /// The largest whole number whose square is at most m.
+    /// The largest integer whose square is at most m.
     pub root: u64,
     /// m - root².
     pub remainder: u64,
@@ -17,7 +17,7 @@ pub struct Root {
     pub nearest: f64,
 }
 
-/// The square root of z with what is left; refused where z is below zero, a NaN or infinite.
+/// The square root of z with its remainder; refused if z is below zero, a NaN or infinite.
 pub fn root(z: f64) -> Result<Root, Refusal> {
     let (mut whole, mut exponent, mut nearest) = ([0; 2], [0], [0.0]);
     match raw::root(z, &mut whole, &mut exponent, &mut nearest) {
@@ -29,6 +29,6 @@ pub fn root(z: f64) -> Result<Root, Refusal> {
         }),
         1 => Err(Refusal::BelowZero),
         8 => Err(Refusal::NotFinite),
-        refused => foreign(refused),
+        refused => unexpected(refused),
     }
 }

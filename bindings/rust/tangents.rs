@@ -3,7 +3,7 @@
 
 #![forbid(unsafe_code)]
 
-use crate::{foreign, raw, Refusal, Tangent};
+use crate::{raw, unexpected, Refusal, Tangent};
 use std::cmp::Ordering;
 
 /// The tangent a against b; `Equal` where all bits are the same.
@@ -11,7 +11,7 @@ pub fn compare_tangents(a: &Tangent, b: &Tangent) -> Ordering {
     let mut order = [0];
     match raw::compare_tangents(&a.0, &b.0, &mut order) {
         0 => order[0].cmp(&0),
-        refused => foreign(refused),
+        refused => unexpected(refused),
     }
 }
 
@@ -20,6 +20,6 @@ pub fn sort_tangents(list: &mut [Tangent]) -> Result<(), Refusal> {
     match raw::sort_tangents(list) {
         0 => Ok(()),
         5 => Err(Refusal::TooManyTangents { tangents: list.len() }),
-        refused => foreign(refused),
+        refused => unexpected(refused),
     }
 }

@@ -1,6 +1,7 @@
-/* The engine from C: two runs of shots are joined by a similarity, which frames keep from being done the wrong way round; a staff line's points are moved,
- * Jacobian blocks are taken, a root is taken with what is left, a line is moved in singles, and refusals are shown. Every answer is compared with numbers known
- * by hand; exit status 1 and a message where one is wrong. examples/c/run builds and runs it. */
+/* The engine from C: joins two runs of shots by a similarity, and frames keep the order of the factors right; moves the
+ * points of a staff line, computes Jacobian blocks, a square root with its remainder and a line in singles, and shows
+ * refusals. Compares every answer with numbers known by hand; exit status 1 and a message if one is wrong.
+ * examples/c/run builds and runs it. */
 #include <stdio.h>
 
 #include "sim3.h"
@@ -11,10 +12,10 @@
 
 #define COUNT(list) (sizeof(list) / sizeof((list)[0]))
 
-static const double QUARTER = 1.5707963267948966; /* half of pi */
-static const double DOUBLE = 0.6931471805599453;  /* logarithm of 2 */
-static const double HALF_ROOT = 0.7071067811865476; /* root of 1/2 */
-enum { FIRST = 1, SECOND = 2, SHOT = 10, NEXT = 11 }; /* frames: the two runs, a shot that stands in both, and one of the second's */
+static const double QUARTER = 1.5707963267948966; /* pi/2 */
+static const double DOUBLE = 0.6931471805599453;  /* ln 2 */
+static const double HALF_ROOT = 0.7071067811865476; /* sqrt(1/2) */
+enum { FIRST = 1, SECOND = 2, SHOT = 10, NEXT = 11 }; /* frames: the two runs, a shot of both, a shot of the second */
 static int wrong = 0;
 
 /* A call that must be answered. */
@@ -24,22 +25,24 @@ static void asked(const char *what, uint32_t refused) {
     wrong = 1;
 }
 
-/* Prints a list, and says where it is further than `most` from the one known by hand. */
-static void known_within(double most, const char *what, const double *found, const double *due, size_t count) {
+/* Prints a list; reports a number that is further than `most` from the one known by hand. */
+static void known_within(double most, const char *what, const double *found, const double *expected, size_t count) {
     printf("%s:", what);
     for (size_t i = 0; i < count; i++) printf(" %.6g", found[i]);
     printf("\n");
     for (size_t i = 0; i < count; i++)
-        if (!(fabs(found[i] - due[i]) <= most)) {
-            printf("%s: WRONG: number %zu is %.17g and not %.17g\n", what, i, found[i], due[i]);
+        if (!(fabs(found[i] - expected[i]) <= most)) {
+            printf("%s: WRONG: number %zu is %.17g and not %.17g\n", what, i, found[i], expected[i]);
             wrong = 1;
         }
 }
 
 /* The same for doubles. */
-static void known(const char *what, const double *found, const double *due, size_t count) { known_within(1e-12, what, found, due, count); }
+static void known(const char *what, const double *found, const double *expected, size_t count) {
+    known_within(1e-12, what, found, expected, count);
+}
 
-/* The same of a pose's frames. */
+/* The same for the frames of a pose. */
 static void known_frames(const char *what, const uint16_t found[2], uint16_t from, uint16_t to) {
     printf("%s: from frame %u to frame %u\n", what, (unsigned)found[0], (unsigned)found[1]);
     if (found[0] == from && found[1] == to) return;
@@ -48,21 +51,22 @@ static void known_frames(const char *what, const uint16_t found[2], uint16_t fro
 }
 
 /* A call that must be refused, with this number. */
-static void refused(const char *what, uint32_t number, uint32_t due) {
+static void refused(const char *what, uint32_t number, uint32_t expected) {
     printf("%s: refusal %u: %s\n", what, (unsigned)number, sim3_refusal_text(number));
-    if (number != due) {
-        printf("%s: WRONG: refusal %u is due\n", what, (unsigned)due);
+    if (number != expected) {
+        printf("%s: WRONG: expected refusal %u\n", what, (unsigned)expected);
         wrong = 1;
     }
 }
 
-/* The camera hand: a shot stands in both runs, at x in the first and at y in the second. X Y^-1 takes the second run's places to the first's. The frames of
- * each pose are a list of their own: from, to. */
+/* The camera hand: one shot has the pose x in the first run and y in the second. X Y^-1 maps the second run's
+ * coordinates to the first's. The frames of each pose are a list of their own: from, to. */
 static void join_runs(double join[8]) {
     const double turn[7] = {0, 0, QUARTER, 0, 0, 0, DOUBLE}; /* a quarter turn about z, and twice the size */
     const double shift[8] = {1, 0, 0, 0, 10, 22, 30, 0};
     const double y[8] = {1, 0, 0, 0, 1, 0, 0, 0}, next[8] = {1, 0, 0, 0, 2, 0, 0, 0};
-    const uint16_t in_first[2] = {SHOT, FIRST}, in_second[2] = {SHOT, SECOND}, within_first[2] = {FIRST, FIRST}, next_frames[2] = {NEXT, SECOND};
+    const uint16_t in_first[2] = {SHOT, FIRST}, in_second[2] = {SHOT, SECOND}, within_first[2] = {FIRST, FIRST};
+    const uint16_t next_frames[2] = {NEXT, SECOND};
     double values[10], turned[8], x[8], placed[8], back[8];
     uint16_t turned_frames[2], x_frames[2], join_frames[2], placed_frames[2], back_frames[2];
 
@@ -70,8 +74,10 @@ static void join_runs(double join[8]) {
     asked("exp", sim3_exp(turn, 7, values, 10, in_first, 2, turned, 8, turned_frames, 2));
     asked("mul", sim3_mul(shift, 8, within_first, 2, turned, 8, turned_frames, 2, sim3_host_up(shift), x, 8, x_frames, 2));
     asked("join", sim3_mul_inv(x, 8, x_frames, 2, y, 8, in_second, 2, sim3_host_ds(x, y), join, 8, join_frames, 2));
-    asked("next shot", sim3_mul(join, 8, join_frames, 2, next, 8, next_frames, 2, sim3_host_up(join), placed, 8, placed_frames, 2));
-    asked("and back", sim3_inv_mul(placed, 8, placed_frames, 2, join, 8, join_frames, 2, sim3_host_down(join), back, 8, back_frames, 2));
+    asked("next shot", sim3_mul(join, 8, join_frames, 2, next, 8, next_frames, 2, sim3_host_up(join), placed, 8,
+                                placed_frames, 2));
+    asked("and back", sim3_inv_mul(placed, 8, placed_frames, 2, join, 8, join_frames, 2, sim3_host_down(join), back, 8,
+                                   back_frames, 2));
 
     known("join", join, (const double[]){HALF_ROOT, 0, 0, HALF_ROOT, 10, 20, 30, DOUBLE}, 8);
     known_frames("join", join_frames, SECOND, FIRST);
@@ -79,19 +85,21 @@ static void join_runs(double join[8]) {
     known_frames("next shot", placed_frames, NEXT, FIRST);
     known("and back", back, next, 8);
     known_frames("and back", back_frames, NEXT, SECOND);
-    refused("mul the wrong way round", sim3_mul(next, 8, next_frames, 2, join, 8, join_frames, 2, sim3_host_up(next), placed, 8, placed_frames, 2), SIM3_FRAMES);
+    refused("mul the wrong way round",
+            sim3_mul(next, 8, next_frames, 2, join, 8, join_frames, 2, sim3_host_up(next), placed, 8, placed_frames, 2),
+            SIM3_FRAMES);
 }
 
 /* The page flattener: the points of a staff line, x y z of each. */
 static void move_line(const double join[8]) {
     const double line[9] = {0, 0, 0, 1, 0, 0, 2, 0, 0};
-    const double due[9] = {10, 20, 30, 10, 22, 30, 10, 24, 30};
+    const double expected[9] = {10, 20, 30, 10, 22, 30, 10, 24, 30};
     double moved[9];
 
     asked("act_many", sim3_act_many(join, 8, sim3_host_up(join), line, COUNT(line), moved, COUNT(moved)));
-    known("staff line", moved, due, COUNT(due));
+    known("staff line", moved, expected, COUNT(expected));
     asked("act_each", sim3_act_each(join, 8, sim3_host_up(join), line, COUNT(line), moved, COUNT(moved)));
-    known("point by point", moved, due, COUNT(due));
+    known("point by point", moved, expected, COUNT(expected));
 }
 
 /* A block times a tangent: the rows (a 0 0), (b c f), (0 0 e). */
@@ -108,7 +116,7 @@ static void times(const double *block, const double tau[7], double out[7]) {
     out[6] = block[30] * tau[6];
 }
 
-/* The adjuster: J_l, its inverse, J_r and its inverse from one evaluation. Each leaves its own tangent as it is. */
+/* The adjuster: J_l, its inverse, J_r and its inverse from one evaluation. Each maps its own tangent to itself. */
 static void adjust(const double join[8]) {
     const double tau[7] = {0.1, -0.2, 0.3, 1, 2, 3, 0.5}, p[3] = {1, 0, 0};
     const char *names[4] = {"left", "left inverse", "right", "right inverse"};
@@ -126,8 +134,9 @@ static void adjust(const double join[8]) {
     known("moved point by sigma", by + 18, (const double[]){10, 22, 30}, 3);
 }
 
-/* The cradle, whose host has no square root to cite: the root of 2 with what is left, and Exp with the engine's root of z. */
-static void root_left(void) {
+/* The cradle, whose host has no square root to rely on: the root of 2 with its remainder, and Exp with the engine's
+ * root of z. */
+static void root_and_remainder(void) {
     const double turn[7] = {0, 0, QUARTER, 0, 0, 0, DOUBLE};
     const uint16_t frames[2] = {SHOT, FIRST};
     uint64_t whole[2];
@@ -144,7 +153,8 @@ static void root_left(void) {
     known("exp by that root", turned, (const double[]){HALF_ROOT, 0, 0, HALF_ROOT, 0, 0, 0, DOUBLE}, 8);
 }
 
-/* The camera hand again, shot by shot: four quarter turns, each with a step along its own x, come back to where they began. */
+/* The camera hand again, shot by shot: after four quarter turns, each with a step along its own x, the pose is where it
+ * began. */
 static void chain(void) {
     const double shot[8] = {HALF_ROOT, 0, 0, HALF_ROOT, 1, 0, 0, 0};
     const uint16_t frames[2] = {FIRST, FIRST};
@@ -174,7 +184,7 @@ static void refusals(const double join[8]) {
     refused("root of infinity", sim3_root(INFINITY, whole, 2, exponent, 1, out, 1), SIM3_NOT_FINITE);
 }
 
-/* The second camera, whose board sends singles: a line is turned and moved by the engine at f32. */
+/* The second camera, whose board sends singles: the engine at f32 turns and moves a line. */
 static void in_singles(void) {
     const float turn[7] = {0, 0, (float)QUARTER, 0, 0, 0, (float)DOUBLE}, line[6] = {1, 0, 0, 2, 0, 0};
     const uint16_t frames[2] = {SHOT, FIRST};
@@ -195,7 +205,7 @@ int main(void) {
     join_runs(join);
     move_line(join);
     adjust(join);
-    root_left();
+    root_and_remainder();
     chain();
     in_singles();
     refusals(join);

@@ -1,7 +1,7 @@
-// The engine from C++: two runs of shots are joined by a similarity, which frames keep from being done the wrong way
-// round; a staff line's points are moved, Jacobian blocks are taken, shots are joined as they come, and refusals are
-// shown. Every answer is compared with numbers known by hand; exit status 1 and a message where one is wrong.
-// examples/cpp/run builds and runs it; with Eigen's headers at hand it goes through Eigen's types too.
+// The engine from C++: joins two runs of shots by a similarity, and frames keep the order of the factors right; moves
+// the points of a staff line, computes Jacobian blocks, joins shots as they come, and shows refusals. Compares every
+// answer with numbers known by hand; exit status 1 and a message if one is wrong. examples/cpp/run builds and runs it;
+// if Eigen's headers are found, with Eigen's types too.
 #if __has_include(<Eigen/Geometry>)
 #include <Eigen/Core>
 #include <Eigen/Geometry>
@@ -18,17 +18,18 @@ constexpr std::uint16_t FIRST = 1, SECOND = 2, SHOT = 10, NEXT = 11;
 const double QUARTER = std::acos(0.0), DOUBLED = std::log(2.0), HALF_ROOT = std::sqrt(0.5);
 int wrong = 0;
 
-template <class Found, class Due>
-void known(const char *what, const Found &found, const Due &due, double most = 1e-12) {
+template <class Found, class Expected>
+void known(const char *what, const Found &found, const Expected &expected, double most = 1e-12) {
     std::cout << what << ":";
     std::size_t i = 0;
     for (const auto number : found) {
         std::cout << ' ' << static_cast<double>(number);
-        if (!(std::fabs(static_cast<double>(number) - due[i]) <= most))
-            wrong++, std::cout << " (WRONG, not " << due[i] << ")";
+        if (!(std::fabs(static_cast<double>(number) - expected[i]) <= most))
+            wrong++, std::cout << " (WRONG, not " << expected[i] << ")";
         i++;
     }
-    if (i != due.size()) wrong++, std::cout << " (WRONG: " << i << " numbers and not " << due.size() << ")";
+    if (i != expected.size())
+        wrong++, std::cout << " (WRONG: " << i << " numbers and not " << expected.size() << ")";
     std::cout << '\n';
 }
 
@@ -45,10 +46,10 @@ template <class Call> void refused(std::uint32_t number, Call call) {
 
 /// A block times a tangent.
 std::array<double, 7> times(const sim3::Block &block, const sim3::Tangent &tau) {
-    std::array<double, 7> made{};
+    std::array<double, 7> product{};
     for (std::size_t row = 0; row < 7; row++)
-        for (std::size_t column = 0; column < 7; column++) made[row] += block(row, column) * tau[column];
-    return made;
+        for (std::size_t column = 0; column < 7; column++) product[row] += block(row, column) * tau[column];
+    return product;
 }
 
 using Numbers = std::vector<double>;

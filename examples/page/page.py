@@ -4,11 +4,10 @@ drawn.
 
 usage: examples/page/page.py [FILE]     writes the picture, examples/page/page.svg if no file is given
 
-Every run's points are in units of its own camera. A shot that stands in two runs joins them: X Y^-1 takes the later
-run's points to the earlier one's. The running join puts one such pose behind the other, so that each run comes to lie
-on the page, in millimetres; the same points of two runs then differ by roundings alone, which are measured. The last
-run is also handed in the wrong way round, which its frames refuse by 9. Exit status 1 where a number is not as it must
-be.
+The points of a run are in units of its own camera. A shot of two runs joins them: X Y^-1 maps the points of the later
+run to those of the earlier one. The running join multiplies these poses, so that all runs are mapped to the page, in
+millimetres; the same points of two runs then differ only by roundings, which are measured. The last run is also pushed
+inverted, which refusal 9 prevents by its frames. Exit status 1 if a number is not what it must be.
 """
 import math
 import pathlib
@@ -22,15 +21,15 @@ import sim3
 
 WIDTH, HEIGHT = 420, 300  # of the opening, in millimetres
 PAGE, RUNS = 0, (1, 2, 3)  # frames: the page, and the three runs;
-SHOTS = (10, 11)  # the shots that stand in two runs each
-SPANS = {1: (0, 170), 2: (130, 300), 3: (255, 420)}  # what of the page, from left to right, each run shows
-# How each run lies on the page: angle, place, and the logarithm of its scale, millimetres for a unit of its camera.
-LAID = {1: (0.04, 6, -4, math.log(0.8)), 2: (-0.09, 118, 21, math.log(1.25)), 3: (0.13, 262, -18, math.log(0.55))}
+SHOTS = (10, 11)  # the shots of two runs each
+SPANS = {1: (0, 170), 2: (130, 300), 3: (255, 420)}  # the part of the page, from left to right, that each run shows
+# The pose of each run on the page: angle, place, and the logarithm of its scale, millimetres for a unit of its camera.
+RUN_PLACES = {1: (0.04, 6, -4, math.log(0.8)), 2: (-0.09, 118, 21, math.log(1.25)), 3: (0.13, 262, -18, math.log(0.55))}
 COLOURS = {1: "#1b5e9e", 2: "#c8443c", 3: "#2f8f4e"}
-MOST_LEFT = 1e-12  # millimetres that roundings may leave at a join
+MOST_GAP = 1e-12  # millimetres between the same points at a join, by rounding
 
 
-def laid(angle, x, y, sigma, from_, to):
+def planar_pose(angle, x, y, sigma, from_, to):
     """A pose by its angle about z, its place and its log scale."""
     return sim3.Pose([math.cos(angle / 2), 0, 0, math.sin(angle / 2), x, y, 0, sigma], from_, to)
 
@@ -62,48 +61,47 @@ def rows(numbers):
     return list(zip(numbers[0::3], numbers[1::3], numbers[2::3]))
 
 
-def photographed(opening):
-    """Each run's lists of points in its camera's units, and the poses of the shots that stand in two runs."""
-    on_page = {run: laid(*LAID[run], run, PAGE) for run in RUNS}
+def photograph(opening):
+    """Each run's lists of points in units of its camera, and the poses of the shots of two runs."""
+    on_page = {run: planar_pose(*RUN_PLACES[run], run, PAGE) for run in RUNS}
     seen = {run: [rows(sim3.act_many(sim3.inverse(on_page[run]), flat(shown_by(run, points)))) for points in opening]
             for run in RUNS}
     shots = {}
     for shot, pair in zip(SHOTS, zip(RUNS, RUNS[1:])):
-        place = laid(0.3, sum(SPANS[pair[1]][:1]) + 15, 140, 0.1, shot, PAGE)
+        place = planar_pose(0.3, sum(SPANS[pair[1]][:1]) + 15, 140, 0.1, shot, PAGE)
         for run in pair:
             shots[shot, run] = sim3.mul(sim3.inverse(on_page[run]), place)
     return on_page[1], seen, shots
 
 
-def joined(first, shots):
-    """The pose of each run on the page by the running join; and the refusal of the last, handed in the wrong way
-    round."""
+def join_runs(first, shots):
+    """The pose of each run on the page by the running join; and the refusal of the inverse of the last."""
     running, placed = sim3.Running(), {1: first}
     running.push(first)
     for shot, earlier, later in zip(SHOTS, RUNS, RUNS[1:]):
         join = sim3.mul_inv(shots[shot, earlier], shots[shot, later])
         if later == RUNS[-1]:
-            refused, astray = wrong_way_round(running, join)
+            refused, misplaced = refused_inverse(running, join)
         placed[later] = running.push(join)
-    return placed, refused, astray
+    return placed, refused, misplaced
 
 
-def wrong_way_round(running, join):
-    """The refusal of the inverse in a join's place, and where it would have put the run if no frames stood there."""
+def refused_inverse(running, join):
+    """The refusal of the inverse of a join, and where it would have placed the run without frames."""
     back = sim3.inverse(join)
-    astray = sim3.mul(running.pose(), sim3.Pose(back.numbers, join.from_, join.to))
+    misplaced = sim3.mul(running.pose(), sim3.Pose(back.numbers, join.from_, join.to))
     try:
         running.push(back)
     except sim3.Refusal as refusal:
-        return refusal, astray
+        return refusal, misplaced
     raise SystemExit("page: a run was joined the wrong way round, and not refused")
 
 
-def on_the_page(pose, lists):
+def move_lists(pose, lists):
     return [rows(sim3.act_many(pose, flat(points))) for points in lists]
 
 
-def left_at_joins(opening, moved):
+def join_gaps(opening, moved):
     """The largest distance between the same point of the page in two runs, for each join, in millimetres."""
     found = []
     for earlier, later in zip(RUNS, RUNS[1:]):
@@ -118,7 +116,7 @@ def left_at_joins(opening, moved):
 
 # ---- the picture
 
-WIDTHS = {1: 1.6, 2: 1.0, 3: 0.5}  # of each run's lines where they lie over each other
+WIDTHS = {1: 1.6, 2: 1.0, 3: 0.5}  # of each run's lines where they overlap
 INK, PAPER = "#222", "#fbf7ec"
 
 
@@ -135,8 +133,8 @@ def note(point, colour, size):
             f'fill="{colour}"/>')
 
 
-def drawn(lists, run, width=None, dashed=False):
-    """A run's staff lines and notes; the last list has the notes."""
+def draw(lists, run, width=None, dashed=False):
+    """Draws a run's staff lines and notes; the last list has the notes."""
     *lines, notes = lists
     width = width or WIDTHS[run]
     return "".join([*(polyline(points, COLOURS[run], width, dashed) for points in lines if len(points) > 1),
@@ -158,15 +156,16 @@ def panel(title, place, box, body, below=()):
     return f'{texts}<svg x="{x}" y="{y}" width="{width}" height="{height}" viewBox="{view}" fill="none">{body}</svg>\n'
 
 
-def picture(seen, moved, astray, refused, left):
+def picture(seen, moved, misplaced, refused, gaps):
     """Before and after, the run that was handed in the wrong way round, and a join from nearby."""
     page = (f'<rect width="{WIDTH}" height="{HEIGHT}" fill="{PAPER}" stroke="#999" stroke-width=".6"/>'
             f'<line x1="{WIDTH / 2}" x2="{WIDTH / 2}" y2="{HEIGHT}" stroke="#999" stroke-width=".6"/>')
-    before = "".join(drawn(seen[run], run, 0.6) for run in RUNS)
-    after = "".join(drawn(moved[run], run) for run in RUNS)
-    wrong = page + "".join(drawn(moved[run], run, 0.6) for run in RUNS[:-1]) + drawn(astray, RUNS[-1], 1.0, dashed=True)
-    apart = " and ".join(f"{most:.0e} mm" for most in left)
-    legend = "".join(f'<tspan fill="{COLOURS[run]}">run {run}: {math.exp(-LAID[run][3]):.2f} units a '
+    before = "".join(draw(seen[run], run, 0.6) for run in RUNS)
+    after = "".join(draw(moved[run], run) for run in RUNS)
+    wrong = "".join([page, *(draw(moved[run], run, 0.6) for run in RUNS[:-1]),
+                     draw(misplaced, RUNS[-1], 1.0, dashed=True)])
+    apart = " and ".join(f"{most:.0e} mm" for most in gaps)
+    legend = "".join(f'<tspan fill="{COLOURS[run]}">run {run}: {math.exp(-RUN_PLACES[run][3]):.2f} units a '
                      'millimetre</tspan>    ' for run in RUNS)
     near = f'<rect x="118" y="60" width="80" height="60" fill="{PAPER}"/>{after}'
     return ('<svg xmlns="http://www.w3.org/2000/svg" viewBox="0 0 1000 790" font-family="sans-serif">\n'
@@ -189,22 +188,22 @@ def picture(seen, moved, astray, refused, left):
 def main(words):
     lines, notes = staff_lines()
     opening = [*lines, notes]
-    first, seen, shots = photographed(opening)
-    placed, refused, astray = joined(first, shots)
-    moved = {run: on_the_page(placed[run], seen[run]) for run in RUNS}
-    left = left_at_joins(opening, moved)
+    first, seen, shots = photograph(opening)
+    placed, refused, misplaced = join_runs(first, shots)
+    moved = {run: move_lists(placed[run], seen[run]) for run in RUNS}
+    gaps = join_gaps(opening, moved)
     out = pathlib.Path(words[0]) if words else pathlib.Path(__file__).with_name("page.svg")
-    out.write_text(picture(seen, moved, on_the_page(astray, seen[3]), refused, left), encoding="utf-8")
+    out.write_text(picture(seen, moved, move_lists(misplaced, seen[3]), refused, gaps), encoding="utf-8")
     print(refused)
     for run in RUNS:
         print(f"run {run}: from frame {placed[run].from_} to frame {placed[run].to}, {sum(map(len, seen[run])):,} "
               f"points, scale {math.exp(placed[run].numbers[7]):.6g}")
-    for join, most in enumerate(left, 1):
+    for join, most in enumerate(gaps, 1):
         print(f"join {join}: the same points of both runs are at most {most:.2e} mm apart")
     true = max(math.dist(p, q) for run in RUNS for points, found in zip(opening, moved[run])
                for p, q in zip(shown_by(run, points), found))
     print(f"from where they were made: at most {true:.2e} mm")
-    good = refused.number == 9 and max(left) <= MOST_LEFT and true <= MOST_LEFT
+    good = refused.number == 9 and max(gaps) <= MOST_GAP and true <= MOST_GAP
     print(f"page: {out} is drawn" if good else "page: WRONG, see above")
     return 0 if good else 1
 

@@ -1,8 +1,8 @@
 #!/usr/bin/env python3
-"""The engine from Python: two runs of shots are joined by a similarity, which frames keep from being
-done the wrong way round; a staff line's points are moved, Jacobian blocks are taken, a root is taken
-with what is left, a line is moved in singles, and refusals are shown. Every answer is compared with numbers known by hand; exit
-status 1 and a message where one is wrong. examples/python/run builds what it needs.
+"""The engine from Python: joins two runs of shots by a similarity, and frames keep the order of the factors right;
+moves the points of a staff line, computes Jacobian blocks, a square root with its remainder and a line in singles, and
+shows refusals. Compares every answer with numbers known by hand; exit status 1 and a message if one is wrong.
+examples/python/run builds what it needs.
 """
 import array
 import math
@@ -20,12 +20,12 @@ SHOT, NEXT = 10, 11  # a shot that stands in both, and one of the second's
 wrong = []
 
 
-def known(what, found, due, most=1e-12):
-    """Prints a list, and says where it is further than `most` from the one known by hand."""
+def known(what, found, expected, most=1e-12):
+    """Prints a list; reports a number that is further than `most` from the one known by hand."""
     print(f"{what}:", *(f"{x:.6g}" for x in found))
-    if len(found) != len(due):
-        wrong.append(f"{what}: {len(found)} numbers and not {len(due)}")
-    for i, (x, y) in enumerate(zip(found, due)):
+    if len(found) != len(expected):
+        wrong.append(f"{what}: {len(found)} numbers and not {len(expected)}")
+    for i, (x, y) in enumerate(zip(found, expected)):
         if not abs(x - y) <= most:
             wrong.append(f"{what}: number {i} is {x!r} and not {y!r}")
 
@@ -86,8 +86,8 @@ def adjust(join):
     known("moved point by sigma", by_sigma, [10, 22, 30])
 
 
-def root_left():
-    """The cradle, whose host has no square root to cite: the root of 2 with what is left, and Exp with
+def root_and_remainder():
+    """The cradle, whose host has no square root to rely on: the root of 2 with its remainder, and Exp with
     the engine's root of z."""
     turn = [0, 0, math.pi / 2, 0, 0, 0, DOUBLE]
     turned = sim3.exp(turn, SHOT, FIRST, sim3.host.tangent_values(turn, root=sim3.nearest_root))
@@ -128,7 +128,7 @@ def main():
     join = join_runs()
     move_line(join)
     adjust(join)
-    root_left()
+    root_and_remainder()
     chain()
     in_singles()
     refused(100, sim3.exp, [0] * 6, SHOT, FIRST)

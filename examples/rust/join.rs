@@ -1,42 +1,42 @@
-//! The engine from Rust: two runs of shots are joined by a similarity, which frames keep from being done
-//! the wrong way round; a staff line's points are moved, Jacobian blocks are taken, a root is taken with
-//! what is left, a line is moved in singles, and refusals are shown. Every answer is compared with numbers known by hand; exit status
-//! 1 and a message where one is wrong. examples/rust/run builds and runs it.
+//! The engine from Rust: joins two runs of shots by a similarity, and frames keep the order of the factors right;
+//! moves the points of a staff line, computes Jacobian blocks, a square root with its remainder and a line in
+//! singles, and shows refusals. Compares every answer with numbers known by hand; exit status 1 and a message if one
+//! is wrong. examples/rust/run builds and runs it.
 
 use sim3::{f32 as single, host, Block, Pose, Refusal, Running, Tangent, Values};
 use std::f64::consts::{FRAC_1_SQRT_2 as HALF_ROOT, FRAC_PI_2, LN_2};
 use std::process::ExitCode;
 
-// Frames: the two runs, a shot that stands in both, and one of the second's.
+// Frames: the two runs, a shot of both, and a shot of the second.
 const FIRST: u16 = 1;
 const SECOND: u16 = 2;
 const SHOT: u16 = 10;
 const NEXT: u16 = 11;
 
-/// Prints a list; whether it is the one known by hand, as near as doubles are.
-fn known(what: &str, found: &[f64], due: &[f64]) -> bool {
-    known_within(1e-12, what, found, due)
+/// Prints a list; whether it is the one known by hand, within 1e-12.
+fn known(what: &str, found: &[f64], expected: &[f64]) -> bool {
+    known_within(1e-12, what, found, expected)
 }
 
-/// The same, where no number is further off than `most`.
-fn known_within(most: f64, what: &str, found: &[f64], due: &[f64]) -> bool {
+/// The same, within `most`.
+fn known_within(most: f64, what: &str, found: &[f64], expected: &[f64]) -> bool {
     println!("{what}: {found:.6?}");
-    let good =
-        found.len() == due.len() && found.iter().zip(due).all(|(x, y)| (x - y).abs() <= most);
+    let good = found.len() == expected.len()
+        && found.iter().zip(expected).all(|(x, y)| (x - y).abs() <= most);
     if !good {
-        println!("{what}: WRONG: {found:?} and not {due:?}");
+        println!("{what}: WRONG: {found:?} and not {expected:?}");
     }
     good
 }
 
 /// The same of a pose and its frames.
-fn known_pose(what: &str, found: &Pose, due: &Pose) -> bool {
+fn known_pose(what: &str, found: &Pose, expected: &Pose) -> bool {
     println!("{what}: from frame {} to frame {}", found.from, found.to);
-    let met = (found.from, found.to) == (due.from, due.to);
-    if !met {
-        println!("{what}: WRONG: the frames are not {} and {}", due.from, due.to);
+    let frames_equal = (found.from, found.to) == (expected.from, expected.to);
+    if !frames_equal {
+        println!("{what}: WRONG: the frames are not {} and {}", expected.from, expected.to);
     }
-    known(what, &found.numbers, &due.numbers) && met
+    known(what, &found.numbers, &expected.numbers) && frames_equal
 }
 
 /// The camera hand: a shot stands in both runs, at x in the first and at y in the second. X Y⁻¹ takes
@@ -55,10 +55,10 @@ fn join_runs() -> Result<(Pose, bool), Refusal> {
     let placed = sim3::mul(&join, &next, host::up(&join))?;
     let back = sim3::inv_mul(&placed, &join, host::down(&join))?;
     let numbers = [HALF_ROOT, 0.0, 0.0, HALF_ROOT, 10.0, 20.0, 30.0, LN_2];
-    let due = Pose { numbers, from: SECOND, to: FIRST };
+    let expected = Pose { numbers, from: SECOND, to: FIRST };
     let numbers = [HALF_ROOT, 0.0, 0.0, HALF_ROOT, 10.0, 24.0, 30.0, LN_2];
     let good = [
-        known_pose("join", &join, &due),
+        known_pose("join", &join, &expected),
         known_pose("next shot", &placed, &Pose { numbers, from: NEXT, to: FIRST }),
         known_pose("and back", &back, &next),
         refused("mul the wrong way round", 9, sim3::mul(&next, &join, host::up(&next))),
@@ -71,10 +71,10 @@ fn move_line(join: &Pose) -> Result<bool, Refusal> {
     let line = [[0.0, 0.0, 0.0], [1.0, 0.0, 0.0], [2.0, 0.0, 0.0]];
     let mut moved = [[0.0; 3]; 3];
     sim3::act_many(join, host::up(join), line.as_flattened(), moved.as_flattened_mut())?;
-    let due = [10.0, 20.0, 30.0, 10.0, 22.0, 30.0, 10.0, 24.0, 30.0];
-    let many = known("staff line", moved.as_flattened(), &due);
+    let expected = [10.0, 20.0, 30.0, 10.0, 22.0, 30.0, 10.0, 24.0, 30.0];
+    let many = known("staff line", moved.as_flattened(), &expected);
     sim3::act_each(join, host::up(join), line.as_flattened(), moved.as_flattened_mut())?;
-    Ok(known("point by point", moved.as_flattened(), &due) && many)
+    Ok(known("point by point", moved.as_flattened(), &expected) && many)
 }
 
 /// A block times a tangent: the rows (a 0 0), (b c f), (0 0 e).
@@ -107,17 +107,17 @@ fn adjust(join: &Pose) -> bool {
     good.iter().all(|&x| x)
 }
 
-/// The cradle, whose host has no square root to cite: the root of 2 with what is left, and Exp with the
+/// The cradle, whose host has no square root to rely on: the root of 2 with its remainder, and Exp with the
 /// engine's root of z.
-fn root_left() -> Result<bool, Refusal> {
+fn root_and_remainder() -> Result<bool, Refusal> {
     let two = sim3::root(2.0)?;
     let turn = Tangent([0.0, 0.0, FRAC_PI_2, 0.0, 0.0, 0.0, LN_2]);
     let z = host::norm_sq(&host::phi(&turn));
     let turned = sim3::exp(&turn, &host::values_by(host::root, turn[6], z), SHOT, FIRST);
     let found = [two.root as f64, two.remainder as f64, two.exponent as f64, two.nearest];
-    let due = [6369051672525772.0, 7192236498376048.0, -52.0, 1.4142135623730951];
+    let expected = [6369051672525772.0, 7192236498376048.0, -52.0, 1.4142135623730951];
     let pose = [HALF_ROOT, 0.0, 0.0, HALF_ROOT, 0.0, 0.0, 0.0, LN_2];
-    Ok(known("root of 2", &found, &due) & known("exp by that root", &turned.numbers, &pose))
+    Ok(known("root of 2", &found, &expected) & known("exp by that root", &turned.numbers, &pose))
 }
 
 /// The second camera, whose board sends singles: a line is turned and moved by the engine at f32.
@@ -126,8 +126,8 @@ fn in_singles() -> Result<bool, Refusal> {
     let turned = single::exp(&turn, &single::host::tangent_values(&turn), SHOT, FIRST);
     let mut moved = [0.0; 6];
     single::act_many(&turned, single::host::up(&turned), &[1.0, 0.0, 0.0, 2.0, 0.0, 0.0], &mut moved)?;
-    let due = [0.0, 2.0, 0.0, 0.0, 4.0, 0.0];
-    Ok(known_within(1e-6, "line at f32", &moved.map(f64::from), &due))
+    let expected = [0.0, 2.0, 0.0, 0.0, 4.0, 0.0];
+    Ok(known_within(1e-6, "line at f32", &moved.map(f64::from), &expected))
 }
 
 /// The camera hand again, shot by shot: four quarter turns, each with a step along its own x, come back to
@@ -182,8 +182,15 @@ fn refusals(join: &Pose) -> bool {
 /// Everything in turn; whether every answer is the one known by hand.
 fn example() -> Result<bool, Refusal> {
     let (join, joined) = join_runs()?;
-    let good =
-        [joined, move_line(&join)?, adjust(&join), root_left()?, chain()?, in_singles()?, refusals(&join)];
+    let good = [
+        joined,
+        move_line(&join)?,
+        adjust(&join),
+        root_and_remainder()?,
+        chain()?,
+        in_singles()?,
+        refusals(&join),
+    ];
     Ok(good.iter().all(|&x| x))
 }
 

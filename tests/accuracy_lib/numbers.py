@@ -10,7 +10,7 @@ SPECS = [TOP / "crates/accuracy/specs/Numbers.antt", TOP / "crates/running_accur
 JOINS = 10
 
 
-def module():
+def load_binding():
     """sim3.accuracy by itself: it needs no library."""
     found = importlib.util.spec_from_file_location("accuracy", TOP / "bindings/python/sim3/accuracy.py")
     made = importlib.util.module_from_spec(found)
@@ -18,7 +18,7 @@ def module():
     return made
 
 
-def checked():
+def numbers_of_specs():
     """name -> number, of the fields `pub NAME : .. ≡ NUMBER` of the specs."""
     found = {}
     for path in SPECS:
@@ -28,7 +28,7 @@ def checked():
     return found
 
 
-def computed(accuracy):
+def numbers_of_binding(accuracy):
     """The same numbers as the binding has them."""
     found, units = {}, accuracy.UNIT
     for width, kind in ((64, "doubles"), (32, "singles")):
@@ -53,7 +53,7 @@ def computed(accuracy):
     return found
 
 
-def corollaries(accuracy):
+def corollary_errors(accuracy):
     """Whether the binding's bound of each corollary's box is at most the corollary's, and more than half of it."""
     log = {"RunningTheorem.doubles": (accuracy.running(1000, 65_535, 2 ** 10, 2, 2.0 ** -52), (-37, -12)),
            "RunningTheorem.singles": (accuracy.running(100, 16, 2 ** 10, 2, 2.0 ** -23, width=32), (-11, 10)),
@@ -65,7 +65,7 @@ def corollaries(accuracy):
                 yield f"{name}: the binding's bound {float(bound)} is not the corollary's 2^{exponent}"
 
 
-def stated():
+def exponent_errors():
     """Whether the exponents of the coefficients' rows are those of specs/Series.antt."""
     text = (TOP / "crates/accuracy/specs/Series.antt").read_text(encoding="utf-8")
     for width in (32, 64):
@@ -73,18 +73,19 @@ def stated():
         last = [int(x) for x in re.findall(r"\(2 \^ (\d+)\)", chi)]
         for arm, name in enumerate(rows.ARMS):
             body = re.search(rf"^{name}_errors binary{width} =\n(.*)$", text, re.M).group(1)
-            due = tuple(int(x) - 100 for x in [*re.findall(r"2 \^ (\d+)", body), last[arm]])
-            if due != rows.COEFFICIENTS[width][name]:
-                yield f"the {name} arm at {width} bits is {rows.COEFFICIENTS[width][name]}, and the statement has {due}"
+            expected = tuple(int(x) - 100 for x in [*re.findall(r"2 \^ (\d+)", body), last[arm]])
+            if expected != rows.COEFFICIENTS[width][name]:
+                yield (f"the {name} arm at {width} bits is {rows.COEFFICIENTS[width][name]}, and the statement has "
+                       f"{expected}")
 
 
 def agree():
     """Whether all of it agrees; each difference is a line."""
-    accuracy = module()
-    due, found = checked(), computed(accuracy)
-    wrong = [*stated(), *corollaries(accuracy)]
-    wrong += [f"{name} is {found.get(name)} in the binding and {due.get(name)} in the specs"
-              for name in sorted({*due, *found}) if due.get(name) != found.get(name)]
+    accuracy = load_binding()
+    expected, found = numbers_of_specs(), numbers_of_binding(accuracy)
+    wrong = [*exponent_errors(), *corollary_errors(accuracy)]
+    wrong += [f"{name} is {found.get(name)} in the binding and {expected.get(name)} in the specs"
+              for name in sorted({*expected, *found}) if expected.get(name) != found.get(name)]
     for line in wrong:
         print(f"accuracy: FAILED: {line}")
     return not wrong

@@ -8,7 +8,7 @@ from jobs_lib.layout import ANSWER, JOB
 from . import fixed
 
 SINGLE = struct.Struct("<f")
-# The limits of the series' arms in Δ, as bit patterns: crates/closed/specs/Limits.antt.
+# The limits of the series' arms in Δ, as bit patterns: crates/arms/specs/Limits.antt.
 LIMITS = {64: struct.unpack(">4d", bytes.fromhex("3f0c70e59cfc9f1f3fa59742aa36710d3fd0e8139c96fc793fffb1ffbc2a9c8c")),
           32: struct.unpack(">4f", bytes.fromhex("3a7ce1583e03ba203f205df34017c496"))}
 ARMS = ("short", "mid", "upper", "series")
@@ -85,9 +85,9 @@ class Worst:
     def __init__(self):
         self.error, self.cases = 0, 0
 
-    def add(self, got, due):
+    def add(self, actual, expected):
         self.cases += 1
-        for x, y in zip(got, due, strict=True):
+        for x, y in zip(actual, expected, strict=True):
             if not math.isfinite(x):
                 raise ValueError(f"the answer {x!r} is not finite")
             self.error = max(self.error, abs(fixed.of(x) - y))
@@ -116,8 +116,8 @@ def action(run, width, count, box, field, exponent):
     point, scale, shift = box
     cases = [(draw.quaternion(), draw.vector(shift), abs(draw.within(scale)), draw.vector(point)) for _ in range(count)]
     data = run(b"".join(record(mark, *q, *t, 0.0, 1, 2, s, *p) for q, t, s, p in cases))
-    for (q, t, s, p), got in zip(cases, answers(data, mark, count), strict=True):
-        row.worst.add(got, fixed.moved(fixes(q), fixes(t), fixed.of(s), fixes(p)))
+    for (q, t, s, p), actual in zip(cases, answers(data, mark, count), strict=True):
+        row.worst.add(actual, fixed.moved(fixes(q), fixes(t), fixed.of(s), fixes(p)))
     return [row]
 
 
@@ -128,8 +128,8 @@ def product(run, width, count, exponent):
     draw, mark = Draw(width, "product"), mark_of(width, "MU")
     cases = [(draw.quaternion(), draw.quaternion()) for _ in range(count)]
     data = run(b"".join(record(mark, *p, 0, 0, 0, 0, 1, 2, *q, 0, 0, 0, 0, 3, 1, 1.0) for p, q in cases))
-    for (p, q), got in zip(cases, answers(data, mark, count), strict=True):
-        row.worst.add(got[:4], fixed.hamilton(fixes(p), fixes(q)))
+    for (p, q), actual in zip(cases, answers(data, mark, count), strict=True):
+        row.worst.add(actual[:4], fixed.hamilton(fixes(p), fixes(q)))
     return [row]
 
 
@@ -140,22 +140,22 @@ def inverse(run, width, count, exponent):
     draw, mark = Draw(width, "inverse"), mark_of(width, "IN")
     cases = [(draw.quaternion(), draw.vector(2.0 ** 20), abs(draw.within(16.0))) for _ in range(count)]
     data = run(b"".join(record(mark, *q, *t, 0.0, 1, 2, s) for q, t, s in cases))
-    for (q, t, s), got in zip(cases, answers(data, mark, count), strict=True):
+    for (q, t, s), actual in zip(cases, answers(data, mark, count), strict=True):
         w, *u = fixes(q)
-        due = fixed.moved([w, *(-c for c in u)], [0, 0, 0], fixed.of(s), fixes(t))
-        row.worst.add(got[4:7], [-c for c in due])
+        expected = fixed.moved([w, *(-c for c in u)], [0, 0, 0], fixed.of(s), fixes(t))
+        row.worst.add(actual[4:7], [-c for c in expected])
     return [row]
 
 
 def renormalized(run, width, count, exponent):
     """The Newton step, by a running join that is renormalised at its first product, with the identity."""
     row = Row("QuaternionTheorem.renormalized-doubles", width, exponent, "a renormalised quaternion")
-    draw, begun, size = Draw(width, "newton"), 2 + ANSWER[b"RN"].numbers.size, 2 + ANSWER[b"CH"].numbers.size
+    draw, rn_size, size = Draw(width, "newton"), 2 + ANSWER[b"RN"].numbers.size, 2 + ANSWER[b"CH"].numbers.size
     rest = [0.0] * 4 + [1, 1, 1.0]  # translation and sigma, frames, up
     for _ in range(max(1, count // 50)):  # a running join begins only once in a job
         q = draw.quaternion()
         data = run(record(b"RN", 1) + record(b"CH", *q, *rest) + record(b"CH", 1.0, 0.0, 0.0, 0.0, *rest))
-        found = ANSWER[b"CH"].numbers.unpack_from(data, begun + size + 2)
+        found = ANSWER[b"CH"].numbers.unpack_from(data, rn_size + size + 2)
         row.worst.add(found[:4], fixed.newton(fixes(q)))
     return [row]
 
@@ -183,19 +183,19 @@ def coefficients(run, width, count, arm):
     name, mark = ARMS[arm], mark_of(width, "CO")
     cases = coefficient_cases(Draw(width, name), width, count, arm)
     data = run(b"".join(record(mark, sigma, z, *[0.0] * 10) for sigma, z in cases))
-    made = [Row(f"CoefficientsTheorem.{name}", width, exponent, f"{which}, {name} arm")
+    rows = [Row(f"CoefficientsTheorem.{name}", width, exponent, f"{which}, {name} arm")
             for which, exponent in zip(NAMES, COEFFICIENTS[width][name], strict=True)]
-    for (sigma, z), got in zip(cases, answers(data, mark, count), strict=True):
-        for row, x, y in zip(made, got[:9], fixed.coefficients(fixed.of(sigma), fixed.of(z)), strict=True):
+    for (sigma, z), actual in zip(cases, answers(data, mark, count), strict=True):
+        for row, x, y in zip(rows, actual[:9], fixed.coefficients(fixed.of(sigma), fixed.of(z)), strict=True):
             row.worst.add([x], [y])
-    return made
+    return rows
 
 
-def exponential(run, width, count, rho, field, exponent, turned):
+def exponential(run, width, count, rho, field, exponent, rotation_exponent):
     """The translation and the quaternion below the limits; z is the computed |φ|²."""
     draw, mark = Draw(width, field), mark_of(width, "EX")
     row = Row(f"ExponentialTheorem.{field}", width, exponent, "an exponential's translation")
-    rotation = Row("ExponentialTheorem.exponential", width, turned, "an exponential's quaternion")
+    rotation = Row("ExponentialTheorem.exponential", width, rotation_exponent, "an exponential's quaternion")
     cases = []
     while len(cases) < count:
         phi, sigma = draw.vector(1.2), draw.within(1.2)
@@ -205,34 +205,34 @@ def exponential(run, width, count, rho, field, exponent, turned):
         if delta < LIMITS[width][3] and z < 1.4 and all(c == 0 or abs(c) > 2.0 ** -40 for c in [*phi, sigma]):
             cases.append((phi, draw.vector(rho), sigma, z))
     data = run(b"".join(record(mark, *phi, *r, sigma, *[0.0] * 10, 1, 2) for phi, r, sigma, z in cases))
-    for (phi, r, sigma, z), got in zip(cases, answers(data, mark, count), strict=True):
+    for (phi, r, sigma, z), actual in zip(cases, answers(data, mark, count), strict=True):
         exact, z = fixes(phi), fixed.of(z)
         v = fixed.coefficients(fixed.of(sigma), z)
-        row.worst.add(got[4:7], fixed.translation(exact, fixes(r), *v[:3]))
+        row.worst.add(actual[4:7], fixed.translation(exact, fixes(r), *v[:3]))
         cosine, k = fixed.circle(z)
-        rotation.worst.add(got[:4], [cosine, *(fixed.mul(k, c) for c in exact)])
+        rotation.worst.add(actual[:4], [cosine, *(fixed.mul(k, c) for c in exact)])
     return [row, rotation]
 
 
-def running(run, count, joins, every, box, wanted):
+def running(run, count, joins, every, box, rows_of):
     """The running join against the same history in exact arithmetic, and its action; `count` histories. `wanted` has
     the rows of its rotation, of its translation and of a point that it moves, by 0, 1 and 2."""
     most, scale, point = box
     draw = Draw(64, f"running {joins} {every} {most}")
-    size, begun = 2 + ANSWER[b"CH"].numbers.size, 2 + ANSWER[b"RN"].numbers.size
+    size, rn_size = 2 + ANSWER[b"CH"].numbers.size, 2 + ANSWER[b"RN"].numbers.size
     for _ in range(count):
         poses = [(draw.unit(), draw.vector(most), abs(draw.within(scale))) for _ in range(joins + 1)]
         data = run(record(b"RN", every) + b"".join(record(b"CH", *q, *t, 0.0, 1, 1, s) for q, t, s in poses))
-        got = ANSWER[b"CH"].numbers.unpack_from(data, begun + joins * size + 2)
+        actual = ANSWER[b"CH"].numbers.unpack_from(data, rn_size + joins * size + 2)
         exact, shift = fixes(poses[0][0]), fixes(poses[0][1])
         for number, (q, t, s) in enumerate(poses[1:], 1):
             shift, exact = fixed.moved(exact, shift, fixed.of(s), fixes(t)), fixed.hamilton(exact, fixes(q))
             if number % every == 0:
                 exact = fixed.newton(exact)
         p, s = draw.vector(point), abs(draw.within(scale))
-        moved = ANSWER[b"AC"].numbers.unpack_from(run(record(b"AC", *got[:7], 0.0, 1, 2, s, *p)), 2)
-        due = fixed.moved(exact, shift, fixed.of(s), fixes(p))
-        pairs = ((got[:4], exact), (got[4:7], shift), (moved, due))
-        for which, row in wanted.items():
+        moved = ANSWER[b"AC"].numbers.unpack_from(run(record(b"AC", *actual[:7], 0.0, 1, 2, s, *p)), 2)
+        expected = fixed.moved(exact, shift, fixed.of(s), fixes(p))
+        pairs = ((actual[:4], exact), (actual[4:7], shift), (moved, expected))
+        for which, row in rows_of.items():
             row.worst.add(*pairs[which])
-    return list(wanted.values())
+    return list(rows_of.values())

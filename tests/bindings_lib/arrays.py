@@ -64,7 +64,7 @@ def bits_of(numpy, part, width):
     return repr(bits(numpy.ascontiguousarray(found, dtype=width.code).tobytes(), width)).encode()
 
 
-def compared(numpy, name, width, arguments, many, single):
+def check_rows(numpy, name, width, arguments, many, single):
     """Every row against the single call, and what a refused row holds."""
     if name not in arrays.REFUSING and not isinstance(many, arrays.Poses):
         many = (*(many if isinstance(many, tuple) else (many,)), numpy.zeros(N, dtype="I"))
@@ -79,8 +79,8 @@ def compared(numpy, name, width, arguments, many, single):
                 same(bool(numpy.isnan(part[i]).all() if part.dtype.kind == "f" else not part[i].any()), True,
                      f"{width.package}.{name}, row {i}: what a refused row holds")
             continue
-        due = (answer.numbers, (answer.from_, answer.to)) if isinstance(answer, sim3.Pose) else answer
-        same(numbers_of(numpy, tuple(part[i] for part in parts), width), numbers_of(numpy, due, width),
+        expected = (answer.numbers, (answer.from_, answer.to)) if isinstance(answer, sim3.Pose) else answer
+        same(numbers_of(numpy, tuple(part[i] for part in parts), width), numbers_of(numpy, expected, width),
              f"{width.package}.{name}, row {i}")
     return refusals
 
@@ -89,12 +89,12 @@ def every_function():
     """Each function of the table, with the host's values and with values handed in."""
     numpy, refusals = numpy_here(), {}
     for seed, (width, package) in enumerate(MODULES.items()):
-        for name, made in raw.FUNCTIONS.items():
+        for name, signature in raw.FUNCTIONS.items():
             source = random.Random(1000 * seed + len(name))
             function = getattr(package, name)
             if name in POSED:
                 poses = [(rows(numpy, source, "pose", width), frames(numpy, source))
-                         for _ in range(2 if "y" in dict(made.takes) else 1)]
+                         for _ in range(2 if "y" in dict(signature.takes) else 1)]
                 arguments = [[sim3.Pose(list(numbers), int(pair[0]), int(pair[1])) for numbers, pair in zip(*pose)]
                              for pose in poses]
                 many = function(*(sim3.Poses(*pose) for pose in poses))
@@ -104,13 +104,14 @@ def every_function():
                 many = function(tau, pairs[:, 0], pairs[:, 1])
             else:
                 names = [(argument, kind)
-                         for argument, kind in made.takes if argument not in ("up", "down", "values", "jl", "jl_inv")]
+                         for argument, kind in signature.takes
+                         if argument not in ("up", "down", "values", "jl", "jl_inv")]
                 given = [rows(numpy, source, kind, width) for _, kind in names]
                 if name == "block_inverse":
                     given[0][::3, 30] = 0.0
                 arguments = [[row.tolist() for row in array] for array in given]
                 many = function(*given)
-            refusals[name] = refusals.get(name, 0) + compared(numpy, name, width, arguments, many, function)
+            refusals[name] = refusals.get(name, 0) + check_rows(numpy, name, width, arguments, many, function)
     for name in ("mul", "mul_inv", "inv_mul", "scaled_pair", "coeffs_armed", "armed_pair", "block_inverse"):
         assert refusals[name] > 10, f"{name}: {refusals[name]} rows refused; expected some of each"
 
@@ -123,22 +124,22 @@ def values_handed_in():
         tau, values, jl, jl_inv, x, p, sigma = (rows(numpy, source, kind, width)
                                                 for kind in ("tangent", "values", "matrix", "matrix", "pose", "vector",
                                                              raw.NUMBER))
-        compared(numpy, "block_pair", width, [list(map(list, a)) for a in (tau, values, jl, jl_inv)],
+        check_rows(numpy, "block_pair", width, [list(map(list, a)) for a in (tau, values, jl, jl_inv)],
                  package.block_pair(tau, values, jl, jl_inv), package.block_pair)
-        compared(numpy, "adjoint", width, [list(map(list, x)), sigma.tolist()], package.adjoint(x, sigma),
+        check_rows(numpy, "adjoint", width, [list(map(list, x)), sigma.tolist()], package.adjoint(x, sigma),
                  package.adjoint)
-        compared(numpy, "adjoint", width, [list(map(list, x))], package.adjoint(x, 2.5),
+        check_rows(numpy, "adjoint", width, [list(map(list, x))], package.adjoint(x, 2.5),
                  lambda row: package.adjoint(row, 2.5))
-        compared(numpy, "act", width, [list(map(list, x)), list(map(list, p))], package.act(x, p), package.act)
-        compared(numpy, "act", width, [list(map(list, x))], package.act(x, [1.0, 2.0, 3.0]),
+        check_rows(numpy, "act", width, [list(map(list, x)), list(map(list, p))], package.act(x, p), package.act)
+        check_rows(numpy, "act", width, [list(map(list, x))], package.act(x, [1.0, 2.0, 3.0]),
                  lambda row: package.act(row, [1.0, 2.0, 3.0]))
-        compared(numpy, "act_many", width, [list(map(list, x)), list(map(list, p))], package.act_many(x, p),
+        check_rows(numpy, "act_many", width, [list(map(list, x)), list(map(list, p))], package.act_many(x, p),
                  package.act_many)
-        compared(numpy, "block_pair", width, [list(map(list, tau))], package.block_pair(tau, jl=jl[0]),
+        check_rows(numpy, "block_pair", width, [list(map(list, tau))], package.block_pair(tau, jl=jl[0]),
                  lambda row: package.block_pair(row, jl=list(jl[0])))
     one = sim3.Pose([1.0, 0, 0, 0, 1, 2, 3, 0.5], 0, 1)
     x, pairs = rows(numpy, source, "pose", DOUBLE), frames(numpy, source)
-    compared(numpy, "mul", DOUBLE, [[sim3.Pose(list(row), int(a), int(b)) for row, (a, b) in zip(x, pairs)]],
+    check_rows(numpy, "mul", DOUBLE, [[sim3.Pose(list(row), int(a), int(b)) for row, (a, b) in zip(x, pairs)]],
              sim3.mul(one, sim3.Poses(x, pairs)), lambda y: sim3.mul(one, y))
 
 
@@ -150,8 +151,10 @@ def nearest_arms():
         found = package.nearest_arm(sigma, z)
         for i in range(N):
             answer, number = refusal_of(package.nearest_arm, float(sigma[i]), float(z[i]))
-            due = (0, 0, 0, number) if answer is None else (answer.count, int(answer.direction == "up"), answer.arm, 0)
-            same(tuple(int(part[i]) for part in found), due, f"{width.package}.nearest_arm({sigma[i]}, {z[i]})")
+            expected = (0, 0, 0, number)
+            if answer is not None:
+                expected = (answer.count, int(answer.direction == "up"), answer.arm, 0)
+            same(tuple(int(part[i]) for part in found), expected, f"{width.package}.nearest_arm({sigma[i]}, {z[i]})")
 
 
 def roots():
@@ -193,11 +196,11 @@ def orders():
     same(sim3.compare_tangents(a, b[0]).tolist(), [compared_one(x, b[0]) for x in a], "all against one")
     same(sim3.compare_tangents(a[0], b).tolist(), [compared_one(a[0], y) for y in b], "one against all")
     lists = numpy.stack([a, b, a[::-1]])
-    due = [list(sim3.sort_tangents(array.array("Q", one.ravel().tolist()))) for one in lists]
-    same(sim3.sort_tangents(lists).reshape(3, -1).tolist(), due, "each of three lists")
-    same(sim3.sort_tangents(a).ravel().tolist(), due[0], "one list")
+    expected = [list(sim3.sort_tangents(array.array("Q", one.ravel().tolist()))) for one in lists]
+    same(sim3.sort_tangents(lists).reshape(3, -1).tolist(), expected, "each of three lists")
+    same(sim3.sort_tangents(a).ravel().tolist(), expected[0], "one list")
     doubles = a.copy().view("d")
-    same(sim3.sort_tangents(doubles).view("Q").ravel().tolist(), due[0], "one list of numbers")
+    same(sim3.sort_tangents(doubles).view("Q").ravel().tolist(), expected[0], "one list of numbers")
     same(doubles.view("Q").tolist(), a.tolist(), "the list that was handed in")
     fails(sim3.Refusal, "a has 6 numbers; expected 7", sim3.compare_tangents, a[:, :6], b)
     fails(sim3.Refusal, "b has 3 rows where a has", sim3.compare_tangents, a, b[:3])
@@ -221,8 +224,8 @@ def joined():
             same(int(found.refused[i]), number, f"Running.push, row {i}: its refusal")
             refusals += bool(number)
             if answer is not None:
-                due = numbers_of(numpy, (answer.numbers, (answer.from_, answer.to)), DOUBLE)
-                same(numbers_of(numpy, (found.numbers[i], found.frames[i]), DOUBLE), due, f"Running.push, row {i}")
+                expected = numbers_of(numpy, (answer.numbers, (answer.from_, answer.to)), DOUBLE)
+                same(numbers_of(numpy, (found.numbers[i], found.frames[i]), DOUBLE), expected, f"Running.push, row {i}")
         same(repr(all_), repr(one), "the running join afterwards")
         assert 10 < refusals < N - 10, f"{refusals} rows refused; expected some of each"
     fails(sim3.Refusal, "Running.push: refusal 100: x has 7 numbers", all_.push, sim3.Poses(numbers[:, :7], ends))
@@ -234,8 +237,8 @@ def renormalized():
     numpy = numpy_here()
     source = random.Random(90)
     poses = sim3.Poses(rows(numpy, source, "pose", DOUBLE), frames(numpy, source))
-    found, due = sim3.renormalize_all(poses), sim3.renormalize(poses)
-    for part, other in zip(found, due):
+    found, expected = sim3.renormalize_all(poses), sim3.renormalize(poses)
+    for part, other in zip(found, expected):
         same(bits_of(numpy, part, DOUBLE), bits_of(numpy, other, DOUBLE), "renormalize_all of arrays")
 
 
@@ -243,12 +246,12 @@ def whole_matrices():
     """A block's 7 by 7 matrix: (a 0 0), (b c f), (0 0 e), its parts column by column."""
     numpy = numpy_here()
     block = numpy.arange(1.0, 32.0)
-    due = numpy.zeros((7, 7))
-    due[:3, :3], due[3:6, :3], due[3:6, 3:6] = (block[at:at + 9].reshape(3, 3).T for at in (0, 9, 18))
-    due[3:6, 6], due[6, 6] = block[27:30], block[30]
-    same(sim3.block_matrix(block).tolist(), due.tolist(), "the matrix of a block")
-    same(sim3.block_matrix(list(block)).tolist(), due.tolist(), "the matrix of a list")
-    same(sim3.block_matrix(numpy.stack([block, -block])).tolist(), [due.tolist(), (-due).tolist()],
+    expected = numpy.zeros((7, 7))
+    expected[:3, :3], expected[3:6, :3], expected[3:6, 3:6] = (block[at:at + 9].reshape(3, 3).T for at in (0, 9, 18))
+    expected[3:6, 6], expected[6, 6] = block[27:30], block[30]
+    same(sim3.block_matrix(block).tolist(), expected.tolist(), "the matrix of a block")
+    same(sim3.block_matrix(list(block)).tolist(), expected.tolist(), "the matrix of a list")
+    same(sim3.block_matrix(numpy.stack([block, -block])).tolist(), [expected.tolist(), (-expected).tolist()],
          "the matrices of two blocks")
     fails(sim3.Refusal, "block_matrix: refusal 100", sim3.block_matrix, block[:30])
 
@@ -285,14 +288,14 @@ def any_arrays():
     """Other numbers are converted, gaps and order do not matter, and what is handed in stays as it is."""
     numpy = numpy_here()
     tau = numpy.random.default_rng(3).normal(size=(8, 7))
-    due = sim3.block_pair(tau)[0].tolist()
+    expected = sim3.block_pair(tau)[0].tolist()
     wide = numpy.zeros((8, 14))
     wide[:, ::2] = tau
     for what, form in (("gaps", wide[:, ::2]), ("Fortran's order", numpy.asfortranarray(tau)),
                        ("read-only", numpy.frombuffer(tau.tobytes()).reshape(8, 7)),
                        ("the other order of bytes", tau.astype(">d"))):
         before = form.copy()
-        same(sim3.block_pair(form)[0].tolist() == due, True, f"block_pair of {what}")
+        same(sim3.block_pair(form)[0].tolist() == expected, True, f"block_pair of {what}")
         same(form.tolist(), before.tolist(), f"{what} afterwards")
     whole = numpy.ones((3, 7), dtype="i4")
     same(sim3.exp(whole, 1, 2).numbers.tolist(), sim3.exp(whole.astype("d"), 1, 2).numbers.tolist(),
@@ -315,11 +318,12 @@ def table_of_loops():
          "the forms of what there is in doubles alone")
     same(set(found), set(raw.FUNCTIONS), "the functions of rows.c")
     host = ("up", "down", "ds", "values", "jl", "jl_inv")
-    for name, made in raw.FUNCTIONS.items():
+    for name, signature in raw.FUNCTIONS.items():
         takes = [("h" if kind == raw.FRAMES else "R" if argument in host else "r", str(arrays.KINDS[kind]))
-                 for argument, kind in made.takes]
-        size = sum(arrays.KINDS[kind] for kind in made.gives if kind != raw.FRAMES) or 8  # renormalize writes its pose
-        same(found[name], [*takes, ("r", str(size)), *([("h", "2")] if raw.FRAMES in made.gives else [])],
+                 for argument, kind in signature.takes]
+        # renormalize writes its pose
+        size = sum(arrays.KINDS[kind] for kind in signature.gives if kind != raw.FRAMES) or 8
+        same(found[name], [*takes, ("r", str(size)), *([("h", "2")] if raw.FRAMES in signature.gives else [])],
              f"the forms of {name}")
     same(len(WIDTHS), 2, "widths")
 

@@ -13,8 +13,10 @@ sys.path[:0] = [str(ROOT / "bindings" / "python"), str(ROOT / "tools")]
 from sim3 import raw
 from sim3.widths import DOUBLE, SINGLE
 
-# Of each width: struct's code of a number's bits, the NaN that stands for all, infinity, and a NaN that no answer has, for what must not be written.
-BITS = {DOUBLE: ("Q", 0x7FF8000000000000, 0x7FF0000000000000, 0x7FF4_5EED_0BAD_CAFE), SINGLE: ("I", 0x7FC00000, 0x7F800000, 0x7FAD_CAFE)}
+# Of each width: struct's code of a number's bits, the canonical NaN, infinity, and a NaN that no answer has, for what
+# must not be written.
+BITS = {DOUBLE: ("Q", 0x7FF8000000000000, 0x7FF0000000000000, 0x7FF4_5EED_0BAD_CAFE),
+        SINGLE: ("I", 0x7FC00000, 0x7F800000, 0x7FAD_CAFE)}
 UNWRITTEN = (0xBAD0, 0xBAD1)  # frames that no test hands in
 
 
@@ -47,7 +49,8 @@ def rust_program(source, work, width=DOUBLE):
     compiler("cc", None)  # by which rustc links
     program = f"{work}/program"
     run([*rust, "--crate-type", "rlib", "-L", "target/bindings", "--out-dir", work, "bindings/rust/sim3.rs"])
-    run([*rust, *(["--cfg", "single"] if width is SINGLE else []), "--check-cfg", "cfg(single)", "-L", work, "--extern", "sim3", "-o", program, source])
+    run([*rust, *(["--cfg", "single"] if width is SINGLE else []), "--check-cfg", "cfg(single)", "-L", work, "--extern",
+         "sim3", "-o", program, source])
     return program
 
 
@@ -60,20 +63,20 @@ def floats(data, width=DOUBLE):
     return (width.number * (len(data) // width.size)).from_buffer_copy(data)
 
 
-def marked(count, width=DOUBLE):
+def sentinels(count, width=DOUBLE):
     """A list whose numbers no answer has."""
-    code, *_, mark = BITS[width]
-    return floats(struct.pack("<" + code, mark) * count, width)
+    code, *_, sentinel = BITS[width]
+    return floats(struct.pack("<" + code, sentinel) * count, width)
 
 
 def bits(data, width=DOUBLE):
-    """The bits of numbers, where one NaN stands for all."""
+    """The bits of numbers, with every NaN as the canonical one."""
     code, nan, infinity, _ = BITS[width]
     found = struct.unpack(f"<{len(data) // width.size}{code}", data)
     return [nan if word % (1 << 8 * width.size - 1) > infinity else word for word in found]
 
 
-def size(kinds):
+def output_size(kinds):
     """How many numbers there are in `out`."""
     return sum(raw.KINDS[kind][0] for kind in kinds if kind != raw.FRAMES)
 
@@ -82,15 +85,18 @@ def frame_list(frames):
     return (ctypes.c_uint16 * len(frames))(*frames)
 
 
-def cut(data, takes, frames=(), width=DOUBLE):
-    """The arguments of a function from the bytes of their numbers, in a row, and from the frames of each pose, which are zeros, and so meet, where
-    none are given; points take all that is left."""
+def split_arguments(data, takes, frames=(), width=DOUBLE):
+    """The arguments of a function from the bytes of their numbers, in a row, and from the frames of each pose, which
+    are zeros, and so meet, where none are given; points take all that is left."""
     arguments, at, given = [], 0, iter(frames)
     for _, kind in takes:
         if kind == raw.FRAMES:
             arguments.append(frame_list(next(given, (0, 0))))
             continue
-        count = 1 if kind == raw.NUMBER else (len(data) - at) // width.size if kind == raw.POINTS else raw.KINDS[kind][0]
+        if kind == raw.POINTS:
+            count = (len(data) - at) // width.size
+        else:
+            count = 1 if kind == raw.NUMBER else raw.KINDS[kind][0]
         piece = floats(data[at:at + width.size * count], width)
         assert len(piece) == count, "too few numbers"
         arguments.append(piece[0] if kind == raw.NUMBER else piece)
@@ -99,38 +105,40 @@ def cut(data, takes, frames=(), width=DOUBLE):
     return arguments
 
 
-def outs(name, points=0, width=DOUBLE):
+def output_lists(name, points=0, width=DOUBLE):
     """The lists that a function writes, of the right lengths, with numbers that no answer has."""
     gives = raw.FUNCTIONS[name].gives
-    return [marked(points if raw.POINTS in gives else size(gives), width), *([frame_list(UNWRITTEN)] if raw.FRAMES in gives else [])]
+    return [sentinels(points if raw.POINTS in gives else output_size(gives), width),
+            *([frame_list(UNWRITTEN)] if raw.FRAMES in gives else [])]
 
 
-def told(written, width=DOUBLE):
+def written_bytes(written, width=DOUBLE):
     """The bytes of what was written, frames as floats behind the numbers."""
     return bytes(written[0]) + b"".join(packed(frames, width) for frames in written[1:])
 
 
-def answered(name, data, frames=(), width=DOUBLE):
+def call_c(name, data, frames=(), width=DOUBLE):
     """What a C function returns for the numbers in some bytes and these frames, and what it wrote."""
-    made = raw.FUNCTIONS[name]
-    arguments = cut(data, made.takes, frames, width)
-    if not made.gives:  # in place
+    signature = raw.FUNCTIONS[name]
+    arguments = split_arguments(data, signature.takes, frames, width)
+    if not signature.gives:  # in place
         return raw.call(name, *arguments, width=width), bytes(arguments[0])
-    written = outs(name, len(arguments[-1]) if raw.POINTS in made.gives else 0, width)
-    return raw.call(name, *arguments, *written, width=width), told(written, width)
+    written = output_lists(name, len(arguments[-1]) if raw.POINTS in signature.gives else 0, width)
+    return raw.call(name, *arguments, *written, width=width), written_bytes(written, width)
 
 
 def compare(what, name, data, refusal, answer, frames=(), width=DOUBLE):
-    """Holds a C function's answer to a stored one: the refusal's number and nothing written, or all bits, with the frames as floats behind the numbers."""
-    status, out = answered(name, data, frames, width)
+    """Holds a C function's answer to a stored one: the refusal's number and nothing written, or all bits, with the
+    frames as floats behind the numbers."""
+    status, out = call_c(name, data, frames, width)
     what += f", sim3_{name}{width.ending}"
     same(status, refusal, f"{what}: status")
     if refusal:
         points = len(out) // width.size if raw.POINTS in raw.FUNCTIONS[name].gives else 0
-        before = told(outs(name, points, width), width) if raw.FUNCTIONS[name].gives else data
+        before = written_bytes(output_lists(name, points, width), width) if raw.FUNCTIONS[name].gives else data
         same(out, before, f"{what}: refused, but a number was written")
         return
-    found, due = bits(out, width), bits(answer, width)
-    same(len(found), len(due), f"{what}: count of numbers")
-    for i, (x, y) in enumerate(zip(found, due)):
+    found, stored_bits = bits(out, width), bits(answer, width)
+    same(len(found), len(stored_bits), f"{what}: count of numbers")
+    for i, (x, y) in enumerate(zip(found, stored_bits)):
         assert x == y, f"{what}: number {i} is {x:0{2 * width.size}x}, stored is {y:0{2 * width.size}x}"

@@ -1,5 +1,6 @@
-"""Frames at the C functions and in each language, against the request's own rules: which products are refused, and which frames a pose has that is given.
-The numbers of an answered call are those of the same call with all frames 0, which the other tests hold against the Rust's.
+"""Frames at the C functions and in each language, against the request's own rules: which products are refused, and
+which frames a pose has that is given. The numbers of an answered call are those of the same call with all frames 0,
+which the other tests hold against the Rust's.
 """
 import itertools
 import random
@@ -7,7 +8,7 @@ import struct
 import tempfile
 
 import sim3
-from .common import answered, bits, packed, run, rust_program, same
+from .common import bits, call_c, packed, run, rust_program, same
 from sim3 import raw
 from sim3.widths import WIDTHS
 
@@ -16,7 +17,7 @@ NUMBERS = (0, 1, 255, 256, 257, 511, 0x8000, 0xFF00, 65_535)
 REFUSED = 9
 
 
-def given(name, x, y):
+def expected_frames(name, x, y):
     """The frames that a function gives, or None where it refuses: x and y are from and to."""
     if name == "exp":
         return x
@@ -44,7 +45,8 @@ def cases():
 
 def numbers(name, source, width):
     """Ordinary numbers for a function's arguments."""
-    count = sum(1 if kind == raw.NUMBER else raw.KINDS[kind][0] for _, kind in raw.FUNCTIONS[name].takes if kind != raw.FRAMES)
+    count = sum(1 if kind == raw.NUMBER else raw.KINDS[kind][0]
+                for _, kind in raw.FUNCTIONS[name].takes if kind != raw.FRAMES)
     return packed([source.uniform(0.1, 1.5) for _ in range(count)], width)
 
 
@@ -52,15 +54,16 @@ def at_bare_calls():
     source, answers, refusals = random.Random(18), 0, 0
     for name, width in itertools.product(NAMES, WIDTHS):
         data, what = numbers(name, source, width), f"sim3_{name}{width.ending}"
-        status, plain = answered(name, data, width=width)
+        status, plain = call_c(name, data, width=width)
         same(status, 0, f"{what} with all frames 0")
         for x, y in cases():
-            due = given(name, x, y)
-            status, out = answered(name, data, [x, y], width)
-            same(status, REFUSED if due is None else 0, f"{what}, frames {x} and {y}")
-            if due is not None:
-                same(bits(out, width), bits(plain[:8 * width.size] + packed(due, width), width), f"{what}, frames {x} and {y}")
-            answers, refusals = answers + (due is not None), refusals + (due is None)
+            expected = expected_frames(name, x, y)
+            status, out = call_c(name, data, [x, y], width)
+            same(status, REFUSED if expected is None else 0, f"{what}, frames {x} and {y}")
+            if expected is not None:
+                same(bits(out, width), bits(plain[:8 * width.size] + packed(expected, width), width),
+                     f"{what}, frames {x} and {y}")
+            answers, refusals = answers + (expected is not None), refusals + (expected is None)
     assert answers > 20_000 and refusals > 20_000, f"{answers} answered and {refusals} refused"
 
 
@@ -86,9 +89,9 @@ def of_package(name, x, y):
 def in_python():
     for x, y in random.Random(19).sample(cases(), 1500):
         for name in NAMES:
-            same(of_package(name, x, y), given(name, x, y), f"sim3.{name}, frames {x} and {y}")
-        kept = sim3.renormalize(sim3.Pose(POSE, *x))
-        same((kept.from_, kept.to), x, "frames after sim3.renormalize")
+            same(of_package(name, x, y), expected_frames(name, x, y), f"sim3.{name}, frames {x} and {y}")
+        renormalized = sim3.renormalize(sim3.Pose(POSE, *x))
+        same((renormalized.from_, renormalized.to), x, "frames after sim3.renormalize")
 
 
 def in_words():
@@ -110,16 +113,17 @@ def in_words():
 
 def in_rust():
     """frames.rs writes for each function 0 and the frames, or the refusal's number and zeros."""
-    asked = cases()
+    inputs = cases()
     with tempfile.TemporaryDirectory() as work:
         program = rust_program("tests/bindings_lib/frames.rs", work)
-        told = run([program], b"".join(struct.pack("<4H", *x, *y) for x, y in asked))
-    answers = struct.iter_unpack("<3H", told)
-    same(len(told), 6 * len(asked) * (len(NAMES) + 1), "bytes of frames.rs")
-    for x, y in asked:
+        output = run([program], b"".join(struct.pack("<4H", *x, *y) for x, y in inputs))
+    answers = struct.iter_unpack("<3H", output)
+    same(len(output), 6 * len(inputs) * (len(NAMES) + 1), "bytes of frames.rs")
+    for x, y in inputs:
         for name in (*NAMES, "renormalize"):
-            due = x if name == "renormalize" else given(name, x, y)
-            same(next(answers), (REFUSED, 0, 0) if due is None else (0, *due), f"sim3::{name}, frames {x} and {y}")
+            expected = x if name == "renormalize" else expected_frames(name, x, y)
+            same(next(answers), (REFUSED, 0, 0) if expected is None else (0, *expected),
+                 f"sim3::{name}, frames {x} and {y}")
 
 
 TESTS = [at_bare_calls, in_python, in_words, in_rust]

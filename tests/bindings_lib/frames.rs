@@ -5,7 +5,7 @@
 use sim3::*;
 use std::io::{self, Read, Write};
 
-fn told(answer: Result<Pose, Refusal>) -> [u16; 3] {
+fn encode(answer: Result<Pose, Refusal>) -> [u16; 3] {
     match answer {
         Ok(pose) => [0, pose.from, pose.to],
         Err(refusal) => [refusal.number() as u16, 0, 0],
@@ -17,15 +17,15 @@ fn answers(record: &[u16]) -> [[u16; 3]; 6] {
     let x = Pose { numbers, from: record[0], to: record[1] };
     let y = Pose { numbers, from: record[2], to: record[3] };
     let tau = Tangent([0.1, 0.2, 0.3, 1.0, 2.0, 3.0, 0.5]);
-    let mut kept = x;
-    renormalize(&mut kept);
+    let mut renormalized = x;
+    renormalize(&mut renormalized);
     [
-        told(Ok(exp(&tau, &host::tangent_values(&tau), x.from, x.to))),
-        told(mul(&x, &y, host::up(&x))),
-        told(Ok(inverse(&x, host::down(&x)))),
-        told(mul_inv(&x, &y, host::ds(&x, &y))),
-        told(inv_mul(&x, &y, host::down(&y))),
-        told(Ok(kept)),
+        encode(Ok(exp(&tau, &host::tangent_values(&tau), x.from, x.to))),
+        encode(mul(&x, &y, host::up(&x))),
+        encode(Ok(inverse(&x, host::down(&x)))),
+        encode(mul_inv(&x, &y, host::ds(&x, &y))),
+        encode(inv_mul(&x, &y, host::down(&y))),
+        encode(Ok(renormalized)),
     ]
 }
 

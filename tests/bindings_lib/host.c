@@ -1,5 +1,6 @@
-/* The values of bindings/c/sim3_host.h for tests/bindings: reads records of 23 doubles from standard input, tangent, pose and pose, and writes 31 for each:
- * the ten values, the rotation Jacobian and its inverse, up and down of the first pose, ds of both. With -DSINGLE the same in singles, by sim3_host_f32.h. */
+/* The values of bindings/c/sim3_host.h for tests/bindings: reads records of 23 doubles from standard input, a tangent
+ * and two poses, and writes 31 doubles for each: the ten values, the rotation Jacobian and its inverse, up and down of
+ * the first pose, ds of both. With -DSINGLE the same in singles, by sim3_host_f32.h. */
 #include <stdio.h>
 
 #ifdef SINGLE

@@ -1,7 +1,8 @@
-"""The square root with what is left, from each language: its numbers against exact integers, its refusals, and √z of the host's values taken from it.
+"""The square root with its remainder, from each language: its numbers against exact integers, its refusals, and √z of
+the host's values computed by it.
 
-A host may take √z for the ten values from sim3_root: Exp on such values has the bits of Exp on the machine's root. TESTS compare it on some tangents, and
-`compared` on as many as are asked for.
+A host may compute √z of the ten values by sim3_root: Exp on such values has the bits of Exp on the machine's root.
+TESTS compare it on some tangents, `compare_languages` on any number of them.
 """
 import random
 import struct
@@ -10,7 +11,7 @@ import tempfile
 import sim3
 from .common import BITS, bits, compiler, packed, run, rust_program, same
 from root_lib import samples
-from root_lib.exact import due, value
+from root_lib.exact import expected, value
 from sim3 import host, raw
 from sim3.widths import DOUBLE
 
@@ -28,7 +29,8 @@ def patterns():
 def lists(counts=(2, 1, 1)):
     """What sim3_root writes to, of these counts, with numbers that no answer has."""
     kinds = [kind for kind, _ in raw.ROOT_WRITES.values()]
-    return [(kind * count).from_buffer_copy(struct.pack("<Q", BITS[DOUBLE][-1]) * count) for kind, count in zip(kinds, counts)]
+    return [(kind * count).from_buffer_copy(struct.pack("<Q", BITS[DOUBLE][-1]) * count)
+            for kind, count in zip(kinds, counts)]
 
 
 def bare(z):
@@ -54,12 +56,13 @@ def of_package(z):
 
 def parts_in_python():
     for b in patterns():
-        same(bare(value(b)), due(b), f"sim3_root at {b:016x}")
-        same(of_package(value(b)), due(b), f"sim3.root at {b:016x}")
+        same(bare(value(b)), expected(b), f"sim3_root at {b:016x}")
+        same(of_package(value(b)), expected(b), f"sim3.root at {b:016x}")
 
 
 def c_program(work):
-    run([compiler("cc", "CC"), "-std=c99", "-O2", "-Wall", "-Wextra", "-Werror", "-Iinclude", "-Ibindings/c", "-o", f"{work}/roots",
+    run([compiler("cc", "CC"), "-std=c99", "-O2", "-Wall", "-Wextra", "-Werror", "-Iinclude", "-Ibindings/c", "-o",
+         f"{work}/roots",
          "tests/bindings_lib/roots.c", "target/bindings/libsim3.a", "-lm"])
     return f"{work}/roots"
 
@@ -69,11 +72,11 @@ def rust(work):
 
 
 def parts_by(program):
-    asked = patterns()
-    told = run([program, "parts"], struct.pack(f"<{len(asked)}Q", *asked))
-    same(len(told), 40 * len(asked), "bytes of the parts")
-    for b, words in zip(asked, struct.iter_unpack("<5Q", told)):
-        same(words, due(b), f"the root at {b:016x}")
+    inputs = patterns()
+    output = run([program, "parts"], struct.pack(f"<{len(inputs)}Q", *inputs))
+    same(len(output), 40 * len(inputs), "bytes of the parts")
+    for b, words in zip(inputs, struct.iter_unpack("<5Q", output)):
+        same(words, expected(b), f"the root at {b:016x}")
 
 
 def parts_in_c():
@@ -95,15 +98,18 @@ def lengths():
             counts = [2, 1, 1]
             counts[place] = count
             number = 0 if counts == [2, 1, 1] else 100
-            for z, refusal in ((2.0, number), (-0.0, number), (-1.0, 1), (float("-inf"), 1), (float("inf"), 8), (float("nan"), 8)):
+            for z, refusal in ((2.0, number), (-0.0, number), (-1.0, 1), (float("-inf"), 1), (float("inf"), 8),
+                               (float("nan"), 8)):
                 written = lists(counts)
                 before = list(map(bytes, written))
                 same(raw.call("root", z, *written), refusal, f"sim3_root({z!r}) with lists of {counts}")
-                assert not refusal or list(map(bytes, written)) == before, f"sim3_root({z!r}) with lists of {counts}: refused, but a number was written"
+                assert not refusal or list(map(bytes, written)) == before, (
+                    f"sim3_root({z!r}) with lists of {counts}: refused, but a number was written")
 
 
 def in_words():
-    for z, number, part in ((-1.0, 1, "below zero"), (float("-inf"), 1, "below zero"), (float("inf"), 8, "z is inf"), (float("nan"), 8, "z is nan")):
+    for z, number, part in ((-1.0, 1, "below zero"), (float("-inf"), 1, "below zero"), (float("inf"), 8, "z is inf"),
+                            (float("nan"), 8, "z is nan")):
         try:
             answer = sim3.root(z)
         except sim3.Refusal as refusal:
@@ -161,7 +167,7 @@ def nearest_of_refused():
         same(bits(packed([sim3.nearest_root(z)])), bits(packed([host.root(z)])), f"sim3.nearest_root({z!r})")
 
 
-def compared(count):
+def compare_languages(count):
     """Compares the three languages on so many tangents, and says how many z there were."""
     for test in (values_in_c, values_in_rust, values_in_python):
         test(count)
@@ -169,4 +175,5 @@ def compared(count):
     return sum(0 < z < float("inf") for z in found)
 
 
-TESTS = [parts_in_python, parts_in_c, parts_in_rust, lengths, in_words, values_in_c, values_in_rust, values_in_python, nearest_of_refused]
+TESTS = [parts_in_python, parts_in_c, parts_in_rust, lengths, in_words, values_in_c, values_in_rust, values_in_python,
+         nearest_of_refused]

@@ -1,5 +1,5 @@
-"""The running join and the renormalised list of poses from each language, against a model: products by sim3_mul, Newton steps by sim3_renormalize, and the
-request's rules of when a step is made, with a count that has no bound."""
+"""The running join and the renormalised list of poses from each language, against a model: products by sim3_mul, Newton
+steps by sim3_renormalize, and the request's rules of when a step is made, with a count that has no bound."""
 import ctypes
 import math
 import random
@@ -31,7 +31,8 @@ class Model:
             self.pose, self.frames = list(numbers), frames
             return 0
         out, out_frames = doubles([0.0] * 8), frame_list((0, 0))
-        status = raw.call("mul", doubles(self.pose), frame_list(self.frames), doubles(numbers), frame_list(frames), up, out, out_frames)
+        status = raw.call("mul", doubles(self.pose), frame_list(self.frames), doubles(numbers), frame_list(frames), up,
+                          out, out_frames)
         if status:
             return status
         self.count += 1
@@ -45,7 +46,7 @@ class Model:
         self.n = n
         return 0
 
-    def told(self):
+    def pose_and_frames(self):
         """The pose's bits and frames, or None."""
         return self.pose and (bits(packed(self.pose)), self.frames)
 
@@ -61,7 +62,8 @@ class Lists:
     def push(self, numbers, frames, up):
         before = bytes(self.pose), bytes(self.state)
         status = raw.call("running_push", self.pose, self.state, doubles(numbers), frame_list(frames), up)
-        assert not status or (bytes(self.pose), bytes(self.state)) == before, f"refusal {status}, but something was written"
+        assert not status or (bytes(self.pose), bytes(self.state)) == before, (
+            f"refusal {status}, but something was written")
         return status
 
     def every(self, n):
@@ -70,7 +72,7 @@ class Lists:
         same(bytes(self.pose), before, "the pose after sim3_running_every")
         return status
 
-    def told(self):
+    def pose_and_frames(self):
         assert self.state[4] in (0, 1), f"state {list(self.state)}"
         return (bits(bytes(self.pose)), tuple(self.state[:2])) if self.state[4] else None
 
@@ -87,14 +89,14 @@ class Package:
         except sim3.Refusal as refusal:
             assert "sim3.Running.push: refusal 9: the running pose starts from frame" in str(refusal), str(refusal)
             return refusal.number
-        same(bits(packed(answer.numbers)), self.told()[0], "the pose that push gives")
+        same(bits(packed(answer.numbers)), self.pose_and_frames()[0], "the pose that push gives")
         return 0
 
     def every(self, n):
         self.running.every(n)
         return 0
 
-    def told(self):
+    def pose_and_frames(self):
         pose = self.running.pose()
         return pose and (bits(packed(pose.numbers)), (pose.from_, pose.to))
 
@@ -118,13 +120,14 @@ def history(seed):
             events.append((EVERY, draw.choice(SETTINGS)))
             continue
         meets = end is None or draw.random() < 0.85
-        start, to = draw.randrange(3), (draw.randrange(3) if end is None else end) if meets else draw.choice([k for k in range(3) if k != end])
+        start, to = draw.randrange(3), (draw.randrange(3) if end is None
+                                        else end) if meets else draw.choice([k for k in range(3) if k != end])
         events.append((PUSH, drawn(draw), (start, to), draw.uniform(0.9, 1.1)))
         end = start if meets else end
     return events
 
 
-def done(joined, event):
+def apply(joined, event):
     return joined.every(event[1]) if event[0] == EVERY else joined.push(*event[1:])
 
 
@@ -134,14 +137,14 @@ def histories_in_python():
         model, lists, package = Model(), Lists(), Package()
         for at, event in enumerate(history(seed)):
             before = model.count
-            due = done(model, event)
+            expected = apply(model, event)
             steps += model.count < before
-            refused += due == 9
+            refused += expected == 9
             for joined in (lists, package):
                 what = f"history {seed}, event {at}, {type(joined).__name__}"
-                same(done(joined, event), due, f"{what}: status")
-                same(joined.told(), model.told(), f"{what}: the running pose")
-    assert steps > 300 and refused > 200, f"{steps} renormalisations and {refused} refusals are too few to tell"
+                same(apply(joined, event), expected, f"{what}: status")
+                same(joined.pose_and_frames(), model.pose_and_frames(), f"{what}: the running pose")
+    assert steps > 300 and refused > 200, f"{steps} renormalisations and {refused} refusals are too few"
 
 
 def past_every_count():
@@ -158,23 +161,26 @@ def past_every_count():
             joined.every(n)
         for _ in range(5):
             same(lists.push(step, (1, 1), 1.0), model.push(step, (1, 1), 1.0), "status")
-            same(lists.told(), model.told(), f"the running pose after 66,000 products and n = {n}")
+            same(lists.pose_and_frames(), model.pose_and_frames(),
+                 f"the running pose after 66,000 products and n = {n}")
 
 
 def lengths():
     """Every other length is refused by 100, and nothing is written."""
     right = {"pose": 8, "state": 5, "x": 8, "x_frames": 2}
-    for name, made in raw.RUNNING.items():
+    for name, signature in raw.RUNNING.items():
         if not name.startswith("running"):
             continue
-        for wrong in (argument for argument, _, use in made if use != raw.NUMBER):
+        for wrong in (argument for argument, _, use in signature if use != raw.NUMBER):
             for count in (0, 1, right[wrong] - 1, right[wrong] + 1, 1000):
-                arguments = [1 if use == raw.NUMBER else (kind * (count if argument == wrong else right[argument]))(*[1] * (count if argument == wrong else right[argument]))
-                             for argument, kind, use in made]
+                sizes = {**right, wrong: count}
+                arguments = [1 if use == raw.NUMBER else (kind * sizes[argument])(*[1] * sizes[argument])
+                             for argument, kind, use in signature]
                 lists = [x for x in arguments if isinstance(x, ctypes.Array)]
                 before = [bytes(x) for x in lists]
                 same(raw.call(name, *arguments), 100, f"sim3_{name} with {wrong} of {count}")
-                same([bytes(x) for x in lists], before, f"sim3_{name} with {wrong} of {count}: refused, but something was written")
+                same([bytes(x) for x in lists], before,
+                     f"sim3_{name} with {wrong} of {count}: refused, but something was written")
 
 
 def poses(count):
@@ -182,26 +188,27 @@ def poses(count):
     return [(drawn(draw), (draw.randrange(65_536), draw.randrange(65_536))) for _ in range(count)]
 
 
-def alone(numbers):
+def renormalized(numbers):
     """A pose's numbers after sim3_renormalize."""
-    lent = doubles(numbers)
-    same(raw.call("renormalize", lent), 0, "sim3_renormalize")
-    return list(lent)
+    buffer = doubles(numbers)
+    same(raw.call("renormalize", buffer), 0, "sim3_renormalize")
+    return list(buffer)
 
 
 def lists_in_python():
     for count in (0, 1, 2, 3, 7, 500):
         given = poses(count)
-        due = [alone(numbers) for numbers, _ in given]
-        lent = doubles([x for numbers, _ in given for x in numbers])
-        same(raw.call("renormalize_all", lent), 0, f"sim3_renormalize_all of {count} poses")
-        same(bits(bytes(lent)), bits(packed([x for numbers in due for x in numbers])), f"{count} poses")
+        expected = [renormalized(numbers) for numbers, _ in given]
+        buffer = doubles([x for numbers, _ in given for x in numbers])
+        same(raw.call("renormalize_all", buffer), 0, f"sim3_renormalize_all of {count} poses")
+        same(bits(bytes(buffer)), bits(packed([x for numbers in expected for x in numbers])), f"{count} poses")
         found = sim3.renormalize_all([sim3.Pose(numbers, *frames) for numbers, frames in given])
-        same([(bits(packed(x.numbers)), (x.from_, x.to)) for x in found], [(bits(packed(x)), frames) for x, (_, frames) in zip(due, given)], "sim3.renormalize_all")
+        same([(bits(packed(x.numbers)), (x.from_, x.to)) for x in found],
+             [(bits(packed(x)), frames) for x, (_, frames) in zip(expected, given)], "sim3.renormalize_all")
     for count in (1, 7, 9, 8_001):
-        lent = doubles([0.5] * count)
-        same(raw.call("renormalize_all", lent), 100, f"sim3_renormalize_all of {count} numbers")
-        same(list(lent), [0.5] * count, f"{count} numbers after a refusal")
+        buffer = doubles([0.5] * count)
+        same(raw.call("renormalize_all", buffer), 100, f"sim3_renormalize_all of {count} numbers")
+        same(list(buffer), [0.5] * count, f"{count} numbers after a refusal")
 
 
 def in_words():
@@ -211,9 +218,13 @@ def in_words():
     running.push(sim3.Pose([1, 0, 0, 0, 0, 0, 0, 0], 3, 4))
     running.every(7)
     assert "every 7 products" in repr(running) and "Pose(" in repr(running), repr(running)
-    for wrong, kind, part in ((lambda: running.push([1.0] * 8), TypeError, "expected a sim3.Pose"), (lambda: running.every(-1), OverflowError, "n is -1"),
-                              (lambda: running.every(1.5), TypeError, "n is float"), (lambda: running.push(sim3.Pose([1.0], 1, 3)), sim3.Refusal, "refusal 100: numbers has 1 number"),
-                              (lambda: sim3.renormalize_all([[1.0] * 8]), TypeError, "poses[0]"), (lambda: sim3.compare_tangents([1.0], [1.0] * 7), sim3.Refusal, "refusal 100")):
+    for wrong, kind, part in ((lambda: running.push([1.0] * 8), TypeError, "expected a sim3.Pose"),
+                              (lambda: running.every(-1), OverflowError, "n is -1"),
+                              (lambda: running.every(1.5), TypeError, "n is float"),
+                              (lambda: running.push(sim3.Pose([1.0], 1, 3)), sim3.Refusal,
+                               "refusal 100: numbers has 1 number"),
+                              (lambda: sim3.renormalize_all([[1.0] * 8]), TypeError, "poses[0]"),
+                              (lambda: sim3.compare_tangents([1.0], [1.0] * 7), sim3.Refusal, "refusal 100")):
         try:
             answer = wrong()
         except kind as error:
@@ -234,21 +245,23 @@ def in_rust():
     given = poses(100)
     with tempfile.TemporaryDirectory() as work:
         program = rust_program("tests/bindings_lib/running.rs", work)
-        told = [run([program, "history"], b"".join(map(words_of, events))) for events in histories]
-        all_told = run([program, "all"], b"".join(struct.pack("<8d2Q", *numbers, *frames) for numbers, frames in given))
-    for seed, (events, answer) in enumerate(zip(histories, told)):
+        outputs = [run([program, "history"], b"".join(map(words_of, events))) for events in histories]
+        all_output = run([program, "all"],
+                         b"".join(struct.pack("<8d2Q", *numbers, *frames) for numbers, frames in given))
+    for seed, (events, answer) in enumerate(zip(histories, outputs)):
         model, at = Model(), 0
         for event in events:
-            due, pose = done(model, event), model.told()
+            expected, pose = apply(model, event), model.pose_and_frames()
             found = struct.unpack_from("<12Q", answer, at)
-            same(found[:2], (due, 1 if pose else 0), f"history {seed} in Rust: status, and whether there is a pose")
+            same(found[:2], (expected, 1 if pose else 0),
+                 f"history {seed} in Rust: status, and whether there is a pose")
             if pose:
                 same((bits(answer[at + 16:at + 80]), found[10:]), pose, f"history {seed} in Rust: the running pose")
             at += 96
         same(at, len(answer), f"history {seed} in Rust: bytes")
     for at, (numbers, frames) in enumerate(given):
-        same(bits(all_told[80 * at:80 * at + 64]), bits(packed(alone(numbers))), "renormalize_all in Rust")
-        same(struct.unpack_from("<2Q", all_told, 80 * at + 64), frames, "the frames after renormalize_all in Rust")
+        same(bits(all_output[80 * at:80 * at + 64]), bits(packed(renormalized(numbers))), "renormalize_all in Rust")
+        same(struct.unpack_from("<2Q", all_output, 80 * at + 64), frames, "the frames after renormalize_all in Rust")
 
 
 TESTS = [histories_in_python, past_every_count, lengths, lists_in_python, in_words, in_rust]

@@ -15,16 +15,16 @@ fn words(x: &Pose) -> impl Iterator<Item = u64> {
     x.numbers.map(f64::to_bits).into_iter().chain([x.from as u64, x.to as u64])
 }
 
-fn history(mut given: &[u64]) -> Vec<u64> {
+fn history(mut input: &[u64]) -> Vec<u64> {
     let mut running = Running::new();
-    let mut told = Vec::new();
-    while let Some((&event, rest)) = given.split_first() {
+    let mut answers = Vec::new();
+    while let Some((&event, rest)) = input.split_first() {
         let status = if event == 1 {
             running.every(rest[0] as u16);
-            given = &rest[1..];
+            input = &rest[1..];
             0
         } else {
-            given = &rest[11..];
+            input = &rest[11..];
             match running.push(&pose(rest), f64::from_bits(rest[10])) {
                 Ok(x) => {
                     assert!(running.pose().map(|y| words(&y).eq(words(&x))) == Some(true));
@@ -36,15 +36,15 @@ fn history(mut given: &[u64]) -> Vec<u64> {
                 }
             }
         };
-        let held = running.pose();
-        told.extend([status, held.is_some() as u64]);
-        told.extend(words(&held.unwrap_or(Pose { numbers: [0.0; 8], from: 0, to: 0 })));
+        let pose_now = running.pose();
+        answers.extend([status, pose_now.is_some() as u64]);
+        answers.extend(words(&pose_now.unwrap_or(Pose { numbers: [0.0; 8], from: 0, to: 0 })));
     }
-    told
+    answers
 }
 
-fn all(given: &[u64]) -> Vec<u64> {
-    let mut poses: Vec<Pose> = given.chunks_exact(10).map(pose).collect();
+fn all(input: &[u64]) -> Vec<u64> {
+    let mut poses: Vec<Pose> = input.chunks_exact(10).map(pose).collect();
     renormalize_all(&mut poses);
     poses.iter().flat_map(words).collect()
 }
@@ -52,11 +52,11 @@ fn all(given: &[u64]) -> Vec<u64> {
 fn main() -> io::Result<()> {
     let mut bytes = Vec::new();
     io::stdin().read_to_end(&mut bytes)?;
-    let given: Vec<u64> =
+    let input: Vec<u64> =
         bytes.chunks_exact(8).map(|b| u64::from_le_bytes(b.try_into().unwrap())).collect();
-    let told = match std::env::args().nth(1).as_deref() {
-        Some("history") => history(&given),
-        _ => all(&given),
+    let answers = match std::env::args().nth(1).as_deref() {
+        Some("history") => history(&input),
+        _ => all(&input),
     };
-    io::stdout().write_all(&told.iter().flat_map(|w| w.to_le_bytes()).collect::<Vec<u8>>())
+    io::stdout().write_all(&answers.iter().flat_map(|w| w.to_le_bytes()).collect::<Vec<u8>>())
 }

@@ -89,35 +89,39 @@ class Package:
 
 
 def shots():
-    """Shots of some 700 sheets, so that 512 are soon there, with takes that rise, fall and are the same; 0 and 65,535 too."""
+    """Shots of some 700 sheets, so that 512 are soon there, with takes that rise, fall and are the same; 0 and 65,535
+    too."""
     draw = random.Random("sheets")
     names = draw.sample(range(65_536), 698) + [0, 65_535]
-    return [(draw.choice(names), draw.choice((0, 1, 2, 3, 65_535, draw.randrange(65_536))), drawn(draw), (draw.randrange(65_536), draw.randrange(65_536))) for _ in range(SHOTS)]
+    return [(draw.choice(names), draw.choice((0, 1, 2, 3, 65_535, draw.randrange(65_536))), drawn(draw),
+             (draw.randrange(65_536), draw.randrange(65_536))) for _ in range(SHOTS)]
 
 
 def in_python():
-    model, others, numbers = Model(), (Bytes(), Package()), set()
+    model, stores, numbers = Model(), (Bytes(), Package()), set()
     draw = random.Random("asked")
     for at, shot in enumerate(shots()):
-        due = model.put(*shot)
-        numbers.add(due[0])
-        for store in others:
-            same(store.put(*shot), due, f"shot {at}, {type(store).__name__}")
+        expected = model.put(*shot)
+        numbers.add(expected[0])
+        for store in stores:
+            same(store.put(*shot), expected, f"shot {at}, {type(store).__name__}")
         if at % 2:
             sheet = draw.choice((shot[0], draw.randrange(65_536)))
-            due = model.get(sheet)
-            numbers.add(due[0])
-            for store in others:
-                same(store.get(sheet), due, f"sheet {sheet} after shot {at}, {type(store).__name__}")
+            expected = model.get(sheet)
+            numbers.add(expected[0])
+            for store in stores:
+                same(store.get(sheet), expected, f"sheet {sheet} after shot {at}, {type(store).__name__}")
     same(numbers, {0, 10, 11, 12}, "the refusals that were seen")
 
 
 def kept_in(store):
-    """What is kept in any bytes: of a sheet the shot in the slot that is named for it, if that slot is in use and holds the sheet's number."""
+    """What is kept in any bytes: of a sheet the shot in the slot that is named for it, if that slot is in use and holds
+    the sheet's number."""
     used, = struct.unpack_from("<H", store, TAIL)
     held = [struct.unpack_from("<2H8d2H", store, SLOTS + SLOT * slot) for slot in range(512)]
     named = [slot % 512 for slot in struct.unpack_from("<65536H", store)]
-    return {sheet: (held[slot][1], held[slot][2:10], held[slot][10:]) for sheet, slot in enumerate(named) if slot < used and held[slot][0] == sheet}
+    return {sheet: (held[slot][1], held[slot][2:10], held[slot][10:])
+            for sheet, slot in enumerate(named) if slot < used and held[slot][0] == sheet}
 
 
 def plain(kept):
@@ -125,7 +129,8 @@ def plain(kept):
 
 
 def full(but=0):
-    """A store in which 512 sheets were kept; then in so many slots another number is written, so that they are no sheet's."""
+    """A store in which 512 sheets were kept; then in so many slots another number is written, so that they are no
+    sheet's."""
     store = Bytes()
     for sheet in range(512):
         store.put(100 * sheet, 1, [1.0] * 8, (1, 1))
@@ -136,7 +141,8 @@ def full(but=0):
 
 
 def any_bytes():
-    """Whatever bytes are lent: what is kept is read from them, a further sheet is refused where 512 are kept and nowhere else, and a refusal leaves every byte."""
+    """A store of any bytes: the kept sheets are read from it, a further sheet is refused only if 512 are kept, and a
+    refusal changes no byte."""
     draw, numbers = random.Random("any bytes"), set()
     used = lambda n: struct.pack("<H", n)
     starts = [bytes([255]) * raw.SHEETS_SIZE, bytes(TAIL) + used(512), full(), full(1), full(40)]
@@ -148,9 +154,9 @@ def any_bytes():
         for at in range(1_200):
             sheet = names[at] if at < 600 else draw.choice(names)
             shot = sheet, draw.choice((0, 1, 2, 65_535)), drawn(draw), (draw.randrange(65_536), draw.randrange(65_536))
-            due = model.put(*shot)
-            numbers.add(due[0])
-            same(store.put(*shot), due, f"start {number}, shot {at}")
+            expected = model.put(*shot)
+            numbers.add(expected[0])
+            same(store.put(*shot), expected, f"start {number}, shot {at}")
             same(store.get(sheet), model.get(sheet), f"start {number}, sheet {sheet} after shot {at}")
         same(plain(kept_in(bytes(store.store))), plain(model.kept), f"start {number}: what is kept")
         same(len(model.kept), 512, f"start {number}: how many are kept")
@@ -160,22 +166,23 @@ def any_bytes():
 def lengths():
     """Every other length is refused by 100, and nothing is written."""
     right = {"store": raw.SHEETS_SIZE, "x": 8, "x_frames": 2, "take": 1, "out_frames": 2}
-    for name, made in raw.RUNNING.items():
+    for name, signature in raw.RUNNING.items():
         if not name.startswith("sheets"):
             continue
-        for wrong in (argument for argument, _, use in made if use != raw.NUMBER):
+        for wrong in (argument for argument, _, use in signature if use != raw.NUMBER):
             for add in (-1, 1, 1000):
                 store = Bytes()
                 store.put(5, 5, [1.0] * 8, (1, 1))
                 arguments = []
-                for argument, kind, use in made:
+                for argument, kind, use in signature:
                     if use == raw.NUMBER:
                         arguments.append(5)
                         continue
-                    due = right.get(argument) or (8 if name == "sheets_get" else 2)
-                    filled = bytes(store.store) if argument == "store" else bytes(kind(1)) * due
-                    count = due + (add if argument == wrong else 0)
-                    arguments.append((kind * count).from_buffer_copy((filled + bytes(8_000))[:count * ctypes.sizeof(kind)]))
+                    length = right.get(argument) or (8 if name == "sheets_get" else 2)
+                    filled = bytes(store.store) if argument == "store" else bytes(kind(1)) * length
+                    filled += bytes(8_000)
+                    count = length + (add if argument == wrong else 0)
+                    arguments.append((kind * count).from_buffer_copy(filled[:count * ctypes.sizeof(kind)]))
                 lists = [x for x in arguments if isinstance(x, ctypes.Array)]
                 before = [bytes(x) for x in lists]
                 same(raw.call(name, *arguments), 100, f"sim3_{name} with {wrong} of {add:+}")
@@ -185,15 +192,18 @@ def lengths():
 def in_rust():
     with tempfile.TemporaryDirectory() as work:
         program = rust_program("tests/bindings_lib/sheets.rs", work)
-        told = run([program], b"".join(struct.pack("<2Q8d2Q", sheet, take, *numbers, *frames) for sheet, take, numbers, frames in shots()))
+        output = run([program], b"".join(struct.pack("<2Q8d2Q", sheet, take, *numbers, *frames)
+                                         for sheet, take, numbers, frames in shots()))
     model, at = Model(), 0
     for shot in shots():
         number, answer = model.put(*shot)
-        status, (take, found, frames) = model.get(shot[0]) if shot[0] in model.kept else (12, (0, bits(bytes(64)), (0, 0)))
-        words = struct.unpack_from("<15Q", told, at)
-        same((words[:3], words[3:5], bits(told[at + 40:at + 104]), words[13:]), ((number, *(answer or (0, 0))), (status, take), found, frames), f"shot {at // 120} in Rust")
+        not_kept = 12, (0, bits(bytes(64)), (0, 0))
+        status, (take, found, frames) = model.get(shot[0]) if shot[0] in model.kept else not_kept
+        words = struct.unpack_from("<15Q", output, at)
+        same((words[:3], words[3:5], bits(output[at + 40:at + 104]), words[13:]),
+             ((number, *(answer or (0, 0))), (status, take), found, frames), f"shot {at // 120} in Rust")
         at += 120
-    same(at, len(told), "bytes of sheets.rs")
+    same(at, len(output), "bytes of sheets.rs")
 
 
 TESTS = [in_python, any_bytes, lengths, in_rust]

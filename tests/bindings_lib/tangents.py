@@ -1,4 +1,5 @@
-"""The order of tangents from each language: the bare calls, the package and the Rust crate against the standard's cases on whole numbers."""
+"""The order of tangents from each language: the bare calls, the package and the Rust crate against the standard's cases
+on whole numbers."""
 import array
 import ctypes
 import struct
@@ -7,7 +8,7 @@ import tempfile
 import sim3
 from .common import run, rust_program, same
 from order_lib import samples
-from order_lib.exact import compared, put_in_order
+from order_lib.exact import compare, sort
 from sim3 import raw
 
 PAIRS, LISTS = 300, 40
@@ -21,22 +22,23 @@ def pairs_in_python():
     for a, b in samples.pairs("bindings", PAIRS):
         out = (ctypes.c_int64 * 1)(99)
         same(raw.call("compare_tangents", words_of(a), words_of(b), out), 0, "sim3_compare_tangents")
-        same(out[0], compared(a, b), f"the order of {a} and {b}")
-        same(sim3.compare_tangents(array.array("Q", a), array.array("Q", b)), compared(a, b), "sim3.compare_tangents of patterns")
+        same(out[0], compare(a, b), f"the order of {a} and {b}")
+        same(sim3.compare_tangents(array.array("Q", a), array.array("Q", b)), compare(a, b),
+             "sim3.compare_tangents of patterns")
 
 
 def lists_in_python():
     for words in samples.lists("bindings", LISTS):
-        due, left = put_in_order(words)
-        lent = words_of(words)
-        same(raw.call("sort_tangents", lent), due, f"sim3_sort_tangents of {len(words)} numbers")
-        same(list(lent), left, f"what a list of {len(words)} numbers then holds")
+        status_expected, sorted_expected = sort(words)
+        buffer = words_of(words)
+        same(raw.call("sort_tangents", buffer), status_expected, f"sim3_sort_tangents of {len(words)} numbers")
+        same(list(buffer), sorted_expected, f"what a list of {len(words)} numbers then holds")
         given = array.array("Q", words)
         try:
-            same(list(sim3.sort_tangents(given)), left, "sim3.sort_tangents of patterns")
-            same(due, 0, "refusal")
+            same(list(sim3.sort_tangents(given)), sorted_expected, "sim3.sort_tangents of patterns")
+            same(status_expected, 0, "refusal")
         except sim3.Refusal as refusal:
-            same(refusal.number, due, "number of the refusal")
+            same(refusal.number, status_expected, "number of the refusal")
         same(list(given), words, "the list that was handed in")
 
 
@@ -48,7 +50,8 @@ def numbers_in_python():
     same(list(sim3.sort_tangents([2.0, *tau[1:], *tau])), [*tau, 2.0, *tau[1:]], "two tangents")
     words = [0xFFF8_0000_0000_0001, 0x7FF0_0000_0000_0001] + [0] * 5
     doubles = array.array("d", struct.pack("<7Q", *words) + struct.pack("<7Q", *reversed(words)))
-    same(struct.unpack("<14Q", sim3.sort_tangents(doubles).tobytes()), (*words, *reversed(words)), "NaNs of a buffer of doubles")
+    same(struct.unpack("<14Q", sim3.sort_tangents(doubles).tobytes()), (*words, *reversed(words)),
+         "NaNs of a buffer of doubles")
 
 
 def lengths():
@@ -57,7 +60,8 @@ def lengths():
         for count in (0, 1, 6, 7, 8, 1000):
             counts = [7, 7, 1]
             counts[place] = count
-            lists = [words_of([1] * counts[0]), words_of([1] * counts[1]), (ctypes.c_int64 * counts[2])(*[77] * counts[2])]
+            lists = [words_of([1] * counts[0]), words_of([1] * counts[1]),
+                     (ctypes.c_int64 * counts[2])(*[77] * counts[2])]
             number = 0 if counts == [7, 7, 1] else 100
             same(raw.call("compare_tangents", *lists), number, f"sim3_compare_tangents with lists of {counts}")
             assert not number or set(lists[2]) <= {77}, f"lists of {counts}: refused, but a number was written"
@@ -88,14 +92,18 @@ def in_words():
 
 
 def in_rust():
-    pairs, lists = samples.pairs("bindings", PAIRS), [words for words in samples.lists("bindings", LISTS) if len(words) % 7 == 0]
+    pairs, lists = samples.pairs("bindings",
+                                 PAIRS), [words for words in samples.lists("bindings", LISTS) if len(words) % 7 == 0]
     with tempfile.TemporaryDirectory() as work:
         program = rust_program("tests/bindings_lib/tangents.rs", work)
-        told = run([program, "compare"], b"".join(struct.pack("<14Q", *a, *b) for a, b in pairs))
-        same([order for order, in struct.iter_unpack("<q", told)], [compared(a, b) for a, b in pairs], "compare_tangents in Rust")
-        told = run([program, "sort"], b"".join(struct.pack(f"<{len(words) + 1}Q", len(words), *words) for words in lists))
-    due = b"".join(struct.pack(f"<{len(words) + 1}Q", status, *left) for words in lists for status, left in [put_in_order(words)])
-    same(told, due, "sort_tangents in Rust")
+        output = run([program, "compare"], b"".join(struct.pack("<14Q", *a, *b) for a, b in pairs))
+        same([order for order, in struct.iter_unpack("<q", output)], [compare(a, b) for a, b in pairs],
+             "compare_tangents in Rust")
+        output = run([program, "sort"], b"".join(struct.pack(f"<{len(words) + 1}Q", len(words), *words)
+                                                 for words in lists))
+    expected = b"".join(struct.pack(f"<{len(words) + 1}Q", status, *sorted_expected) for words in lists
+                        for status, sorted_expected in [sort(words)])
+    same(output, expected, "sort_tangents in Rust")
 
 
 TESTS = [pairs_in_python, lists_in_python, numbers_in_python, lengths, in_words, in_rust]

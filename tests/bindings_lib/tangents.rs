@@ -16,15 +16,16 @@ fn compare(words: &[u64]) -> Vec<u64> {
 }
 
 fn sort(mut words: &[u64]) -> Vec<u64> {
-    let mut told = Vec::new();
+    let mut answers = Vec::new();
     while let Some((&count, rest)) = words.split_first() {
         let (numbers, others) = rest.split_at(count as usize);
         let mut list: Vec<Tangent> = numbers.chunks_exact(7).map(tangent).collect();
-        told.push(sort_tangents(&mut list).map_or_else(|refusal| refusal.number() as u64, |()| 0));
-        told.extend(list.iter().flat_map(|tau| tau.0).map(|x| x.to_bits()));
+        answers
+            .push(sort_tangents(&mut list).map_or_else(|refusal| refusal.number() as u64, |()| 0));
+        answers.extend(list.iter().flat_map(|tau| tau.0).map(|x| x.to_bits()));
         words = others;
     }
-    told
+    answers
 }
 
 fn main() -> io::Result<()> {
@@ -32,9 +33,9 @@ fn main() -> io::Result<()> {
     io::stdin().read_to_end(&mut bytes)?;
     let words: Vec<u64> =
         bytes.chunks_exact(8).map(|b| u64::from_le_bytes(b.try_into().unwrap())).collect();
-    let told = match std::env::args().nth(1).as_deref() {
+    let answers = match std::env::args().nth(1).as_deref() {
         Some("compare") => compare(&words),
         _ => sort(&words),
     };
-    io::stdout().write_all(&told.iter().flat_map(|w| w.to_le_bytes()).collect::<Vec<u8>>())
+    io::stdout().write_all(&answers.iter().flat_map(|w| w.to_le_bytes()).collect::<Vec<u8>>())
 }

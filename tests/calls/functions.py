@@ -1,9 +1,10 @@
-"""The functions that tests/calls drives: judge-lib's table (oracle/README.md) with the port's function for each id, six that the job's marks reach, those
-of poses with their frames, and the stopped pass over the reciprocals.
+"""The functions that tests/calls drives: judge-lib's table (oracle/README.md) with the port's function for each id, six
+that the job's marks reach, those of poses with their frames, and the stopped pass over the reciprocals.
 
-A row is: id, name, what goes in, what comes out, the call and, where it can refuse, the case of its answer that holds the result.
-In: NAME:KIND, in the order of the record. Out: KIND, or KIND:EXPRESSION where the result r has several parts.
-`count`, `index` and `frame` are 64-bit whole numbers and go beside the doubles; a `list` is the last input and the only output.
+A row is: id, name, what goes in, what comes out, the call and, where it can refuse, the case of its answer that holds
+the result. In: NAME:KIND, in the order of the record. Out: KIND, or KIND:EXPRESSION where the result r has several
+parts. `count`, `index` and `frame` are 64-bit whole numbers and go beside the doubles; a `list` is the last input and
+the only output.
 """
 from collections import namedtuple
 
@@ -20,7 +21,7 @@ Function = namedtuple("Function", "id name takes gives call answer")
 CIRCLE = "circle::kernel::"
 SERIES = "series::sim3::"
 COEFFS = "coeffs::sim3::"
-SIDE = "sides::side::"
+SIDE = "side_jacobians::side::"
 HALVES = "v.root, v.sin_half, v.cos_half"
 TANGENT_JL = "tau:tangent v:values jl:mat"
 TANGENT_BOTH = TANGENT_JL + " inv:mat"
@@ -30,7 +31,8 @@ ACT_OUT = "mat:r.rot mat:r.trans vec:r.scale mat:r.point"
 TWO_OUT = "block:r.first block:r.second"
 POSE_OUT = "pose:r.sim3 byte:r.from byte:r.to"
 FRAMES = "from:frame to:frame"
-HORNER_OUT = " ".join(f"num:r.{arm}.{sum}.{sign}" for arm in ("series", "series_alone", "closed", "closed_alone") for sum in ("v0", "w0") for sign in ("pos", "neg"))
+HORNER_OUT = " ".join(f"num:r.{arm}.{sum}.{sign}" for arm in ("series", "series_alone", "closed", "closed_alone")
+                      for sum in ("v0", "w0") for sign in ("pos", "neg"))
 TWO_FRAMES = FRAMES + " other_from:frame other_to:frame"
 POSE, OTHER, JOINED = "framed(p, from, to)", "framed(o, other_from, other_to)", "Ok"
 
@@ -59,7 +61,8 @@ ROWS = [
     (24, "Mat3 col", "m:mat j:index", "vec", "m.col(j)", "Ok"),
     (25, "Mat3 row", "m:mat i:index", "vec", "m.row(i)", "Ok"),
     (26, "Mat3 from_rows", "a:vec b:vec c:vec", "mat", "Mat3::from_rows(a, b, c)"),
-    (30, "Quat from_wxyz_normalized", "w:num i:num j:num k:num n:num", "quat", "Quat::from_wxyz_normalized(w, i, j, k, n)"),
+    (30, "Quat from_wxyz_normalized", "w:num i:num j:num k:num n:num", "quat",
+     "Quat::from_wxyz_normalized(w, i, j, k, n)"),
     (31, "Quat from_jpl", "a:four", "quat", "Quat::from_jpl(a)"),
     (32, "Quat conjugate", "q:quat", "quat", "q.conjugate()"),
     (33, "Quat norm_sq", "q:quat", "num", "q.norm_sq()"),
@@ -72,19 +75,23 @@ ROWS = [
     (41, "SO3 inv_act", "q:quat v:vec", "vec", "so3::so3::inv_act(q, v)"),
     (42, "SO3 exp", "phi:vec v:values", "quat", f"so3::so3::exp(phi, {HALVES})"),
     (50, "exp_coeffs", "z:num v:values", "num:r.k num:r.cos_half", f"{CIRCLE}exp_coeffs(z, {HALVES})", "Ok"),
-    (51, "sinc_a_b_d", "z:num v:values", "num:r.sinc num:r.a num:r.b num:r.d", f"{CIRCLE}sinc_a_b_d(z, {HALVES}, v.sin)", "Ok"),
+    (51, "sinc_a_b_d", "z:num v:values", "num:r.sinc num:r.a num:r.b num:r.d",
+     f"{CIRCLE}sinc_a_b_d(z, {HALVES}, v.sin)", "Ok"),
     (52, "sinc_value", "z:num v:values", "num", f"{CIRCLE}sinc_value(z, {HALVES})", "Ok"),
     (60, "series, full", SERIES_IN, "coeffs", SERIES + "series(sigma, z, k)", "Ok"),
     (61, "series, v alone", SERIES_IN, "coeffs4", SERIES + "series_v(sigma, z, k)", "Ok"),
     (62, "series, full pair", SERIES_IN, "coeffs:r.pos coeffs:r.neg", "series::pair::series_pair(sigma, z, k)", "Ok"),
     (63, "sim3_coeffs", COEFFS_IN, "coeffs", COEFFS + "sim3_coeffs(sigma, z, v)", "Ok"),
     (64, "sim3_v", COEFFS_IN, "coeffs4", COEFFS + "sim3_v(sigma, z, v)", "Ok"),
-    (65, "sim3_v_scaled", COEFFS_IN, "num:r.c.v0 num:r.c.v1 num:r.c.v2 flag:r.scaled", COEFFS + "sim3_v_scaled(sigma, z, v)", "Ok"),
-    (66, "unscale", "c:coeffs up:num scaled:num", "coeffs", f"({COEFFS}Scaled {{ c, scaled: scaled != 0.0 }}).unscale(up)"),
+    (65, "sim3_v_scaled", COEFFS_IN, "num:r.c.v0 num:r.c.v1 num:r.c.v2 flag:r.scaled",
+     COEFFS + "sim3_v_scaled(sigma, z, v)", "Ok"),
+    (66, "unscale", "c:coeffs up:num scaled:num", "coeffs",
+     f"({COEFFS}Scaled {{ c, scaled: scaled != 0.0 }}).unscale(up)"),
     (67, "sim3_coeffs_scaled", COEFFS_IN, "coeffs:r.c flag:r.scaled", COEFFS + "sim3_coeffs_scaled(sigma, z, v)", "Ok"),
     (68, "sim3_coeffs_scaled_pair", COEFFS_IN, "coeffs:r.pos.c flag:r.pos.scaled coeffs:r.neg.c flag:r.neg.scaled",
      COEFFS + "sim3_coeffs_scaled_pair(sigma, z, v)", "Ok"),
-    (69, "sim3_coeffs_armed", COEFFS_IN, "byte:r.arm.number() flag:r.ends coeffs:r.s.c flag:r.s.scaled", COEFFS + "sim3_coeffs_armed(sigma, z, v)", "Ok"),
+    (69, "sim3_coeffs_armed", COEFFS_IN, "byte:r.arm.number() flag:r.ends coeffs:r.s.c flag:r.s.scaled",
+     COEFFS + "sim3_coeffs_armed(sigma, z, v)", "Ok"),
     (70, "Sim3Tangent zero", "", "tangent", "Sim3Tangent::zero()"),
     (71, "Sim3Tangent add", "a:tangent b:tangent", "tangent", "a.add(b)"),
     (72, "Sim3Tangent sub", "a:tangent b:tangent", "tangent", "a.sub(b)"),
@@ -108,7 +115,8 @@ ROWS = [
     (92, "exp_and_jl", TANGENT_JL, "pose:r.x block:r.jl", SIDE + "exp_and_jl(tau, v, jl)"),
     (93, "Sim3 lplus_jacobians", TANGENT_JL, TWO_OUT, SIDE + "lplus_jacobians(tau, v, jl)"),
     (94, "Sim3 rplus_jacobians", TANGENT_JL, TWO_OUT, SIDE + "rplus_jacobians(tau, v, jl)"),
-    (95, "Sim3 compose_jacobians, right", "_p:pose o:pose down:num", TWO_OUT, SIDE + "compose_jacobians_right(o, down)"),
+    (95, "Sim3 compose_jacobians, right", "_p:pose o:pose down:num", TWO_OUT,
+     SIDE + "compose_jacobians_right(o, down)"),
     (96, "Sim3 compose_jacobians, left", "p:pose _o:pose up:num", TWO_OUT, SIDE + "compose_jacobians_left(p, up)"),
     (97, "Sim3 inverse_jacobian, right", "p:pose up:num", "block", SIDE + "inverse_jacobian_right(p, up)"),
     (98, "Sim3 inverse_jacobian, left", "p:pose down:num", "block", SIDE + "inverse_jacobian_left(p, down)"),
@@ -130,7 +138,8 @@ ROWS = [
     (201, "Sim3 mul", "p:pose o:pose up:num", "pose", "p.mul(o, up)"),
     (202, "Sim3 inverse", "p:pose down:num", "pose", "p.inverse(down)"),
     (203, "Sim3 act", "p:pose up:num v:vec", "vec", "p.act(up, v)"),
-    (204, "block_pair", TANGENT_BOTH, "block:r.left block:r.left_inv block:r.right block:r.right_inv", "sides::pair::block_pair(tau, v, jl, inv)"),
+    (204, "block_pair", TANGENT_BOTH, "block:r.left block:r.left_inv block:r.right block:r.right_inv",
+     "side_jacobians::pair::block_pair(tau, v, jl, inv)"),
     (205, "Sim3Jac inverse", "j:block", "block", "j.inverse()", "Ok"),
     # Poses with their frames, whose numbers are those of the functions above; framed.py has their answers.
     (210, "Pose from_parts", "p:pose " + FRAMES, POSE_OUT, "Pose::from_parts(p.q, p.t, p.sigma, between(from, to))"),
@@ -146,14 +155,16 @@ ROWS = [
     (220, "Pose exp_and_jl", TANGENT_JL + " " + FRAMES, "pose:r.x.sim3 block:r.jl byte:r.x.from byte:r.x.to",
      "framed_jacobian::exp_and_jl(tau, v, jl, between(from, to))"),
     # Of the port alone; stopped.py has its answers.
-    (221, "pass stopped", "sigma:num k:count stop:count", HORNER_OUT, "series::stopped::pass_stopped(sigma, k, stop)", "Ok"),
+    (221, "pass stopped", "sigma:num k:count stop:count", HORNER_OUT, "series::stopped::pass_stopped(sigma, k, stop)",
+     "Ok"),
 ]
 
 
 def parts(text, unnamed):
     """The parts of a row's column; an output without an expression is the result itself."""
     words = [word.split(":") for word in text.split()]
-    return [Part(word[0], word[1]) if unnamed is None else Part(word[1] if len(word) > 1 else unnamed, word[0]) for word in words]
+    return [Part(word[0], word[1]) if unnamed is None else Part(word[1] if len(word) > 1 else unnamed, word[0])
+            for word in words]
 
 
 def function(id, name, takes, gives, call, answer=None):
@@ -164,7 +175,8 @@ FUNCTIONS = [function(*row) for row in ROWS]
 
 
 def list_name(f):
-    """What the files of a function's stored list are called, before .in and .out: its name without commas, with a hyphen for each space."""
+    """What the files of a function's stored list are called, before .in and .out: its name without commas, with a
+    hyphen for each space."""
     return f.name.replace(",", "").replace(" ", "-")
 
 

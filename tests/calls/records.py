@@ -1,7 +1,8 @@
 #!/usr/bin/env python3
-"""Says where two files of answers to library calls first differ: record, function, inputs and number.
+"""Prints where two files of answers to library calls first differ: record, function, inputs and number.
 
-usage: tests/calls/records.py RECORDS WANTED GOT [f32]     exit status 0 the same, 1 a difference (told on standard output), 2 a file cannot be read
+usage: tests/calls/records.py RECORDS WANTED GOT [f32]     exit status 0 the same, 1 a difference (on standard output),
+                                                           2 a file cannot be read
 """
 import pathlib
 import struct
@@ -10,15 +11,15 @@ import sys
 sys.dont_write_bytecode = True
 sys.path.insert(0, str(pathlib.Path(__file__).resolve().parent))
 from functions import FUNCTIONS  # noqa: E402
-from header import WORD, places  # noqa: E402
-from rattle import given, is_list  # noqa: E402
+from header import WORD, record_layout  # noqa: E402
+from wrappers import is_list, output_count  # noqa: E402
 from width import DOUBLE, WIDTHS  # noqa: E402
 
 BY_ID = {f.id: f for f in FUNCTIONS}
-SHOWN = 24  # numbers of a record or an answer that are printed
+MOST_SHOWN = 24  # numbers of a record or an answer that are printed
 
 
-def word(data, at):
+def whole_number(data, at):
     return struct.unpack_from("<Q", data, at)[0]
 
 
@@ -29,9 +30,9 @@ def walk(data, width=DOUBLE):
         f = BY_ID.get(data[at])
         if f is None:
             raise ValueError(f"byte {at} is {data[at]}, the id of no function")
-        end, count = at + 1 + places(f, width)[2], given(f)
+        end, count = at + 1 + record_layout(f, width)[2], output_count(f)
         if is_list(f):
-            count = word(data, end - WORD) if end <= len(data) else 0
+            count = whole_number(data, end - WORD) if end <= len(data) else 0
             end += width.size * count
         if end > len(data):
             raise ValueError(f"the record of {f.id} {f.name} at byte {at} is cut")
@@ -39,21 +40,22 @@ def walk(data, width=DOUBLE):
         at = end
 
 
-def words(data, width):
-    """The numbers of a piece as hexadecimal, cut where they are many. A whole number at f32 is two, the low half first."""
+def numbers_text(data, width):
+    """The numbers of a piece as hexadecimal, cut where they are many. A whole number at f32 is two, the low half
+    first."""
     found = [data[i:i + width.size][::-1].hex() for i in range(0, len(data) - len(data) % width.size, width.size)]
-    more = [f"and {len(found) - SHOWN} more"] if len(found) > SHOWN else []
-    return " ".join(found[:SHOWN] + more) or "nothing"
+    more = [f"and {len(found) - MOST_SHOWN} more"] if len(found) > MOST_SHOWN else []
+    return " ".join(found[:MOST_SHOWN] + more) or "nothing"
 
 
-def told(answer, width):
+def answer_text(answer, width):
     """An answer in words."""
     if not answer:
         return "no answer"
-    return f"refusal {answer[0]}" if answer[0] else words(answer[1:], width)
+    return f"refusal {answer[0]}" if answer[0] else numbers_text(answer[1:], width)
 
 
-def number_apart(wanted, got, width):
+def differing_number(wanted, got, width):
     """Which number of two answers differs first."""
     if not got or wanted[0] or got[0]:
         return ""
@@ -61,7 +63,8 @@ def number_apart(wanted, got, width):
     for i in range(1, len(wanted), size):
         a, b = wanted[i:i + size], got[i:i + size]
         if a != b:
-            return f"\n  number {i // size + 1} of {len(wanted) // size}: wanted {words(a, width)}, got {words(b, width)}"
+            return (f"\n  number {i // size + 1} of {len(wanted) // size}: wanted {numbers_text(a, width)}, got "
+                    f"{numbers_text(b, width)}")
     return ""
 
 
@@ -69,13 +72,16 @@ def difference(data, wanted, got, width=DOUBLE):
     """Where the answers first differ, or None."""
     at = 0
     for number, (f, start, end, count) in enumerate(walk(data, width), 1):
-        due, is_ = (answers[at:at + (1 + width.size * count if answers[at:at + 1] == b"\0" else 1)] for answers in (wanted, got))
-        if not due:
+        expected, actual = (answers[at:at + (1 + width.size * count if answers[at:at + 1] == b"\0" else 1)]
+                            for answers in (wanted, got))
+        if not expected:
             return f"record {number}, {f.id} {f.name}: no answer is stored for it"
-        if due != is_:
+        if expected != actual:
             head = f"record {number} (byte {start}) differs: {f.id} {f.name}"
-            return f"{head}\n  in     {words(data[start + 1:end], width)}\n  wanted {told(due, width)}\n  got    {told(is_, width)}{number_apart(due, is_, width)}"
-        at += len(due)
+            return (f"{head}\n  in     {numbers_text(data[start + 1:end], width)}\n  wanted "
+                    f"{answer_text(expected, width)}\n  got    "
+                    f"{answer_text(actual, width)}{differing_number(expected, actual, width)}")
+        at += len(expected)
     if len(wanted) != at or len(got) != at:
         return f"the answers to all records are {at} bytes; wanted has {len(wanted)}, got has {len(got)}"
     return None
@@ -85,7 +91,8 @@ def main():
     if len(sys.argv) not in (4, 5) or sys.argv[4:] not in ([], ["f32"]):
         sys.exit("usage: tests/calls/records.py RECORDS WANTED GOT [f32]")
     try:
-        found = difference(*(pathlib.Path(name).read_bytes() for name in sys.argv[1:4]), WIDTHS[(sys.argv[4:] or ["f64"])[0]])
+        found = difference(*(pathlib.Path(name).read_bytes() for name in sys.argv[1:4]),
+                           WIDTHS[(sys.argv[4:] or ["f64"])[0]])
     except (OSError, ValueError) as error:
         print(f"records: {error}", file=sys.stderr)
         sys.exit(2)

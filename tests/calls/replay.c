@@ -2,10 +2,10 @@
 //
 // Reads standard input, writes standard output. A record is one byte, the function's id, and its inputs, little endian:
 // doubles, or singles where it is compiled with SINGLE, and whole numbers of 8 bytes. An answer is the byte 0 and the
-// outputs, or a refusal's number alone. Every NaN is written 7ff8000000000000, or 7fc00000. An id that is no function and
-// a cut record end the program with a message and status 2. With the word --tally it then writes to standard error a line
-// for each function that was called: its id, its calls, and its calls that were refused with 1, 2, 3, 4 and 5; 9, for
-// frames that do not meet, is none of judge-lib's.
+// outputs, or a refusal's number alone. Every NaN is written 7ff8000000000000, or 7fc00000. An id that is no function
+// and a cut record end the program with a message and status 2. With the word --tally it then writes to standard error
+// a line for each function that was called: its id, its calls, and its calls that were refused with 1, 2, 3, 4 and 5;
+// 9, for frames that do not meet, is none of judge-lib's.
 //
 // tests/calls/build compiles it for each width, with a header and a table that it makes from functions.py.
 #include <stdbool.h>
@@ -55,17 +55,17 @@ static size_t whole(const unsigned char *r) {
 enum { BUFFER = 1 << 20, MOST_BEFORE_LIST = 16, MOST_IN_LIST = 100000, MOST_NUMBERS = 256, REFUSALS = 5, FRAMES = 9 };
 
 static unsigned char input[BUFFER], output[BUFFER];
-static size_t held, used; // bytes in input and in output
+static size_t unread, unwritten; // bytes in input and in output
 static number list_in[MOST_IN_LIST], list_out[MOST_IN_LIST];
 static unsigned long long record, place; // of the record at hand: its number from 1 on, and its first byte
 static unsigned long long calls[256], refused[256][REFUSALS + 1];
 
 static void flush(void) {
-    if (fwrite(output, 1, used, stdout) != used || fflush(stdout) != 0) {
+    if (fwrite(output, 1, unwritten, stdout) != unwritten || fflush(stdout) != 0) {
         fprintf(stderr, "replay: standard output could not be written\n");
         exit(2);
     }
-    used = 0;
+    unwritten = 0;
 }
 
 static void stop(const char *what, unsigned long long number) {
@@ -82,16 +82,17 @@ static void answer(unsigned char id, uint32_t status, const number *numbers, siz
     calls[id]++;
     if (status <= REFUSALS) refused[id][status]++;
     if (status != 0) n = 0;
-    if (BUFFER - used < 1 + WIDE * n) flush();
-    output[used++] = (unsigned char)status;
-    for (size_t i = 0; i < n; i++, used += WIDE) {
+    if (BUFFER - unwritten < 1 + WIDE * n) flush();
+    output[unwritten++] = (unsigned char)status;
+    for (size_t i = 0; i < n; i++, unwritten += WIDE) {
         pattern bits = NOT_A_NUMBER;
         if (numbers[i] == numbers[i]) memcpy(&bits, numbers + i, sizeof bits);
-        memcpy(output + used, &bits, sizeof bits);
+        memcpy(output + unwritten, &bits, sizeof bits);
     }
 }
 
-// Answers the record at the front of `at`, of which `n` bytes are there. Returns its length, or 0 if there is more of it.
+// Answers the record at the front of `at`, of which `n` bytes are there. Returns its length, or 0 if there is more of
+// it.
 static size_t take(const unsigned char *at, size_t n) {
     const struct function *f = &functions[at[0]];
     if (f->name == NULL) stop("no function has the id %llu", at[0]);
@@ -114,13 +115,13 @@ static size_t take(const unsigned char *at, size_t n) {
 // Answers the whole records of the input, and moves the rest to its front.
 static void feed(void) {
     size_t at = 0;
-    while (at < held) {
-        size_t length = take(input + at, held - at);
+    while (at < unread) {
+        size_t length = take(input + at, unread - at);
         if (length == 0) break;
         at += length, place += length, record++;
     }
-    memmove(input, input + at, held - at);
-    held -= at;
+    memmove(input, input + at, unread - at);
+    unread -= at;
 }
 
 static void tally(void) {
@@ -140,13 +141,13 @@ int main(int count, char **words) {
     }
     record = 1;
     for (;;) {
-        size_t more = fread(input + held, 1, BUFFER - held, stdin);
+        size_t more = fread(input + unread, 1, BUFFER - unread, stdin);
         if (more == 0) break;
-        held += more;
+        unread += more;
         feed();
     }
     if (ferror(stdin)) stop("standard input could not be read", 0);
-    if (held != 0) stop("the record is cut: %llu bytes are there", held);
+    if (unread != 0) stop("the record is cut: %llu bytes are there", unread);
     flush();
     if (tallied) tally();
     return 0;

@@ -19,7 +19,7 @@ class NotProved(Exception):
     """What rt or tools/prove said."""
 
 
-def lines():
+def read_crates():
     """The lines of crates.txt: name -> the line, and name -> what it names."""
     found, uses = {}, {}
     for line in (TOP / "crates.txt").read_text(encoding="utf-8").splitlines():
@@ -29,9 +29,9 @@ def lines():
     return found, uses
 
 
-def reached(names):
+def dependencies(names):
     """The crates of these names and all of the repository that they rest on."""
-    found, left, uses = set(), list(names), lines()[1]
+    found, left, uses = set(), list(names), read_crates()[1]
     while left:
         name = left.pop()
         if name in uses and name not in found:
@@ -43,7 +43,7 @@ def reached(names):
 def digest(source, names):
     """A hash of all that an archive is made from: rt, the wrapper's source, and the crates below."""
     found = hashlib.sha256(subprocess.run(["rt", "version"], capture_output=True).stdout + source.encode())
-    folders = [TOP / "crates" / crate / part for crate in reached(names) for part in PARTS]
+    folders = [TOP / "crates" / crate / part for crate in dependencies(names) for part in PARTS]
     for file in sorted(f for folder in folders for f in folder.rglob("*") if f.is_file()):
         found.update(f"{file.relative_to(TOP)}\0".encode() + hashlib.sha256(file.read_bytes()).digest())
     return found.hexdigest()
@@ -57,10 +57,10 @@ def same_file(made, to):
         shutil.copy2(made, to)
 
 
-def lay_out(room, names):
+def copy_crates(repository, names):
     """Copies the crates of these names, with what rt has made of them."""
-    for name in reached(names):
-        crate, to = TOP / "crates" / name, room / "crates" / name
+    for name in dependencies(names):
+        crate, to = TOP / "crates" / name, repository / "crates" / name
         for part in PARTS:
             if (crate / part).is_dir():
                 shutil.copytree(crate / part, to / part)
@@ -68,14 +68,14 @@ def lay_out(room, names):
             shutil.copytree(crate / "out/rlib", to / "out/rlib", copy_function=same_file)
 
 
-def ran(words, folder):
+def run(words, folder):
     done = subprocess.run(words, cwd=folder, stdin=subprocess.DEVNULL, stdout=subprocess.PIPE, stderr=subprocess.STDOUT,
                           text=True, errors="replace")
     if done.returncode:
         raise NotProved(done.stdout)
 
 
-def is_made(source, names, to):
+def is_current(source, names, to):
     """Whether the archive is there, and was made from all this as it now is."""
     stamp = to.with_suffix(".sum")
     return to.exists() and stamp.exists() and stamp.read_text() == digest(source, names)
@@ -86,17 +86,17 @@ def archive(name, names, source, to):
     stamp, now = to.with_suffix(".sum"), digest(source, names)
     to.parent.mkdir(parents=True, exist_ok=True)
     stamp.unlink(missing_ok=True)  # while the archive is not whole, nothing vouches for it
-    ran([TOP / "tools/prove", *names], TOP)
-    listed = lines()[0]
+    run([TOP / "tools/prove", *names], TOP)
+    listed = read_crates()[0]
     with tempfile.TemporaryDirectory(prefix="sim3-wrappers-") as folder:
-        room = pathlib.Path(folder).resolve()
-        lay_out(room, names)
-        text = "".join(f"{listed[crate]}\n" for crate in reached(names)) + f"{name} staticlib: {' '.join(names)}\n"
-        (room / "crates.txt").write_text(text, encoding="utf-8")
-        crate = room / "crates" / name
+        repository = pathlib.Path(folder).resolve()
+        copy_crates(repository, names)
+        text = "".join(f"{listed[crate]}\n" for crate in dependencies(names)) + f"{name} staticlib: {' '.join(names)}\n"
+        (repository / "crates.txt").write_text(text, encoding="utf-8")
+        crate = repository / "crates" / name
         (crate / "src").mkdir(parents=True)
         (crate / "src/lib.rt").write_text(source, encoding="utf-8")
-        ran(["rt", "lib"], crate)
+        run(["rt", "lib"], crate)
         shutil.copyfile(crate / "out" / f"lib{name}.a", to)
     if digest(source, names) == now:
         stamp.write_text(now)

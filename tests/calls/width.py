@@ -3,8 +3,9 @@ import pathlib
 import re
 from collections import namedtuple
 
-# Its name; what stands behind the names of a crate, an exported function and a file; the bytes of a number; C's name for it; the one NaN that is written;
-# the format of a number and of that many bits in Python's struct; the folder of the stored lists.
+# Its name; what stands behind the names of a crate, an exported function and a file; the bytes of a number; C's name
+# for it; the one NaN that is written; the format of a number and of that many bits in Python's struct; the folder of
+# the stored lists.
 Width = namedtuple("Width", "name ending size c nan number bits lists")
 
 LISTS = pathlib.Path(__file__).resolve().parent / "lists"
@@ -13,7 +14,8 @@ SINGLE = Width("f32", "_f32", 4, "float", 0x7FC00000, "f", "I", LISTS / "f32")
 WIDTHS = {width.name: width for width in (DOUBLE, SINGLE)}
 
 # The crates that the wrappers call, and those below them.
-CRATES = "ieee linalg tables circle series closed coeffs so3 sim3 point_lists jacobian sides frames framed_jacobian"
+CRATES = ("ieee linalg tables circle series arms coeffs so3 sim3 point_lists jacobian side_jacobians frames "
+          "framed_jacobian")
 
 
 def at_width(source, width):

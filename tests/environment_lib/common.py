@@ -5,7 +5,8 @@ import tempfile
 from bindings_lib.common import ROOT, compiler, run
 
 PROVED = 0x1F80
-SETTINGS = [PROVED | rounding | flushing for rounding in (0, 0x2000, 0x4000, 0x6000) for flushing in (0, 0x8000, 0x0040, 0x8040)]
+SETTINGS = [PROVED | rounding | flushing for rounding in (0, 0x2000, 0x4000, 0x6000)
+            for flushing in (0, 0x8000, 0x0040, 0x8040)]
 TRAPS = [PROVED & ~(0x0080 << i) for i in range(6)]  # invalid, denormal, division by zero, overflow, underflow, inexact
 STATIC, SHARED = ROOT / "target/bindings/libsim3.a", ROOT / "target/bindings/libsim3.so"
 HERE = ROOT / "tests/environment_lib"
@@ -21,7 +22,7 @@ def strict(name, variable):
 def setting_library():
     """A library that sets MXCSR to the number in the environment variable MXCSR when it is loaded."""
     made = f"{WORK.name}/libsets.so"
-    run([*strict("cc", "CC"), "-shared", "-fPIC", "-o", made, HERE / "sets.c"])
+    run([*strict("cc", "CC"), "-shared", "-fPIC", "-o", made, HERE / "set_mxcsr.c"])
     return made
 
 

@@ -7,24 +7,25 @@ from bindings_lib.common import ROOT, Skipped, compiler, same
 from .common import PROVED, SETTINGS, TRAPS, WORK, setting_library
 
 PROGRAM, LAUNCHER, INSTALL = ROOT / "target/bin/sim3_job", ROOT / "sim3-job", ROOT / "bindings/install"
-GIVEN, DUE = ((ROOT / "tests/runs" / name).read_bytes() for name in ("adversarial_1.in", "adversarial_1.out"))
-TOLD = "the floating-point environment is not the proved one"
+JOB, ANSWERS = ((ROOT / "tests/runs" / name).read_bytes() for name in ("adversarial_1.in", "adversarial_1.out"))
+MESSAGE = "the floating-point environment is not the proved one"
 SIGFPE = 8
 
 
-def ran(command, csr):
+def run_job(command, csr):
     """The status of a job, what it answered and what it said, where MXCSR is csr at its start."""
     variables = {**os.environ, "LD_PRELOAD": setting_library(), "MXCSR": f"{csr:04x}"}
-    done = subprocess.run([command], input=GIVEN, env=variables, stdout=subprocess.PIPE, stderr=subprocess.PIPE)
+    done = subprocess.run([command], input=JOB, env=variables, stdout=subprocess.PIPE, stderr=subprocess.PIPE)
     return done.returncode, done.stdout, done.stderr.decode()
 
 
 def settings(command, status):
-    """The proved setting is answered, and every other is told, with this status: nothing is written."""
-    same(ran(command, PROVED), (0, DUE, ""), f"{command} at {PROVED:04x}")
+    """The proved setting is answered; every other ends with this status, a message and no output."""
+    same(run_job(command, PROVED), (0, ANSWERS, ""), f"{command} at {PROVED:04x}")
     for csr in SETTINGS[1:]:
-        found, answered, said = ran(command, csr)
-        assert (found, answered) == (status, b"") and TOLD in said, f"{command} at {csr:04x}: status {found}, {len(answered)} bytes answered, said {said!r}"
+        found, answers, messages = run_job(command, csr)
+        assert (found, answers) == (status, b"") and MESSAGE in messages, (
+            f"{command} at {csr:04x}: status {found}, {len(answers)} bytes answered, said {messages!r}")
 
 
 def the_program():
@@ -40,8 +41,9 @@ def the_program_with_traps():
     """It ends by the signal before anything is written, or answers as ever."""
     resource.setrlimit(resource.RLIMIT_CORE, (0, resource.getrlimit(resource.RLIMIT_CORE)[1]))
     for csr in TRAPS:
-        status, answered, said = ran(PROGRAM, csr)
-        assert (status, answered, said) == (0, DUE, "") or (status == -SIGFPE and DUE != answered), f"{csr:04x}: status {status}, {len(answered)} bytes, said {said!r}"
+        status, answers, messages = run_job(PROGRAM, csr)
+        assert (status, answers, messages) == (0, ANSWERS, "") or (status == -SIGFPE and ANSWERS != answers), (
+            f"{csr:04x}: status {status}, {len(answers)} bytes, said {messages!r}")
 
 
 def the_installed_program():

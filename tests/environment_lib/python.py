@@ -40,20 +40,20 @@ CALLS = {
 }
 
 
-def setting(csr):
+def set_mxcsr(csr):
     """Sets all of MXCSR."""
     raw.library()["environment_leave"](csr)
 
 
-def at(csr, call):
+def at_setting(csr, call):
     """What a call gives in a setting, or the exception."""
-    setting(csr)
+    set_mxcsr(csr)
     try:
         return call()
-    except sim3.OtherEnvironment as told:
-        return told
+    except sim3.OtherEnvironment as error:
+        return error
     finally:
-        setting(PROVED)
+        set_mxcsr(PROVED)
 
 
 def guarded(call):
@@ -62,50 +62,57 @@ def guarded(call):
 
 
 def every_call_asks():
-    due = {name: repr(call()) for name, call in CALLS.items()}
+    expected = {name: repr(call()) for name, call in CALLS.items()}
     for csr in SETTINGS:
         for name, call in CALLS.items():
-            found, inside = at(csr, call), at(csr, lambda: guarded(call))
+            found, inside = at_setting(csr, call), at_setting(csr, lambda: guarded(call))
             if csr == PROVED:
-                same(repr(found), due[name], name)
+                same(repr(found), expected[name], name)
             else:
-                assert isinstance(found, sim3.OtherEnvironment) and found.mxcsr == csr, f"{name} at {csr:04x}: {found!r}"
+                assert isinstance(found, sim3.OtherEnvironment) and found.mxcsr == csr, (
+                    f"{name} at {csr:04x}: {found!r}")
                 assert str(found).startswith(f"sim3.{name}") and f"{csr:04x}" in str(found), found
-            same(repr(inside), due[name], f"{name} at {csr:04x} inside the guard")
+            same(repr(inside), expected[name], f"{name} at {csr:04x} inside the guard")
 
 
 def traps():
     """The interpreter's own arithmetic may trap too, so a call that needs none of it."""
-    due = sim3.act_each(X, DENORMAL, 1.0)
+    expected = sim3.act_each(X, DENORMAL, 1.0)
     for csr in TRAPS:
-        found = at(csr, CALLS["act_each"])
-        assert isinstance(found, sim3.OtherEnvironment) and found.mxcsr == csr and "traps" in str(found), f"{csr:04x}: {found!r}"
-        same(at(csr, lambda: guarded(CALLS["act_each"])), due, f"{csr:04x} inside the guard")
+        found = at_setting(csr, CALLS["act_each"])
+        assert isinstance(found, sim3.OtherEnvironment) and found.mxcsr == csr and "traps" in str(found), (
+            f"{csr:04x}: {found!r}")
+        same(at_setting(csr, lambda: guarded(CALLS["act_each"])), expected, f"{csr:04x} inside the guard")
 
 
 def the_host_is_asked_after():
-    """Where the values are left out, the host does not compute them in another environment: at this sigma its exponential would trap."""
+    """Where the values are left out, the host does not compute them in another environment: at this sigma its
+    exponential would trap."""
     far = sim3.Pose(array.array("d", [1, 0, 0, 0, 0, 0, 0, 1000.0]), 1, 1)
-    for call in (lambda: sim3.mul(far, far), lambda: sim3.adjoint(far), lambda: sim3.exp(array.array("d", [0, 0, 0, 0, 0, 0, 1000.0]), 1, 1)):
-        found = at(PROVED & ~0x0400, call)
+    for call in (lambda: sim3.mul(far, far), lambda: sim3.adjoint(far),
+                 lambda: sim3.exp(array.array("d", [0, 0, 0, 0, 0, 0, 1000.0]), 1, 1)):
+        found = at_setting(PROVED & ~0x0400, call)
         assert isinstance(found, sim3.OtherEnvironment) and "traps overflow" in str(found), found
 
 
 def the_probe():
     numbers = (raw.ctypes.c_double * 3)(4.75, 5e-324, 8.988465674311582e307)
     for csr in SETTINGS:
-        same(at(csr, lambda: raw.library()["environment"](numbers, 3)), int(csr == PROVED), f"the probe at {csr:04x}")
+        same(at_setting(csr, lambda: raw.library()["environment"](numbers, 3)), int(csr == PROVED),
+             f"the probe at {csr:04x}")
 
 
 def the_exception():
-    told = at(0x9FC0 | 0x6000, CALLS["act_each"])
-    assert isinstance(told, FloatingPointError) and not isinstance(told, sim3.Refusal), type(told).__mro__
-    for part in ("sim3.act_each: this thread rounds toward zero, flushes denormal results to zero, reads denormal numbers as zero", "MXCSR is ffc0", "1f80",
-                 "-ffast-math", "with sim3.environment():"):
-        assert part in str(told), f"{part!r} is not in {told}"
-    assert "fesetround" in str(at(PROVED | 0x4000, CALLS["mul"])) and "feenableexcept" in str(at(PROVED & ~0x0200, CALLS["mul"]))
-    again = pickle.loads(pickle.dumps(told))
-    same((again.mxcsr, str(again)), (0xFFC0, str(told)), "the exception from another process")
+    error = at_setting(0x9FC0 | 0x6000, CALLS["act_each"])
+    assert isinstance(error, FloatingPointError) and not isinstance(error, sim3.Refusal), type(error).__mro__
+    for part in ("sim3.act_each: this thread rounds toward zero, flushes denormal results to zero, reads denormal "
+                 "numbers as zero",
+                 "MXCSR is ffc0", "1f80", "-ffast-math", "with sim3.environment():"):
+        assert part in str(error), f"{part!r} is not in {error}"
+    assert "fesetround" in str(at_setting(PROVED | 0x4000, CALLS["mul"]))
+    assert "feenableexcept" in str(at_setting(PROVED & ~0x0200, CALLS["mul"]))
+    again = pickle.loads(pickle.dumps(error))
+    same((again.mxcsr, str(again)), (0xFFC0, str(error)), "the exception from another process")
 
 
 def nothing_is_written():
@@ -113,15 +120,16 @@ def nothing_is_written():
     running.push(Y)
     sheets.put(1, 1, Y)
     before = repr(running), sheets.get(1)
-    for call in (lambda: sim3.act_each(X, DENORMAL, 1.0, out=out), lambda: running.push(Y), lambda: running.every(1), lambda: sheets.put(1, 2, X)):
-        assert isinstance(at(0x9FC0, call), sim3.OtherEnvironment)
+    for call in (lambda: sim3.act_each(X, DENORMAL, 1.0, out=out), lambda: running.push(Y), lambda: running.every(1),
+                 lambda: sheets.put(1, 2, X)):
+        assert isinstance(at_setting(0x9FC0, call), sim3.OtherEnvironment)
     same((out.tolist(), repr(running), sheets.get(1)), ([7.0] * 3, *before), "what a call was lent")
 
 
 def the_guard():
     """Puts all of MXCSR back, nests, also as one object, and says where it is left in another thread."""
     for csr in (*SETTINGS, 0x1FBF, 0xFFFF & ~0x1F80 | PROVED):
-        setting(csr)
+        set_mxcsr(csr)
         with sim3.environment() as once, once, sim3.environment():
             pass
         same(raw.library()["environment_enter"](), csr, "MXCSR after the guard")
@@ -131,8 +139,8 @@ def the_guard():
     entered.join()
     try:
         left.__exit__(None, None, None)
-    except RuntimeError as told:
-        assert "another thread" in str(told)
+    except RuntimeError as error:
+        assert "another thread" in str(error)
     else:
         raise AssertionError("a guard was left in another thread than it was entered in")
 

@@ -1,4 +1,5 @@
-"""The engine through its static library: every call goes to target/calls/libcalls.so, with the host's own function values (bindings/python/sim3/host.py).
+"""The engine through its static library: every call goes to target/calls/libcalls.so, with the host's own function
+values (bindings/python/sim3/host.py).
 
 Poses, tangents and blocks are flat lists of numbers in the order of the records.
 """
@@ -26,7 +27,8 @@ def library():
         try:
             subprocess.run(words, check=True)
         except (OSError, subprocess.CalledProcessError) as error:
-            raise SystemExit(f"laws: the C compiler '{compiler}' did not link {LIBRARY.relative_to(TOP)}: {error}") from None
+            raise SystemExit(f"laws: the C compiler '{compiler}' did not link {LIBRARY.relative_to(TOP)}: "
+                             f"{error}") from None
     return ctypes.CDLL(str(LIBRARY))
 
 

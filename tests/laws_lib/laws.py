@@ -1,4 +1,5 @@
-"""The laws of the group that need no logarithm. Each takes a draw of samples and returns its worst error in units of rounding."""
+"""The laws of the group that need no logarithm. Each takes a draw of samples and returns its worst error in units of
+rounding."""
 import math
 
 from . import engine as g
@@ -7,14 +8,14 @@ from .measure import derivative, error, flat, worst
 TERMS = 60  # of the series in ad: the last is below 1e-20 where the norm of ad is at most 10
 
 
-def pose_error(got, due):
+def pose_error(actual, expected):
     """A quaternion and its negative are one rotation: the nearer of the two counts."""
-    turned = [-x for x in got[:4]] + got[4:]
-    return min(error(got, due), error(turned, due))
+    negative = [-x for x in actual[:4]] + actual[4:]
+    return min(error(actual, expected), error(negative, expected))
 
 
-def block_error(got, due):
-    return error(flat(g.columns(got)), flat(g.columns(due)))
+def block_error(actual, expected):
+    return error(flat(g.columns(actual)), flat(g.columns(expected)))
 
 
 def negated(numbers):
@@ -50,8 +51,9 @@ def one_parameter(draw):
     return worst([pose_error(along(a + b), g.mul(along(a), along(b))), pose_error(along(-1.0), g.inverse(along(1.0)))])
 
 
-def turned_round(draw):
-    """With rho negated, t of Exp and b and f of J_l are negated and the rest stays: exactly, but for the signs of zeros."""
+def rho_negated(draw):
+    """With rho negated, t of Exp and b and f of J_l are negated and the rest stays: exactly, but for the signs of
+    zeros."""
     tau = draw.tangent()
     back = tau[:3] + negated(tau[3:6]) + tau[6:]
     x, left = g.exp(tau), g.block_pair(tau)[0]
@@ -104,7 +106,8 @@ def rows(draw):
 def dense_order(draw):
     """write_dense writes the columns of the map."""
     left, left_inv, right, right_inv = g.block_pair(draw.tangent())
-    return worst(error(flat(g.written_dense(j)), flat(g.columns(j))) for j in (left, left_inv, right, right_inv, g.adjoint(draw.pose())))
+    return worst(error(flat(g.written_dense(j)), flat(g.columns(j)))
+                 for j in (left, left_inv, right, right_inv, g.adjoint(draw.pose())))
 
 
 # ---- ad
@@ -147,7 +150,7 @@ def ad_series(draw):
 
 # ---- the Jacobians as derivatives
 def small(pose):
-    """The tangent of a pose near 1, to first order: a quaternion near -1 is turned round."""
+    """The tangent of a pose near 1, to first order: a quaternion near -1 is negated."""
     sign = 1.0 if pose[0] > 0 else -1.0
     return [2 * sign * x for x in pose[1:4]] + pose[4:]
 
@@ -209,6 +212,7 @@ def act_jacobians(draw):
         by_x, by_p = g.act_jacobians(side, x, p)
         found = [derivative(lambda h: g.act(moved(unit(i, h)), p)) for i in range(7)]
         errors.append(error(flat(by_x), flat(found)))
-        found = [derivative(lambda h: g.act(x, plus(p, [h if row == i else 0.0 for row in range(3)]))) for i in range(3)]
+        found = [derivative(lambda h: g.act(x, plus(p, [h if row == i else 0.0 for row in range(3)])))
+                 for i in range(3)]
         errors.append(error(flat(by_p), flat(found)))
     return worst(errors)

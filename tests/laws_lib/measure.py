@@ -11,10 +11,11 @@ def norm(v):
     return math.sqrt(sum(x * x for x in v))
 
 
-def error(got, due):
-    """The norm of the difference over the larger of the due norm and 1, in units of rounding; NaN stays NaN."""
-    due_norm = norm(due)
-    return norm([a - b for a, b in zip(got, due, strict=True)]) / (due_norm if not due_norm < 1 else 1.0) / UNIT
+def error(actual, expected):
+    """The norm of the difference over the larger of the expected norm and 1, in units of rounding; NaN stays NaN."""
+    scale = norm(expected)
+    scale = 1.0 if scale < 1 else scale
+    return norm([a - b for a, b in zip(actual, expected, strict=True)]) / scale / UNIT
 
 
 def worst(errors):

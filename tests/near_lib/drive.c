@@ -1,7 +1,8 @@
 // Calls sim3_nearest_arm from C, or, where SINGLE is defined, sim3_nearest_arm_f32.
 //
-//     drive           reads patterns of sigma and z from standard input, 8 bytes each, little endian; for each pair it writes four words to standard output:
-//                     the refusal's number or 0, the count, the direction and the arm
+//     drive           reads patterns of sigma and z from standard input, 8 bytes each, little endian; for each pair it
+//                     writes four words to standard output: the refusal's number or 0, the count, the direction and the
+//                     arm
 //     drive --time    writes how many ns a call takes, the best of some rounds
 #include <stdint.h>
 #include <stdio.h>
@@ -56,7 +57,7 @@ static double now(void) {
 
 static int timed(void) {
     static number sigma[COUNT], z[COUNT];
-    uint64_t seed = 1, kept = 0;
+    uint64_t seed = 1, sink = 0;
     double best = 1e18;
     for (size_t i = 0; i < COUNT; i++) {
         seed = seed * 6364136223846793005u + 1442695040888963407u;
@@ -67,12 +68,13 @@ static int timed(void) {
         const double before = now();
         for (size_t i = 0; i < COUNT; i++) {
             uint64_t out[3] = {0, 0, 0};
-            kept += NEAREST(sigma[i], z[i], out, 3) + out[0];
+            sink += NEAREST(sigma[i], z[i], out, 3) + out[0];
         }
         const double took = (now() - before) / COUNT;
         best = took < best ? took : best;
     }
-    printf("near: " WIDTH ": %.0f ns a call, the best of %d rounds of %d (%u)\n", best, ROUNDS, COUNT, (unsigned)(kept & 1));
+    printf("near: " WIDTH ": %.0f ns a call, the best of %d rounds of %d (%u)\n", best, ROUNDS, COUNT,
+           (unsigned)(sink & 1));
     return 0;
 }
 

@@ -20,18 +20,18 @@ fn of_bits(word: u64) -> f64 {
 }
 
 fn main() -> std::io::Result<()> {
-    let mut given = Vec::new();
-    std::io::stdin().read_to_end(&mut given)?;
-    let words: Vec<u64> = given.chunks_exact(8).map(|b| u64::from_le_bytes(b.try_into().unwrap())).collect();
+    let mut input = Vec::new();
+    std::io::stdin().read_to_end(&mut input)?;
+    let words: Vec<u64> = input.chunks_exact(8).map(|b| u64::from_le_bytes(b.try_into().unwrap())).collect();
     let answer = |sigma, z| match nearest_arm(sigma, z) {
         Ok(Some(near)) => [0, near.count, (near.direction == Direction::Up) as u64, near.arm.into()],
         Ok(None) => [0; 4],
         Err(refusal) => [refusal.number().into(), 0, 0, 0],
     };
-    let told: Vec<u8> = words
+    let answers: Vec<u8> = words
         .chunks_exact(2)
         .flat_map(|w| answer(of_bits(w[0]), of_bits(w[1])))
         .flat_map(u64::to_le_bytes)
         .collect();
-    std::io::stdout().write_all(&told)
+    std::io::stdout().write_all(&answers)
 }

@@ -1,7 +1,9 @@
-"""What is due at (sigma, z), computed by fractions and without a search.
+"""The expected answer at (sigma, z), computed by fractions and without a search.
 
-The rounded sum of s = sigma sigma and z reaches a limit exactly where s + z reaches the middle between the limit and the number before it, or lies above that middle where the limit is
-odd, since a tie is rounded to the even one. So the first z with a higher arm is the first number of the format from `middle - s` on, and counts are differences of bit patterns."""
+The rounded sum of s = sigma sigma and z reaches a limit exactly where s + z reaches the middle between the limit and
+the number before it, or lies above that middle where the limit is odd, since a tie is rounded to the even one. So the
+first z with a higher arm is the first number of the format from `middle - s` on, and counts are differences of bit
+patterns."""
 import struct
 from fractions import Fraction
 
@@ -15,7 +17,7 @@ class Width:
         self.number, self.word, self.infinity = "<" + number, "<" + word, infinity
         self.bits = 8 * struct.calcsize(self.word)
         self.limits = limits
-        self.ends = [(Fraction(self.value(b - 1)) + Fraction(self.value(b))) / 2 for b in limits]
+        self.midpoints = [(Fraction(self.value(b - 1)) + Fraction(self.value(b))) / 2 for b in limits]
 
     def value(self, pattern):
         return struct.unpack(self.number, struct.pack(self.word, pattern))[0]
@@ -46,7 +48,8 @@ class Width:
         square = self.rounded(sigma * sigma)
         if square == float("inf"):
             return [0] * 4
-        return [self.first_from(end - Fraction(square), limit % 2 == 1) for end, limit in zip(self.ends, self.limits)]
+        return [self.first_from(end - Fraction(square), limit % 2 == 1)
+                for end, limit in zip(self.midpoints, self.limits)]
 
     def arm(self, sigma, z):
         """The arm by the format's own sum."""
@@ -54,7 +57,8 @@ class Width:
         return next((k for k, b in enumerate(self.limits, 1) if delta < self.value(b)), 5)
 
 
-DOUBLE = Width("d", "Q", 0x7FF0000000000000, [0x3F0C70E59CFC9F1F, 0x3FA59742AA36710D, 0x3FD0E8139C96FC79, 0x3FFFB1FFBC2A9C8C])
+DOUBLE = Width("d", "Q", 0x7FF0000000000000,
+               [0x3F0C70E59CFC9F1F, 0x3FA59742AA36710D, 0x3FD0E8139C96FC79, 0x3FFFB1FFBC2A9C8C])
 SINGLE = Width("f", "I", 0x7F800000, [0x3A7CE158, 0x3E03BA20, 0x3F205DF3, 0x4017C496])
 
 
@@ -62,8 +66,9 @@ def finite(x):
     return x - x == 0
 
 
-def due(width, first, sigma, z):
-    """The four words that a call gives: the refusal's number or 0, the count, the direction and the arm; three zeros where there is no other arm."""
+def expected(width, first, sigma, z):
+    """The four words that a call gives: the refusal's number or 0, the count, the direction and the arm; three zeros
+    where there is no other arm."""
     if z < 0:
         return 1, 0, 0, 0
     if not (finite(sigma) and finite(z)):
@@ -72,16 +77,16 @@ def due(width, first, sigma, z):
     arm = 1 + sum(start <= p for start in starts)
     low = max((start for start in starts if start <= p), default=0)
     high = min((start for start in starts if start > p), default=width.infinity)
-    ways = ([(p - low + 1, DOWN)] if low else []) + ([(high - p, UP)] if high < width.infinity else [])
-    if not ways:
+    candidates = ([(p - low + 1, DOWN)] if low else []) + ([(high - p, UP)] if high < width.infinity else [])
+    if not candidates:
         return 0, 0, 0, 0
-    count, direction = min(ways, key=lambda way: (way[0], way[1] != first))
+    count, direction = min(candidates, key=lambda candidate: (candidate[0], candidate[1] != first))
     place = p - count if direction == DOWN else p + count
     assert width.arm(sigma, width.value(p)) == arm
     return 0, count, direction, 1 + sum(start <= place for start in starts)
 
 
-def stepped(width, first, sigma, z, most):
+def by_steps(width, first, sigma, z, most):
     """The same by stepping from neighbour to neighbour, or None where no arm changes within `most` steps."""
     p = width.pattern(z) if z else 0
     arm = width.arm(sigma, width.value(p))

@@ -1,6 +1,7 @@
-/* The order of tangents through the C functions. `compare` reads pairs of tangents, 14 patterns each, and writes the order of each pair, a word. `sort` reads
- * lists, each a count and so many patterns, and writes for each what is returned and what the list then holds. `time` measures the ordering of 1,024 tangents
- * beside the C library's qsort by the same order. */
+/* The order of tangents through the C functions. `compare` reads pairs of tangents, 14 patterns each, and writes the
+ * order of each pair, a word. `sort` reads lists, each a count and as many patterns, and writes for each what the
+ * function returns and the list afterwards. `time` measures how long 1,024 tangents take, beside the C library's qsort
+ * with the same order. */
 #include "sim3.h"
 #include <inttypes.h>
 #include <stdio.h>
@@ -8,9 +9,9 @@
 #include <string.h>
 #include <time.h>
 
-enum { TANGENT = 7, MOST = 1024, NUMBERS = TANGENT * MOST, ROOM = 1 << 16, TURNS = 300 };
+enum { TANGENT = 7, MOST = 1024, NUMBERS = TANGENT * MOST, CAPACITY = 1 << 16, ROUNDS = 300 };
 
-static uint64_t list[ROOM], start[NUMBERS], check[NUMBERS];
+static uint64_t list[CAPACITY], start[NUMBERS], check[NUMBERS];
 
 static size_t words(uint64_t *to, size_t count) { return fread(to, 8, count, stdin); }
 
@@ -27,7 +28,7 @@ static int compare(void) {
 static int sort(void) {
     uint64_t count;
     while (words(&count, 1) == 1) {
-        if (count > ROOM || words(list, count) != count) return 1;
+        if (count > CAPACITY || words(list, count) != count) return 1;
         uint64_t status = sim3_sort_tangents(list, count);
         fwrite(&status, 8, 1, stdout);
         fwrite(list, 8, count, stdout);
@@ -48,7 +49,7 @@ static int by_key(const void *a, const void *b) {
     return 0;
 }
 
-static uint64_t drawn(void) {
+static uint64_t random_bits(void) {
     static uint64_t s = 88172645463325252ull;
     s ^= s << 13;
     s ^= s >> 7;
@@ -58,7 +59,7 @@ static uint64_t drawn(void) {
 static void fill(const char *kind) {
     for (int i = 0; i < MOST; i++) {
         for (int j = 0; j < TANGENT; j++) {
-            double x = (double)(int64_t)drawn() * 0x1p-62;
+            double x = (double)(int64_t)random_bits() * 0x1p-62;
             memcpy(&start[i * TANGENT + j], &x, 8);
             if (!strcmp(kind, "first six alike") && j < 6) start[i * TANGENT + j] = start[j];
             if (!strcmp(kind, "all alike")) start[i * TANGENT + j] = start[j];
@@ -81,7 +82,7 @@ static double now(void) {
 
 static double best(int ours) {
     double least = 1e30;
-    for (int turn = 0; turn < TURNS; turn++) {
+    for (int round = 0; round < ROUNDS; round++) {
         memcpy(list, start, sizeof start);
         double from = now();
         if (ours) sim3_sort_tangents(list, NUMBERS);

@@ -1,4 +1,5 @@
-"""The order of tangents once more, from the standard's text: IEEE 754-2019, 5.10, on 64-bit patterns as whole numbers."""
+"""The order of tangents once more, from the standard's text: IEEE 754-2019, 5.10, on 64-bit patterns as whole
+numbers."""
 import functools
 import math
 import struct
@@ -11,7 +12,7 @@ def value(b):
 
 
 def nans_ordered(x, y):
-    """d 3: by sign; then a signaling NaN below a quiet one, and by payload; turned round where both have the sign."""
+    """d 3: by sign; then a signaling NaN below a quiet one, and by payload; reversed if both are negative."""
     if (x & SIGN) != (y & SIGN):
         return bool(x & SIGN)
     first, second = (y, x) if x & SIGN else (x, y)
@@ -34,7 +35,7 @@ def total_order(x, y):
     return bool(x & SIGN) or not y & SIGN  # equal values: two zeros, or the same bits
 
 
-def compared(a, b):
+def compare(a, b):
     """-1, 0 or 1: the first difference decides."""
     for x, y in zip(a, b, strict=True):
         if x != y:
@@ -42,9 +43,9 @@ def compared(a, b):
     return 0
 
 
-def put_in_order(words):
+def sort(words):
     """The refusal's number or 0, and what the list then holds."""
     if len(words) > 7168 or len(words) % 7:
         return 5, list(words)
     tangents = [tuple(words[i:i + 7]) for i in range(0, len(words), 7)]
-    return 0, [x for t in sorted(tangents, key=functools.cmp_to_key(compared)) for x in t]
+    return 0, [x for t in sorted(tangents, key=functools.cmp_to_key(compare)) for x in t]

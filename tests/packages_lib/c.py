@@ -4,7 +4,7 @@ import re
 import shutil
 import subprocess
 
-from .common import DUE, INSTALL, ROOT, WORK, folder, prefix, ran, same, tool, tree
+from .common import INSTALL, LAST_LINE, ROOT, WORK, folder, prefix, run, same, tool, tree
 
 WARNINGS = ["-Wall", "-Wextra", "-Wpedantic", "-Wshadow", "-Wundef", "-Werror"]
 # for the headers, whose warnings would be every caller's
@@ -19,12 +19,12 @@ def repeatable():
     (work / "own/lib").mkdir(parents=True)
     (work / "own/lib/other.txt").write_text("not ours")
     before = tree(work)
-    ran([INSTALL, "own"], work)
+    run([INSTALL, "own"], work)
     once = tree(work)
     assert all(path == "own" or path.startswith("own/") for path in once), f"beside PREFIX: {list(once)}"
-    ran([INSTALL, work / "own"], "/")
+    run([INSTALL, work / "own"], "/")
     same(tree(work), once, "a second install")
-    ran([INSTALL, "--uninstall", "own"], work)
+    run([INSTALL, "--uninstall", "own"], work)
     same(tree(work), before, "what an uninstall leaves")
 
 
@@ -41,7 +41,7 @@ def headers():
     for header in sorted((prefix() / "include").glob("*.h")):
         for language, standard in (("c", "c99"), ("c", "c11"), ("c", "c17")):
             (work / "one.c").write_text(f'#include "{header.name}"\nint main(void) {{ return 0; }}\n')
-            ran([cc, "-x", language, f"-std={standard}", *STRICT, "-Wstrict-prototypes", f"-I{prefix()}/include", "-c",
+            run([cc, "-x", language, f"-std={standard}", *STRICT, "-Wstrict-prototypes", f"-I{prefix()}/include", "-c",
                  "-o", "one.o", "one.c"], work)
 
 
@@ -51,35 +51,35 @@ def headers_in_cpp():
     for header in sorted((prefix() / "include").glob("*.h*")):
         for standard in ("c++17",) if header.name == "sim3.hpp" else ("c++11", "c++17"):
             (work / "one.cpp").write_text(f'#include "{header.name}"\nint main() {{ return 0; }}\n')
-            ran([compiler, f"-std={standard}", *STRICT, f"-I{prefix()}/include", "-c", "-o", "one.o", "one.cpp"], work)
+            run([compiler, f"-std={standard}", *STRICT, f"-I{prefix()}/include", "-c", "-o", "one.o", "one.cpp"], work)
 
 
 def symbols():
     """The shared library exports the functions of the header and nothing else, and has its soname."""
     declared = set(re.findall(r"\b(sim3_\w+)\(",
                               re.sub(r"/\*.*?\*/", "", (prefix() / "include/sim3.h").read_text(), flags=re.S)))
-    told = ran([tool("nm"), "-D", "--defined-only", "--format=posix", prefix() / "lib/libsim3.so"], "/")
+    output = run([tool("nm"), "-D", "--defined-only", "--format=posix", prefix() / "lib/libsim3.so"], "/")
     # A is the version's own name
-    found = {line.split()[0].split("@")[0] for line in told.splitlines() if line.split()[1] != "A"}
+    found = {line.split()[0].split("@")[0] for line in output.splitlines() if line.split()[1] != "A"}
     same(found, declared, "what libsim3.so exports")
     version = (ROOT / "VERSION").read_text().strip()
     links = {path.name for path in (prefix() / "lib").glob("libsim3.so*")}
     same(links, {"libsim3.so", f"libsim3.so.{version.split('.')[0]}", f"libsim3.so.{version}"},
          "names of the shared library")
-    told = ran([tool("readelf"), "-d", prefix() / "lib/libsim3.so"], "/")
-    assert f"soname: [libsim3.so.{version.split('.')[0]}]" in told, told
+    output = run([tool("readelf"), "-d", prefix() / "lib/libsim3.so"], "/")
+    assert f"soname: [libsim3.so.{version.split('.')[0]}]" in output, output
 
 
 def built_example(work, flags, **variables):
     """The installed example, built in a folder with these flags and run."""
     shutil.copy(prefix() / "share/doc/sim3/join.c", work)
-    ran([tool("cc", "CC"), "-std=c99", *WARNINGS, "-o", "join", "join.c", *flags], work)
-    assert DUE in ran(["./join"], work, **variables)
+    run([tool("cc", "CC"), "-std=c99", *WARNINGS, "-o", "join", "join.c", *flags], work)
+    assert LAST_LINE in run(["./join"], work, **variables)
 
 
 def example_by_pkg_config():
     work = folder("shared")
-    flags = ran([tool("pkg-config"), "--cflags", "--libs", "sim3"], work,
+    flags = run([tool("pkg-config"), "--cflags", "--libs", "sim3"], work,
                 PKG_CONFIG_PATH=prefix() / "lib/pkgconfig").split()
     built_example(work, flags, LD_LIBRARY_PATH=prefix() / "lib")
 
@@ -94,9 +94,9 @@ def example_in_cpp():
     (work / "mine.cpp").write_text('#include <cstdio>\n#include <cstring>\n#include "sim3.h"\n#include "sim3_host.h"\n'
                                    'int main() { return std::puts(sim3_version()) < 0 || std::strcmp(sim3_version(), '
                                    'SIM3_VERSION) != 0; }\n')
-    ran([compiler, "-std=c++17", *WARNINGS, f"-I{prefix()}/include", "-o", "mine", "mine.cpp",
+    run([compiler, "-std=c++17", *WARNINGS, f"-I{prefix()}/include", "-o", "mine", "mine.cpp",
          prefix() / "lib/libsim3.a", "-lm"], work)
-    same(ran(["./mine"], work), (ROOT / "VERSION").read_text(), "sim3_version")
+    same(run(["./mine"], work), (ROOT / "VERSION").read_text(), "sim3_version")
 
 
 def in_words():

@@ -10,7 +10,7 @@ import tempfile
 ROOT = pathlib.Path(__file__).resolve().parent.parent.parent
 INSTALL = ROOT / "bindings" / "install"
 WORK = tempfile.TemporaryDirectory()
-DUE = "every answer is the one known by hand"  # the last words of each example
+LAST_LINE = "every answer is the one known by hand"  # the last words of each example
 
 
 class Skipped(Exception):
@@ -29,14 +29,14 @@ def same(found, expected, what):
     assert found == expected, f"{what}:\n  found    {found!r}\n  expected {expected!r}"
 
 
-def ran(words, cwd, **variables):
+def run(words, cwd, **variables):
     """What a command writes; its exit status must be 0. Of the environment it has what finds tools, and no place of the
     source tree."""
-    kept = {name: os.environ[name]
+    environment = {name: os.environ[name]
             for name in ("PATH", "HOME", "CARGO_HOME", "RUSTUP_HOME", "RUSTUP_TOOLCHAIN", "RT_JOBS", "CC")
             if name in os.environ}
     words = [str(word) for word in words]
-    done = subprocess.run(words, cwd=cwd, env={**kept, **{name: str(text) for name, text in variables.items()}},
+    done = subprocess.run(words, cwd=cwd, env={**environment, **{name: str(text) for name, text in variables.items()}},
                           stdout=subprocess.PIPE, stderr=subprocess.STDOUT, text=True)
     assert done.returncode == 0, f"exit status {done.returncode} of {' '.join(words)}:\n{done.stdout[-3000:]}"
     return done.stdout
@@ -60,7 +60,7 @@ def prefix():
     """The folder of an install, which was moved after it."""
     tool("cc", "CC")
     put, moved = pathlib.Path(WORK.name, "put"), pathlib.Path(WORK.name, "a-prefix")
-    ran([INSTALL, put], WORK.name)
+    run([INSTALL, put], WORK.name)
     return pathlib.Path(shutil.move(str(put), str(moved)))
 
 

@@ -4,7 +4,7 @@ import pathlib
 import shutil
 
 from .c import STRICT
-from .common import DUE, ROOT, Skipped, folder, prefix, ran, tool
+from .common import LAST_LINE, ROOT, Skipped, folder, prefix, run, tool
 
 EIGEN = pathlib.Path("/usr/include/eigen3")
 
@@ -24,18 +24,18 @@ def header():
                                   'sim3::inverse(one()).from; }\n')
     for compiler in compilers():
         for standard in ("c++17", "c++20"):
-            ran([compiler, f"-std={standard}", *STRICT, f"-I{prefix()}/include", "-o", "both", "one.cpp", "two.cpp",
+            run([compiler, f"-std={standard}", *STRICT, f"-I{prefix()}/include", "-o", "both", "one.cpp", "two.cpp",
                  prefix() / "lib/libsim3.a", "-lm"], work)
-        ran(["./both"], work)
+        run(["./both"], work)
 
 
 def built_example(work, compiler, *flags):
     shutil.copy(ROOT / "examples/cpp/join.cpp", work)
-    ran([compiler, "-std=c++17", "-O2", *STRICT, *flags, f"-I{prefix()}/include", "-o", "join", "join.cpp",
+    run([compiler, "-std=c++17", "-O2", *STRICT, *flags, f"-I{prefix()}/include", "-o", "join", "join.cpp",
          prefix() / "lib/libsim3.a", "-lm"], work)
-    told = ran(["./join"], work)
-    assert DUE in told, told
-    return told
+    output = run(["./join"], work)
+    assert LAST_LINE in output, output
+    return output
 
 
 def example():

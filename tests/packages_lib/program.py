@@ -8,7 +8,7 @@ import shutil
 import subprocess
 import sys
 
-from .common import DUE, INSTALL, ROOT, Skipped, WORK, folder, prefix, ran, same, tool, tree
+from .common import INSTALL, LAST_LINE, ROOT, Skipped, WORK, folder, prefix, run, same, tool, tree
 
 NOBODY = 65534
 
@@ -55,9 +55,9 @@ def out_of_reach():
 
 def answers():
     """sim3-job and the tool's run give the stored answers; the exit status is the program's."""
-    job, due = (ROOT / "examples/jobs.bin").read_bytes(), (ROOT / "examples/answers.bin").read_bytes()
-    same(as_nobody("sim3-job", job)[0] == due, True, "the answers of sim3-job")
-    same(as_nobody("cat > jobs.bin; sim3-jobs run jobs.bin", job)[0] == due, True, "the answers of sim3-jobs run")
+    job, expected = (ROOT / "examples/jobs.bin").read_bytes(), (ROOT / "examples/answers.bin").read_bytes()
+    same(as_nobody("sim3-job", job)[0] == expected, True, "the answers of sim3-job")
+    same(as_nobody("cat > jobs.bin; sim3-jobs run jobs.bin", job)[0] == expected, True, "the answers of sim3-jobs run")
     same(as_nobody("sim3-job --help")[0].decode().splitlines()[-1],
          "Job files are made, shown and compared by sim3-jobs; sim3-job(5) has the bytes of every record.", "the help")
     same("it takes no argument" in as_nobody("sim3-job x", status=2)[1], True, "a wrong word")
@@ -77,8 +77,8 @@ def tool_at_work():
                     "sim3-jobs near --within 1000 jobs.bin | tail -n 1; rm -r parts")[0].decode()
     assert "merged" in out and re.search(r"record", out), out
     for words in ("--help", "show --help", "run --help"):
-        said = as_nobody(f"sim3-jobs {words}")[0].decode()
-        assert "tools/jobs" not in said and "./sim3-job" not in said, said
+        message = as_nobody(f"sim3-jobs {words}")[0].decode()
+        assert "tools/jobs" not in message and "./sim3-job" not in message, message
     same(as_nobody("find . -name __pycache__; find . -newer jobs.txt -name '*.pyc'")[0], b"",
          "what was written besides")
 
@@ -86,9 +86,9 @@ def tool_at_work():
 def library_of_the_tool():
     """The installed tool finds the library by which large files go faster."""
     modules = prefix() / "share/sim3/tools"
-    told = as_nobody(f"python3 -B -c \"import sys; sys.path.insert(0, '{modules}'); from jobs_lib import bulk; "
+    output = as_nobody(f"python3 -B -c \"import sys; sys.path.insert(0, '{modules}'); from jobs_lib import bulk; "
                      "print(bulk.functions() is not None, bulk.PATH)\"")[0].decode().split()
-    same(told, ["True", str(prefix() / "lib/sim3/libsim3_bulk.so")], "the library of the installed tool")
+    same(output, ["True", str(prefix() / "lib/sim3/libsim3_bulk.so")], "the library of the installed tool")
 
 
 def nothing_written():
@@ -118,9 +118,9 @@ def completion():
     tool("bash")
     script = 'source "$0"; COMP_WORDS=("$@"); COMP_CWORD=$(($# - 1)); _sim3_jobs; echo "${COMPREPLY[@]}"'
     path = prefix() / "share/bash-completion/completions/sim3-jobs"
-    for words, due in ((["sim3-jobs", "sh"], "show sheets"), (["sim3-jobs", "merg"], "merge"),
+    for words, expected in ((["sim3-jobs", "sh"], "show sheets"), (["sim3-jobs", "merg"], "merge"),
                        (["sim3-jobs", "diff", "--h"], "--help --html"), (["sim3-jobs", "show", "f"], "")):
-        same(ran(["bash", "-c", script, path, *words], "/").strip(), due, f"what is offered behind {words}")
+        same(run(["bash", "-c", script, path, *words], "/").strip(), expected, f"what is offered behind {words}")
 
 
 def cmake():
@@ -139,22 +139,23 @@ def cmake():
                                          "two.cpp)\ntarget_link_libraries(two sim3::sim3)\n"
                                          'find_package(sim3 97 QUIET CONFIG)\nif(sim3_FOUND)\n  message(FATAL_ERROR '
                                          '"found version 97")\nendif()\n')
-    ran([tool("cmake"), "-S", ".", "-B", "built", f"-DCMAKE_PREFIX_PATH={prefix()}"], work)
-    ran(["cmake", "--build", "built"], work)
+    run([tool("cmake"), "-S", ".", "-B", "built", f"-DCMAKE_PREFIX_PATH={prefix()}"], work)
+    run(["cmake", "--build", "built"], work)
     for name in ("join", "join_static"):
-        assert DUE in ran([f"built/{name}"], work)
-    ran(["built/two"], work)
+        assert LAST_LINE in run([f"built/{name}"], work)
+    run(["built/two"], work)
 
 
 def destdir():
     """DESTDIR and PREFIX put the same files under $DESTDIR$PREFIX, and take them away; the top folder's install is the
     same command."""
     work = folder("packaged")
-    ran([ROOT / "install"], work, DESTDIR=work / "root", PREFIX="/usr/local")
+    run([ROOT / "install"], work, DESTDIR=work / "root", PREFIX="/usr/local")
     same(tree(work / "root/usr/local") == tree(prefix()), True, "what DESTDIR holds")
     same([path.name for path in work.iterdir()], ["root"], "what stands beside it")
-    ran([INSTALL, "--uninstall", "/usr/local"], work, DESTDIR=work / "root")
+    run([INSTALL, "--uninstall", "/usr/local"], work, DESTDIR=work / "root")
     same([str(path) for path in (work / "root/usr/local").rglob("*")], [], "what an uninstall leaves")
 
 
-TESTS = [out_of_reach, answers, tool_at_work, library_of_the_tool, nothing_written, manual_pages, completion, cmake, destdir]
+TESTS = [out_of_reach, answers, tool_at_work, library_of_the_tool, nothing_written, manual_pages, completion, cmake,
+         destdir]

@@ -1,7 +1,7 @@
 """Rust: the installed crate's own tests, documentation and example, and a crate that depends on it."""
 import functools
 
-from .common import DUE, ROOT, folder, prefix, ran, same, tool
+from .common import LAST_LINE, ROOT, folder, prefix, run, same, tool
 
 MAIN = """\
 use sim3::{host, Tangent};
@@ -22,16 +22,16 @@ def target():
 
 def cargo(*words, cwd, **variables):
     tool("cc")  # by which rustc links
-    return ran([tool("cargo"), *words, "--offline", "--quiet"], cwd, CARGO_TARGET_DIR=target(), **variables)
+    return run([tool("cargo"), *words, "--offline", "--quiet"], cwd, CARGO_TARGET_DIR=target(), **variables)
 
 
 def own_tests():
-    told = cargo("test", cwd=prefix() / "share/sim3/rust")
-    assert told.count("test result: ok") >= 3, told
+    output = cargo("test", cwd=prefix() / "share/sim3/rust")
+    assert output.count("test result: ok") >= 3, output
 
 
 def own_example():
-    assert DUE in cargo("run", "--example", "join", cwd=prefix() / "share/sim3/rust")
+    assert LAST_LINE in cargo("run", "--example", "join", cwd=prefix() / "share/sim3/rust")
 
 
 def example_is_the_same():

@@ -5,7 +5,7 @@ import shutil
 import subprocess
 import sys
 
-from .common import ROOT, folder, ran, same, tool
+from .common import ROOT, folder, run, same, tool
 
 NOW = (ROOT / "VERSION").read_text().strip()
 NEXT = "97.5.31"
@@ -22,7 +22,7 @@ def tool_of(top, word):
     return [sys.executable, "-B", top / "tools/version", word]
 
 
-def copied():
+def copy_tree():
     """A tree of what the libraries are made from, with the archives as they are, so that nothing is proved."""
     top = folder("bumped")
     for part in ("VERSION", "NOTICE", "include", "bindings", "examples", "tools", "share", "install", "sim3-job"):
@@ -35,13 +35,13 @@ def copied():
     os.utime(top / "crates.txt", (0, 0))
     (top / "target/bin").mkdir()
     shutil.copy2(ROOT / "target/bin/sim3_job", top / "target/bin")
-    ran(["bash", "-c", STAMP], top)
+    run(["bash", "-c", STAMP], top)
     return top
 
 
-def shown(top, prefix):
+def versions_shown(top, prefix):
     """The version at every place that shows it."""
-    header, wheel = (prefix / "include/sim3.h").read_text(), ran([sys.executable, "-B", "-c",
+    header, wheel = (prefix / "include/sim3.h").read_text(), run([sys.executable, "-B", "-c",
                                                                   "import backend; print(backend.build_wheel('.'))"],
                                                                  top / "bindings/python")
     package = "import sim3; print(sim3.__version__, sim3.version())"
@@ -54,10 +54,10 @@ def shown(top, prefix):
         "pkg-config": re.search("Version: (.*)", (prefix / "lib/pkgconfig/sim3.pc").read_text())[1],
         "Cargo.toml": re.search(r'^version = "(.*)"', (prefix / "share/sim3/rust/Cargo.toml").read_text(), re.M)[1],
         "wheel": wheel.strip().splitlines()[-1].split("-")[1],
-        "package and library": ran([sys.executable, "-B", "-c", package], "/",
+        "package and library": run([sys.executable, "-B", "-c", package], "/",
                                    PYTHONPATH=top / "bindings/python").split(),
         "soname and symbols": re.findall(r"libsim3\.so\.(\d+)\b(?!\.)|SIM3_(\d+)",
-                                         ran([tool("readelf"), "-dV", prefix / "lib/libsim3.so"], "/"))[:2],
+                                         run([tool("readelf"), "-dV", prefix / "lib/libsim3.so"], "/"))[:2],
     }
 
 
@@ -67,14 +67,14 @@ def shown_everywhere():
 
 def bump():
     tool("cc", "CC")
-    top, major = copied(), NEXT.split(".")[0]
-    ran(tool_of(top, NEXT), "/")
-    ran(tool_of(top, "--check"), "/")
-    ran([top / "bindings/install", top / "prefix"], "/")
-    found = shown(top, top / "prefix")
-    due = {**dict.fromkeys(found, NEXT), "package and library": [NEXT, NEXT],
+    top, major = copy_tree(), NEXT.split(".")[0]
+    run(tool_of(top, NEXT), "/")
+    run(tool_of(top, "--check"), "/")
+    run([top / "bindings/install", top / "prefix"], "/")
+    found = versions_shown(top, top / "prefix")
+    expected = {**dict.fromkeys(found, NEXT), "package and library": [NEXT, NEXT],
            "soname and symbols": [(major, ""), ("", major)]}
-    same(found, due, "the version after a bump")
+    same(found, expected, "the version after a bump")
     for path in top.rglob("*"):
         if path.is_file() and "target" not in path.parts and path.suffix != ".whl":
             assert not re.search(rf"(?<![\d.]){re.escape(NOW)}(?![\d.])".encode(),

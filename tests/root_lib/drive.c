@@ -1,8 +1,10 @@
 // Calls the proved square root from C.
 //
-//     drive           reads patterns of doubles from standard input, 8 bytes each, little endian; for each it writes five words to standard output: the
-//                     refusal's number or 0, the whole root, the remainder, the exponent, and the nearest double's pattern
-//     drive --time    writes how many ns a call takes beside the machine's sqrt, as a stream of independent calls and as a chain, the best of some rounds
+//     drive           reads patterns of doubles from standard input, 8 bytes each, little endian; writes five words for
+//                     each to standard output: the refusal's number or 0, the root as an integer, the remainder, the
+//                     exponent, and the pattern of the nearest double
+//     drive --time    prints how many ns a call takes beside the machine's sqrt, for independent calls and for a chain
+//                     of dependent ones, the best of some rounds
 #include <math.h>
 #include <stdint.h>
 #include <stdio.h>
@@ -26,13 +28,13 @@ static int answer_all(void) {
     size_t n;
     while ((n = fread(in, sizeof in[0], 4096, stdin)) > 0) {
         for (size_t i = 0; i < n; i++) {
-            uint64_t told[3] = {0, 0, 0};
+            uint64_t words[3] = {0, 0, 0};
             int64_t power[1] = {0};
-            out[i][0] = root_call(of_bits(in[i]), told, power);
-            out[i][1] = told[0];
-            out[i][2] = told[1];
+            out[i][0] = root_call(of_bits(in[i]), words, power);
+            out[i][1] = words[0];
+            out[i][2] = words[1];
             memcpy(&out[i][3], power, sizeof power);
-            out[i][4] = told[2];
+            out[i][4] = words[2];
         }
         if (fwrite(out, sizeof out[0], n, stdout) != n) {
             fprintf(stderr, "drive: standard output could not be written\n");
@@ -43,8 +45,8 @@ static int answer_all(void) {
 }
 
 enum { COUNT = 1 << 16, ROUNDS = 300 };
-static double given[COUNT];
-static volatile uint64_t kept;
+static double inputs[COUNT];
+static volatile uint64_t sink;
 
 static double now(void) {
     struct timespec t;
@@ -54,10 +56,10 @@ static double now(void) {
 
 // The root's pattern by the proved function, or by the machine.
 static uint64_t by_call(double z) {
-    uint64_t told[3] = {0, 0, 0};
+    uint64_t words[3] = {0, 0, 0};
     int64_t power[1];
-    root_call(z, told, power);
-    return told[2];
+    root_call(z, words, power);
+    return words[2];
 }
 
 static uint64_t by_machine(double z) {
@@ -67,16 +69,16 @@ static uint64_t by_machine(double z) {
     return b;
 }
 
-// ns for each call over the given doubles; in a chain each call waits for the one before.
+// ns for each call over the doubles of `inputs`; in a chain each call waits for the one before.
 static double timed(uint64_t (*f)(double), int chained) {
     double best = 1e300;
     for (int round = 0; round < ROUNDS; round++) {
         uint64_t sum = 0;
         double began = now();
-        for (int i = 0; i < COUNT; i++) sum += f(chained ? given[i] + (double)(sum >> 63) : given[i]);
+        for (int i = 0; i < COUNT; i++) sum += f(chained ? inputs[i] + (double)(sum >> 63) : inputs[i]);
         double took = (now() - began) / COUNT;
         if (took < best) best = took;
-        kept = sum;
+        sink = sum;
     }
     return best;
 }
@@ -90,7 +92,7 @@ int main(int argc, char **argv) {
     uint64_t state = 1;
     for (int i = 0; i < COUNT; i++) {
         state = state * 6364136223846793005u + 1442695040888963407u;
-        given[i] = of_bits((state >> 12) | (uint64_t)(i % 2046 + 1) << 52);
+        inputs[i] = of_bits((state >> 12) | (uint64_t)(i % 2046 + 1) << 52);
     }
     printf("stream: %.1f ns a call, the machine's sqrt %.1f ns\n", timed(by_call, 0), timed(by_machine, 0));
     printf("chain:  %.1f ns a call, the machine's sqrt %.1f ns\n", timed(by_call, 1), timed(by_machine, 1));

@@ -18,7 +18,7 @@ import scratch  # noqa: E402
 
 def archive():
     """The wrapper's archive, which is made where it or a crate below has changed."""
-    if scratch.is_made(SOURCE, USED, ARCHIVE):
+    if scratch.is_current(SOURCE, USED, ARCHIVE):
         return
     try:
         scratch.archive("root_calls", USED, SOURCE, ARCHIVE)
@@ -26,7 +26,7 @@ def archive():
         raise SystemExit(f"{error}root: proving and building the wrapper failed, as said above") from None
 
 
-def ran(words, what, **options):
+def run(words, what, **options):
     """Runs a command; what it said is shown only where it failed."""
     try:
         done = subprocess.run(words, stdout=subprocess.PIPE, stderr=subprocess.STDOUT, text=True, **options)
@@ -36,18 +36,19 @@ def ran(words, what, **options):
         raise SystemExit(f"{done.stdout}root: {what}: '{words[0]}' failed, as said above")
 
 
-def built():
+def build():
     archive()
     compiler = os.environ.get("CC", "cc")
-    words = [compiler, "-std=gnu11", "-O2", "-Wall", "-Wextra", "-Werror", HERE / "drive.c", ARCHIVE, "-o", DRIVE, "-lm"]
-    ran([str(word) for word in words], "compiling tests/root_lib/drive.c")
+    words = [compiler, "-std=gnu11", "-O2", "-Wall", "-Wextra", "-Werror", HERE / "drive.c", ARCHIVE, "-o", DRIVE,
+             "-lm"]
+    run([str(word) for word in words], "compiling tests/root_lib/drive.c")
 
 
 def answers(patterns):
     """For each pattern the five words that drive writes."""
-    given = struct.pack(f"<{len(patterns)}Q", *patterns)
-    told = subprocess.run([str(DRIVE)], input=given, stdout=subprocess.PIPE, check=True).stdout
-    return struct.iter_unpack("<5Q", told)
+    inputs = struct.pack(f"<{len(patterns)}Q", *patterns)
+    output = subprocess.run([str(DRIVE)], input=inputs, stdout=subprocess.PIPE, check=True).stdout
+    return struct.iter_unpack("<5Q", output)
 
 
 def timed():

@@ -1,4 +1,4 @@
-"""What is due at a double: from its pattern, in whole numbers, by math.isqrt."""
+"""The expected answer at a double: from its pattern, in integers, by math.isqrt."""
 import math
 import struct
 
@@ -31,8 +31,9 @@ def scaled(n):
     return m, s
 
 
-def due(b):
-    """The refusal's number or 0, the whole root, the remainder, the exponent (as a 64-bit pattern) and the nearest double's pattern."""
+def expected(b):
+    """The refusal's number or 0, the whole root, the remainder, the exponent (as a 64-bit pattern) and the nearest
+    double's pattern."""
     if b & ~SIGN > INFINITY:
         return (8, 0, 0, 0, 0)
     if b > SIGN:
@@ -43,8 +44,8 @@ def due(b):
         return (0, 0, 0, 0, b)
     m, s = scaled(units(b))
     r = math.isqrt(m)
-    left = m - r * r
-    nearest = bits(math.ldexp(r if left <= r else r + 1, s))
+    remainder = m - r * r
+    nearest = bits(math.ldexp(r if remainder <= r else r + 1, s))
     if nearest != bits(math.sqrt(value(b))):
         raise ValueError(f"at {b:016x} the machine's sqrt is not the nearest double")
-    return (0, r, left, s & MINUS_ONE, nearest)
+    return (0, r, remainder, s & MINUS_ONE, nearest)

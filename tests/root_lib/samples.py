@@ -6,8 +6,10 @@ ONE = 1 << 52
 INFINITY = 0x7FF << 52
 MOST = INFINITY - 1
 
-# Zeros, infinities, NaNs, the ends of the subnormals and of the doubles, small numbers, and the three z whose remainder is r.
-SPECIAL = [0, 1, 2, 3, ONE - 1, ONE, ONE + 1, MOST, INFINITY, INFINITY + 1, 0x7FF8 << 48, 0x7FFF << 48, 0x3FF0 << 48, 0x4000 << 48, 0x4010 << 48]
+# Zeros, infinities, NaNs, the ends of the subnormals and of the doubles, small numbers, and the three z whose remainder
+# is r.
+SPECIAL = [0, 1, 2, 3, ONE - 1, ONE, ONE + 1, MOST, INFINITY, INFINITY + 1, 0x7FF8 << 48, 0x7FFF << 48, 0x3FF0 << 48,
+           0x4000 << 48, 0x4010 << 48]
 SPECIAL += [0x3FF0000000000001, 0x400FFFFFFFFFFFFF, 0x7FEFFFFFFFFFFFFF]
 
 
@@ -30,7 +32,8 @@ def subnormals(draw, count):
 
 
 def of_digits(draw, c):
-    """A double with m = c * 2^52, or one less for an odd c from 2^53 on: its significand is c or half of c, and the parity of its exponent tells which."""
+    """A double with m = c * 2^52, or one less for an odd c from 2^53 on: its significand is c or half of c, and the
+    parity of its exponent tells which."""
     odd, significand = (0, c) if c < 2 * ONE else (1, c // 2)
     return (2 * draw.randrange(1023) + 1 + odd) << 52 | significand - ONE
 
@@ -41,7 +44,8 @@ def beside(draw, c):
 
 
 def squares(draw, count):
-    """Neighbours of squares, m = r^2, and of the middles between two roots, m = (r + 1/2)^2; and of the squares that doubles are."""
+    """Neighbours of squares, m = r^2, and of the middles between two roots, m = (r + 1/2)^2; and of the squares that
+    doubles are."""
     for _ in range(count):
         r = draw.randrange(ONE, 2 * ONE)
         yield from beside(draw, r * r >> 52)
@@ -51,7 +55,7 @@ def squares(draw, count):
 
 
 def drawn(seed, binade, subnormal, square, other):
-    """All of them: so many of each kind, and of any pattern at all; and one in fifty again with its sign turned."""
+    """All samples: so many of each kind, and of any pattern; and one in fifty again with the other sign."""
     draw = random.Random(f"root {seed}")
     found = [*SPECIAL, *binades(draw, binade), *subnormals(draw, subnormal), *squares(draw, square)]
     found += [draw.getrandbits(64) for _ in range(other)]

@@ -17,7 +17,7 @@ sys.path.insert(0, str(TOOL.parent))
 
 from jobs_lib.cli import main as tool_main
 from jobs_lib.floats import DOUBLE, SINGLE
-from jobs_lib.layout import ANSWER, COUNTED, DOUBLES, END, JOB, STATE, UNKNOWN, WHOLE
+from jobs_lib.layout import ANSWER, COUNTED, DOUBLES, END, JOB, STATE, UNKNOWN, UINT16
 from jobs_lib.records import walk
 
 ONE, NAN, MINUS = 0x3FF0000000000000, DOUBLE.nan, 1 << 63
@@ -69,8 +69,8 @@ def jobs(*words, data=b"", status=0):
     try:
         try:
             found = tool_main([str(word) for word in words])
-        except SystemExit as leaving:  # help, and wrong arguments
-            found = leaving.code
+        except SystemExit as exit_:  # help, and wrong arguments
+            found = exit_.code
         sys.stdout.flush()
         out, messages = sys.stdout.buffer.getvalue(), sys.stderr.getvalue()
     finally:
@@ -105,7 +105,7 @@ def holds(text, *parts):
 def any_numbers(layout, source, frames):
     """The bits of ordinary and odd numbers, and any frames, for a record."""
     odd, width = (ODD32 if layout.width is SINGLE else ODD), layout.width
-    return [frames.choice([0, 65535, frames.randrange(65536)]) if code == WHOLE else
+    return [frames.choice([0, 65535, frames.randrange(65536)]) if code == UINT16 else
             source.choice(list(names)) if names else
             source.choice(odd) if source.random() < 0.3 else width.to_bits(source.gauss(0, 10))
             for names, code in zip(layout.names, layout.codes)]

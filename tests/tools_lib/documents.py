@@ -18,36 +18,37 @@ WRONG = {"`sim3_" + "expp`": "no sim3_",
          "[a part](#no-such-part)": "no part #no-such-part",
          "D999": "no D999",
          "word " * 25: "125 characters"}
-RIGHT = ["`sim3_exp`", "`series::sim3::series_v`", "`crates/*/specs`", "`rt must-fail CRATE`", "`tools/jobs show --unusable`",
+RIGHT = ["`sim3_exp`", "`series::sim3::series_v`", "`crates/*/specs`", "`rt must-fail CRATE`",
+         "`tools/jobs show --unusable`",
          "`Sim3Jac::inverse`", "```sh\ntools/jobs make examples/jobs.txt | ./sim3-job\n```",
          "# A title of `f64`\n[a part](#a-title-of-f64)", "| " + "word " * 30 + "|"]
 
 
-def said(text):
+def report_of(text):
     """What the tool says of a page with this text, and how many words it counts."""
     tool = importlib.util.module_from_spec(importlib.util.spec_from_loader("documents", LOADER))
     LOADER.exec_module(tool)
     with tempfile.TemporaryDirectory() as work:
         page = pathlib.Path(work, "PAGE.md")
         page.write_text(text)
-        words = tool.look_at(page, {"D1"})
+        words = tool.check_page(page, {"D1"})
     return tool.wrong, words
 
 
 def what_is_wrong():
     """Each wrong line by itself, on one page: a message for each."""
-    found, _ = said("\n\n".join(WRONG))
+    found, _ = report_of("\n\n".join(WRONG))
     same(len(found), len(WRONG), f"messages: {found}")
-    for message, due in zip(found, WRONG.values()):
-        holds(message, due)
+    for message, expected in zip(found, WRONG.values()):
+        holds(message, expected)
 
 
 def what_is_right():
-    same(said("\n\n".join(RIGHT) + "\nD1")[0], [], "messages")
+    same(report_of("\n\n".join(RIGHT) + "\nD1")[0], [], "messages")
 
 
 def words_that_count():
-    same(said("one | two - 3 <!-- generated: x -->\nfour\n<!-- end -->")[1], 3, "words")
+    same(report_of("one | two - 3 <!-- generated: x -->\nfour\n<!-- end -->")[1], 3, "words")
 
 
 TESTS = [what_is_wrong, what_is_right, words_that_count]

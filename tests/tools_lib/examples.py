@@ -29,7 +29,8 @@ def as_a_program():
 
 
 def help_has_examples():
-    for words in [["--help"], *([name, "--help"] for name in ("make", "show", "diff", "arms", "near", "sort", "sheets", "totals", "accuracy", "run", "format"))]:
+    names = ("make", "show", "diff", "arms", "near", "sort", "sheets", "totals", "accuracy", "run", "format")
+    for words in [["--help"], *([name, "--help"] for name in names)]:
         holds(jobs(*words)[0].decode(), "example:\n", "tools/jobs ")
     holds(jobs(status=2)[1], "COMMAND")
     holds(jobs("shwo", status=2)[1], "shwo", "make", "show", "diff", "arms", "sheets", "totals")
@@ -37,23 +38,26 @@ def help_has_examples():
 
 def help_says_what_the_page_says():
     """The bytes by `jobs format` are the page's, and the exit statuses by the script's help the guide's."""
-    told, whole = jobs("format")[0].decode(), PAGE.read_text()
+    output, whole = jobs("format")[0].decode(), PAGE.read_text()
     for name, part in page.page_parts("").items():
-        holds(told, part.rstrip())
-        assert not part or f"<!-- generated: {name} -->\n```\n{part.rstrip()}\n" in whole, f"{PAGE.name} has other {name} {RENEW}"
+        holds(output, part.rstrip())
+        assert not part or f"<!-- generated: {name} -->\n```\n{part.rstrip()}\n" in whole, (
+            f"{PAGE.name} has other {name} {RENEW}")
     holds(jobs("format", "AC", "mu")[0].decode(), "AC in, 102 bytes", "AC out, 26 bytes", "mu in,")
     holds(jobs("format", "XX", status=2)[1], "'XX' is no mark", "AC")
     script = subprocess.run([ROOT / "sim3-job", "--help"], stdout=subprocess.PIPE, text=True, check=True).stdout
     holds(script, f"{TOOL}", f"{PAGE}")
     statuses = re.findall(r"^  (\S+(?: \+ n)?) {2,}(.*)$", script, re.M)
-    same([status for status, _ in statuses], ["0", "1", "2", "3", "128 + n", "141"], "the exit statuses of sim3-job --help")
+    same([status for status, _ in statuses], ["0", "1", "2", "3", "128 + n", "141"],
+         "the exit statuses of sim3-job --help")
     holds(" ".join(GUIDE.read_text().split()), *(f"{status}: {text}" for status, text in statuses))
 
 
 @with_program
 def from_any_folder():
-    """The tool finds the script from another folder and through links; in a tree whose script is a stand-in, so that nothing is proved here."""
-    job, due = ((ROOT / "examples" / name).read_bytes() for name in ("jobs.bin", "answers.bin"))
+    """The tool finds the script from another folder and through links; in a tree whose script is a stand-in, so that
+    nothing is proved here."""
+    job, expected = ((ROOT / "examples" / name).read_bytes() for name in ("jobs.bin", "answers.bin"))
     with tempfile.TemporaryDirectory() as work:
         for part in ("tools", "bindings/python"):
             shutil.copytree(ROOT / part, f"{work}/a tree/{part}", ignore=shutil.ignore_patterns("__pycache__"))
@@ -63,9 +67,11 @@ def from_any_folder():
         os.symlink("a tree/tools/jobs", f"{work}/jobs")
         os.symlink(f"{work}/jobs", f"{work}/again")
         for words in (["jobs", "run", ROOT / "examples" / "jobs.bin"], ["again", "run"]):
-            done = subprocess.run([f"{work}/{words[0]}", *words[1:]], cwd="/", input=job, stdout=subprocess.PIPE, stderr=subprocess.PIPE)
-            same((done.returncode, done.stdout), (0, due), f"{words[0]} {done.stderr.decode()}")
-        done = subprocess.run([f"{work}/jobs", "run", "none.bin"], cwd=work, stdout=subprocess.PIPE, stderr=subprocess.PIPE)
+            done = subprocess.run([f"{work}/{words[0]}", *words[1:]], cwd="/", input=job, stdout=subprocess.PIPE,
+                                  stderr=subprocess.PIPE)
+            same((done.returncode, done.stdout), (0, expected), f"{words[0]} {done.stderr.decode()}")
+        done = subprocess.run([f"{work}/jobs", "run", "none.bin"], cwd=work, stdout=subprocess.PIPE,
+                              stderr=subprocess.PIPE)
         same((done.returncode, done.stdout), (2, b""), "jobs run of no file")
 
 
@@ -88,7 +94,8 @@ def page_is_current():
 
 
 def example_jobs():
-    """Each example's job file follows from its lines of text; a mark in small letters has one of another name, not of another case."""
+    """Each example's job file follows from its lines of text; a mark in small letters has one of another name, not of
+    another case."""
     names = {layout.mark + ("-f32" if layout.width is SINGLE else "") for layout in JOB.values()}
     same(names - {path.stem for path in FORMAT.iterdir()}, set(), "marks without an example")
     for path in FORMAT.iterdir():
@@ -98,7 +105,7 @@ def example_jobs():
         same_lines(page.without_answer(whole), page.without_answer(made), path.name)
 
 
-def answered(path):
+def example_with_answer(path):
     """An example's file as the program makes it today."""
     text = page.example_text(path.read_text())
     job = jobs("make", data=text.encode())[0]
@@ -109,7 +116,7 @@ def answered(path):
 def example_answers():
     """Each example's answer is the program's."""
     for path in FORMAT.iterdir():
-        same_lines(path.read_text(), answered(path), path.name)
+        same_lines(path.read_text(), example_with_answer(path), path.name)
 
 
 @with_program
@@ -119,24 +126,29 @@ def stored_job():
     answer = file("answers", program(data))
     text = jobs("show", answer)[0].decode()
     marks = " ".join(line.split()[0] for line in text.splitlines())
-    same(marks, "EX EX CO CO NO PA AC MU NO IN JI NO AR AR AR ex co co NO pa ac mu in ji RN CH CH NO CH SH SH SH NO SQ NO ZZ", "the answers' marks")
+    same(marks,
+         "EX EX CO CO NO PA AC MU NO IN JI NO AR AR AR ex co co NO pa ac mu in ji RN CH CH NO CH SH SH SH NO SQ NO ZZ",
+         "the answers' marks")
     holds(text, "EX pose.q 1.0 0.0 0.0 0.0; pose.t 1.0 2.0 3.0; pose.sigma 0.0; pose.frames 0 0\n",
-          "AC point 5.0 7.0 9.0\n", "; product.frames 7 1\nNO refusal 9", "; inverse.frames 1 3\n", "NO refusal 1", "NO refusal 2",
+          "AC point 5.0 7.0 9.0\n", "; product.frames 7 1\nNO refusal 9", "; inverse.frames 1 3\n", "NO refusal 1",
+          "NO refusal 2",
           "  # 11 terms\n", "  # closed; v0, w0 by series\n", "  # closed\n", "ac point 5.0 7.0 9.0\nmu product.q ",
           "RN n 2\nCH running.q 0.8 0.6 0.0 0.0; ", "running.frames 7 1\nNO refusal 9", "running.frames 9 1\n",
-          "SH outcome 1; before 0  # new\nSH outcome 2; before 1  # replaces\nSH outcome 3; before 3  # older, not kept\nNO refusal 10", "SQ take 3; pose.q 0.8 0.6 ", "NO refusal 12",
+          "SH outcome 1; before 0  # new\nSH outcome 2; before 1  # replaces\nSH outcome 3; before 3  # older, not "
+          "kept\nNO refusal 10", "SQ take 3; pose.q 0.8 0.6 ", "NO refusal 12",
           "ZZ begun 35; answered 28; refused 7; unusable 0; EX 2; CO 3; ", "; AR 3; CH 4; RN 1; SH 4; SQ 2\n")
     same(answer.read_bytes(), (ROOT / "examples" / "answers.bin").read_bytes(), "examples/answers.bin")
-    again = jobs("diff", answer, file("again", program(data)))[0].decode()
-    holds(again, "equal: 35 records")
+    second = jobs("diff", answer, file("again", program(data)))[0].decode()
+    holds(second, "equal: 35 records")
 
 
 def renew():
     """Writes the examples and the page's generated parts anew; the program must be built."""
     for path in FORMAT.iterdir():
-        path.write_text(answered(path))
+        path.write_text(example_with_answer(path))
     PAGE.write_text(page.fill(PAGE.read_text(), page_parts()))
     return 0
 
 
-TESTS = [as_a_program, help_has_examples, help_says_what_the_page_says, from_any_folder, page_is_current, example_jobs, example_answers, stored_job]
+TESTS = [as_a_program, help_has_examples, help_says_what_the_page_says, from_any_folder, page_is_current, example_jobs,
+         example_answers, stored_job]

@@ -17,25 +17,29 @@ def text_reads_back():
 
 def singles_are_short():
     """A single is shown with the fewest digits that read back, and never with more than nine."""
-    for bits, text in [(0x3DCCCCCD, "0.1"), (0x3EAAAAAB, "0.33333334"), (1, "1e-45"), (0x7F7FFFFF, "3.4028235e+38"), (0x80000000, "-0.0"),
-                       (0x4B800001, "16777218.0"), (0x40490FDB, "3.1415927"), (NAN32, "nan"), (0xFFC00000, "nan:ffc00000"), (0x7F800001, "nan:7f800001")]:
+    for bits, text in [(0x3DCCCCCD, "0.1"), (0x3EAAAAAB, "0.33333334"), (1, "1e-45"), (0x7F7FFFFF, "3.4028235e+38"),
+                       (0x80000000, "-0.0"),
+                       (0x4B800001, "16777218.0"), (0x40490FDB, "3.1415927"), (NAN32, "nan"),
+                       (0xFFC00000, "nan:ffc00000"), (0x7F800001, "nan:7f800001")]:
         same(SINGLE.text(bits), text, hex(bits))
 
 
 def singles_are_rounded_once():
-    """A word midway between two doubles' singles goes to the side on which the word itself lies, on a tie to the even one."""
+    """A word midway between two doubles' singles goes to the side on which the word itself lies, on a tie to the even
+    one."""
     source = random.Random(2)
     for bits in [0, 1, 0x007FFFFF, 0x3F800000, 0x7F7FFFFE, *(source.randrange(0x7F7FFFFF) for _ in range(300))]:
         low, high = Fraction(SINGLE.from_bits(bits)), Fraction(SINGLE.from_bits(bits + 1))
         middle, bit = (low + high) / 2, 1 << 200
-        for tiny, due in ((-1, bits), (0, bits + bits % 2), (1, bits + 1)):
+        for tiny, expected in ((-1, bits), (0, bits + bits % 2), (1, bits + 1)):
             exact = middle + tiny * Fraction(1, bit) * middle
             word = f"0x{exact.numerator:x}p{-(exact.denominator.bit_length() - 1)}"
             assert exact.denominator & (exact.denominator - 1) == 0, "no hexadecimal has this number"
-            same((SINGLE.read(word), SINGLE.read("-" + word)), (due, due | MINUS32), word)
-    for word, due in [("1.00000005960464477539062", ONE32), ("1.000000059604644775390625", ONE32), ("1.00000005960464477539063", ONE32 + 1),
+            same((SINGLE.read(word), SINGLE.read("-" + word)), (expected, expected | MINUS32), word)
+    for word, expected in [("1.00000005960464477539062", ONE32), ("1.000000059604644775390625", ONE32),
+                           ("1.00000005960464477539063", ONE32 + 1),
                       ("3.4028235677973366e38", 0x7F7FFFFF), ("7e-46", 0), ("7.1e-46", 1)]:
-        same(SINGLE.read(word), due, word)
+        same(SINGLE.read(word), expected, word)
 
 
 def words_that_are_numbers():
@@ -44,15 +48,18 @@ def words_that_are_numbers():
                        (".5e1", 0x4014000000000000), ("+inf", 0x7FF0000000000000), ("nan", NAN),
                        ("1e-400", 0), ("nan:fff8000000000001", MINUS | NAN | 1)]:
         same(DOUBLE.read(word), bits, word)
-    for word, bits in [("0x1.8p3", 0x41400000), ("-0", MINUS32), ("0x.8", 0x3F000000), ("-0x1p-149", MINUS32 | 1), ("bits:3F800000", ONE32),
-                       ("0.1", 0x3DCCCCCD), ("+inf", 0x7F800000), ("nan", NAN32), ("1e-400", 0), ("nan:ffc00001", MINUS32 | NAN32 | 1)]:
+    for word, bits in [("0x1.8p3", 0x41400000), ("-0", MINUS32), ("0x.8", 0x3F000000), ("-0x1p-149", MINUS32 | 1),
+                       ("bits:3F800000", ONE32),
+                       ("0.1", 0x3DCCCCCD), ("+inf", 0x7F800000), ("nan", NAN32), ("1e-400", 0),
+                       ("nan:ffc00001", MINUS32 | NAN32 | 1)]:
         same(SINGLE.read(word), bits, word)
 
 
 def words_that_are_none():
     common = ["0x1p2000", "1_0", "infinity", "bits:3ff", "0x", "1e", "--1", "\u0661", "-nan", ".", "1,"]
     for width, more in ((DOUBLE, ["1e400", "nan:3ff0000000000000", "bits:3f800000"]),
-                        (SINGLE, ["1e39", "3.4028236e38", "-1e400", "0x1p128", "nan:3f800000", "bits:3ff0000000000000"])):
+                        (SINGLE, ["1e39", "3.4028236e38", "-1e400", "0x1p128", "nan:3f800000",
+                                  "bits:3ff0000000000000"])):
         for word in common + more:
             try:
                 found = width.read(word)
@@ -98,5 +105,6 @@ def rotation_jacobians():
     assert abs(j[1] - 5e-4) < 1e-9 and abs(inverse[1] + 5e-4) < 1e-9, "the turn is the wrong way"
 
 
-TESTS = [text_reads_back, singles_are_short, singles_are_rounded_once, words_that_are_numbers, words_that_are_none, distances, ten_values,
+TESTS = [text_reads_back, singles_are_short, singles_are_rounded_once, words_that_are_numbers, words_that_are_none,
+         distances, ten_values,
          rotation_jacobians]

@@ -46,7 +46,8 @@ class Edit:
             if count != 1:
                 raise ValueError(f"its old text stands {count} times in {file}: give a text that stands there once")
             texts[file] = text.replace(old, new)
-        if all(text == (top / "crates" / self.crate / file).read_text(encoding="utf-8") for file, text in texts.items()):
+        if all(text == (top / "crates" / self.crate / file).read_text(encoding="utf-8")
+               for file, text in texts.items()):
             raise ValueError("it changes nothing")
         return texts
 
@@ -56,7 +57,7 @@ def edits():
     return [Edit(path, path.relative_to(top).parts[1]) for path in sorted(top.glob("crates/*/must-fail/*.edit"))]
 
 
-def others():
+def stray_files():
     """The files of crates/NAME/must-fail that rt takes for no edit, and that are not only to be read."""
-    kept = set(top.glob("crates/*/must-fail/*.edit")) | set(top.glob("crates/*/must-fail/*.md"))
-    return sorted(path for path in top.glob("crates/*/must-fail/**/*") if path.is_file() and path not in kept)
+    allowed = set(top.glob("crates/*/must-fail/*.edit")) | set(top.glob("crates/*/must-fail/*.md"))
+    return sorted(path for path in top.glob("crates/*/must-fail/**/*") if path.is_file() and path not in allowed)

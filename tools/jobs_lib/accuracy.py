@@ -50,7 +50,7 @@ def report(arguments):
     out = Lines()
     try:
         out.add(*bounds(*sizes, arguments.joins, arguments.every, width))
-    except accuracy.OutOfBounds as no:
-        raise Failure(f"jobs: {no}") from None
+    except accuracy.OutOfBounds as error:
+        raise Failure(f"jobs: {error}") from None
     out.flush()
     return 0

@@ -20,7 +20,7 @@ CLOSED = 5
 RULES = [(1, 0), (2, 0), (3, 0), (4, 0), (5, 1), (5, 0)]
 
 
-def limits_give(sigma, z):
+def arm_by_limits(sigma, z):
     """The arm and the second byte that the limits give; a NaN is below none."""
     square = sigma * sigma
     delta = square + z
@@ -28,7 +28,7 @@ def limits_give(sigma, z):
     return arm, int(arm == CLOSED and square < SERIES_BELOW)
 
 
-def single_arm(sigma, z):
+def single_arm_by_limits(sigma, z):
     """The arm of two singles that are not NaN: their product and sum are rounded once each, from doubles that
     hold the product, and of the sum what rounding to a single needs."""
     square = SINGLE.from_bits(SINGLE.to_bits(sigma * sigma))
@@ -41,7 +41,7 @@ def rule_text(arm, series):
     return "; ".join(filter(None, (ARMS.get(arm, f"arm {arm}"), BY_SERIES.get(series, f"{series}"))))
 
 
-class Found:
+class ArmRecords:
     """The AR records of a job and what their answers say."""
 
     def __init__(self):
@@ -51,18 +51,18 @@ class Found:
         self.numbers, self.kinds = array("I"), array("B")  # of the answered records, to be drawn
         self.squares, self.angles = array("d"), array("d")
 
-    def add(self, number, sigma, z, told):
-        """An answered record: its number in the file, and the four bytes that it was told."""
-        rule = limits_give(sigma, z)
+    def add(self, number, sigma, z, answer_bytes):
+        """Counts an answered record: its number in the file, and the four bytes of its answer."""
+        rule = arm_by_limits(sigma, z)
         self.answered += 1
-        if told != (*rule, *rule):
-            signs = dict.fromkeys((rule_text(*told[:2]), rule_text(*told[2:])))
+        if answer_bytes != (*rule, *rule):
+            signs = dict.fromkeys((rule_text(*answer_bytes[:2]), rule_text(*answer_bytes[2:])))
             self.wrong.append(f"record {number}  AR  told {', at -sigma '.join(signs)}; "
                               f"the limits give {rule_text(*rule)}")
-        if told[:2] in self.rules:
-            self.rules[told[:2]] += 1
+        if answer_bytes[:2] in self.rules:
+            self.rules[answer_bytes[:2]] += 1
             self.numbers.append(number)
-            self.kinds.append(RULES.index(told[:2]))
+            self.kinds.append(RULES.index(answer_bytes[:2]))
             self.squares.append(sigma * sigma)
             self.angles.append(z)
 
@@ -72,13 +72,13 @@ class Found:
 
 def fill(job, answers, found):
     """Walks both files record by record and fills `found`."""
-    for number, at, asked, answer_at, answer in pairs(job, answers, "arms"):
-        if asked.mark != "AR":
+    for number, at, record, answer_at, answer in pairs(job, answers, "arms"):
+        if record.mark != "AR":
             found.others += 1
         elif answer.mark == "NO":
             found.refused += 1
         else:
-            sigma, z = asked.numbers.unpack_from(job, at + 2)[:2]
+            sigma, z = record.numbers.unpack_from(job, at + 2)[:2]
             found.add(number, sigma, z, tuple(answers[answer_at + 2:answer_at + 6]))
 
 
@@ -106,16 +106,16 @@ def write(path, text, inputs):
 
 def arms(job_path, answer_path, svg_path):
     """The command: 0, or 1 where the files are no job and its answer by the limits, or 2."""
-    job, answers, asked, told = load_both(job_path, answer_path)
-    found = Found()
+    job, answers, job_scan, answer_scan = load_both(job_path, answer_path)
+    found = ArmRecords()
     fill(job, answers, found)
-    out, said = Lines(), list(problems(asked, told, found.wrong, "with bytes that are not the limits'"))
+    out, faults = Lines(), list(problems(job_scan, answer_scan, found.wrong, "with bytes that are not the limits'"))
     out.add(*table(found))
     if found.others:
         out.add(f"{count(found.others, 'record')} of other marks")
     if svg_path:
         write(svg_path, picture(found, ARM_FROM, SERIES_BELOW, RULES, rule_text),
               [path for path in (job_path, answer_path) if path != "-"])
-    out.add(*said)
+    out.add(*faults)
     out.flush()
-    return 1 if said else 0
+    return 1 if faults else 0

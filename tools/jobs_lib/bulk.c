@@ -1,8 +1,8 @@
-/* What `jobs split`, `jobs merge` and `jobs show` do for every record of a large file. bulk.py loads it, and has the
- * same functions in Python where bindings/build has not made it.
+/* The inner loops of `jobs split`, `jobs merge` and `jobs show`, run for every record of a large file. bulk.py loads
+ * this library, and has the same functions in Python for when bindings/build has not made it.
  *
  * `sizes` has the size of a record of every mark, whose first byte is the low one, and 0 for what is no mark; `places`
- * each mark's place in a table. A record is whole where it ends at `end` or before. */
+ * each mark's index in a table. A record is whole if it ends at `end` or before. */
 #include <math.h>
 #include <stddef.h>
 #include <stdint.h>
@@ -10,13 +10,13 @@
 #include <stdlib.h>
 #include <string.h>
 
-/* Records of one group on their way to its part: room for their bytes, and how many bytes and records are taken. */
+/* The output buffer of one group, with how many bytes and records it holds, and the most records it may take. */
 typedef struct {
     uint8_t *bytes;
     uint64_t size, records, most;
 } group;
 
-/* The answers of one group: those from byte `at` up to `end` are left. */
+/* The answers of one group; those from byte `at` to `end` are not yet copied. */
 typedef struct {
     const uint8_t *data;
     uint64_t at, end;
@@ -30,7 +30,7 @@ static size_t whole(const uint8_t *data, size_t at, size_t end, const uint16_t *
     return size <= end - at ? size : 0;
 }
 
-/* Counts the records from byte `at` on by their marks: the byte behind the last. */
+/* Counts the records from byte `at` on by mark. Returns the byte after the last. */
 size_t sim3_bulk_count(const uint8_t *data, size_t at, size_t end, const uint16_t *sizes, const uint8_t *places,
                        uint64_t *counts) {
     for (size_t size; (size = whole(data, at, end, sizes)) > 0; at += size) counts[places[mark_at(data, at)]]++;
@@ -50,7 +50,7 @@ typedef struct {
     uint16_t first, count, width;
 } numbers;
 
-/* Which records from byte `at` on hold a NaN or an infinity, counted from 0: how many they are. */
+/* Writes the indices of the records from byte `at` on that hold a NaN or an infinity. Returns how many there are. */
 size_t sim3_bulk_unusable(const uint8_t *data, size_t at, size_t end, const uint16_t *sizes, const uint8_t *places,
                           const numbers *of, uint32_t *found) {
     size_t done = 0;
@@ -62,7 +62,7 @@ size_t sim3_bulk_unusable(const uint8_t *data, size_t at, size_t end, const uint
 }
 
 /* Copies the records from byte `at` on to their groups, and the number of each one's group to `order`: up to `most`
- * records, `room` bytes, or the first whose group takes no more. The byte behind the last. */
+ * records, `room` bytes, or the first whose group is full. Returns the byte after the last. */
 size_t sim3_bulk_cut(const uint8_t *data, size_t at, size_t end, const uint16_t *sizes, const uint8_t *group_of,
                      group *groups, size_t room, uint8_t *order, size_t most) {
     if (end - at > room) end = at + room;
@@ -77,9 +77,9 @@ size_t sim3_bulk_cut(const uint8_t *data, size_t at, size_t end, const uint16_t 
     return at;
 }
 
-/* Copies the answers to `records` records, of whose groups `order` has the numbers, one behind another: up to `room`
- * bytes, or the first whose group has no whole answer left. How many they are, and in `written` their bytes. */
-size_t sim3_bulk_weave(const uint8_t *order, size_t records, answers *groups, const uint16_t *sizes, uint8_t *out,
+/* Copies the answers to `records` records, whose group numbers are in `order`, one after the other: up to `room` bytes,
+ * or the first whose group has no whole answer left. Returns how many, and stores their size in `written`. */
+size_t sim3_bulk_interleave(const uint8_t *order, size_t records, answers *groups, const uint16_t *sizes, uint8_t *out,
                        size_t room, size_t *written) {
     size_t done = 0, at = 0;
     for (; done < records; done++) {
@@ -94,15 +94,15 @@ size_t sim3_bulk_weave(const uint8_t *order, size_t records, answers *groups, co
     return done;
 }
 
-/* What follows finds decimals of a single x > 0. The doubles midway to its neighbours, which are exact: what lies
+/* A single x > 0 with its rounding interval: the doubles midway to its neighbours, which are exact. Every decimal
  * between them reads back as x. */
 typedef struct {
     double x, low, high;
 } single;
 
-/* The decimal of so many digits nearest to x, as its nearest double: 1 where it reads back, 0 where not, and -1 where
- * that does not follow from doubles. x times a power of ten up to 12 is exact, and so is the quotient rounded once. */
-static int quickly(const single *s, int digits, double *near) {
+/* The decimal with `digits` digits nearest to x, as its nearest double. Returns 1 if it reads back, 0 if not, and -1 if
+ * arithmetic in doubles does not decide. x times a power of ten up to 12 is exact, and the quotient is rounded once. */
+static int by_doubles(const single *s, int digits, double *near) {
     static const double tens[] = {1e0, 1e1, 1e2, 1e3, 1e4, 1e5, 1e6, 1e7, 1e8, 1e9, 1e10, 1e11, 1e12};
     const int power = digits - 1 - (int)floor(log10(s->x));
     if (power < 0 || power > 12) return -1;
@@ -112,11 +112,11 @@ static int quickly(const single *s, int digits, double *near) {
     return s->low < *near && *near < s->high ? 1 : *near < s->low || *near > s->high ? 0 : -1;
 }
 
-/* Whether the decimal of so many digits that is nearest to x reads back as x; its nearest double stands in `near`. */
+/* Whether the decimal with `digits` digits nearest to x reads back as x; its nearest double is stored in `near`. */
 static int reads_back(const single *s, int digits, double *near) {
     char text[32];
     double found;
-    int good = quickly(s, digits, &found);
+    int good = by_doubles(s, digits, &found);
     if (good < 0) {
         snprintf(text, sizeof text, "%.*e", digits - 1, s->x);
         good = strtof(text, NULL) == (float)s->x;
@@ -126,8 +126,8 @@ static int reads_back(const single *s, int digits, double *near) {
     return good;
 }
 
-/* The double nearest to the shortest decimal that reads back as x. Nine digits always do. With each digit less the
- * decimal lies further away; but a power of two has less room below than above, so that every count is tried there. */
+/* The double nearest to the shortest decimal that reads back as x. Nine digits always do, and with fewer digits the
+ * decimal is never nearer. A power of two has half the room below that it has above, so every count is tried there. */
 static double shortest(float of) {
     const float x = fabsf(of), above = nextafterf(x, INFINITY);
     const single s = {x, ((double)nextafterf(x, 0) + x) / 2, isfinite(above) ? ((double)x + above) / 2 : x};
@@ -144,20 +144,20 @@ static double shortest(float of) {
     return copysign(near, of);
 }
 
-/* The powers of ten from LEAST on, each as the 128 bits that a power of two brings it to, rounded up: high, low. */
+/* The powers of ten from LEAST on, each scaled by a power of two to 128 bits and rounded up: high, low. */
 enum { LEAST = -292 };
 typedef struct {
     uint64_t high, low;
 } power;
 
-/* p times c without its last 128 bits; the last bit is set where some of those are, but for what p was rounded by. */
+/* p times c without its last 128 bits, rounded to odd; the error of p is left out of account. */
 static uint64_t to_odd(power p, uint64_t c) {
     const unsigned __int128 high = (unsigned __int128)p.high * c + (uint64_t)((unsigned __int128)p.low * c >> 64);
     return (uint64_t)(high >> 64) | ((uint64_t)high > 1);
 }
 
-/* The shortest decimal that reads back as the finite double x > 0, and of those the nearest: R. Giulietti's Schubfach.
- * The digits as a whole number; in `exponent` the power of ten to which they stand. */
+/* The shortest decimal that reads back as the finite double x > 0, and the nearest of those: R. Giulietti's Schubfach.
+ * Returns the digits as a whole number, and stores the power of ten that scales them in `exponent`. */
 static uint64_t decimal(double x, const power *powers, int *exponent) {
     uint64_t bits;
     memcpy(&bits, &x, sizeof bits);
@@ -175,8 +175,8 @@ static uint64_t decimal(double x, const power *powers, int *exponent) {
     return s + (four > 4 * s + 2 || (four == 4 * s + 2 && s % 2));
 }
 
-/* Digits with their point, or as a power of ten, as Python writes them; behind the text. */
-static char *pointed(char *out, const char *digits, int count, int point) {
+/* Writes digits with their point or exponent, as Python does. Returns the end of the text. */
+static char *with_point(char *out, const char *digits, int count, int point) {
     if (point <= -4 || point > 16) {
         *out++ = *digits;
         if (count > 1) *out++ = '.';
@@ -190,8 +190,8 @@ static char *pointed(char *out, const char *digits, int count, int point) {
     return out;
 }
 
-/* A double in Python's words; behind the text. */
-static char *worded(char *out, double x, const power *powers) {
+/* Writes a double as Python does. Returns the end of the text. */
+static char *double_text(char *out, double x, const power *powers) {
     char digits[20], *first = digits + sizeof digits;
     int exponent = 0;
     if (isnan(x)) return out + sprintf(out, "nan");
@@ -202,11 +202,11 @@ static char *worded(char *out, double x, const power *powers) {
     do *--first = (char)('0' + whole % 10);
     while (whole /= 10);
     const int count = (int)(digits + sizeof digits - first);
-    return pointed(out, first, count, count + exponent);
+    return with_point(out, first, count, count + exponent);
 }
 
-/* A number of a record by its letter: d a double, f a single, H, B and I whole numbers; behind the text, and in `at`
- * behind the number. A NaN that is not the one of answers shows its bits. */
+/* Writes a number of a record by its code: d a double, f a single, H, B and I whole numbers. Returns the end of the
+ * text, and moves `at` past the number. A NaN with other bits than those of answers is written as its bits. */
 static char *number(char *out, const uint8_t **at, char code, const power *powers) {
     uint64_t bits = 0;
     double x;
@@ -217,18 +217,18 @@ static char *number(char *out, const uint8_t **at, char code, const power *power
     if (code == 'd') {
         memcpy(&x, &bits, sizeof x);
         if (isnan(x) && bits != 0x7FF8000000000000) return out + sprintf(out, "nan:%016llx", (unsigned long long)bits);
-        return worded(out, x, powers);
+        return double_text(out, x, powers);
     }
     if (code == 'f') {
         const uint32_t half = (uint32_t)bits;
         memcpy(&y, &half, sizeof y);
         if (isnan(y) && half != 0x7FC00000) return out + sprintf(out, "nan:%08lx", (unsigned long)half);
-        return worded(out, shortest(y), powers);
+        return double_text(out, shortest(y), powers);
     }
     return out + sprintf(out, "%lu", (unsigned long)bits);
 }
 
-/* The numbers of a record, whose letters are these, as texts with a blank behind each: how many bytes. */
+/* Writes the numbers of a record with these codes, each followed by a blank. Returns how many bytes. */
 size_t sim3_bulk_text(const uint8_t *numbers, const char *codes, const power *powers, char *out) {
     char *const first = out;
     for (; *codes; codes++) {

@@ -1,6 +1,6 @@
-"""What is done for every record of a large file: counting records, sorting them to groups, putting answers of several
-groups into one order, and writing its numbers. By a small library in C, bulk.c, where bindings/build or an
-install has made it, and else in Python: the same functions with the same answers."""
+"""The inner loops over the records of a large file: counting records, sorting them into groups, interleaving the
+answers of several groups, and formatting numbers. A small library in C, bulk.c, runs them where bindings/build or an
+install has made it; the same functions in Python do elsewhere, with the same results."""
 import contextlib
 import ctypes
 import functools
@@ -11,20 +11,20 @@ from .terminal import INSTALLED, TOP
 
 PATH = (TOP.parents[1] / "lib" / "sim3" if INSTALLED else TOP / "target" / "bindings") / "libsim3_bulk.so"
 SOURCE = pathlib.Path(__file__).with_name("bulk.c")  # in the source tree; an install has the library alone
-ROOM, RECORDS = 1 << 20, 1 << 16  # the bytes of records, and the records, that are copied at once
+CHUNK_BYTES, CHUNK_RECORDS = 1 << 20, 1 << 16  # the bytes of records, and the records, that are copied at once
 ADDRESS, SIZE = ctypes.c_void_p, ctypes.c_size_t
 FUNCTIONS = {"count": [ADDRESS, SIZE, SIZE, ADDRESS, ADDRESS, ADDRESS],
              "unusable": [ADDRESS, SIZE, SIZE, ADDRESS, ADDRESS, ADDRESS, ADDRESS],
              "cut": [ADDRESS, SIZE, SIZE, ADDRESS, ADDRESS, ADDRESS, SIZE, ADDRESS, SIZE],
-             "weave": [ADDRESS, SIZE, ADDRESS, ADDRESS, ADDRESS, SIZE, ADDRESS],
+             "interleave": [ADDRESS, SIZE, ADDRESS, ADDRESS, ADDRESS, SIZE, ADDRESS],
              "text": [ADDRESS, ADDRESS, ADDRESS, ADDRESS]}
 LEAST_POWER, MOST_POWER = -292, 324  # of ten, for every finite double
 TEXT = ctypes.create_string_buffer(1 << 14)  # room for the numbers of any record
 
 
 class Cut(NamedTuple):
-    """Records that were sorted to groups: the byte behind the last, the number of each one's group, and for each group
-    its records' bytes, which hold until the next call, and how many records they are."""
+    """Records sorted into groups: the byte after the last, the number of each one's group, and for each group the bytes
+    of its records, valid until the next call, and their count."""
 
     at: int
     order: bytes
@@ -33,13 +33,13 @@ class Cut(NamedTuple):
 
 
 class Source:
-    """The answers of a group: those from byte `at` up to `end` are left."""
+    """The answers of a group; those from byte `at` to `end` are not yet copied."""
 
     def __init__(self, data=b"", at=0, end=0):
         self.data, self.at, self.end = data, at, end
 
 
-class Plain:
+class PurePython:
     """The functions in Python, for the records of a table; `group_of` has the number of each mark's group."""
 
     def __init__(self, table, group_of=None):
@@ -52,7 +52,7 @@ class Plain:
         return mark, size if at + size <= end else 0
 
     def count(self, data, at, end):
-        """The byte behind the last of the whole records from byte `at` on, and how many there are of each mark."""
+        """The byte after the last whole record from byte `at` on, and the count of each mark."""
         counts = dict.fromkeys(self.sizes, 0)
         mark, size = self.whole(data, at, end)
         while size:
@@ -62,7 +62,7 @@ class Plain:
         return at, counts
 
     def unusable(self, data, at, end):
-        """Which of the whole answers between two bytes hold a NaN or an infinity, counted from 0."""
+        """The indices of the whole answers between two bytes that hold a NaN or an infinity."""
         found, number = [], 0
         mark, size = self.whole(data, at, end)
         while size:
@@ -73,10 +73,10 @@ class Plain:
         return found
 
     def cut(self, data, at, end, most):
-        """Copies records from byte `at` on to their groups, up to the first whose group takes no more (`most` of each),
-        or fewer; none only where that is the first, or there is no whole record."""
+        """Copies records from byte `at` on to their groups, up to the first whose group is full (`most` of each), or
+        fewer; none only if the first record's group is full, or there is no whole record."""
         order, pieces = bytearray(), [[] for _ in most]
-        while len(order) < RECORDS:
+        while len(order) < CHUNK_RECORDS:
             mark, size = self.whole(data, at, end)
             number = self.group_of.get(mark)
             if not size or len(pieces[number]) == most[number]:
@@ -86,9 +86,9 @@ class Plain:
             at += size
         return Cut(at, bytes(order), list(map(b"".join, pieces)), list(map(len, pieces)))
 
-    def weave(self, order, sources):
-        """The answers to records, of whose groups `order` has the numbers, as bytes that hold until the next call, and
-        how many they are: up to the first whose group has none left, or fewer; none only where that is the first."""
+    def interleave(self, order, sources):
+        """The answers to records whose group numbers are in `order`, as bytes valid until the next call, and their
+        count: up to the first whose group has none left, or fewer; none only if the first record's group has none."""
         pieces = []
         for number in order:
             source = sources[number]
@@ -101,7 +101,7 @@ class Plain:
 
 
 class Buffer(ctypes.Structure):
-    """Python's Py_buffer, by which a file that is mapped to be read alone has an address."""
+    """Python's Py_buffer, which gives the address of a read-only mapping."""
 
     _fields_ = [("address", ADDRESS), ("owner", ctypes.py_object), ("size", ctypes.c_ssize_t), ("rest", ADDRESS * 7)]
 
@@ -126,7 +126,7 @@ class Answers(ctypes.Structure):
 
 @contextlib.contextmanager
 def addresses(*some):
-    """The addresses of bytes, as long as the block lasts."""
+    """The addresses of bytes-like objects, valid inside the block."""
     with contextlib.ExitStack() as stack:
         buffers = [Buffer() for _ in some]
         for data, buffer in zip(some, buffers):
@@ -152,18 +152,18 @@ class Compiled:
 
     @functools.cached_property
     def numbers(self):
-        """Where the numbers of each mark's answer stand."""
+        """The position of the numbers in each mark's answer."""
         return (Numbers * len(self.table))(*(layout.floats for layout in self.table.values()))
 
     @functools.cached_property
-    def rooms(self):
+    def buffers(self):
         """The bytes that each group's records are copied to."""
-        return [(ctypes.c_uint8 * ROOM)() for _ in range(self.GROUPS)]
+        return [(ctypes.c_uint8 * CHUNK_BYTES)() for _ in range(self.GROUPS)]
 
     @functools.cached_property
     def order(self):
         """The groups of the records that are copied."""
-        return (ctypes.c_uint8 * RECORDS)()
+        return (ctypes.c_uint8 * CHUNK_RECORDS)()
 
     def count(self, data, at, end):
         counts = (ctypes.c_uint64 * len(self.table))()
@@ -179,27 +179,28 @@ class Compiled:
 
     def cut(self, data, at, end, most):
         groups = (Group * self.GROUPS)(*((ctypes.addressof(room), 0, 0, count)
-                                         for room, count in zip(self.rooms, most)))
+                                         for room, count in zip(self.buffers, most)))
         with addresses(data) as (address,):
-            at = self.functions["cut"](address, at, end, self.sizes, self.group_of, groups, ROOM, self.order, RECORDS)
+            at = self.functions["cut"](address, at, end, self.sizes, self.group_of, groups, CHUNK_BYTES, self.order,
+                                       CHUNK_RECORDS)
         records = [group.records for group in groups]
-        pieces = [memoryview(room)[:group.size] for room, group in zip(self.rooms, groups)]
+        pieces = [memoryview(room)[:group.size] for room, group in zip(self.buffers, groups)]
         return Cut(at, bytes(memoryview(self.order)[:sum(records)]), pieces, records)
 
-    def weave(self, order, sources):
+    def interleave(self, order, sources):
         written = SIZE()
-        with addresses(order, *(source.data for source in sources)) as (asked, *found):
+        with addresses(order, *(source.data for source in sources)) as (order_address, *found):
             groups = (Answers * self.GROUPS)(*((data, some.at, some.end) for data, some in zip(found, sources)))
-            done = self.functions["weave"](asked, len(order), groups, self.sizes, self.rooms[0], ROOM,
-                                           ctypes.byref(written))
+            done = self.functions["interleave"](order_address, len(order), groups, self.sizes, self.buffers[0],
+                                                CHUNK_BYTES, ctypes.byref(written))
         for source, group in zip(sources, groups):
             source.at = group.at
-        return memoryview(self.rooms[0])[:written.value], done
+        return memoryview(self.buffers[0])[:written.value], done
 
 
 @functools.lru_cache(maxsize=None)
 def functions():
-    """The functions of bulk.c by their names, or None where it is not there, or was made before bulk.c was changed."""
+    """The functions of bulk.c by name; None if it is not built, or is older than bulk.c."""
     try:
         if SOURCE.exists() and PATH.stat().st_mtime < SOURCE.stat().st_mtime:
             return None
@@ -213,13 +214,13 @@ def functions():
 
 
 def bulk(table, group_of=None):
-    """The functions for a table's records, by bulk.c where it is there."""
-    return (Compiled if functions() else Plain)(table, group_of)
+    """The functions for a table's records, in C where bulk.c is built."""
+    return (Compiled if functions() else PurePython)(table, group_of)
 
 
 @functools.lru_cache(maxsize=None)
 def powers():
-    """The powers of ten that bulk.c finds decimals by: each brought to 128 bits by a power of two, and rounded up."""
+    """The powers of ten for bulk.c, each scaled by a power of two to 128 bits and rounded up."""
     found = []
     for exponent in range(LEAST_POWER, MOST_POWER + 1):
         above, below = 10 ** max(exponent, 0), 10 ** max(-exponent, 0)
@@ -233,8 +234,8 @@ def powers():
 
 
 def texts(data, at, layout):
-    """The numbers of the record at byte `at` as texts, each the shortest decimal that reads back; None where bulk.c is
-    not there, and floats.py has to find them."""
+    """The numbers of the record at byte `at` as texts, each the shortest decimal that reads back; None if bulk.c is not
+    built: the caller then uses floats.py."""
     found = functions()
     if not found:
         return None

@@ -5,7 +5,7 @@ import signal
 import sys
 from typing import Any, NamedTuple
 
-from .terminal import INSTALLED, Failure, say, worded
+from .terminal import INSTALLED, Failure, say, with_command_names
 
 ABOUT = """\
 Job files of the Sim(3) engine: make them from text, show them as text, compare their answers, see
@@ -274,173 +274,177 @@ def steps(word):
 
 # The commands. Each imports what it needs when it is asked for: the others would take longer than a short job.
 
-def add_make(one):
-    one.add_argument("file", nargs="?", metavar="FILE", help="the text; standard input if not given")
+def add_make(subparser):
+    subparser.add_argument("file", nargs="?", metavar="FILE", help="the text; standard input if not given")
 
 
-def run_make(asked):
+def run_make(arguments):
     from .make import make
-    return make(asked.file)
+    return make(arguments.file)
 
 
-def add_run(one):
-    one.add_argument("job", nargs="?", metavar="JOBS", help="the job file; standard input if not given")
+def add_run(subparser):
+    subparser.add_argument("job", nargs="?", metavar="JOBS", help="the job file; standard input if not given")
 
 
-def run_run(asked):
+def run_run(arguments):
     from .answer import run
-    return run(asked.job)
+    return run(arguments.job)
 
 
-def add_format(one):
-    one.add_argument("marks", nargs="*", metavar="MARK", help="these marks alone")
+def add_format(subparser):
+    subparser.add_argument("marks", nargs="*", metavar="MARK", help="these marks alone")
 
 
-def run_format(asked):
+def run_format(arguments):
     from .answer import format_text
-    print(format_text(asked.marks))
+    print(format_text(arguments.marks))
     return 0
 
 
-def add_show(one):
-    kind = one.add_mutually_exclusive_group()
+def add_show(subparser):
+    kind = subparser.add_mutually_exclusive_group()
     kind.add_argument("--in", dest="kind", action="store_const", const="JOB", help="it is a job file")
     kind.add_argument("--out", dest="kind", action="store_const", const="ANSWER", help="it is an answer file")
-    one.add_argument("--hex", action="store_true", help="the bytes too, one number a line")
-    one.add_argument("--record", type=record_range, metavar="N[-M]", help="these records alone")
-    one.add_argument("--counts", action="store_true", help="every count of ZZ by mark, those that are 0 too")
-    one.add_argument("--unusable", action="store_true",
+    subparser.add_argument("--hex", action="store_true", help="the bytes too, one number a line")
+    subparser.add_argument("--record", type=record_range, metavar="N[-M]", help="these records alone")
+    subparser.add_argument("--counts", action="store_true", help="every count of ZZ by mark, those that are 0 too")
+    subparser.add_argument("--unusable", action="store_true",
                      help="which answers hold a NaN or an infinity, and in which numbers")
-    one.add_argument("file", nargs="?", metavar="FILE", help="the file; standard input if not given")
+    subparser.add_argument("file", nargs="?", metavar="FILE", help="the file; standard input if not given")
 
 
-def run_show(asked):
+def run_show(arguments):
     from . import layout
     from .show import show
-    if asked.unusable and (asked.hex or asked.record):
+    if arguments.unusable and (arguments.hex or arguments.record):
         raise Failure("jobs: --unusable stands alone; expected neither --hex nor --record with it")
-    if asked.counts and (asked.unusable or asked.record):
+    if arguments.counts and (arguments.unusable or arguments.record):
         raise Failure("jobs: --counts is about ZZ, which --record and --unusable leave out; expected neither with it")
-    table = asked.kind and getattr(layout, asked.kind)
-    return show(asked.file, table, asked.record, asked.hex, asked.unusable, asked.counts)
+    table = arguments.kind and getattr(layout, arguments.kind)
+    return show(arguments.file, table, arguments.record, arguments.hex, arguments.unusable, arguments.counts)
 
 
-def add_diff(one):
-    one.add_argument("--limit", type=limit, metavar="N", help="print at most N differences")
-    one.add_argument("--html", metavar="FILE", help="the differences as a page for a browser too")
-    one.add_argument("--job", metavar="JOBS", help="the job that both answers are to, whose inputs the page then shows")
-    one.add_argument("--by-tangent", action="store_true", help="match the shots of two jobs: JOBS ANSWERS JOBS ANSWERS")
-    one.add_argument("old", metavar="OLD", help="the older answers; with --by-tangent the older job")
-    one.add_argument("new", metavar="NEW", help="the newer answers; with --by-tangent the older answers")
-    one.add_argument("more", nargs="*", metavar="FILE", help="with --by-tangent the newer job and its answers")
+def add_diff(subparser):
+    subparser.add_argument("--limit", type=limit, metavar="N", help="print at most N differences")
+    subparser.add_argument("--html", metavar="FILE", help="the differences as a page for a browser too")
+    subparser.add_argument("--job", metavar="JOBS",
+                           help="the job that both answers are to, whose inputs the page then shows")
+    subparser.add_argument("--by-tangent", action="store_true",
+                           help="match the shots of two jobs: JOBS ANSWERS JOBS ANSWERS")
+    subparser.add_argument("old", metavar="OLD", help="the older answers; with --by-tangent the older job")
+    subparser.add_argument("new", metavar="NEW", help="the newer answers; with --by-tangent the older answers")
+    subparser.add_argument("more", nargs="*", metavar="FILE", help="with --by-tangent the newer job and its answers")
 
 
-def run_diff(asked):
+def run_diff(arguments):
     """Two answer files, or two jobs each with its answers."""
     from .diff import diff
     from .html import PageReport, write_page
     from .order import diff_by_tangent
-    files, page, job, most = [asked.old, asked.new, *asked.more], asked.html, asked.job, asked.limit
-    if (page or job) and asked.by_tangent or job and not page:
+    files, page, job, most = [arguments.old, arguments.new,
+                              *arguments.more], arguments.html, arguments.job, arguments.limit
+    if (page or job) and arguments.by_tangent or job and not page:
         raise Failure("jobs: --html goes with OLD NEW alone, and --job with --html; expected neither with --by-tangent")
-    if len(files) != (4 if asked.by_tangent else 2):
-        expected = "JOBS ANSWERS JOBS ANSWERS with --by-tangent" if asked.by_tangent else "OLD NEW"
+    if len(files) != (4 if arguments.by_tangent else 2):
+        expected = "JOBS ANSWERS JOBS ANSWERS with --by-tangent" if arguments.by_tangent else "OLD NEW"
         raise Failure(f"jobs: diff got {len(files)} files; expected {expected}")
     if page:
         report = PageReport(most)
-        return diff(*files, most, report, lambda names, said: write_page(page, names, said, report, job))
-    return diff_by_tangent(files, most) if asked.by_tangent else diff(*files, most)
+        return diff(*files, most, report, lambda names, summary: write_page(page, names, summary, report, job))
+    return diff_by_tangent(files, most) if arguments.by_tangent else diff(*files, most)
 
 
-def add_arms(one):
-    one.add_argument("--svg", metavar="FILE", help="the picture to be written")
-    one.add_argument("job", metavar="JOBS")
-    one.add_argument("answers", metavar="ANSWERS")
+def add_arms(subparser):
+    subparser.add_argument("--svg", metavar="FILE", help="the picture to be written")
+    subparser.add_argument("job", metavar="JOBS")
+    subparser.add_argument("answers", metavar="ANSWERS")
 
 
-def run_arms(asked):
+def run_arms(arguments):
     from .arms import arms
-    return arms(asked.job, asked.answers, asked.svg)
+    return arms(arguments.job, arguments.answers, arguments.svg)
 
 
-def add_near(one):
-    one.add_argument("--within", type=steps, default=1000, metavar="N",
+def add_near(subparser):
+    subparser.add_argument("--within", type=steps, default=1000, metavar="N",
                      help="at most N steps from it; 1,000 if not given")
-    one.add_argument("file", nargs="?", metavar="FILE", help="the job; standard input if not given")
+    subparser.add_argument("file", nargs="?", metavar="FILE", help="the job; standard input if not given")
 
 
-def run_near(asked):
+def run_near(arguments):
     from .near import near
-    return near(asked.file, asked.within)
+    return near(arguments.file, arguments.within)
 
 
-def add_sort(one):
-    one.add_argument("job", nargs="?", metavar="JOBS", help="the job file; standard input if not given")
+def add_sort(subparser):
+    subparser.add_argument("job", nargs="?", metavar="JOBS", help="the job file; standard input if not given")
 
 
-def run_sort(asked):
+def run_sort(arguments):
     from .order import sort
-    return sort(asked.job)
+    return sort(arguments.job)
 
 
-def add_sheets(one):
-    one.add_argument("--csv", action="store_true", help="as comma-separated values")
-    one.add_argument("job", metavar="JOBS")
-    one.add_argument("answers", nargs="?", metavar="ANSWERS",
+def add_sheets(subparser):
+    subparser.add_argument("--csv", action="store_true", help="as comma-separated values")
+    subparser.add_argument("job", metavar="JOBS")
+    subparser.add_argument("answers", nargs="?", metavar="ANSWERS",
                      help="the answers; without them the records alone are followed")
 
 
-def run_sheets(asked):
+def run_sheets(arguments):
     from .sheets import sheets
-    return sheets(asked.job, asked.answers, asked.csv)
+    return sheets(arguments.job, arguments.answers, arguments.csv)
 
 
-def add_totals(one):
-    one.add_argument("--csv", action="store_true", help="as comma-separated values, with every row")
-    one.add_argument("--all", action="store_true", help="a row for every mark, those without records too")
-    one.add_argument("files", nargs="+", metavar="FILE", help="answer files; - for standard input")
+def add_totals(subparser):
+    subparser.add_argument("--csv", action="store_true", help="as comma-separated values, with every row")
+    subparser.add_argument("--all", action="store_true", help="a row for every mark, those without records too")
+    subparser.add_argument("files", nargs="+", metavar="FILE", help="answer files; - for standard input")
 
 
-def run_totals(asked):
+def run_totals(arguments):
     from .totals import totals
-    return totals(asked.files, asked.csv, asked.all)
+    return totals(arguments.files, arguments.csv, arguments.all)
 
 
-def add_split(one):
+def add_split(subparser):
     from .split import MOST_PART
-    one.add_argument("--records", type=part_size, default=MOST_PART, metavar="N",
+    subparser.add_argument("--records", type=part_size, default=MOST_PART, metavar="N",
                      help="at most N records a part; %(default)s if not given")
-    one.add_argument("job", metavar="JOBS", help="the job file; - for standard input")
-    one.add_argument("folder", metavar="FOLDER", help="the folder of the parts, which is made")
+    subparser.add_argument("job", metavar="JOBS", help="the job file; - for standard input")
+    subparser.add_argument("folder", metavar="FOLDER", help="the folder of the parts, which is made")
 
 
-def run_split(asked):
+def run_split(arguments):
     from .split import split
-    return split(asked.job, asked.folder, asked.records)
+    return split(arguments.job, arguments.folder, arguments.records)
 
 
-def add_merge(one):
-    one.add_argument("folder", metavar="FOLDER", help="the folder of the parts and their answers")
+def add_merge(subparser):
+    subparser.add_argument("folder", metavar="FOLDER", help="the folder of the parts and their answers")
 
 
-def run_merge(asked):
+def run_merge(arguments):
     from .merge import merge
-    return merge(asked.folder)
+    return merge(arguments.folder)
 
 
-def add_accuracy(one):
-    one.add_argument("--single", action="store_true", help="at singles")
+def add_accuracy(subparser):
+    subparser.add_argument("--single", action="store_true", help="at singles")
     for name, about in (("point", "of the points"), ("scale", "of e^sigma"), ("translation", "of the translations"),
                         ("rho", "of rho")):
-        one.add_argument(f"--{name}", default="1", metavar="SIZE", help=f"the greatest number {about}; 1 if not given")
-    one.add_argument("--joins", type=limit, default=0, metavar="N", help="after at most N joins")
-    one.add_argument("--every", type=steps, default=1, metavar="n",
+        subparser.add_argument(f"--{name}", default="1", metavar="SIZE",
+                               help=f"the greatest number {about}; 1 if not given")
+    subparser.add_argument("--joins", type=limit, default=0, metavar="N", help="after at most N joins")
+    subparser.add_argument("--every", type=steps, default=1, metavar="n",
                      help="renormalised after every nth product; 1 if not given")
 
 
-def run_accuracy(asked):
+def run_accuracy(arguments):
     from .accuracy import report
-    return report(asked)
+    return report(arguments)
 
 
 class Command(NamedTuple):
@@ -472,15 +476,15 @@ COMMANDS = {
 
 def parser(names=tuple(COMMANDS)):
     """The parser of the command line; only the commands of these names have their help and arguments."""
-    top = argparse.ArgumentParser(prog="sim3-jobs" if INSTALLED else "jobs", description=worded(ABOUT),
+    top = argparse.ArgumentParser(prog="sim3-jobs" if INSTALLED else "jobs", description=with_command_names(ABOUT),
                                   formatter_class=argparse.RawDescriptionHelpFormatter)
     commands = top.add_subparsers(dest="command", metavar="COMMAND", required=True)
     for name, command in COMMANDS.items():
         about = (command.about() if callable(command.about) else command.about) if name in names else ""
-        one = commands.add_parser(name, help=command.summary, description=worded(about),
+        subparser = commands.add_parser(name, help=command.summary, description=with_command_names(about),
                                   formatter_class=argparse.RawDescriptionHelpFormatter)
         if name in names:
-            command.add(one)
+            command.add(subparser)
     return top
 
 
@@ -489,8 +493,8 @@ def main(words):
         signal.signal(signal.SIGPIPE, signal.SIG_DFL)  # a reader that leaves, as `head`, is no error
     sys.stdout.reconfigure(errors="backslashreplace")  # a file's name may hold any bytes
     try:
-        asked = parser(words[:1]).parse_args(words)
-        return COMMANDS[asked.command].run(asked)
+        arguments = parser(words[:1]).parse_args(words)
+        return COMMANDS[arguments.command].run(arguments)
     except Failure as failure:
         say(str(failure))
         return failure.status

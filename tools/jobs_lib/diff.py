@@ -1,7 +1,7 @@
 """`jobs diff`: two answer files record by record."""
 from .floats import DOUBLE, SINGLE
 from .layout import ANSWER, END, JOB
-from .records import counts_text, guess, load, older, scan, walk
+from .records import counts_text, guess, load, older_format_message, scan, walk
 from .terminal import Failure, Lines, Progress, count
 
 EQUAL, DIFFERENT, UNREADABLE = 0, 1, 2
@@ -23,12 +23,12 @@ def is_nan(layout, i, *bits):
     return width is not None and all(map(width.is_nan, bits))
 
 
-def shown(layout, i, bits):
-    """A number as it stands in a difference."""
+def number_text(layout, i, bits):
+    """A number as a difference shows it."""
     if layout.widths[i]:
         return layout.widths[i].text(bits)
-    said = layout.meaning(i, bits)
-    return f"{bits} ({said})" if said else str(bits)
+    meaning = layout.meaning(i, bits)
+    return f"{bits} ({meaning})" if meaning else str(bits)
 
 
 def distance(layout, i, old, new):
@@ -58,18 +58,18 @@ class Report:
         self.records = {}  # different records by mark, that of the old file
         self.largest = {DOUBLE: (0, ""), SINGLE: (0, "")}  # of each width: how far, and where
 
-    def room(self):
-        """Counts a difference; true if its line is to be printed."""
+    def should_print(self):
+        """Counts a difference; whether its line is within the limit."""
         self.differences += 1
         return self.limit is None or self.differences <= self.limit
 
     def count_record(self, mark):
         self.records[mark] = self.records.get(mark, 0) + 1
 
-    def other_kind(self, number, mark, old, new):
+    def different_marks(self, number, mark, old, new):
         """Two records of different marks, as when one side refuses."""
         self.count_record(mark)
-        if self.room():
+        if self.should_print():
             self.out.add(f"record {number}  {old}  ->  {new}")
 
     def changed(self, place, layout, found):
@@ -85,15 +85,15 @@ class Report:
                 steps = width.ulps(old, new) or 0
                 if steps > self.largest[width][0]:
                     self.largest[width] = steps, f"{place} {layout.mark} {layout.fields[i]}"
-            if self.room():
+            if self.should_print():
                 self.out.add(f"{place}  {layout.mark}  {layout.fields[i]}  "
-                             f"{shown(layout, i, old)}  ->  {shown(layout, i, new)}  "
+                             f"{number_text(layout, i, old)}  ->  {number_text(layout, i, new)}  "
                              f"{distance(layout, i, old, new)}")
 
     def only_in(self, name, first, last):
         """Records that the other file does not have."""
         self.records["missing"] = last - first + 1
-        if self.room():
+        if self.should_print():
             self.out.add(f"{span(first, last)}  in {name} alone")
 
     def summary(self):
@@ -113,7 +113,7 @@ class Report:
 
 def kind(data, at, layout):
     """A record's mark, with the number if it is a refusal."""
-    return f"NO {shown(layout, 0, data[at + 2])}" if layout.mark == "NO" else layout.mark
+    return f"NO {number_text(layout, 0, data[at + 2])}" if layout.mark == "NO" else layout.mark
 
 
 def compare(old, new, total, report):
@@ -122,7 +122,7 @@ def compare(old, new, total, report):
     pairs = zip(walk(old, ANSWER), walk(new, ANSWER))
     for number, ((old_at, before), (new_at, after)) in enumerate(pairs, 1):
         if before is not after:
-            report.other_kind(number, before.mark, kind(old, old_at, before),
+            report.different_marks(number, before.mark, kind(old, old_at, before),
                               kind(new, new_at, after))
         elif old[old_at:old_at + before.size] != new[new_at:new_at + before.size]:
             found = differing(before, old, old_at, new, new_at)
@@ -151,9 +151,9 @@ def compare_ends(names, old, new, scans, report):
 
 
 def say_damages(name, data, found, out):
-    """What keeps a file from being a whole answer."""
-    if found.damages and older(data):
-        raise Failure(f"jobs: {name}: {older(data)}")
+    """Reports what keeps a file from being a whole answer."""
+    if found.damages and older_format_message(data):
+        raise Failure(f"jobs: {name}: {older_format_message(data)}")
     if unreadable(found) and guess(data) is JOB:
         raise Failure(f"jobs: {name} is not an answer file; expected two (jobs show reads any file)")
     for damage in found.damages:
@@ -182,7 +182,7 @@ def spans(numbers, most, lister):
 
 
 def say_unusable(names, scans, out):
-    """Which answers are not usable, of both files at once where they are the same."""
+    """Reports which answers are not usable, once if the lists of both files are the same."""
     lists = [found.unusable for found in scans]
     both = lists[0] == lists[1]
     for name, numbers in zip(("both",) if both else names, lists):
@@ -192,8 +192,8 @@ def say_unusable(names, scans, out):
 
 
 def diff(old_path, new_path, limit, report=None, finish=None):
-    """The command: 0 equal and whole, 1 different or not whole, 2 not to be read. `finish` is given what is said at the
-    end."""
+    """The command: 0 equal and whole, 1 different or not whole, 2 unreadable. `finish` gets the names and the
+    summary."""
     if old_path == new_path == "-":
         raise Failure("jobs: OLD and NEW are both standard input; expected two files")
     names = (f"OLD {old_path}", f"NEW {new_path}")
@@ -205,24 +205,24 @@ def diff(old_path, new_path, limit, report=None, finish=None):
     compare(old, new, min(found.records for found in scans), report)
     compare_ends(names, old, new, scans, report)
     whole = not any(found.damages for found in scans)
-    said = Said()
-    said.add(*report.summary())
-    say_unusable(names, scans, said)
+    summary = LineList()
+    summary.add(*report.summary())
+    say_unusable(names, scans, summary)
     if whole and not report.differences:
-        said.add(f"equal: {ending(scans[0])}")
+        summary.add(f"equal: {ending(scans[0])}")
     else:
-        said.add(*(f"{name}: {ending(found)}" for name, found in zip(names, scans)))
-    report.out.add(*said.lines)
+        summary.add(*(f"{name}: {ending(found)}" for name, found in zip(names, scans)))
+    report.out.add(*summary.lines)
     report.out.flush()
     if finish:
-        finish(names, said.lines)
+        finish(names, summary.lines)
     if any(map(unreadable, scans)):
         return UNREADABLE
     return EQUAL if whole and not report.differences else DIFFERENT
 
 
-class Said:
-    """Lines that are kept."""
+class LineList:
+    """A list of lines, with the interface of Lines."""
 
     def __init__(self):
         self.lines = []

@@ -15,13 +15,13 @@ class BadNumber(ValueError):
     """A word that is no number; the text says why."""
 
 
-def shown(word):
-    """A word in quotes, made safe for a message and not too long."""
+def quoted(word):
+    """A word in quotes, escaped and shortened for a message."""
     return ascii(word if len(word) <= 40 else word[:37] + "...")
 
 
-def exactly(word):
-    """What a decimal or hexadecimal word says, without rounding."""
+def exact_value(word):
+    """The value of a decimal or hexadecimal word, without rounding."""
     found = HEXADECIMAL.fullmatch(word)
     if not found:
         return Fraction(word)
@@ -55,8 +55,8 @@ class Width:
         except OverflowError:
             return self.infinity | (self.magnitude + 1 if x < 0 else 0)
 
-    def at_once(self, numbers):
-        """The bits of words' numbers, to which these doubles are nearest; None where one needs a closer look."""
+    def bits_of_doubles(self, numbers):
+        """The bits of the numbers whose nearest doubles are these; None if one of them must be read by itself."""
         return None if any(x in INFINITIES for x in numbers) else self.all_bits(numbers)
 
     def all_bits(self, numbers):
@@ -84,23 +84,23 @@ class Width:
         """bits:H is any number, nan:H a NaN, by its hexadecimal digits."""
         found = PATTERN.fullmatch(word)
         if not found or len(found[2]) != self.digits:
-            raise BadNumber(f"{shown(word)} is not a number; expected {self.expected}")
+            raise BadNumber(f"{quoted(word)} is not a number; expected {self.expected}")
         bits = int(found[2], 16)
         if found[1] == "nan" and not self.is_nan(bits):
             raise BadNumber(f"{word} is not a NaN; expected bits:{found[2]} for this number")
         return bits
 
     def rounded(self, x, word):
-        """The bits of a word's number from the double x that is nearest to it. A number that
-        overflows is a slip of the pen rather than an infinity."""
-        bits = self.settled(self.to_bits(x), x, word)
+        """The bits of a word's number from its nearest double x. A number that overflows is an error, not an
+        infinity."""
+        bits = self.resolve_tie(self.to_bits(x), x, word)
         if self.is_infinite(bits):
-            raise BadNumber(f"{shown(word)} is beyond the largest {self.name}; expected a finite number, "
+            raise BadNumber(f"{quoted(word)} is beyond the largest {self.name}; expected a finite number, "
                             "or inf where an infinity is meant")
         return bits
 
-    def settled(self, bits, x, word):
-        """The bits of a word's number, which are those of the double x unless x was rounded already."""
+    def resolve_tie(self, bits, x, word):
+        """The bits of a word's number: at this width those of its nearest double x."""
         return bits
 
     def is_infinite(self, bits):
@@ -115,20 +115,20 @@ class Width:
     def decimal(self, bits):
         return repr(self.from_bits(bits))
 
-    def place(self, bits):
-        """The number's place in the order of all numbers; both zeros stand at 0."""
+    def ordinal(self, bits):
+        """The number's rank among all numbers of the width; 0 for both zeros."""
         return bits if bits <= self.magnitude else -(bits & self.magnitude)
 
     def ulps(self, old, new):
         """How many steps from number to next number lie between two bit patterns; None with a NaN."""
         if self.is_nan(old) or self.is_nan(new):
             return None
-        return abs(self.place(old) - self.place(new))
+        return abs(self.ordinal(old) - self.ordinal(new))
 
 
 class Single(Width):
-    """Singles. A word's double lies midway between two of them where its last bits are these, and perhaps
-    where it is below the least normal one; then the word itself must be looked at."""
+    """Singles. A word's nearest double is midway between two of them if its last bits are MIDWAY, and possibly if it is
+    below the least normal single; then the exact value of the word decides."""
 
     LAST_BITS, MIDWAY = 0x1FFFFFFF, 0x10000000
     LEAST_NORMAL, LARGEST = 2.0 ** -126, 2.0 ** 128 - 2.0 ** 104
@@ -136,29 +136,29 @@ class Single(Width):
     FRACTION = (1 << 23) - 1  # the bits behind the point
     SHORTER = [f"%.{digits}g" for digits in range(8, 0, -1)]
 
-    def at_once(self, numbers):
-        return self.all_bits(numbers) if all(map(self.is_sure, numbers)) else None
+    def bits_of_doubles(self, numbers):
+        return self.all_bits(numbers) if all(map(self.is_unambiguous, numbers)) else None
 
-    def is_sure(self, x):
+    def is_unambiguous(self, x):
         """Whether a word that has x as its nearest double has the same nearest single as x."""
         normal = self.LEAST_NORMAL <= abs(x) <= self.LARGEST
         return normal and DOUBLE.to_bits(x) & self.LAST_BITS != self.MIDWAY or x == 0
 
-    def settled(self, bits, x, word):
-        """Where x lies midway between two singles, the word itself says to which of them it belongs."""
-        if x in INFINITIES or self.is_sure(x):
+    def resolve_tie(self, bits, x, word):
+        """Where x is midway between two singles, the exact value of the word decides."""
+        if x in INFINITIES or self.is_unambiguous(x):
             return bits
         here = self.exact(bits)
         if here == x:
             return bits
         other = bits + (1 if abs(here) < abs(x) and not self.is_infinite(bits) else -1)
-        if here + self.exact(other) != 2 * Fraction(x) or exactly(word) == Fraction(x):
+        if here + self.exact(other) != 2 * Fraction(x) or exact_value(word) == Fraction(x):
             return bits
-        further = abs(exactly(word)) > abs(Fraction(x))
+        further = abs(exact_value(word)) > abs(Fraction(x))
         return max(bits, other) if further else min(bits, other)
 
     def exact(self, bits):
-        """The single as a fraction; in the place of an infinity the number one step beyond the largest."""
+        """The single as a fraction; for an infinity, the number one step beyond the largest."""
         if not self.is_infinite(bits):
             return Fraction(self.from_bits(bits))
         return Fraction(2) ** 128 * (1 if bits <= self.magnitude else -1)
@@ -168,35 +168,33 @@ class Single(Width):
         x = self.from_bits(bits)
         if x == 0 or x in INFINITIES:
             return repr(x)
-        low, high = self.between(bits & self.magnitude)
+        low, high = self.rounding_interval(bits & self.magnitude)
         if bits & self.FRACTION:
-            return self.shortened(x, bits, low, high)
+            return self.shortest(x, bits, low, high)
         # a power of two has less room below than above, so a longer decimal may not do where a shorter one does
         for digits in range(1, 10):
             near = float("%.*g" % (digits, x))
-            if self.is_between(abs(near), low, high, bits, near):
+            if self.reads_back(abs(near), low, high, bits, near):
                 return repr(near)
         raise AssertionError(f"nine digits do not read back as {bits:08x}")
 
-    def shortened(self, x, bits, low, high):
-        """The decimal of nine digits, which always does, or the shortest that does: with each digit less it lies
-        further away."""
+    def shortest(self, x, bits, low, high):
+        """The shortest decimal that reads back: nine digits always do, and fewer digits are never nearer."""
         best = float("%.9g" % x)
         for form in self.SHORTER:
             near = float(form % x)
-            if not (low < near < high or -high < near < -low or self.is_between(abs(near), low, high, bits, near)):
+            if not (low < near < high or -high < near < -low or self.reads_back(abs(near), low, high, bits, near)):
                 return repr(best)
             best = near
         return repr(best)
 
-    def is_between(self, near, low, high, bits, number):
-        """Whether a decimal, whose nearest double is `number`, reads back as these bits. Decimals are rounded to
-        doubles in their order, so only where that double is a bound must the decimal itself be looked at."""
+    def reads_back(self, near, low, high, bits, number):
+        """Whether a decimal with the nearest double `number` reads back as these bits. Rounding to doubles is monotone,
+        so the decimal itself is read only if that double is a bound of the interval."""
         return low < near < high or near in (low, high) and bits == self.read(repr(number))
 
-    def between(self, magnitude):
-        """The doubles midway between a positive single and those beside it, both exact; behind the largest stands
-        2^128."""
+    def rounding_interval(self, magnitude):
+        """The doubles midway between a positive single and its neighbours, both exact; 2^128 follows the largest."""
         below, here, above = self.THREE.unpack(self.THREE_BITS.pack(magnitude - 1, magnitude, magnitude + 1))
         return (below + here) / 2, (here + min(above, 2.0 ** 128)) / 2
 

@@ -3,7 +3,7 @@ from elsewhere."""
 import html
 from typing import NamedTuple
 
-from .diff import NOT_PRINTED, Report, distance, shown
+from .diff import NOT_PRINTED, Report, distance, number_text
 from .layout import JOB
 from .records import guess, load, walk
 from .show import one_line
@@ -52,7 +52,7 @@ choose();
 """
 
 
-class Different(NamedTuple):
+class DifferingRecord(NamedTuple):
     """A record that differs: its number, its mark, its rows (field, old, new, distance), and its largest distance, None
     where it has none."""
 
@@ -67,25 +67,26 @@ class PageReport(Report):
 
     def __init__(self, limit):
         super().__init__(limit)
-        self.kept, self.end = [], []
+        self.differing, self.end = [], []
 
-    def other_kind(self, number, mark, old, new):
-        super().other_kind(number, mark, old, new)
-        self.kept.append(Different(number, mark, [("the answer", old, new, "another answer")], None))
+    def different_marks(self, number, mark, old, new):
+        super().different_marks(number, mark, old, new)
+        self.differing.append(DifferingRecord(number, mark, [("the answer", old, new, "another answer")], None))
 
     def changed(self, place, layout, found):
         super().changed(place, layout, found)
-        rows = [(layout.fields[i], shown(layout, i, old), shown(layout, i, new), distance(layout, i, old, new))
+        rows = [(layout.fields[i], number_text(layout, i, old), number_text(layout, i, new),
+                 distance(layout, i, old, new))
                 for i, old, new in found]
         steps = [layout.widths[i].ulps(old, new) for i, old, new in found if layout.widths[i] and i not in layout.flags]
         if place == "end":
             self.end = rows
         elif rows:
-            far = None if not steps or None in steps else max(steps)
-            self.kept.append(Different(int(place.split()[1]), layout.mark, rows, far))
+            largest = None if not steps or None in steps else max(steps)
+            self.differing.append(DifferingRecord(int(place.split()[1]), layout.mark, rows, largest))
 
 
-def inputs(path, numbers):
+def read_inputs(path, numbers):
     """The records of a job with these numbers, each as its groups in text."""
     data = load(path)
     if guess(data) is not JOB:
@@ -109,27 +110,27 @@ def table(rows):
                                                                   for row in rows) + "</table></div>"
 
 
-def record(one, asked):
+def record(one, inputs):
     """A record that differs, folded up."""
-    far = f"{one.ulps:,} ulp" if one.ulps is not None else one.rows[0][3]
-    given = (f'<div class="inputs">inputs: <code>{"<br>".join(map(html.escape, asked.split("; ")))}</code></div>'
-             if asked else "")
+    largest = f"{one.ulps:,} ulp" if one.ulps is not None else one.rows[0][3]
+    given = (f'<div class="inputs">inputs: <code>{"<br>".join(map(html.escape, inputs.split("; ")))}</code></div>'
+             if inputs else "")
     return (f'<details data-mark="{html.escape(one.mark)}" data-record="{one.number}" '
             f'data-ulps="{"" if one.ulps is None else one.ulps}">'
             f"<summary><b>record {one.number:,}</b> {html.escape(one.mark)}<i>{count(len(one.rows), 'number')}, "
-            f"{html.escape(far)}</i></summary>"
+            f"{html.escape(largest)}</i></summary>"
             f"{given}{table(one.rows)}</details>\n")
 
 
-def by_mark(kept):
+def by_mark(differing):
     """A row for each mark: its records, its numbers, its largest distance."""
     marks = {}
-    for one in kept:
-        records, numbers, far = marks.get(one.mark, (0, 0, 0))
-        marks[one.mark] = records + 1, numbers + len(one.rows), max(far, one.ulps or 0)
+    for one in differing:
+        records, numbers, largest = marks.get(one.mark, (0, 0, 0))
+        marks[one.mark] = records + 1, numbers + len(one.rows), max(largest, one.ulps or 0)
     rows = "".join(f'<tr><td>{html.escape(mark)}</td><td class="number">{records:,}</td><td '
-                   f'class="number">{numbers:,}</td><td class="number">{f"{far:,}" if far else "–"}</td></tr>'
-                   for mark, (records, numbers, far) in marks.items())
+                   f'class="number">{numbers:,}</td><td class="number">{f"{largest:,}" if largest else "–"}</td></tr>'
+                   for mark, (records, numbers, largest) in marks.items())
     head = ('<tr><th>mark</th><th class="number">records</th><th class="number">numbers</th><th '
             'class="number">largest, ulp</th></tr>')
     boxes = "".join(f'<label><input type="checkbox" name="mark" value="{html.escape(mark)}" checked> '
@@ -137,19 +138,19 @@ def by_mark(kept):
     return f"<table>{head}{rows}</table>", boxes
 
 
-def page(names, said, report, asked):
+def page(names, summary, report, inputs):
     """The whole page."""
-    rows, boxes = by_mark(report.kept)
+    rows, boxes = by_mark(report.differing)
     # here all are shown
-    listed = "".join(f"<li>{html.escape(line)}</li>" for line in said if not line.endswith(NOT_PRINTED))
-    note = "" if asked or not report.kept else "<p>The records' inputs are not shown: --job JOBS gives them.</p>"
+    listed = "".join(f"<li>{html.escape(line)}</li>" for line in summary if not line.endswith(NOT_PRINTED))
+    note = "" if inputs or not report.differing else "<p>The records' inputs are not shown: --job JOBS gives them.</p>"
     chosen = (f'<form>{boxes}<label>from record <input type="number" name="first" min="1"></label><label>at least '
               '<input type="number" name="least" min="0"> ulp</label>'
               '<button type="button" id="open">open all</button> <button type="button" id="close">close all</button> '
               '<span id="left"></span></form>\n')
     body = (f"<h2>By mark</h2>{rows}<h2>Records that differ</h2>{note}{chosen}"
-            + "".join(record(one, asked.get(one.number)) for one in report.kept)
-            + f"<script>{SCRIPT}</script>") if report.kept else "<p>No record differs.</p>"
+            + "".join(record(one, inputs.get(one.number)) for one in report.differing)
+            + f"<script>{SCRIPT}</script>") if report.differing else "<p>No record differs.</p>"
     end = f"<h2>ZZ</h2>{table(report.end)}" if report.end else ""
     title = " and ".join(names)
     return ('<!DOCTYPE html>\n<html lang="en"><head><meta '
@@ -157,11 +158,11 @@ def page(names, said, report, asked):
             f"<body><h1>{html.escape(title)}</h1><ul>{listed}</ul>{end}{body}</body></html>\n")
 
 
-def write_page(path, names, said, report, job):
+def write_page(path, names, summary, report, job):
     """The page into a file."""
-    asked = inputs(job, [one.number for one in report.kept]) if job else {}
+    inputs = read_inputs(job, [one.number for one in report.differing]) if job else {}
     try:
         with open(path, "w", encoding="utf-8", errors="backslashreplace") as file:
-            file.write(page(names, said, report, asked))
+            file.write(page(names, summary, report, inputs))
     except OSError as error:
         raise Failure(f"jobs: {path} cannot be written: {error.strerror}")

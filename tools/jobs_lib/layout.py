@@ -10,7 +10,7 @@ from .floats import DOUBLE, SINGLE, WIDTHS
 
 MOST_RECORDS = 1_000_000  # the job program answers no more
 MOST_SHEETS = 512  # it keeps no more
-WHOLE = "H"  # the code of a frame, of RN's n, of a sheet or a take: a whole number of 16 bits
+UINT16 = "H"  # the code of a frame, of RN's n, of a sheet or a take: a whole number of 16 bits
 JOIN, SHEETS = (b"CH", b"RN"), (b"SH", b"SQ")  # the marks of the running join and of the kept sheets
 STATE = JOIN + SHEETS  # those whose answers depend on the records before them
 SCALED, SERIES = ".scaled", "series("  # how the name of a field that is 1 or 0 ends or begins
@@ -44,12 +44,12 @@ class Group(NamedTuple):
     about: str
     # struct's letter: d a double, f a single, B a byte, H a frame, n, sheet or take, I a 32-bit count
     code: str = DOUBLE.code
-    names: Optional[dict] = None  # what its numbers stand for, where each has a name
+    names: Optional[dict] = None  # the meanings of its numbers, if they have names
 
     @property
     def frames(self):
         """Whether these are a pose's frames."""
-        return self.code == WHOLE and len(self.parts) == 2
+        return self.code == UINT16 and len(self.parts) == 2
 
 
 class Layout:
@@ -71,11 +71,11 @@ class Layout:
         self.size = 2 + self.numbers.size
 
     def kind(self, i):
-        """What sort of number stands in a field that has names: `refusal`, `arm`."""
+        """The kind of number in a field that has names: `refusal`, `arm`."""
         return self.fields[i].partition("(")[0]
 
     def meaning(self, i, number):
-        """What a number stands for; nothing where it has no name."""
+        """The meaning of a number; empty in a field without names."""
         names = self.names[i] or {number: ""}
         return names.get(number, f"a number that no {self.kind(i)} has")
 
@@ -107,20 +107,20 @@ XYZ = (".x", ".y", ".z")
 WXYZ = (".w", ".x", ".y", ".z")
 ROWS = ("[0]", "[1]", "[2]")
 MATRIX = tuple(f"[{row}][{column}]" for column in range(3) for row in range(3))
-TEN = (".root", ".sin_half", ".cos_half", ".sin", ".E", ".M", ".E0", ".M0", ".up", ".down")
+VALUE_PARTS = (".root", ".sin_half", ".cos_half", ".sin", ".E", ".M", ".E0", ".M0", ".up", ".down")
 COEFFICIENTS = (".v0", ".v1", ".v2", ".w0", ".w1", ".w2", ".dv1", ".dv2", ".chi_delta", SCALED)
 
 SIGMA = Group("sigma", ONE, "log scale")
 ANGLE = Group("z", ONE, "squared angle")
-VALUES = Group("values", TEN, "the ten function values")
+VALUES = Group("values", VALUE_PARTS, "the ten function values")
 UP = Group("up", ONE, "e^sigma")
 UP_OF_RUNNING = Group("up", ONE, "e^sigma of the running pose; in the first CH any number")
 DOWN = Group("down", ONE, "e^-sigma")
-EVERY = Group("n", ONE, "so many products, 2 bytes; 0 for never", WHOLE)
-SHEET = Group("sheet", ONE, "number of the sheet, 2 bytes", WHOLE)
-TAKE = Group("take", ONE, "number of the take, 2 bytes", WHOLE)
+EVERY = Group("n", ONE, "so many products, 2 bytes; 0 for never", UINT16)
+SHEET = Group("sheet", ONE, "number of the sheet, 2 bytes", UINT16)
+TAKE = Group("take", ONE, "number of the take, 2 bytes", UINT16)
 OUTCOME = Group("outcome", ONE, ", ".join(f"{number} = {name}" for number, name in OUTCOMES.items()), "B", OUTCOMES)
-BEFORE = Group("before", ONE, "the take that stood before, 2 bytes; 0 with a new sheet", WHOLE)
+BEFORE = Group("before", ONE, "the take that stood before, 2 bytes; 0 with a new sheet", UINT16)
 POINT = Group("point", XYZ, "a point")
 TANGENT = (Group("phi", XYZ, "rotation vector"), Group("rho", XYZ, "translation part"), SIGMA)
 ROTATION_JACOBIANS = (Group("J", MATRIX, "rotation Jacobian of phi"),
@@ -128,7 +128,7 @@ ROTATION_JACOBIANS = (Group("J", MATRIX, "rotation Jacobian of phi"),
 
 
 def frames(name):
-    return Group(name, (".from", ".to"), "frame numbers, 2 bytes each", WHOLE)
+    return Group(name, (".from", ".to"), "frame numbers, 2 bytes each", UINT16)
 
 
 def pose(name):
@@ -218,13 +218,13 @@ OLDER_JOB, OLDER_ANSWER = without_frames(JOB), without_frames(ANSWER)
 
 # The counts behind the last record of an answer file: four, the last three of which add up to the first,
 # and the records begun by mark, which add up to it too.
-FOUR = (Group("begun", ONE, "records begun", "I"),
+TOTALS = (Group("begun", ONE, "records begun", "I"),
         Group("answered", ONE, "records answered with finite numbers alone", "I"),
         Group("refused", ONE, "records refused", "I"),
         Group("unusable", ONE, "records whose answer holds a NaN or an infinity", "I"))
 PLAIN = tuple(mark.decode() for mark in DOUBLES if mark != b"AR")
 COUNTED = (*PLAIN, *(mark.lower() for mark in PLAIN), "AR", *(mark.decode() for mark in STATE))
 UNKNOWN = "unknown"
-END = Layout("ZZ", "the end", *FOUR, *(Group(mark, ONE, f"{mark} records begun", "I") for mark in COUNTED),
+END = Layout("ZZ", "the end", *TOTALS, *(Group(mark, ONE, f"{mark} records begun", "I") for mark in COUNTED),
              Group(UNKNOWN, ONE, "unknown and half marks", "I"))
-OLDER_END = Layout("ZZ", "the end, before records were counted by mark", *FOUR)
+OLDER_END = Layout("ZZ", "the end, before records were counted by mark", *TOTALS)

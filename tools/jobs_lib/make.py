@@ -4,16 +4,16 @@ import itertools
 import re
 import sys
 
-from .floats import DOUBLE, BadNumber, shown
+from .floats import BadNumber, quoted
 from .host import computed
-from .layout import JOB, MOST_RECORDS, OLDER_JOB, WHOLE
+from .layout import JOB, MOST_RECORDS, OLDER_JOB, UINT16
 from .records import load, name_of
 from .terminal import Failure, Progress, count, say
 
 PLAIN = re.compile(r"[-+.0-9eE ]*")  # decimals and nothing else
 BYTE = re.compile(r"[0-9a-fA-F]{2}")
 DIGITS = re.compile(r"[0-9]{1,5}")
-MOST_WHOLE = 65_535
+MAX_UINT16 = 65_535
 FRAMES = "frames"  # stands for any pose's frames
 MOST_MESSAGES = 20
 
@@ -36,7 +36,7 @@ class Form:
         self.count = sum(sizes)
         self.starts = dict(zip(itertools.accumulate([0, *sizes]), groups))
         fields = [g for g in groups for _ in g.parts]
-        self.wholes = [(i, "frame" if g.frames else g.name) for i, g in enumerate(fields) if g.code == WHOLE]
+        self.integers = [(i, "frame" if g.frames else g.name) for i, g in enumerate(fields) if g.code == UINT16]
         self.frames = sum(g.frames for g in fields)
 
     def text(self):
@@ -65,7 +65,7 @@ SEPARATORS = {layout.mark: {";", *(g.name for g in layout.groups),
               for layout in JOB.values()}
 
 
-def split(words, mark):
+def split_line(words, mark):
     """A line's numbers, and its separators: (how many numbers stand before, name or `;`)."""
     numbers, separators, known = [], [], SEPARATORS[mark]
     for word in words:
@@ -76,7 +76,7 @@ def split(words, mark):
     return numbers, separators
 
 
-def names(word, group):
+def is_name_of(word, group):
     """Whether a word is a group's name; `frames` is that of every pose's."""
     return word == group.name or word == FRAMES and group.frames
 
@@ -102,7 +102,7 @@ def check_separators(separators, form, total):
                 inside = form.starts[max(start for start in form.starts if start < place)]
                 raise BadLine(f"';' after {count(place, 'number')} is inside {inside.name}, "
                               f"which takes {len(inside.parts)}")
-        elif place == total or group is None or not names(word, group):
+        elif place == total or group is None or not is_name_of(word, group):
             here = group.name if group and place < total else "no group"
             raise BadLine(f"{word} after {count(place, 'number')}, where {here} begins")
 
@@ -122,18 +122,18 @@ def choose_form(mark, total, separators):
     return form
 
 
-def read_whole(word, what):
-    if not DIGITS.fullmatch(word) or int(word) > MOST_WHOLE:
-        raise BadLine(f"{shown(word)} is no {what}; expected a whole number from 0 to {MOST_WHOLE}")
+def read_uint16(word, what):
+    if not DIGITS.fullmatch(word) or int(word) > MAX_UINT16:
+        raise BadLine(f"{quoted(word)} is no {what}; expected a whole number from 0 to {MAX_UINT16}")
     return int(word)
 
 
 def read_all(words, form, width):
     """The numbers of a line as bits, and as whole numbers where frames, n, a sheet or a take stand."""
-    wholes = [(i, read_whole(words[i], what)) for i, what in form.wholes]
+    integers = [(i, read_uint16(words[i], what)) for i, what in form.integers]
     numbers = read_numbers(words, width)
-    for i, whole in wholes:
-        numbers[i] = whole
+    for i, integer in integers:
+        numbers[i] = integer
     return numbers
 
 
@@ -141,7 +141,7 @@ def read_numbers(words, width):
     """Words as the bits of numbers. Most lines hold plain decimals, which are read at once."""
     if PLAIN.fullmatch(" ".join(words)):
         try:
-            numbers = width.at_once([float(word) for word in words])
+            numbers = width.bits_of_doubles([float(word) for word in words])
             if numbers is not None:
                 return numbers
         except ValueError:
@@ -175,7 +175,7 @@ def complete(layout, form, numbers, running):
         return numbers
     width, rest = layout.width, iter(numbers)
     given = {g.name: list(itertools.islice(rest, len(g.parts))) for g in form.groups}
-    known = {g.name: [width.from_bits(x) for x in given[g.name]] for g in form.groups if g.code != WHOLE}
+    known = {g.name: [width.from_bits(x) for x in given[g.name]] for g in form.groups if g.code != UINT16}
     if layout.mark == "CH" and running.begun:
         known["running.sigma"] = [running.sigma]
     for group in layout.groups:
@@ -188,7 +188,7 @@ def raw_bytes(words):
     """The line `bytes 51 51`: bytes as they are, for files that the program refuses."""
     for word in words:
         if not BYTE.fullmatch(word):
-            raise BadLine(f"{shown(word)} is not a byte; expected two hexadecimal digits")
+            raise BadLine(f"{quoted(word)} is not a byte; expected two hexadecimal digits")
     return bytes(int(word, 16) for word in words)
 
 
@@ -201,8 +201,8 @@ def record(line, running):
         return raw_bytes(words[1:])
     mark = words[0]
     if mark not in FORMS:
-        raise BadLine(f"unknown mark {shown(mark)}; expected one of {' '.join(FORMS)}, or bytes")
-    texts, separators = split(words[1:], mark)
+        raise BadLine(f"unknown mark {quoted(mark)}; expected one of {' '.join(FORMS)}, or bytes")
+    texts, separators = split_line(words[1:], mark)
     form = choose_form(mark, len(texts), separators)
     layout = JOB[mark.encode()]
     numbers = complete(layout, form, read_all(texts, form, layout.width), running)

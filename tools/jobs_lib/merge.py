@@ -5,20 +5,21 @@ import os
 import sys
 from typing import NamedTuple
 
-from .bulk import RECORDS, Source, bulk
-from .layout import ANSWER, END, FOUR
+from .bulk import CHUNK_RECORDS, Source, bulk
+from .layout import ANSWER, END, TOTALS
 from .records import end_damages, load
-from .split import ASKED, FORMAT, HEAD, IN, INDEX, LETTERS, MOST_COUNT, TO_NUMBERS, TOLD, told_head
+from .split import (ANSWER_SUFFIX, FORMAT, GROUP_LETTERS, HEAD, HEAD_MARK, INDEX, JOB_SUFFIX, MOST_COUNT, TO_NUMBERS,
+                    read_head)
 from .terminal import Failure, Progress, count, say
 
 WHOLE, WRONG = 0, 1
-HEAD_SIZE = HEAD * ANSWER[IN.encode()].size
-COPY = 1 << 24  # bytes that are handed on at once
-UNUSABLE = [group.name for group in FOUR].index("unusable")
+HEAD_SIZE = HEAD * ANSWER[HEAD_MARK.encode()].size
+COPY = 1 << 24  # bytes that are written at once
+UNUSABLE = [group.name for group in TOTALS].index("unusable")
 
 
-class Named(NamedTuple):
-    """A part as the index has it: its name, how many records it has, and the number of their group."""
+class IndexEntry(NamedTuple):
+    """A part in the index: its name, its number of records, and the number of their group."""
 
     name: str
     records: int
@@ -40,14 +41,16 @@ def read_index(folder):
     path = os.path.join(folder, INDEX)
     line, _, order = load(path)[:].partition(b"\n")
     try:
-        told = json.loads(line)
-        parts = [Named(part["name"], part["records"], LETTERS.index(part["group"].encode())) for part in told["parts"]]
-        found = Index(tuple(told["sum"]), told["records"], parts, order.translate(TO_NUMBERS))
-        if told["format"] != FORMAT or sum(part.records for part in parts) != found.records or order.strip(LETTERS):
+        header = json.loads(line)
+        parts = [IndexEntry(part["name"], part["records"], GROUP_LETTERS.index(part["group"].encode()))
+                 for part in header["parts"]]
+        found = Index(tuple(header["sum"]), header["records"], parts, order.translate(TO_NUMBERS))
+        if header["format"] != FORMAT or sum(part.records
+                                             for part in parts) != found.records or order.strip(GROUP_LETTERS):
             raise ValueError
         groups = {part.group for part in parts}
-        due = {group: sum(part.records for part in parts if part.group == group) for group in groups}
-        if len(groups) > 1 and any(found.order.count(group) != records for group, records in due.items()):
+        expected = {group: sum(part.records for part in parts if part.group == group) for group in groups}
+        if len(groups) > 1 and any(found.order.count(group) != records for group, records in expected.items()):
             raise ValueError
     except (ValueError, KeyError, TypeError, AttributeError):
         raise Failure(f"jobs: {path} is no index of `jobs split`, or is cut; split the job again") from None
@@ -57,29 +60,29 @@ def read_index(folder):
 class Answers:
     """The answers of one part: their file, its counts, and what keeps it from being taken."""
 
-    def __init__(self, folder, named, number):
-        self.path, self.named, self.number = os.path.join(folder, named.name + TOLD), named, number
+    def __init__(self, folder, entry, number):
+        self.path, self.entry, self.number = os.path.join(folder, entry.name + ANSWER_SUFFIX), entry, number
         self.wrong, self.end, self.counts = [], 0, None
 
-    def look(self, index, records):
-        """Reads the file through; what is wrong stands in `wrong` then, with what to do."""
+    def check(self, index, records):
+        """Reads the file and fills `wrong` with what is wrong and what to do."""
         if os.path.exists(self.path):
             data = load(self.path)
-            found = self.of_another(data, index) or self.damages(data, records)
+            found = self.wrong_identity(data, index) or self.damages(data, records)
         else:
             found = ["missing"]
-        name = self.named.name
-        self.wrong = [f"{text}: run it again (sim3-job < {name}{ASKED} > {name}{TOLD})" for text in found]
+        name = self.entry.name
+        self.wrong = [f"{text}: run it again (sim3-job < {name}{JOB_SUFFIX} > {name}{ANSWER_SUFFIX})" for text in found]
 
-    def of_another(self, data, index):
-        """What the head says where these are not the answers of this part."""
-        told = told_head(data)
-        if told is None:
+    def wrong_identity(self, data, index):
+        """What is wrong with the head: answers of another job or part."""
+        head = read_head(data)
+        if head is None:
             return ["cut, or no answers to a part"]
-        if told[0] != index.sum:
+        if head[0] != index.sum:
             return ["of another job"]
-        if told[1] != self.number:
-            other = index.parts[told[1] - 1].name if 0 < told[1] <= len(index.parts) else "none of this job"
+        if head[1] != self.number:
+            other = index.parts[head[1] - 1].name if 0 < head[1] <= len(index.parts) else "none of this job"
             return [f"the answers of part {other}, which so stand there twice"]
         return []
 
@@ -92,12 +95,12 @@ class Answers:
         unusable = self.counts[UNUSABLE] if whole else 0
         wrong = [f"byte {damage.at}: {damage.text}" for damage in end_damages(data, self.end, marks, unusable)]
         answers = sum(marks.values()) - HEAD
-        if whole and answers != self.named.records:
-            wrong.append(f"{count(answers, 'answer')}, where the part has {count(self.named.records, 'record')}")
+        if whole and answers != self.entry.records:
+            wrong.append(f"{count(answers, 'answer')}, where the part has {count(self.entry.records, 'record')}")
         return wrong
 
     def source(self):
-        """The answers behind the head, once more; Failure where they are no longer what was read through."""
+        """The answers after the head; Failure if the file has changed since it was checked."""
         data = load(self.path)
         if len(data) != self.end + END.size:
             raise Failure(f"jobs: {self.path} was changed while it was read; merge again when it is whole", WRONG)
@@ -106,13 +109,13 @@ class Answers:
 
 def in_order(order, parts):
     """The answers in the order of the records, in pieces, each with how many are then done."""
-    left = [[part for part in parts if part.named.group == group] for group in range(len(LETTERS))]
-    sources, records, done = [Source() for _ in LETTERS], bulk(ANSWER), 0
+    left = [[part for part in parts if part.entry.group == group] for group in range(len(GROUP_LETTERS))]
+    sources, records, done = [Source() for _ in GROUP_LETTERS], bulk(ANSWER), 0
     while done < len(order):
         next_group = order[done]
         while sources[next_group].at == sources[next_group].end:
             sources[next_group] = left[next_group].pop(0).source()
-        some, taken = records.weave(order[done:done + RECORDS], sources)
+        some, taken = records.interleave(order[done:done + CHUNK_RECORDS], sources)
         done += taken
         yield some, done
 
@@ -125,25 +128,25 @@ def one_after_another(parts):
         view = memoryview(source.data)[:source.end]
         for at in range(source.at, source.end, COPY):
             yield view[at:at + COPY], done
-        done += part.named.records
+        done += part.entry.records
 
 
-def summed(parts):
-    """The ZZ of all parts together, without their heads."""
+def total_counts(parts):
+    """The ZZ with the counts of all parts added up, without their heads."""
     counts = [sum(numbers) for numbers in zip(*(part.counts for part in parts))]
-    for field in ("begun", "answered", IN):
+    for field in ("begun", "answered", HEAD_MARK):
         counts[END.fields.index(field)] -= HEAD * len(parts)
-    assert max(counts) <= MOST_COUNT and sum(counts[len(FOUR):]) == counts[0]
+    assert max(counts) <= MOST_COUNT and sum(counts[len(TOTALS):]) == counts[0]
     return END.mark.encode() + END.numbers.pack(*counts)
 
 
-def looked(folder, index):
-    """The answers of every part, each read through."""
-    parts = [Answers(folder, named, number) for number, named in enumerate(index.parts, 1)]
+def checked_answers(folder, index):
+    """The answers of every part, each checked."""
+    parts = [Answers(folder, entry, number) for number, entry in enumerate(index.parts, 1)]
     progress, records = Progress("merge: reading", len(parts), "parts", 1), bulk(ANSWER)
     for number, part in enumerate(parts, 1):
         progress(number)
-        part.look(index, records)
+        part.check(index, records)
     progress.end()
     return parts
 
@@ -151,7 +154,7 @@ def looked(folder, index):
 def merge(folder):
     """The command: 0, or 1 where a part's answers are not the whole ones, and then nothing is written."""
     index = read_index(folder)
-    parts = looked(folder, index)
+    parts = checked_answers(folder, index)
     wrong = [part for part in parts if part.wrong]
     for part in wrong:
         for message in part.wrong:
@@ -163,7 +166,7 @@ def merge(folder):
     for some, done in in_order(index.order, parts) if index.order else one_after_another(parts):
         out.write(some)
         progress(done)
-    out.write(summed(parts))
+    out.write(total_counts(parts))
     out.flush()
     progress.end()
     return WHOLE

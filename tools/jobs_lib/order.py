@@ -28,7 +28,7 @@ class Shot:
         self.key = ([key(b) for b in numbers[:TANGENT]], layout.mark, self.bytes)
 
 
-def whole(path, table, what):
+def load_whole(path, table, what):
     """A file's bytes and what a walk found, or Failure where it is damaged."""
     data = load(path)
     found = scan(data, table, "reading")
@@ -38,7 +38,7 @@ def whole(path, table, what):
     return data, found
 
 
-def split(data):
+def split_shots(data):
     """The records of a job file: those with a tangent, in its order; the others, as (number, bytes)."""
     shots, others = [], []
     for number, (at, layout) in enumerate(walk(data, JOB), 1):
@@ -51,8 +51,8 @@ def split(data):
 
 def sort(path):
     """The command: EX and PA records in order, in the places where such records stand."""
-    data, _ = whole(path, JOB, "job file")
-    shots, others = split(data)
+    data, _ = load_whole(path, JOB, "job file")
+    shots, others = split_shots(data)
     kept, rest = dict(others), iter(shots)
     for number in range(1, len(shots) + len(others) + 1):
         sys.stdout.buffer.write(kept[number] if number in kept else next(rest).bytes)
@@ -62,34 +62,34 @@ def sort(path):
 
 # ---- two files with their answers
 
-class Pull:
+class AnsweredJob:
     """A job file and the answers to it."""
 
     def __init__(self, name, jobs, answers):
         self.name = name
-        job, found = whole(jobs, JOB, "job file")
-        self.data, told = whole(answers, ANSWER, "answer file")
-        if found.records != told.records:
+        job, found = load_whole(jobs, JOB, "job file")
+        self.data, answer_scan = load_whole(answers, ANSWER, "answer file")
+        if found.records != answer_scan.records:
             raise Failure(f"jobs: {name_of(answers)} is not the answer to {name_of(jobs)}: "
-                          f"{count(told.records, 'record')} for {count(found.records, 'record')}")
+                          f"{count(answer_scan.records, 'record')} for {count(found.records, 'record')}")
         self.answers = list(walk(self.data, ANSWER))
-        self.shots, self.others = split(job)
+        self.shots, self.others = split_shots(job)
 
     def answer(self, number):
         return self.answers[number - 1]
 
 
-def alone(report, pull, number):
+def only_in(report, answered_job, number):
     report.count_record("missing")
-    if report.room():
-        report.out.add(f"record {number}  in {pull.name} alone")
+    if report.should_print():
+        report.out.add(f"record {number}  in {answered_job.name} alone")
 
 
 def compare(old, before, new, after, report):
     """The answers to one shot, by its numbers in both files."""
     (old_at, first), (new_at, second) = old.answer(before), new.answer(after)
     if first is not second:
-        report.other_kind(f"{before}/{after}", first.mark, kind(old.data, old_at, first),
+        report.different_marks(f"{before}/{after}", first.mark, kind(old.data, old_at, first),
                           kind(new.data, new_at, second))
     elif old.data[old_at:old_at + first.size] != new.data[new_at:new_at + first.size]:
         found = differing(first, old.data, old_at, new.data, new_at)
@@ -114,10 +114,11 @@ def matched(old, new):
 
 def paired(old, new):
     """The shots by their tangents; then the other records, first to first, the same or alone."""
-    yield from matched(*([(shot.key, shot.number) for shot in pull.shots] for pull in (old, new)))
+    yield from matched(*([(shot.key, shot.number) for shot in answered_job.shots] for answered_job in (old, new)))
     longest = max(len(old.others), len(new.others))
     for i in range(longest):
-        first, second = (pull.others[i] if i < len(pull.others) else (None, None) for pull in (old, new))
+        first, second = (answered_job.others[i] if i < len(answered_job.others) else (None, None)
+                         for answered_job in (old, new))
         if first[1] == second[1]:
             yield first[0], second[0]
         else:
@@ -127,13 +128,13 @@ def paired(old, new):
 
 def diff_by_tangent(paths, limit):
     """The command: 0 where every record is in both files and has the same answer, else 1."""
-    old, new = Pull("OLD", *paths[:2]), Pull("NEW", *paths[2:])
+    old, new = AnsweredJob("OLD", *paths[:2]), AnsweredJob("NEW", *paths[2:])
     report, same = Report(limit), 0
     for before, after in paired(old, new):
         if after is None:
-            alone(report, old, before)
+            only_in(report, old, before)
         elif before is None:
-            alone(report, new, after)
+            only_in(report, new, after)
         else:
             same += 1
             compare(old, before, new, after, report)

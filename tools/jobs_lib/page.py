@@ -41,7 +41,7 @@ def short_text(direction, layout):
 def in_singles():
     """Every record in singles, each with its answer."""
     pairs = ((layout, ANSWER[mark]) for mark, layout in JOB.items() if layout.width is SINGLE)
-    return "\n".join(f"{short_text('in', asked)}\n{short_text('out', told)}" for asked, told in pairs)
+    return "\n".join(f"{short_text('in', record)}\n{short_text('out', answer)}" for record, answer in pairs)
 
 
 def refusals():

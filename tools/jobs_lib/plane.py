@@ -92,7 +92,7 @@ def line(x1, y1, x2, y2, kind):
     return f'<line x1="{x1:.1f}" y1="{y1:.1f}" x2="{x2:.1f}" y2="{y2:.1f}" class="{kind}"/>'
 
 
-def words(x, y, text, kind="plain"):
+def text_element(x, y, text, kind="plain"):
     return f'<text x="{x:.1f}" y="{y:.1f}" class="{kind}">{escape(text)}</text>'
 
 
@@ -102,12 +102,12 @@ def frame(across, up):
                          ("edge", across.edges(), up.edges())):
         yield from (line(x, TOP, x, BOTTOM, kind) for x in xs)
         yield from (line(LEFT, y, SIDE, y, kind) for y in ys)
-    yield from (words(x, BOTTOM + 17, name, "middle") for name, x in across.ticks())
-    yield from (words(LEFT - 7, y + 4, name, "end") for name, y in up.ticks())
+    yield from (text_element(x, BOTTOM + 17, name, "middle") for name, x in across.ticks())
+    yield from (text_element(LEFT - 7, y + 4, name, "end") for name, y in up.ticks())
     yield f'<rect x="{LEFT}" y="{TOP}" width="{SIDE - LEFT}" height="{BOTTOM - TOP}" class="box"/>'
-    yield words((LEFT + SIDE) / 2, BOTTOM + 42, "σ² (σ·σ rounded)", "middle")
+    yield text_element((LEFT + SIDE) / 2, BOTTOM + 42, "σ² (σ·σ rounded)", "middle")
     middle = (TOP + BOTTOM) / 2
-    yield words(28, middle, "z", "middle")
+    yield text_element(28, middle, "z", "middle")
 
 
 def limit_path(across, up, limit):
@@ -134,8 +134,8 @@ def region_names(across, up, arm_from, rules, rule_text):
     """The arms' names under their upper limits, and that of the closed one above the last."""
     x = across.edges()[0] + 7
     for limit, rule in zip(arm_from, rules):
-        yield words(x, up.at(limit) + 13, rule_text(*rule), "name")
-    yield words(x, up.at(arm_from[-1]) - 5, "closed", "name")
+        yield text_element(x, up.at(limit) + 13, rule_text(*rule), "name")
+    yield text_element(x, up.at(arm_from[-1]) - 5, "closed", "name")
 
 
 def marks(found, across, up):
@@ -163,13 +163,13 @@ def legend(found, arm_from, series_below, rules, rule_text, drawn):
     x, y = SIDE + 28, TOP + 12
     for kind, rule in enumerate(rules):
         yield f'<use href="#mark{kind}" x="{x + 6}" y="{y - 4}"/>'
-        yield words(x + 20, y, rule_text(*rule))
-        yield words(WIDTH - 24, y, f"{found.rules[rule]:,}", "end")
+        yield text_element(x + 20, y, rule_text(*rule))
+        yield text_element(WIDTH - 24, y, f"{found.rules[rule]:,}", "end")
         y += 22
     yield line(x, y - 12, WIDTH - 24, y - 12, "edge")
     for name, n in (("answered", found.answered), ("refused, not drawn", found.refused)):
-        yield words(x + 20, y + 6, name)
-        yield words(WIDTH - 24, y + 6, f"{n:,}", "end")
+        yield text_element(x + 20, y + 6, name)
+        yield text_element(WIDTH - 24, y + 6, f"{n:,}", "end")
         y += 22
     y += 24
     for kind, text in (("limit", "σ² + z at a limit of the arms:"),
@@ -178,11 +178,11 @@ def legend(found, arm_from, series_below, rules, rule_text, drawn):
                        (None, f"{series_below!r}")):
         if kind:
             yield line(x, y - 4, x + 14, y - 4, kind)
-        yield words(x + 20, y, text)
+        yield text_element(x + 20, y, text)
         y += 19
     if drawn < len(found.numbers):
-        yield words(x, y + 20, f"{drawn:,} marks are drawn: of records with")
-        yield words(x, y + 37, "one rule in one place the first.")
+        yield text_element(x, y + 20, f"{drawn:,} marks are drawn: of records with")
+        yield text_element(x, y + 37, "one rule in one place the first.")
 
 
 STYLE = """text{font:13px sans-serif;fill:#000}.title{font-size:17px}.middle{text-anchor:middle}
@@ -203,7 +203,7 @@ def picture(found, arm_from, series_below, rules, rule_text):
         f'width="{WIDTH}" height="{HEIGHT}">',
         f"<title>{title}</title>", f"<style>{STYLE}</style>", "<defs>", *shapes(), "</defs>",
         f'<rect width="{WIDTH}" height="{HEIGHT}" fill="#ffffff"/>',
-        words(LEFT, 34, title, "title"), *frame(across, up),
+        text_element(LEFT, 34, title, "title"), *frame(across, up),
         '<g id="records">', *all_marks, "</g>",
         *limits(across, up, arm_from, series_below),
         *region_names(across, up, arm_from, rules, rule_text),

@@ -1,4 +1,4 @@
-"""Job and answer files as bytes: reading them, walking their records, saying what is damaged."""
+"""Job and answer files as bytes: loading, iterating over records, describing damage."""
 import collections
 import mmap
 import os
@@ -7,13 +7,13 @@ import sys
 from typing import NamedTuple
 
 from .bulk import bulk
-from .layout import ANSWER, COUNTED, END, FOUR, JOB, OLDER_ANSWER, OLDER_END, OLDER_JOB
+from .layout import ANSWER, COUNTED, END, JOB, OLDER_ANSWER, OLDER_END, OLDER_JOB, TOTALS
 from .terminal import Failure, Progress, count
 
 STDIN = "(standard input)"
 ZZ = END.mark.encode()
-WINDOW = 1 << 21  # bytes that are looked through between two looks at the clock
-GUESS = 1000  # records that are enough to tell a job file from an answer file
+WINDOW = 1 << 21  # bytes scanned between two updates of the progress line
+GUESS_RECORDS = 1000  # records that suffice to distinguish a job file from an answer file
 
 
 class Damage(NamedTuple):
@@ -71,8 +71,8 @@ def hexadecimal(some):
     return " ".join(f"{byte:02x}" for byte in some)
 
 
-def torn(data, at, table):
-    """The damage at byte `at`, where the records of `table` stop before the end."""
+def damage_at(data, at, table):
+    """The damage at byte `at`, where the whole records of `table` end before the file does."""
     left, mark = len(data) - at, bytes(data[at:at + 2])
     if left == 1:
         return Damage(at, f"the file ends inside a mark, after {hexadecimal(mark)}", False)
@@ -85,14 +85,14 @@ def torn(data, at, table):
 
 def counts_text(counts):
     """The first four of ZZ's counts in words."""
-    return ", ".join(f"{number:,} {group.name}" for number, group in zip(counts, FOUR))
+    return ", ".join(f"{number:,} {group.name}" for number, group in zip(counts, TOTALS))
 
 
-def misfits(counts, counted, marks):
-    """What is wrong with ZZ's counts, where the answers, by their marks, are `counted`."""
-    if counts[:len(FOUR)] != counted:
+def count_errors(counts, counted, marks):
+    """What is wrong with ZZ's counts, given those of the answers, `counted`, and the records by mark."""
+    if counts[:len(TOTALS)] != counted:
         yield "ZZ does not fit the records, which are " + counts_text(counted)
-    by_mark = counts[len(FOUR):]
+    by_mark = counts[len(TOTALS):]
     if sum(by_mark) != counts[0]:
         yield f"ZZ's counts by mark add up to {sum(by_mark):,}, where {counts[0]:,} are begun"
     for mark, number in zip(COUNTED, by_mark):
@@ -108,7 +108,7 @@ def end_damages(data, at, marks, unusable):
     left = len(data) - at
     if data[at:at + 2] != ZZ:
         missing = Damage(len(data), "ZZ and its counts are missing: the answer is not whole", False)
-        found = [torn(data, at, ANSWER)] if left else []
+        found = [damage_at(data, at, ANSWER)] if left else []
         return found if found and found[0].unreadable else [*found, missing]
     if left < END.size:
         four = ("; it has its first four counts alone, as before records were counted by mark: run the job again"
@@ -116,7 +116,7 @@ def end_damages(data, at, marks, unusable):
         return [Damage(at, f"ZZ is short, {left} of {END.size} bytes: the answer is not whole{four}", False)]
     begun, refused = sum(marks.values()), marks.get("NO", 0)
     counted = (begun, begun - refused - unusable, refused, unusable)
-    found = [Damage(at, text, False) for text in misfits(END.numbers.unpack_from(data, at + 2), counted, marks)]
+    found = [Damage(at, text, False) for text in count_errors(END.numbers.unpack_from(data, at + 2), counted, marks)]
     if left > END.size:
         found.append(Damage(at + END.size, f"{count(left - END.size, 'byte')} after ZZ", True))
     return found
@@ -143,7 +143,7 @@ def scan(data, table, what):
     """Walks a whole file."""
     marks, unusable, end = scanned(data, table, what)
     if table is JOB:
-        damages = [torn(data, end, JOB)] if end < len(data) else []
+        damages = [damage_at(data, end, JOB)] if end < len(data) else []
         return Scan(marks, unusable, end, damages, None)
     damages = end_damages(data, end, marks, len(unusable))
     whole = data[end:end + 2] == ZZ and end + END.size <= len(data)
@@ -151,12 +151,12 @@ def scan(data, table, what):
     return Scan(marks, unusable, end, damages, counts)
 
 
-def reading(data, table):
-    """How well a table reads the first records: 2 all, 1 cut, 0 damaged; and how many it reads."""
+def readability(data, table):
+    """How well a table fits the first records: 2 all, 1 cut, 0 damaged; and how many it reads."""
     records, end = 0, 0
     for at, layout in walk(data, table):
         records, end = records + 1, at + layout.size
-        if records == GUESS:
+        if records == GUESS_RECORDS:
             return 2, records
     mark = data[end:end + 2]
     if end == len(data) or table is ANSWER and mark == ZZ:
@@ -165,8 +165,8 @@ def reading(data, table):
 
 
 def guess(data):
-    """The table that reads better; where both or none read all, ZZ at the end decides first."""
-    job, answer = reading(data, JOB), reading(data, ANSWER)
+    """The table that fits better; if both or none fit, a ZZ at the end decides."""
+    job, answer = readability(data, JOB), readability(data, ANSWER)
     if any(data[-last.size:][:2] == ZZ for last in (END, OLDER_END)) and (job == answer or max(job, answer)[0] < 2):
         return ANSWER
     return JOB if job >= answer else ANSWER
@@ -181,8 +181,8 @@ def whole_without_frames(data, table, before):
     return longer and (end == len(data) if table is JOB else data[end:end + 2] == ZZ)
 
 
-def older(data):
-    """What to say of a damaged file that is whole by the older format, else nothing."""
+def older_format_message(data):
+    """A message if a damaged file is whole in the older format, else nothing."""
     if whole_without_frames(data, JOB, OLDER_JOB):
         return "a job of the older format? Its poses have no frames; expected from and to behind each " \
                "pose's eight numbers and behind EX's values (jobs make takes them as frames 3 7)"

@@ -9,7 +9,7 @@ from .diff import spans
 from .floats import DOUBLE
 from .layout import JOB, MOST_RECORDS, MOST_SHEETS, NEW, OLDER, OUTCOMES, REFUSALS, REPLACES
 from .pairs import load_both, pairs, problems
-from .records import guess, load, name_of, older, scan, walk
+from .records import guess, load, name_of, older_format_message, scan, walk
 from .terminal import Failure, Lines, Progress, count, say
 
 SAME_TAKE, TOO_MANY, NEVER_KEPT = 10, 11, 12
@@ -28,8 +28,8 @@ class Sheet:
         self.retaken, self.older, self.same, self.asked = 0, 0, 0, 0
 
 
-class Followed:
-    """What is kept after the records so far, by the rules of the format."""
+class KeptSheets:
+    """The sheets kept after the records so far, by the rules of the format."""
 
     def __init__(self):
         self.sheets, self.others, self.wrong = {}, 0, []
@@ -41,8 +41,8 @@ class Followed:
             column.append(value)
         return b"NO" + bytes([refusal])
 
-    def bring(self, record, at, sheet, take):
-        """SH: gives the answer that is due."""
+    def put(self, record, at, sheet, take):
+        """SH: the expected answer."""
         kept = self.sheets.get(sheet)
         if kept is None:
             if len(self.sheets) == MOST_SHEETS:
@@ -60,22 +60,22 @@ class Followed:
         kept.retaken += 1
         return outcome(REPLACES, before)
 
-    def ask(self, record, sheet):
-        """SQ: gives the kept sheet, or the refusal that is due."""
+    def get(self, record, sheet):
+        """SQ: the kept sheet, or None, and the expected answer up to the pose."""
         kept = self.sheets.get(sheet)
         if kept is None:
             return None, self.refuse(record, NEVER_KEPT, sheet, NONE)
         kept.asked += 1
         return kept, b"SQ" + struct.pack("<H", kept.take)
 
-    def take(self, record, job, at, layout):
-        """Follows a record. Gives the answer that is due, as far as it stands before a pose, and the
-        sheet whose pose follows; neither where the mark is another one."""
+    def apply(self, record, job, at, layout):
+        """Applies a record. Returns the expected answer up to the pose, and the sheet whose pose follows; None for both
+        if the mark is another one."""
         if layout.mark == "SH":
-            return self.bring(record, at, *struct.unpack_from("<2H", job, at + 2)), None
+            return self.put(record, at, *struct.unpack_from("<2H", job, at + 2)), None
         if layout.mark == "SQ":
-            kept, due = self.ask(record, *struct.unpack_from("<H", job, at + 2))
-            return due, kept
+            kept, expected = self.get(record, *struct.unpack_from("<H", job, at + 2))
+            return expected, kept
         self.others += 1
         return None, None
 
@@ -86,13 +86,13 @@ def outcome(number, before):
 
 def same_pose(job, at, answers, answer_at):
     """Whether SQ's answer has the pose that the record at byte `at` brought; a NaN is any NaN."""
-    given, told = POSE.unpack_from(job, at + POSE_IN_JOB), POSE.unpack_from(answers, answer_at + POSE_IN_ANSWER)
-    nans = (i < 8 and DOUBLE.is_nan(a) and DOUBLE.is_nan(b) for i, (a, b) in enumerate(zip(given, told)))
-    return all(nan or a == b for nan, a, b in zip(nans, given, told))
+    sent, answered = POSE.unpack_from(job, at + POSE_IN_JOB), POSE.unpack_from(answers, answer_at + POSE_IN_ANSWER)
+    nans = (i < 8 and DOUBLE.is_nan(a) and DOUBLE.is_nan(b) for i, (a, b) in enumerate(zip(sent, answered)))
+    return all(nan or a == b for nan, a, b in zip(nans, sent, answered))
 
 
 def in_words(head):
-    """The begin of an answer as it stands in a message."""
+    """The beginning of an answer, for a message."""
     mark, rest = head[:2].decode("latin-1"), head[2:]
     if mark == "SH":
         number, before = struct.unpack("<BH", rest)
@@ -103,16 +103,17 @@ def in_words(head):
 
 
 def follow_both(job, answers):
-    """The records of a job that are answered, held against their answers."""
-    found = Followed()
-    for number, at, asked, answer_at, answer in pairs(job, answers, "sheets"):
-        due, kept = found.take(number, job, at, asked)
-        if due is None:
+    """Follows the records of a job and compares the expected answers with the file's."""
+    found = KeptSheets()
+    for number, at, record, answer_at, answer in pairs(job, answers, "sheets"):
+        expected, kept = found.apply(number, job, at, record)
+        if expected is None:
             continue
-        told = bytes(answers[answer_at:answer_at + min(answer.size, 4 if answer.mark == "SQ" else 5)])
-        if told != due:
-            found.wrong.append(f"record {number}  {asked.mark}  told {in_words(told)}; the records before it give "
-                               f"{in_words(due)}")
+        answer_head = bytes(answers[answer_at:answer_at + min(answer.size, 4 if answer.mark == "SQ" else 5)])
+        if answer_head != expected:
+            found.wrong.append(f"record {number}  {record.mark}  told {in_words(answer_head)}; the records before it "
+                               "give "
+                               f"{in_words(expected)}")
         elif kept and not same_pose(job, kept.at, answers, answer_at):
             found.wrong.append(f"record {number}  SQ  told another pose than that of record {kept.record}, which "
                                "brought the take")
@@ -120,10 +121,10 @@ def follow_both(job, answers):
 
 
 def follow(job, total):
-    """The records of a job alone, as many as are answered."""
-    found, progress = Followed(), Progress("sheets", total)
-    for number, (at, asked) in enumerate(itertools.islice(walk(job, JOB), MOST_RECORDS), 1):
-        found.take(number, job, at, asked)
+    """Follows the records of a job without answers, as many as the program answers."""
+    found, progress = KeptSheets(), Progress("sheets", total)
+    for number, (at, record) in enumerate(itertools.islice(walk(job, JOB), MOST_RECORDS), 1):
+        found.apply(number, job, at, record)
         progress(number)
     progress.end()
     return found
@@ -169,28 +170,29 @@ def write_csv(found):
 def job_alone(path):
     """A job file without answers: what is kept by its records, and what is damaged in it."""
     job = load(path)
-    asked = scan(job, JOB, "reading")
-    if asked.damages and older(job):
-        raise Failure(f"jobs: {name_of(path)}: {older(job)}")
-    if asked.damages and len(job) and guess(job) is not JOB:
+    job_scan = scan(job, JOB, "reading")
+    if job_scan.damages and older_format_message(job):
+        raise Failure(f"jobs: {name_of(path)}: {older_format_message(job)}")
+    if job_scan.damages and len(job) and guess(job) is not JOB:
         raise Failure(f"jobs: {name_of(path)} is an answer file; expected JOBS, then ANSWERS if they are there")
-    return follow(job, asked.records), [f"JOBS: byte {damage.at}: {damage.text}" for damage in asked.damages]
+    return follow(job, job_scan.records), [f"JOBS: byte {damage.at}: {damage.text}" for damage in job_scan.damages]
 
 
 def sheets(job_path, answer_path, as_csv):
     """The command: 0, or 1 where the answers are others, or a file is damaged or cut, or 2."""
     if answer_path is None:
-        found, said = job_alone(job_path)
+        found, faults = job_alone(job_path)
     else:
-        job, answers, asked, told = load_both(job_path, answer_path)
+        job, answers, job_scan, answer_scan = load_both(job_path, answer_path)
         found = follow_both(job, answers)
-        said = list(problems(asked, told, found.wrong, "with answers that are not those of the kept sheets"))
+        faults = list(problems(job_scan, answer_scan, found.wrong,
+                               "with answers that are not those of the kept sheets"))
     if as_csv:
         write_csv(found)
-        for problem in said:
+        for problem in faults:
             say(f"jobs: {problem}")
     else:
         out = Lines()
-        out.add(*lines(found), *said)
+        out.add(*lines(found), *faults)
         out.flush()
-    return 1 if said else 0
+    return 1 if faults else 0

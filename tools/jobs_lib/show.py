@@ -7,15 +7,15 @@ from math import isfinite
 
 from . import bulk
 from .floats import DOUBLE
-from .layout import ANSWER, END, FOUR, JOB, MOST_RECORDS
-from .records import guess, hexadecimal, load, name_of, older, scan, walk
+from .layout import ANSWER, END, JOB, MOST_RECORDS, TOTALS
+from .records import guess, hexadecimal, load, name_of, older_format_message, scan, walk
 from .terminal import Failure, Lines, Progress, count, say
 
 MOST_RAW = 32  # bytes that are shown of what begins with no mark
-MANY = 50_000  # records from which the work is shared among the processors
-STRETCH = 1 << 19  # bytes of a file that are one piece of such work
-GIVEN = ()  # what begin_texts was given
-MOST_NAMED = 6  # numbers of a record that is not usable, in its line
+PARALLEL_FROM = 50_000  # records from which several processes format
+CHUNK_BYTES = 1 << 19  # bytes of a file that one process formats at a time
+WORKER = ()  # what init_worker was given
+MOST_NUMBERS = 6  # numbers of a record that is not usable, in its line
 
 
 def template(layout):
@@ -28,7 +28,7 @@ TEMPLATES = {layout: template(layout) for layout in (*JOB.values(), *ANSWER.valu
 
 
 def remark(layout, numbers):
-    """What a refusal's number and AR's bytes stand for; of AR once where both signs say the same."""
+    """The meaning of a refusal's number and of AR's bytes; of AR once if it is the same for both signs."""
     words = [layout.meaning(i, numbers[i]) for i in layout.named]
     half = len(words) // 2
     signs = ["; ".join(filter(None, some)) for some in (words[:half], words[half:])]
@@ -46,7 +46,7 @@ def end_line(data, at, layout):
     """ZZ as a line: its four counts, and of those by mark the ones that are not 0."""
     numbers = layout.numbers.unpack_from(data, at + 2)
     shown = (f"{name} {number}"
-             for i, (name, number) in enumerate(zip(layout.fields, numbers)) if number or i < len(FOUR))
+             for i, (name, number) in enumerate(zip(layout.fields, numbers)) if number or i < len(TOTALS))
     return [f"{layout.mark} " + "; ".join(shown)]
 
 
@@ -64,8 +64,8 @@ def one_line(data, at, layout):
     """A record as a line, which `make` reads if it is a job's."""
     shown = bulk.texts(data, at, layout)
     line = TEMPLATES[layout] % shown if shown else plain_line(data, at, layout)
-    said = remark(layout, layout.numbers.unpack_from(data, at + 2)) if layout.named else ""
-    return [f"{line}  # {said}" if said else line]
+    meaning = remark(layout, layout.numbers.unpack_from(data, at + 2)) if layout.named else ""
+    return [f"{line}  # {meaning}" if meaning else line]
 
 
 def hex_lines(data, at, layout):
@@ -75,8 +75,8 @@ def hex_lines(data, at, layout):
     at += 2
     for i, (name, code, number) in enumerate(zip(layout.fields, layout.codes, texts(layout, bits))):
         size = struct.calcsize("<" + code)
-        said = layout.meaning(i, bits[i])
-        note = f" ({said})" if said else ""
+        meaning = layout.meaning(i, bits[i])
+        note = f" ({meaning})" if meaning else ""
         lines.append(f"{at:8}  {hexadecimal(data[at:at + size]):23}  {name} = {number}{note}")
         at += size
     return lines
@@ -86,8 +86,8 @@ def unusable_line(number, data, at, layout):
     """A record's number and mark, and its first numbers that are a NaN or an infinity."""
     numbers, shown = layout.numbers.unpack_from(data, at + 2), texts(layout, layout.bits.unpack_from(data, at + 2))
     bad = [f"{name} {word}" for name, x, word in zip(layout.fields, numbers, shown) if not isfinite(x)]
-    more = f" and {len(bad) - MOST_NAMED:,} more" if len(bad) > MOST_NAMED else ""
-    return f"record {number}  {layout.mark}  {', '.join(bad[:MOST_NAMED])}{more}"
+    more = f" and {len(bad) - MOST_NUMBERS:,} more" if len(bad) > MOST_NUMBERS else ""
+    return f"record {number}  {layout.mark}  {', '.join(bad[:MOST_NUMBERS])}{more}"
 
 
 def print_unusable(data, found):
@@ -122,14 +122,14 @@ def print_records(data, table, wanted, lines_of):
 
 
 def print_all(data, table, records, lines_of):
-    """All records: of a large file so many at once as there are processors, each in a process of its own."""
+    """Prints all records; those of a large file are formatted by one process per processor."""
     cores = len(os.sched_getaffinity(0))
-    if records < MANY or cores == 1:
+    if records < PARALLEL_FROM or cores == 1:
         return print_records(data, table, range(1, records + 1), lines_of)
     progress, done = Progress("show", records, step=1), 0
     sys.stdout.flush()
-    with multiprocessing.get_context("fork").Pool(cores, begin_texts, (data, table, lines_of)) as pool:
-        for text, some in pool.imap(text_between, stretches(data, table)):
+    with multiprocessing.get_context("fork").Pool(cores, init_worker, (data, table, lines_of)) as pool:
+        for text, some in pool.imap(chunk_text, chunks(data, table)):
             sys.stdout.buffer.write(text)
             done += some
             progress(done)
@@ -137,26 +137,26 @@ def print_all(data, table, records, lines_of):
     progress.end()
 
 
-def stretches(data, table):
-    """Where a file's records can be parted: the first byte of some of them, and the byte behind the last of those."""
+def chunks(data, table):
+    """Chunks of whole records: the first byte of each, and the byte after its last record."""
     at, records = 0, bulk.bulk(table)
     while True:
-        end, _ = records.count(data, at, min(at + STRETCH, len(data)))
+        end, _ = records.count(data, at, min(at + CHUNK_BYTES, len(data)))
         if end == at:
             return
         yield at, end
         at = end
 
 
-def begin_texts(*given):
-    """What a process that makes texts needs: the file, its table, and what makes the lines of a record."""
-    global GIVEN
-    GIVEN = given
+def init_worker(*given):
+    """Stores what a worker process needs: the file, its table, and the function that formats a record."""
+    global WORKER
+    WORKER = given
 
 
-def text_between(places):
+def chunk_text(places):
     """The lines of the records between two bytes, as one text in bytes, and how many records they are."""
-    data, table, lines_of = GIVEN
+    data, table, lines_of = WORKER
     at, end = places
     lines, records = [], 0
     while at < end:
@@ -180,7 +180,7 @@ def print_end(data, table, found, lines_of):
 def say_damages(name, data, found, read_as, guessed):
     for damage in found.damages:
         say(f"{name}: byte {damage.at}: {damage.text}")
-    before = older(data) if found.damages else ""
+    before = older_format_message(data) if found.damages else ""
     if before:
         say(f"jobs: {before}")
     elif found.damages and guessed:

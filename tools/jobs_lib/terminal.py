@@ -1,21 +1,21 @@
-"""Messages, progress and output that may stop."""
+"""Messages, progress, and buffered output."""
 import pathlib
 import sys
 import time
 
 TOP = pathlib.Path(__file__).resolve().parents[2]
-INSTALLED = not (TOP / "crates.txt").exists()  # where the tool and the program have names of their own
+INSTALLED = not (TOP / "crates.txt").exists()  # an install, where the tool and the program have their own names
 
 
-def worded(text):
-    """A text in which the tool and the program have the names by which they are called here."""
+def with_command_names(text):
+    """The text with the names that the tool and the program have here: their own in an install, paths in the tree."""
     return text.replace("tools/jobs", "sim3-jobs").replace("./sim3-job", "sim3-job") if INSTALLED else text
 
 
 def say(message):
-    """A message to the user, behind whatever standard output already has."""
+    """Prints a message to the user, after flushing standard output."""
     sys.stdout.flush()
-    sys.stderr.write(worded(message) + "\n")
+    sys.stderr.write(with_command_names(message) + "\n")
 
 
 def count(number, what):
@@ -24,7 +24,7 @@ def count(number, what):
 
 
 class Failure(Exception):
-    """Work that cannot go on; the text is the message, the status the program's."""
+    """An error that ends the command, with its message and exit status."""
 
     def __init__(self, message, status=2):
         super().__init__(message)
@@ -32,7 +32,7 @@ class Failure(Exception):
 
 
 class Progress:
-    """`what: done of total` on standard error, while that is a terminal and the work is long."""
+    """Prints `what: done of total` on standard error, if that is a terminal and the work takes long."""
 
     STEP = 8192  # units between two looks at the clock
 
@@ -50,14 +50,14 @@ class Progress:
         self.shown, self.next = True, time.monotonic() + 0.2
 
     def end(self):
-        """Takes the line away."""
+        """Clears the line."""
         if self.shown:
             sys.stderr.write("\r\033[K")
             sys.stderr.flush()
 
 
 class Lines:
-    """Standard output by the line, handed on in large pieces."""
+    """Buffered lines for standard output."""
 
     def __init__(self):
         self.waiting = []

@@ -4,8 +4,8 @@ import os
 import sys
 from typing import NamedTuple
 
-from .layout import ANSWER, END, FOUR, JOB, OLDER_END
-from .records import ZZ, load, name_of, older, reading, scan
+from .layout import ANSWER, END, JOB, OLDER_END, TOTALS
+from .records import ZZ, load, name_of, older_format_message, readability, scan
 from .terminal import Failure, Lines, Progress, count, say
 
 MOST_COLUMNS = 8  # files that have a column each in the text
@@ -40,31 +40,31 @@ def read(path, what):
     found = scan(data, ANSWER, what)
     if not found.damages:
         return Added(name, found.counts), []
-    if older(data):
-        return None, [f"{name}: {older(data)}; not added"]
-    if reading(data, JOB) > reading(data, ANSWER):
+    if older_format_message(data):
+        return None, [f"{name}: {older_format_message(data)}; not added"]
+    if readability(data, JOB) > readability(data, ANSWER):
         return None, [f"{name}: it is a job file; not added: give its answers (./sim3-job < {name} > ANSWERS)"]
-    said = [f"{name}: byte {damage.at}: {damage.text}" for damage in found.damages]
-    return None, [*said[:-1], f"{said[-1]}; not added: {advice(data, found)}"]
+    messages = [f"{name}: byte {damage.at}: {damage.text}" for damage in found.damages]
+    return None, [*messages[:-1], f"{messages[-1]}; not added: {advice(data, found)}"]
 
 
 def read_all(paths):
     """The whole files, messages about the others, and the exit status."""
-    added, said, status = [], [], WHOLE
+    added, messages, status = [], [], WHOLE
     progress = Progress("totals", len(paths), "files", 1)
     for number, path in enumerate(paths, 1):
         progress(number)
         try:
             one, wrong = read(path, f"totals: file {number:,} of {len(paths):,}")
         except Failure as failure:
-            said.append(f"{str(failure).removeprefix('jobs: ')}; not added")
+            messages.append(f"{str(failure).removeprefix('jobs: ')}; not added")
             status = NOT_READ
             continue
         added += [one] if one else []
-        said += wrong
+        messages += wrong
         status = max(status, NOT_WHOLE if wrong else WHOLE)
     progress.end()
-    return added, said, status
+    return added, messages, status
 
 
 def check_names(paths):
@@ -85,13 +85,13 @@ def rows(added, every):
     """Each count with its number in every file and the sum; of the marks those that are not 0, or every one."""
     for i, field in enumerate(END.fields):
         numbers = [one.counts[i] for one in added]
-        if every or i < len(FOUR) or any(numbers):
+        if every or i < len(TOTALS) or any(numbers):
             yield field, numbers, sum(numbers)
 
 
 def lines(added, every):
     """The files by number, and the table."""
-    alone = len(added) <= MOST_COLUMNS
+    with_columns = len(added) <= MOST_COLUMNS
     width = len(f"{len(added)}")
     for number, one in enumerate(added, 1):
         yield f"file {number:>{width}}  {one.name}: {count(one.counts[0], 'record')}"
@@ -99,15 +99,15 @@ def lines(added, every):
         yield "no whole answer file: nothing was added up"
         return
     table = list(rows(added, every))
-    heads = ["count", *(f"file {n}" for n in range(1, len(added) + 1) if alone and len(added) > 1), "sum"]
-    words = [heads, *([field, *(f"{n:,}" for n in numbers if alone and len(added) > 1), f"{total:,}"]
+    heads = ["count", *(f"file {n}" for n in range(1, len(added) + 1) if with_columns and len(added) > 1), "sum"]
+    words = [heads, *([field, *(f"{n:,}" for n in numbers if with_columns and len(added) > 1), f"{total:,}"]
                       for field, numbers, total in table)]
     widths = [max(map(len, column)) for column in zip(*words)]
     for place, row in enumerate(words):
-        if place == 1 + len(FOUR):
+        if place == 1 + len(TOTALS):
             yield "by mark:"
         yield "  ".join([f"{row[0]:{widths[0]}}", *(f"{word:>{w}}" for word, w in zip(row[1:], widths[1:]))])
-    if not alone:
+    if not with_columns:
         yield f"{len(added):,} files; --csv has a column for each"
     yield "in each file added the marks add up to begun, and so do answered, refused and unusable"
 
@@ -123,15 +123,15 @@ def write_csv(added):
 def totals(paths, as_csv, every):
     """The command: 0, or 1 where a file is not a whole answer, or 2 where one cannot be read."""
     check_names(paths)
-    added, said, status = read_all(paths)
+    added, messages, status = read_all(paths)
     if as_csv:
         write_csv(added)
-        for message in said:
+        for message in messages:
             say(f"jobs: {message}")
     else:
         out = Lines()
-        out.add(*lines(added, every), *said)
-        if said:
+        out.add(*lines(added, every), *messages)
+        if messages:
             out.add(f"{len(paths) - len(added):,} of {count(len(paths), 'file')} not added")
         out.flush()
     return status

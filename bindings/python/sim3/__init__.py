@@ -44,9 +44,8 @@ from .version import __version__
 from .widths import DOUBLE
 
 __all__ = ["LibraryMissing", "Near", "NearRows", "OtherEnvironment", "Pose", "Poses", "Refusal", "Root", "RootRows",
-           "Running", "Sheets", "Shelved", "__version__", "accuracy", "act", "block_matrix", "environment", "f32", "host",
-           "nearest_arm",
-           "nearest_root", "renormalize_all", "root", "version", *raw.FUNCTIONS, *raw.PATTERNS]
+           "Running", "Sheets", "Shelved", "__version__", "accuracy", "act", "block_matrix", "environment", "f32",
+           "host", "nearest_arm", "nearest_root", "renormalize_all", "root", "version", *raw.FUNCTIONS, *raw.PATTERNS]
 
 
 def version() -> str:

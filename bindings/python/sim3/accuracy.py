@@ -33,7 +33,7 @@ def units(size: Size) -> int:
 
 
 def upward(unit: int, a: int) -> int:
-    """`upward` of the specs: a / unit, and one more."""
+    """`upward` of the specs: a / unit rounded down, plus 1."""
     return a // unit + 1
 
 
@@ -91,41 +91,41 @@ def newton(q):
     return q * ((Bound(q.width, 3 * UNIT) - square) * Bound(q.width, (UNIT + 1) // 2))
 
 
-def known(width):
+def check_width(width):
     if width not in FORMATS:
         raise OutOfBounds(f"sim3.accuracy: the width {width!r} is neither 64 nor 32")
     return width
 
 
 def leaf(width, size):
-    return Bound(known(width), units(size))
+    return Bound(check_width(width), units(size))
 
 
-def told(error):
+def fraction(error):
     return Fraction(error, UNIT)
 
 
 def action(point: Size, scale: Size, translation: Size, quaternion: Optional[Size] = None, width: int = 64) -> Fraction:
     """Of each coordinate of X p (ActionTheorem), for a scale e^sigma as it is handed in."""
-    q = leaf(width, LENGTHS[known(width)] if quaternion is None else quaternion)
-    return told(moved(q, leaf(width, point), leaf(width, scale), leaf(width, translation)).error)
+    q = leaf(width, LENGTHS[check_width(width)] if quaternion is None else quaternion)
+    return fraction(moved(q, leaf(width, point), leaf(width, scale), leaf(width, translation)).error)
 
 
 def product(left: Optional[Size] = None, right: Optional[Size] = None, width: int = 64) -> Fraction:
     """Of each number of a product of quaternions (QuaternionTheorem)."""
-    left, right = (LENGTHS[known(width)] if size is None else size for size in (left, right))
-    return told(hamilton(leaf(width, left), leaf(width, right)).error)
+    left, right = (LENGTHS[check_width(width)] if size is None else size for size in (left, right))
+    return fraction(hamilton(leaf(width, left), leaf(width, right)).error)
 
 
 def renormalized(quaternion: Optional[Size] = None, width: int = 64) -> Fraction:
     """Of each number of a renormalised quaternion against the exact Newton step (QuaternionTheorem)."""
-    return told(newton(leaf(width, LENGTHS[known(width)] if quaternion is None else quaternion)).error)
+    return fraction(newton(leaf(width, LENGTHS[check_width(width)] if quaternion is None else quaternion)).error)
 
 
 def inverse(translation: Size, scale: Size, quaternion: Optional[Size] = None, width: int = 64) -> Fraction:
     """Of each number of the translation of X^-1, scale being e^-sigma as it is handed in (QuaternionTheorem)."""
-    q = leaf(width, LENGTHS[known(width)] if quaternion is None else quaternion)
-    return told((rotated(Bound(width, 2 * UNIT), q, leaf(width, translation)) * leaf(width, scale)).error)
+    q = leaf(width, LENGTHS[check_width(width)] if quaternion is None else quaternion)
+    return fraction((rotated(Bound(width, 2 * UNIT), q, leaf(width, translation)) * leaf(width, scale)).error)
 
 
 # By the width: the greatest number of phi, and v0, v1, v2 below the limit of the series.
@@ -136,12 +136,12 @@ EXPONENTIAL = {64: (3 * 2 ** 99, ((9 * 2 ** 98, 2 ** 51), (7 * 2 ** 98, 2 ** 53)
 def exponential(rho: Size, width: int = 64) -> Fraction:
     """Of each number of the translation of Exp(tau), where the numbers of phi are at most 3/2 (13/8 at singles) and the
     series give the coefficients (ExponentialTheorem)."""
-    most, coefficients = EXPONENTIAL[known(width)]
+    most, coefficients = EXPONENTIAL[check_width(width)]
     phi, v = Bound(width, most), leaf(width, rho)
     x0, x1, x2 = (Bound(width, UNIT) * Bound(width, size, error) for size, error in coefficients)
     mu = phi * v - phi * v
     nu = phi * mu - phi * mu
-    return told((v * x0 + mu * x1 + nu * x2).error)
+    return fraction((v * x0 + mu * x1 + nu * x2).error)
 
 
 class JoinBox(NamedTuple):
@@ -184,7 +184,7 @@ class Joins:
     """The bounds after each join of a running join: `step_bound` of crates/running_accuracy/specs/Running.antt."""
 
     def __init__(self, width, box):
-        self.width, self.box = known(width), box
+        self.width, self.box = check_width(width), box
         self.scale = Bound(width, box.scale, box.scale_error)
         self.rotation, self.translation = 0, Bound(width, box.translation)
 
@@ -206,10 +206,10 @@ class Joins:
                          + upward(2 * UNIT, (2 * UNIT + self.box.away()) * (product + cube)))
 
 
-def joined(joins, every, width, translation, scale, scale_error, length):
+def after_joins(joins, every, width, translation, scale, scale_error, length):
     if not 1 <= every <= 65_535:
         raise OutOfBounds(f"sim3.accuracy: n is {every}; bounds are proved for 1 to 65,535")
-    error = Fraction(scale) * SCALE_ERRORS[known(width)] if scale_error is None else scale_error
+    error = Fraction(scale) * SCALE_ERRORS[check_width(width)] if scale_error is None else scale_error
     length = RUNNING_LENGTHS[width] if length is None else length
     state = Joins(width, join_box(translation, scale, error, length, every))
     for _ in range(joins):
@@ -223,12 +223,12 @@ def running(joins: int, every: int, translation: Size, scale: Size, scale_error:
     after every nth, n at most `every` (RunningTheorem): translations of the poses, and the scale of the running pose
     with the error with which it is handed in, one rounding if not given. The length of a
     quaternion that comes is within `length` - 1 of 1."""
-    state = joined(joins, every, width, translation, scale, scale_error, length)
-    return told(state.rotation), told(state.translation.error)
+    state = after_joins(joins, every, width, translation, scale, scale_error, length)
+    return fraction(state.rotation), fraction(state.translation.error)
 
 
 def page(joins: int, every: int, point: Size, translation: Size, scale: Size, scale_error: Optional[Size] = None,
          length: Optional[Size] = None, width: int = 64) -> Fraction:
     """Of each coordinate of a point that the running pose moves after at most `joins` joins (RunningTheorem)."""
-    state = joined(joins, every, width, translation, scale, scale_error, length)
-    return told(state.moved(leaf(width, point)).error)
+    state = after_joins(joins, every, width, translation, scale, scale_error, length)
+    return fraction(state.moved(leaf(width, point)).error)

@@ -1,6 +1,5 @@
-"""n at a time: the functions over arrays of numpy, whose rows are what a single call takes. The loop over the rows
-stands in C (bindings/python/rows.c), over the same functions of include/sim3.h; every row has the bits of the single
-call.
+"""The functions over arrays of numpy: each row is what a single call takes. The loop over the rows is in C
+(bindings/python/rows.c), over the same functions of include/sim3.h; every row has the bits of the single call.
 
     taus = numpy.zeros((1000, 7))
     x = sim3.exp(taus, from_=3, to=7)            # Poses: numbers (1000, 8), frames (1000, 2), refused (1000,)
@@ -25,19 +24,19 @@ import sysconfig
 from typing import Any, NamedTuple
 
 from . import raw
-from .numbers import lent, number, patterns
+from .numbers import ctypes_numbers, number, patterns
 from .poses import EXPECTED, MOST_FRAME, Pose
 from .refusals import LIST_LENGTH, refusal, wrong_length
 from .widths import DOUBLE, SINGLE
 
 ROWS = "rows" + (sysconfig.get_config_var("EXT_SUFFIX") or ".so")  # the module of loops
-NAMED = {"act": "act_each"}  # the C function of one that has another name
+C_NAMES = {"act": "act_each"}  # the C function of one that has another name
 REFUSING = {"mul", "mul_inv", "inv_mul", "scaled_pair", "coeffs_armed", "armed_pair", "block_inverse", "nearest_arm"}
 KINDS = {**{kind: count for kind, (count, _) in raw.KINDS.items()}, raw.NUMBER: 1, raw.POINTS: 3}
-# The whole of a block at its place in the 7 by 7 matrix, by rows: its number in the list of 31, or -1 for a zero.
-PLACES = [*([row, 3 + row, 6 + row, -1, -1, -1, -1] for row in range(3)),
-          *([9 + row, 12 + row, 15 + row, 18 + row, 21 + row, 24 + row, 27 + row] for row in range(3)),
-          [-1, -1, -1, -1, -1, -1, 30]]
+# For each entry of the 7 by 7 matrix of a block, by rows: its index in the list of 31, or -1 for a zero.
+BLOCK_PLACES = [*([row, 3 + row, 6 + row, -1, -1, -1, -1] for row in range(3)),
+                *([9 + row, 12 + row, 15 + row, 18 + row, 21 + row, 24 + row, 27 + row] for row in range(3)),
+                [-1, -1, -1, -1, -1, -1, 30]]
 
 
 class Poses(NamedTuple):
@@ -71,7 +70,7 @@ class NearRows(NamedTuple):
 
 @functools.lru_cache(maxsize=None)
 def loops():
-    """The module of loops, which stands beside this file or where bindings/build puts it; LibraryMissing without it."""
+    """The module of loops, beside this file or where bindings/build puts it; LibraryMissing without it."""
     here = pathlib.Path(__file__).resolve()
     places = [here.with_name(ROWS), *(parent / "target" / "bindings" / ROWS for parent in here.parents[3:4])]
     for path in places:
@@ -90,64 +89,65 @@ def loops():
                              "are installed (python3-dev)")
 
 
-def mover():
-    """The short way for a list of points, or None where the module of loops is not there."""
+def fast_move():
+    """The fast function for a list of points, or None without the module of loops."""
     try:
         return loops().move
     except raw.LibraryMissing:
         return None
 
 
-def numpy_now():
-    """numpy, which the caller of arrays has imported; or None."""
+def imported_numpy():
+    """numpy, if the caller has imported it; else None."""
     return sys.modules.get("numpy")
 
 
 def is_rows(x, *depths):
     """Whether x is an array of numpy with one of these numbers of dimensions."""
-    numpy = numpy_now()
+    numpy = imported_numpy()
     return numpy is not None and isinstance(x, numpy.ndarray) and x.ndim in depths
 
 
-def also_rows(single):
-    """A method of the engine that takes arrays of numpy too."""
+def accept_arrays(single):
+    """Decorates a method of the engine so that it takes arrays of numpy too."""
     takes = tuple(inspect.signature(single).parameters)[1:]
     depths = {name: depth_of(single.__name__, name) for name in takes}
     in_order = tuple(depths.values())
 
     @functools.wraps(single)
-    def either(self, *given, **named):
+    def wrapper(self, *given, **named):
         numpy = sys.modules.get("numpy")
         if numpy is not None:
             kind = numpy.ndarray
             for x, depth in zip(given, in_order):
                 if type(x) is Poses or isinstance(x, kind) and len(x.shape) == depth:
-                    return asked(self, single, takes, given, named)
+                    return call_over_rows(self, single, takes, given, named)
             if named and any(type(x) is Poses or isinstance(x, kind) and len(x.shape) == depths.get(name)
                              for name, x in named.items()):
-                return asked(self, single, takes, given, named)
+                return call_over_rows(self, single, takes, given, named)
         return single(self, *given, **named)
-    return either
+    return wrapper
 
 
 def depth_of(function, argument):
-    """How many dimensions an array of many of this argument has: 1 of numbers, 2 of lists, 0 where none counts."""
+    """How many dimensions an array of many of this argument has: 1 for numbers, 2 for lists, 0 if it takes no rows."""
     if function == "nearest_arm":
         return 1
-    kind = dict(raw.FUNCTIONS[NAMED.get(function, function)].takes).get(argument)
+    kind = dict(raw.FUNCTIONS[C_NAMES.get(function, function)].takes).get(argument)
     return 0 if kind in (None, raw.POINTS) else 1 if kind == raw.NUMBER else 2
 
 
-class Asked:
-    """One call over arrays: the buffers that its arguments are, and how many rows they have."""
+class ArrayCall:
+    """One call over arrays: the buffers of its arguments, and how many rows they have."""
 
     def __init__(self, name, engine=None, width=DOUBLE):
-        self.engine, self.width, self.name, self.numpy = engine, engine.width if engine else width, name, numpy_now()
+        self.engine, self.width = engine, engine.width if engine else width
+        self.name, self.numpy = name, imported_numpy()
         self.rows, self.first = None, None
         self.inputs = []
 
     def count_rows(self, argument, rows):
-        """All arguments with rows have as many."""
+        """Counts the rows of an argument; all arguments with rows must have as many."""
         if self.rows is None:
             self.rows, self.first = rows, argument
         elif rows != self.rows:
@@ -167,19 +167,19 @@ class Asked:
             found = number(f"{self.width.package}.{self.name}: {argument}", x, self.width)
             self.inputs.append(self.numpy.array([found], dtype=self.width.code))
         else:
-            self.inputs.append(self.numpy.array(self.one(argument, kind, x), dtype=self.width.code))
+            self.inputs.append(self.numpy.array(self.read_single(argument, kind, x), dtype=self.width.code))
 
-    def one(self, argument, kind, x):
-        """A list that serves all rows."""
+    def read_single(self, argument, kind, x):
+        """Reads a list that serves all rows."""
         if kind != raw.POINTS:
             return self.engine.read(self.name, argument, x)
-        found = lent(f"{self.width.package}.{self.name}: {argument}", x, self.width)
+        found = ctypes_numbers(f"{self.width.package}.{self.name}: {argument}", x, self.width)
         if len(found) != KINDS[kind]:
             raise wrong_length(self.name, argument, "vector", len(found), self.width)
         return found
 
     def of_width(self, argument, x):
-        """An array of the width's numbers, the caller's own where it is such."""
+        """An array of the width's numbers, without a copy if the caller's is one."""
         try:
             return self.numpy.ascontiguousarray(x.astype(self.width.code, casting="same_kind", copy=False))
         except TypeError:
@@ -200,7 +200,7 @@ class Asked:
             raise wrong_length(self.name, argument, "tangent", found)
 
     def as_patterns(self, argument, x):
-        """An array of numbers as their bit patterns, which it may hold already."""
+        """The bit patterns of an array of numbers, or the array itself if it holds patterns."""
         if x.dtype.kind == "u" and x.dtype.itemsize == 8:
             return self.numpy.ascontiguousarray(x, dtype="Q")
         return self.of_width(argument, x).view("Q")
@@ -232,46 +232,46 @@ class Asked:
                             "and frames (n, 2), or a sim3.Pose for all rows")
 
     def take_given(self, argument, kind, x):
-        """An argument that reads no frame, or is left out for the host's values."""
+        """An argument of which no frame is read, or None for the host's values."""
         if x is None:
             self.inputs.append(None)
         else:
             self.take(argument, kind, x.numbers if isinstance(x, Poses) else x)
 
     def run(self, *outs):
-        """The one place where arrays go to C: the outs written, and the number of each row's refusal."""
+        """Calls the C function over all rows: writes the outs, and returns the number of each row's refusal."""
         refused = self.numpy.empty(self.rows, dtype="I")
         loops().run(self.name, self.width is SINGLE, self.rows, tuple(self.inputs), outs, refused)
         return refused
 
-    def room(self, size, code=None):
-        """A new array of so many numbers a row."""
+    def new_array(self, size, code=None):
+        """A new array of `size` numbers in each row."""
         return self.numpy.empty((self.rows, size), dtype=code or self.width.code)
 
 
-def asked(engine, single, takes, given, named):
-    """The answer of a function over arrays. The environment is asked once, before the host's values are computed."""
+def call_over_rows(engine, single, takes, given, named):
+    """The answer of a function over arrays. The environment is checked once, before the host's values are computed."""
     if raw.differs():
         raise raw.other_environment(single.__name__, engine.width)
     words = inspect.signature(single).bind(engine, *given, **named).arguments
-    name = NAMED.get(single.__name__, single.__name__)
-    call = Asked(name, engine)
+    name = C_NAMES.get(single.__name__, single.__name__)
+    call = ArrayCall(name, engine)
     if words.get("out") is not None:
         raise TypeError(f"{engine.width.package}.{single.__name__}: out goes with one pose for all points; expected "
                         "none with a pose for each")
     if name == "exp":
-        return of_exp(call, words)
+        return exp_rows(call, words)
     if name == "nearest_arm":
-        return of_near(call, words)
+        return nearest_arm_rows(call, words)
     if name in ("mul", "mul_inv", "inv_mul", "inverse", "renormalize"):
-        return of_poses(call, words)
+        return pose_rows(call, words)
     for argument, kind in raw.FUNCTIONS[name].takes:
         call.take_given(argument, kind, words.get("p" if single.__name__ == "act" and argument == "pts" else argument))
-    return of_lists(call)
+    return list_rows(call)
 
 
-def of_exp(call, words):
-    """Exp of each tangent, with frames that are numbers, or arrays (n,)."""
+def exp_rows(call, words):
+    """exp of each tangent, with frames that are numbers, or arrays (n,)."""
     call.take("tau", "tangent", words["tau"])
     call.take_given("values", "values", words.get("values"))
     numpy, rows = call.numpy, call.rows
@@ -281,41 +281,41 @@ def of_exp(call, words):
             raise TypeError(f"{call.width.package}.exp: {side} is of {x.dtype} and has the shape {x.shape}; expected "
                             f"a frame for all rows, or ({rows},) of them")
     call.take_frames("from_ and to", numpy.stack([numpy.broadcast_to(x, (rows,)) for x in frames], axis=1))
-    return posed(call)
+    return poses_of(call)
 
 
-def posed(call):
-    """Poses that a function writes."""
-    numbers, frames = call.room(8), call.room(2, "H")
+def poses_of(call):
+    """The poses that a function writes."""
+    numbers, frames = call.new_array(8), call.new_array(2, "H")
     return Poses(numbers, frames, call.run(numbers, frames))
 
 
-def of_poses(call, words):
-    """A function of poses with their frames."""
+def pose_rows(call, words):
+    """A function of poses with their frames, over rows."""
     for argument in ("x", "y"):
         if argument in words:
             call.take_pose(argument, words[argument])
     if call.name == "renormalize":
-        numbers, frames = call.room(8), call.inputs.pop()
+        numbers, frames = call.new_array(8), call.inputs.pop()
         return Poses(numbers, frames.copy(), call.run(numbers))
     last = raw.FUNCTIONS[call.name].takes[-1][0]
     call.take_given(last, raw.NUMBER, words.get(last))
-    return posed(call)
+    return poses_of(call)
 
 
-def of_near(call, words):
-    """nearest_arm of each."""
+def nearest_arm_rows(call, words):
+    """nearest_arm of each row."""
     for argument in ("sigma", "z"):
         call.take(argument, raw.NUMBER, words[argument])
-    out = call.room(3, "Q")
+    out = call.new_array(3, "Q")
     refused = call.run(out)
     return NearRows(out[:, 0], out[:, 1], out[:, 2], refused)
 
 
-def of_lists(call):
-    """The lists that a function writes, each an array, and `refused` behind them where it may refuse."""
+def list_rows(call):
+    """The lists that a function writes, each an array, and `refused` after them if it may refuse."""
     sizes = [KINDS[kind] for kind in raw.FUNCTIONS[call.name].gives]
-    out = call.room(sum(sizes))
+    out = call.new_array(sum(sizes))
     refused = call.run(out)
     found, at = [], 0
     for size in sizes:
@@ -325,59 +325,59 @@ def of_lists(call):
     return found[0] if len(found) == 1 else tuple(found)
 
 
-def pushed(x, up, numbers, state):
+def push_rows(x, up, numbers, state):
     """Poses joined one after another to a running pose, whose numbers and state are written: the running pose after
     each. A pose that is refused changes nothing."""
-    see_environment("running_push")
-    call = Asked("Running.push")
+    check_environment("running_push")
+    call = ArrayCall("Running.push")
     call.take("x", "pose", call.numpy.asarray(x.numbers))
     call.take_frames("x.frames", x.frames)
     call.take_given("up", raw.NUMBER, up)
     call.inputs += [numbers, state]
-    return posed(call)
+    return poses_of(call)
 
 
 def roots(z):
-    """The root of each number of an array (n,), with what is left."""
-    see_environment("root")
-    call = Asked("root")
+    """The root of each number of an array (n,), with its remainder."""
+    check_environment("root")
+    call = ArrayCall("root")
     call.take("z", raw.NUMBER, z)
-    whole, exponent, nearest = call.room(2, "Q"), call.room(1, "q"), call.room(1)
+    whole, exponent, nearest = call.new_array(2, "Q"), call.new_array(1, "q"), call.new_array(1)
     refused = call.run(whole, exponent, nearest)
     return RootRows(whole[:, 0], whole[:, 1], exponent[:, 0], nearest[:, 0], refused)
 
 
 def nearest_roots(z):
-    """The double of each root; what root refuses has the root that IEEE 754 gives it."""
-    found, numpy = roots(z), numpy_now()
+    """The double of each root; of what root refuses, the root of IEEE 754."""
+    found, numpy = roots(z), imported_numpy()
     return numpy.where(found.refused == 0, found.nearest, numpy.where(found.refused == 8, z, numpy.nan))
 
 
-def compared_tangents(a, b):
+def compare_rows(a, b):
     """The order of each tangent of a and of b: (n,), -1, 0 or 1."""
-    see_environment("compare_tangents")
-    call = Asked("compare_tangents")
+    check_environment("compare_tangents")
+    call = ArrayCall("compare_tangents")
     call.take_patterns("a", a)
     call.take_patterns("b", b)
-    out = call.room(1, "q")
+    out = call.new_array(1, "q")
     call.run(out)
     return out[:, 0]
 
 
-def sorted_tangents(tangents, sort):
+def sort_rows(tangents, sort):
     """The tangents (n, 7) of a list in order, or of each of m lists (m, n, 7), by a function that sorts a list of
-    patterns in its place."""
-    see_environment("sort_tangents")
+    patterns in place."""
+    check_environment("sort_tangents")
     if tangents.shape[-1] != KINDS["tangent"]:
         raise wrong_length("sort_tangents", "tangents", "tangent", tangents.shape[-1])
-    words = Asked("sort_tangents").as_patterns("tangents", tangents).copy()
-    for one in words.reshape(-1, *words.shape[-2:]):
-        sort(one.reshape(-1))
+    words = ArrayCall("sort_tangents").as_patterns("tangents", tangents).copy()
+    for tangents_list in words.reshape(-1, *words.shape[-2:]):
+        sort(tangents_list.reshape(-1))
     return words if tangents.dtype.kind == "u" else words.view("d")
 
 
-def see_environment(name):
-    """OtherEnvironment where this thread does not compute as the proofs say."""
+def check_environment(name):
+    """Raises OtherEnvironment if this thread does not compute as the proofs say."""
     if raw.differs():
         raise raw.other_environment(name)
 
@@ -389,4 +389,4 @@ def block_matrix(j):
     if found.ndim == 0 or found.shape[-1] != KINDS["block"]:
         raise wrong_length("block_matrix", "j", "block", found.shape[-1] if found.ndim else 1)
     ended = numpy.concatenate([found, numpy.zeros_like(found[..., :1])], axis=-1)  # a zero at place -1
-    return ended[..., numpy.array(PLACES)]
+    return ended[..., numpy.array(BLOCK_PLACES)]

@@ -1,4 +1,4 @@
-"""What the functions take and give, for type checkers."""
+"""The types of arguments and answers, for type checkers."""
 from typing import TYPE_CHECKING, Any, Sequence, Union
 
 from .poses import Pose

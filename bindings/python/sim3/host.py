@@ -1,9 +1,9 @@
-"""The host's function values: the one place where Python's math stands in for root, sine,
-exponential and the rotation Jacobians. The engine takes any numbers here; these are the true ones.
+"""The host's function values, by Python's math: root, sine, exponential and the rotation Jacobians. The engine takes
+any numbers here; these are the true ones.
 
-The values of the negative tangent, which no function of the C library asks for, follow from those
-of the tangent: up and down change places; e and e0, m and m0 change places where sigma is a zero;
-the rest stays. Its rotation Jacobians are the transposed ones.
+The values of the negative tangent, which no function of the C library takes, follow from those of the tangent: up and
+down are exchanged; so are e and e0, and m and m0, where sigma is a zero; the others are the same. Its rotation
+Jacobians are the transposes.
 """
 import math
 from typing import Callable, List, Sequence, Tuple
@@ -35,13 +35,13 @@ def norm_sq(phi: Sequence[float]) -> float:
 
 
 def shrinking(sigma):
-    """t = -|sigma|, but sigma itself where it is a zero, whose sign counts, or a NaN."""
+    """t = -|sigma|, but sigma itself if it is a zero, whose sign matters, or a NaN."""
     return -abs(sigma) if sigma != 0 and sigma == sigma else sigma
 
 
 def values(sigma: float, z: float, root: Callable[[float], float] = root) -> List[float]:
     """The ten function values for a log scale and a squared angle: root, sin_half, cos_half, sin,
-    e, m, e0, m0, up, down. `root` takes the root: math's, or sim3.nearest_root."""
+    e, m, e0, m0, up, down. `root` computes the root: math's, or sim3.nearest_root."""
     r = root(z)
     here, there = shrinking(sigma), shrinking(-sigma)
     return [r, sine(0.5 * r), cosine(0.5 * r), sine(r),

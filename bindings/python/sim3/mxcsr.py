@@ -1,4 +1,4 @@
-"""What the processor's register MXCSR says of a thread, in words: the proofs are about one setting of it."""
+"""The settings of the processor's register MXCSR, in words; the proofs are about one of them."""
 PROVED = 0x1F80  # to nearest, nothing flushed, every exception masked
 FLUSHING = 0x8040
 ROUNDING = {0x2000: "rounds down", 0x4000: "rounds up", 0x6000: "rounds toward zero"}
@@ -21,7 +21,7 @@ class OtherEnvironment(FloatingPointError):
 
 
 def words(differs):
-    """What the bits that differ say of the thread."""
+    """What the thread does by the bits that differ."""
     found = [ROUNDING[differs & 0x6000]] if differs & 0x6000 else []
     found += [word for bit, word in FLUSHES.items() if differs & bit]
     traps = [word for bit, word in TRAPS.items() if differs & bit]
@@ -40,6 +40,5 @@ def other_environment(where, differs):
     mxcsr = PROVED ^ differs
     return OtherEnvironment(mxcsr,
                             f"{where}: this thread {words(differs)} (MXCSR is {mxcsr:04x}, and {PROVED:04x} is what "
-                            f"is proved), {cause(differs)}; "
-                                   "`with sim3.environment():` computes a block as it is proved, and then puts back "
-                                   "what was there")
+                            f"is proved), {cause(differs)}; `with sim3.environment():` computes a block as it is "
+                            "proved, and then puts back what was there")

@@ -9,16 +9,16 @@ DOWN, UP = "down", "up"
 
 
 class Near(NamedTuple):
-    """`count` neighbouring numbers from z in the `direction`, "down" or "up", the arm is `arm`, and no
-    fewer change it."""
+    """At the `count`th neighbour of z in the `direction`, "down" or "up", the arm is `arm`, and no nearer number has
+    another arm."""
 
     count: int
     direction: str
     arm: int
 
 
-def asked(width, sigma, z) -> Optional[Near]:
-    """The answer of a width's C function, or Refusal."""
+def nearest_arm(width, sigma, z) -> Optional[Near]:
+    """The answer of the C function at a width, or Refusal."""
     sigma = number(f"{width.package}.nearest_arm: sigma", sigma, width)
     z = number(f"{width.package}.nearest_arm: z", z, width)
     (kind, size), = raw.NEAR_WRITES.values()

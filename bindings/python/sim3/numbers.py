@@ -1,4 +1,4 @@
-"""Numbers on their way to C. A buffer of the width's own numbers goes as it is, without a copy or a loop in
+"""Numbers as the C functions take them. A buffer of the width's own numbers is passed without a copy or a loop in
 Python; a list or tuple is copied once, and its numbers rounded to the width.
 """
 import array
@@ -21,16 +21,16 @@ def number(where, x, width=DOUBLE):
         raise OverflowError(f"{where} is beyond the largest double") from None
 
 
-def over(buffer, count, width=DOUBLE):
-    """A ctypes array over a buffer's own bytes, or over a copy where C must not look at them: read-only
-    ones, which ctypes does not lend, and those that stand across the places of such numbers."""
+def ctypes_over(buffer, count, width=DOUBLE):
+    """A ctypes array over a buffer's own bytes; over a copy of read-only ones, which ctypes does not take, and of those
+    that are not aligned."""
     numbers = width.number * count
     if count == 0:
         return numbers()  # an empty buffer may have no address
     if memoryview(buffer).readonly:
         return numbers.from_buffer_copy(buffer)
-    lent = numbers.from_buffer(buffer)
-    return lent if ctypes.addressof(lent) % width.size == 0 else numbers.from_buffer_copy(buffer)
+    view = numbers.from_buffer(buffer)
+    return view if ctypes.addressof(view) % width.size == 0 else numbers.from_buffer_copy(buffer)
 
 
 def of_sequence(where, x, width):
@@ -43,8 +43,8 @@ def of_sequence(where, x, width):
         raise
 
 
-def lent(where, x, width=DOUBLE):
-    """The numbers of x as a ctypes array; TypeError where it holds none."""
+def ctypes_numbers(where, x, width=DOUBLE):
+    """The numbers of x as a ctypes array; TypeError if it holds none."""
     try:
         view = memoryview(x)
     except TypeError:
@@ -52,23 +52,23 @@ def lent(where, x, width=DOUBLE):
     if view is not None and view.format in width.formats:
         if not view.c_contiguous:
             raise TypeError(f"{where} is a buffer with gaps; expected {width.word}s without gaps: copy it first")
-        return over(x, view.nbytes // width.size, width)
+        return ctypes_over(x, view.nbytes // width.size, width)
     if isinstance(x, (array.array, collections.abc.Sequence)) and not isinstance(x, TEXT):
         copy = of_sequence(where, x, width)
-        return over(copy, len(copy), width)
+        return ctypes_over(copy, len(copy), width)
     what = type(x).__name__ + ("" if view is None else f", a buffer of format {view.format!r}")
     raise TypeError(f"{where} is {what}; expected a list, a tuple, array({width.code!r}) or another buffer of "
                     f"{width.word}s")
 
 
 def patterns(where, x):
-    """The bit patterns of x in an array of their own, and whether x itself was one of patterns. A buffer of
-    64-bit whole numbers, as array('Q'), is one; all else is numbers, as everywhere in this package."""
+    """The bit patterns of x in a new array, and whether x holds patterns itself: a buffer of unsigned 64-bit integers,
+    as array('Q'), does; anything else holds numbers."""
     try:
         view = memoryview(x)
     except TypeError:
         view = None
     of_patterns = view is not None and view.format in PATTERNS and view.itemsize == 8
     words = array.array("Q")
-    words.frombytes(view.tobytes() if of_patterns else bytes(lent(where, x)))
+    words.frombytes(view.tobytes() if of_patterns else bytes(ctypes_numbers(where, x)))
     return words, of_patterns

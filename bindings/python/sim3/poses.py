@@ -1,4 +1,4 @@
-"""Poses with their frames, as Python holds them and as the C functions take them."""
+"""Poses with their frames, in Python and for the C functions."""
 import array
 import collections.abc
 import ctypes
@@ -16,7 +16,7 @@ FRAMES = struct.Struct("HH")  # the list of a pose's frames
 EXPECTED = f"a whole number from 0 to {MOST_FRAME:,}"
 
 
-def short(where, x, what):
+def uint16(where, x, what):
     """A number of 16 bits."""
     try:
         found = operator.index(x)
@@ -29,7 +29,7 @@ def short(where, x, what):
 
 def frame(where, x):
     """A frame number."""
-    return short(where, x, "a frame")
+    return uint16(where, x, "a frame")
 
 
 def frames(where, from_, to):
@@ -38,7 +38,7 @@ def frames(where, from_, to):
 
 
 class Fields(NamedTuple):
-    """What a pose is made of."""
+    """The fields of a pose."""
 
     numbers: Sequence[float]
     from_: int
@@ -55,16 +55,16 @@ class Pose(Fields):
     def __new__(cls, numbers: Sequence[float], from_: int, to: int):
         frame("sim3.Pose: from_", from_)
         frame("sim3.Pose: to", to)
-        return super().__new__(cls, eight(numbers), from_, to)
+        return super().__new__(cls, check_eight(numbers), from_, to)
 
 
-def trusted(numbers, from_, to):
-    """A Pose of what the engine has answered."""
+def answered_pose(numbers, from_, to):
+    """A Pose of numbers and frames from the engine, unchecked."""
     return tuple.__new__(Pose, (numbers, from_, to))
 
 
-def eight(x):
-    """x itself, which holds eight numbers."""
+def check_eight(x):
+    """x itself, if it holds eight numbers."""
     try:
         view = memoryview(x)
     except TypeError:
@@ -82,12 +82,12 @@ def eight(x):
 
 
 def numbers_of(x):
-    """The eight numbers of a pose, for what reads no frame; they may also be handed in without frames."""
+    """The eight numbers of a pose, for a function that reads no frame and also takes them alone."""
     return x.numbers if isinstance(x, Pose) else x
 
 
-def expected(where, x):
-    """A Pose, or TypeError."""
+def require_pose(where, x):
+    """x itself, if it is a Pose; else TypeError."""
     if not isinstance(x, Pose):
         raise TypeError(f"{where} is {type(x).__name__}; expected a sim3.Pose, "
                         "whose fields are numbers, from_ and to")

@@ -1,6 +1,5 @@
-"""The C functions of include/sim3.h as ctypes sees them: one table of their arguments at both widths, the
-shared library that has them, and the bare call. What the table says is trusted; tests/bindings compares
-it with the header.
+"""The C functions of include/sim3.h for ctypes: one table of their arguments at both widths, the shared library that
+has them, and the bare call. The table is trusted; tests/bindings compares it with the header.
 """
 import ctypes
 import functools
@@ -37,7 +36,7 @@ class Function(NamedTuple):
 
 def function(takes, gives):
     """`x:pose up:number` and `block block` as a Function."""
-    pairs = tuple(tuple(word.split(":")) for word in takes.split())
+    pairs = tuple(tuple(pair.split(":")) for pair in takes.split())
     return Function(pairs, tuple(gives.split()))
 
 
@@ -65,21 +64,21 @@ FUNCTIONS = {
     "inverse_jacobian_left": function("x:pose down:number", "block"),
 }
 
-# sim3_root stands apart from the table: after z it writes three lists, each of its own type and count.
+# sim3_root is not in the table: after z it writes three lists, each of its own type and count.
 ROOT_WRITES = {"whole": (ctypes.c_uint64, 2), "exponent": (ctypes.c_int64, 1), "nearest": (ctypes.c_double, 1)}
 
-# So does sim3_nearest_arm, at either width: after sigma and z it writes one list of whole numbers.
+# Nor is sim3_nearest_arm, at either width: after sigma and z it writes one list of integers.
 NEAR_WRITES = {"out": (ctypes.c_uint64, 3)}
 
-# So do those of tangents by their bit patterns: their lists in order, each a name and a type, the
-# last of which is written.
+# Nor are those of tangents by their bit patterns: their lists in order, each a name and a type, the last of which is
+# written.
 PATTERNS = {
     "compare_tangents": (("a", ctypes.c_uint64), ("b", ctypes.c_uint64), ("out", ctypes.c_int64)),
     "sort_tangents": (("list", ctypes.c_uint64),),
 }
 
-# So do those of a running join, of a list of poses and of sheets: each argument's name, its type, and whether it is
-# a list that is written, a list that is read, or a number.
+# Nor are those of a running join, of a list of poses and of sheets: each argument's name, its type, and whether it is a
+# list that is written, a list that is read, or a number.
 WRITTEN, READ = "written", "read"
 RUNNING = {
     "running_start": (("pose", ctypes.c_double, WRITTEN), ("state", ctypes.c_uint16, WRITTEN)),
@@ -98,7 +97,7 @@ RUNNING = {
 }
 SHEETS_SIZE = 167_938  # bytes of a store
 
-# So do those of the floating-point environment: what each gives, and its arguments as above.
+# Nor are those of the floating-point environment: the type that each returns, and its arguments as above.
 ENVIRONMENT = {
     "environment": (ctypes.c_uint32, (("probe", ctypes.c_double, READ),)),
     "environment_differs": (ctypes.c_uint32, ()),
@@ -106,21 +105,21 @@ ENVIRONMENT = {
     "environment_leave": (None, (("was", ctypes.c_uint32, NUMBER),)),
 }
 
-# What a function of a class is called in Python.
+# The names in Python of the functions of a class.
 METHODS = {"running_start": "Running", "running_push": "Running.push", "running_every": "Running.every",
            "sheets_start": "Sheets", "sheets_put": "Sheets.put", "sheets_get": "Sheets.get"}
 
 
 class LibraryMissing(OSError):
-    """The shared library is not there or is none of this engine; the text says what to do."""
+    """The shared library is missing or not that of this engine; the text says what to do."""
 
 
 LIBRARY = "libsim3.so"
 
 
 def library_path():
-    """The environment variable SIM3_LIBRARY, or beside this file, where an installed package has the library,
-    or where bindings/build puts it in the source tree."""
+    """The path that the environment variable SIM3_LIBRARY names; else beside this file, where an installed package has
+    the library; else that of bindings/build in the source tree."""
     named, here = os.environ.get("SIM3_LIBRARY"), pathlib.Path(__file__).resolve()
     if named:
         return pathlib.Path(named)
@@ -135,9 +134,8 @@ def kinds(name):
 
 
 @functools.lru_cache(maxsize=None)
-def quick(name):
-    """A C function that takes each list as an address or as bytes, which costs less at a call. Its name has
-    the width's ending."""
+def fast_function(name):
+    """A C function that takes each list as an address or as bytes, which is faster. Its name has the width's ending."""
     found = library()[name]
     symbol = ctypes.CDLL(str(library_path().resolve()))["sim3_" + name]
     lists = (ctypes.POINTER(width.number) for width in WIDTHS)
@@ -156,10 +154,10 @@ def library():
                              "or SIM3_LIBRARY names another place")
     try:
         loaded = ctypes.CDLL(str(path.resolve()))
-        found = {name + width.ending: declared(loaded["sim3_" + name + width.ending], made, width)
-                 for width in WIDTHS for name, made in FUNCTIONS.items()}
-        found.update((name, declared_lists(loaded["sim3_" + name], made)) for name, made in PATTERNS.items())
-        found.update((name, declared_running(loaded["sim3_" + name], made)) for name, made in RUNNING.items())
+        found = {name + width.ending: declared(loaded["sim3_" + name + width.ending], signature, width)
+                 for width in WIDTHS for name, signature in FUNCTIONS.items()}
+        found.update((name, declared_lists(loaded["sim3_" + name], signature)) for name, signature in PATTERNS.items())
+        found.update((name, declared_running(loaded["sim3_" + name], signature)) for name, signature in RUNNING.items())
         found.update((name, declared_environment(path, name)) for name in ENVIRONMENT)
         found.update(("nearest_arm" + width.ending, declared_near(loaded["sim3_nearest_arm" + width.ending], width))
                      for width in WIDTHS)
@@ -170,31 +168,31 @@ def library():
                              "remove it and run bindings/build") from None
 
 
-def words(kind, width):
+def c_types(kind, width):
     """The C types of an argument: a list is a pointer and a count."""
     if kind == NUMBER:
         return [width.number]
     return [ctypes.POINTER(ctypes.c_uint16 if kind == FRAMES else width.number), ctypes.c_size_t]
 
 
-def declared(symbol, made, width):
+def declared(symbol, signature, width):
     """A C function with the types of its arguments."""
-    written = ["out", FRAMES] if FRAMES in made.gives else ["out"] if made.gives else []
-    kinds = [*(kind for _, kind in made.takes), *written]
-    symbol.argtypes = [word for kind in kinds for word in words(kind, width)]
+    written = ["out", FRAMES] if FRAMES in signature.gives else ["out"] if signature.gives else []
+    kinds = [*(kind for _, kind in signature.takes), *written]
+    symbol.argtypes = [c_type for kind in kinds for c_type in c_types(kind, width)]
     symbol.restype = ctypes.c_uint32
     return symbol
 
 
 def declared_version(symbol):
-    """sim3_version, which gives a text."""
+    """sim3_version, which returns a text."""
     symbol.argtypes, symbol.restype = [], ctypes.c_char_p
     return symbol
 
 
 def declared_root(symbol):
     """sim3_root with the types of its arguments."""
-    lists = [word for kind, _ in ROOT_WRITES.values() for word in (ctypes.POINTER(kind), ctypes.c_size_t)]
+    lists = [c_type for kind, _ in ROOT_WRITES.values() for c_type in (ctypes.POINTER(kind), ctypes.c_size_t)]
     symbol.argtypes = [ctypes.c_double, *lists]
     symbol.restype = ctypes.c_uint32
     return symbol
@@ -202,39 +200,39 @@ def declared_root(symbol):
 
 def declared_near(symbol, width):
     """sim3_nearest_arm of a width with the types of its arguments."""
-    lists = [word for kind, _ in NEAR_WRITES.values() for word in (ctypes.POINTER(kind), ctypes.c_size_t)]
+    lists = [c_type for kind, _ in NEAR_WRITES.values() for c_type in (ctypes.POINTER(kind), ctypes.c_size_t)]
     symbol.argtypes = [width.number, width.number, *lists]
     symbol.restype = ctypes.c_uint32
     return symbol
 
 
-def declared_lists(symbol, made):
-    """A C function of lists alone, each with its own type."""
-    symbol.argtypes = [word for _, kind in made for word in (ctypes.POINTER(kind), ctypes.c_size_t)]
+def declared_lists(symbol, signature):
+    """A C function whose arguments are all lists, each with its own type."""
+    symbol.argtypes = [c_type for _, kind in signature for c_type in (ctypes.POINTER(kind), ctypes.c_size_t)]
     symbol.restype = ctypes.c_uint32
     return symbol
 
 
-def declared_running(symbol, made):
+def declared_running(symbol, signature):
     """A C function of the running join with the types of its arguments."""
-    symbol.argtypes = [word for _, kind, use in made
-                       for word in ([kind] if use == NUMBER else [ctypes.POINTER(kind), ctypes.c_size_t])]
+    symbol.argtypes = [c_type for _, kind, use in signature
+                       for c_type in ([kind] if use == NUMBER else [ctypes.POINTER(kind), ctypes.c_size_t])]
     symbol.restype = ctypes.c_uint32
     return symbol
 
 
 def declared_environment(path, name):
-    """A C function of the environment, loaded so that it keeps Python's lock: to let go of that costs more than the
+    """A C function of the environment, loaded so that it keeps Python's lock: releasing it takes longer than the
     call."""
-    gives, made = ENVIRONMENT[name]
-    symbol = declared_running(ctypes.PyDLL(str(path.resolve()))["sim3_" + name], made)
+    gives, signature = ENVIRONMENT[name]
+    symbol = declared_running(ctypes.PyDLL(str(path.resolve()))["sim3_" + name], signature)
     symbol.restype = gives
     return symbol
 
 
 def differs():
-    """0 where this thread computes as the proofs say, else the bits of MXCSR that differ. At the first call the C
-    function itself takes this name."""
+    """0 if this thread computes as the proofs say, else the bits of MXCSR that differ. The first call replaces this
+    name by the C function itself."""
     global differs
     differs = library()["environment_differs"]
     return differs()
@@ -246,9 +244,8 @@ def other_environment(name, width=DOUBLE):
 
 
 def call(name, *arguments, width=DOUBLE):
-    """What a C function returns: 0, or the number of a refusal. A list is a ctypes array of its type,
-    and one that is written must share no bytes with another. OtherEnvironment where this thread does not
-    compute as the proofs say."""
+    """The result of a C function: 0, or the number of a refusal. A list is a ctypes array of its type, and one that is
+    written must share no bytes with another. OtherEnvironment if this thread does not compute as the proofs say."""
     if differs():
         raise other_environment(name, width)
     words = []

@@ -26,20 +26,21 @@ def numbers(count):
 
 
 def wrong_length(name, argument, kind, found, width=DOUBLE):
-    due, order = KINDS[kind]
-    return refusal(LIST_LENGTH, name, f"{argument} has {numbers(found)}; expected {due} ({kind}: {order})", width)
+    expected, order = KINDS[kind]
+    return refusal(LIST_LENGTH, name, f"{argument} has {numbers(found)}; expected {expected} ({kind}: {order})", width)
 
 
 def points_length(name, found, width):
     return refusal(5, name, f"pts has {numbers(found)}, which is no multiple of 3; hand in x y z of every point", width)
 
 
-def out_length(name, found, due, width):
-    return refusal(5, name, f"out has {numbers(found)} where pts has {due:,}; hand in an out of the same length", width)
+def out_length(name, found, expected, width):
+    text = f"out has {numbers(found)} where pts has {expected:,}; hand in an out of the same length"
+    return refusal(5, name, text, width)
 
 
-# By the function: which frame of x, and which of y, must be one and the same (0 from, 1 to), and words.
-MEETINGS = {
+# For each function: which frame of x and which of y must be equal (0 from, 1 to), and words.
+COMMON_FRAMES = {
     "mul": (0, "x starts from frame", 1, "y goes to frame", "X Y",
             "hand the poses in the other way round, or an inverse"),
     "mul_inv": (0, "x starts from frame", 0, "y from frame", "X Y^-1",
@@ -49,7 +50,7 @@ MEETINGS = {
 
 
 def frames_text(name, x_frames, y_frames):
-    i, of_x, j, of_y, joined, remedy = MEETINGS[name]
+    i, of_x, j, of_y, joined, remedy = COMMON_FRAMES[name]
     return f"{of_x} {x_frames[i]}, and {of_y} {y_frames[j]}; {joined} wants one frame there, so {remedy}"
 
 

@@ -4,10 +4,10 @@ import ctypes
 from typing import Optional
 
 from . import host, raw
-from .arrays import Poses, pushed
+from .arrays import Poses, push_rows
 from .engine import Engine
-from .numbers import lent, number, over
-from .poses import Pose, expected, frames, short, trusted
+from .numbers import ctypes_numbers, ctypes_over, number
+from .poses import Pose, answered_pose, frames, require_pose, uint16
 from .refusals import explained, refusal, wrong_length
 from .widths import DOUBLE
 
@@ -21,17 +21,17 @@ class Running:
 
     def __init__(self):
         self._numbers, self._state = (ctypes.c_double * POSE)(), (ctypes.c_uint16 * 5)()
-        self._asked("running_start", self._numbers, self._state)
+        self._call("running_start", self._numbers, self._state)
 
     def push(self, x, up=None) -> Pose:
-        """Joins a Pose, and gives the running pose as it then is. up is e^sigma of the running pose, and
+        """Joins a Pose, and returns the new running pose. up is e^sigma of the running pose, and
         unused at the first; left out, sim3.host computes it. Refusal 9 where the running pose does not start
         from the frame to which x goes; then nothing changes. Of a sim3.Poses of arrays each row is joined in turn, and
         the answer is one with the running pose after each."""
         if isinstance(x, Poses):
-            return pushed(x, up, self._numbers, self._state)
-        x = expected("sim3.Running.push: x", x)
-        numbers = lent("sim3.Running.push: x", x.numbers)
+            return push_rows(x, up, self._numbers, self._state)
+        x = require_pose("sim3.Running.push: x", x)
+        numbers = ctypes_numbers("sim3.Running.push: x", x.numbers)
         if len(numbers) != POSE:
             raise wrong_length("Running.push", "x", "pose", len(numbers), DOUBLE)
         given = frames("sim3.Running.push: x.", x.from_, x.to)
@@ -45,16 +45,16 @@ class Running:
                           f"{x.to}; running X wants one frame there, so hand in a pose that goes to it")
         if refused:
             raise explained(refused, "Running.push", {})
-        return self._held()
+        return self._current()
 
     def every(self, n):
         """From here on after every nth product, 0 for never. Products are counted since the last
         renormalisation, also while n is 0. The pose does not change."""
-        self._asked("running_every", self._state, short("sim3.Running.every: n", n, "n"))
+        self._call("running_every", self._state, uint16("sim3.Running.every: n", n, "n"))
 
     def pose(self) -> Optional[Pose]:
         """The running pose; None before the first."""
-        return self._held() if self._state[STARTED] == 1 else None
+        return self._current() if self._state[STARTED] == 1 else None
 
     def __repr__(self):
         every, since = self._state[EVERY], self._state[SINCE]
@@ -62,11 +62,11 @@ class Running:
         return f"<sim3.Running: {self.pose() or 'no pose yet'}, renormalised {often}, " \
                f"{since:,}{' or more' if since == 65_535 else ''} since then>"
 
-    def _held(self):
-        return trusted(array.array("d", self._numbers), self._state[FROM], self._state[TO])
+    def _current(self):
+        return answered_pose(array.array("d", self._numbers), self._state[FROM], self._state[TO])
 
     @staticmethod
-    def _asked(name, *arguments):
+    def _call(name, *arguments):
         refused = raw.call(name, *arguments)
         if refused:
             raise explained(refused, name, {})
@@ -78,14 +78,14 @@ def renormalize_all(poses):
     does."""
     if isinstance(poses, Poses):
         return Engine(DOUBLE, host).renormalize(poses)
-    poses = [expected(f"sim3.renormalize_all: poses[{i}]", x) for i, x in enumerate(poses)]
+    poses = [require_pose(f"sim3.renormalize_all: poses[{i}]", x) for i, x in enumerate(poses)]
     numbers = array.array("d")
     for i, x in enumerate(poses):
-        found = lent(f"sim3.renormalize_all: poses[{i}]", x.numbers)
+        found = ctypes_numbers(f"sim3.renormalize_all: poses[{i}]", x.numbers)
         if len(found) != POSE:
             raise wrong_length("renormalize_all", f"poses[{i}]", "pose", len(found), DOUBLE)
         numbers.extend(found)
-    refused = raw.call("renormalize_all", over(numbers, len(numbers)))
+    refused = raw.call("renormalize_all", ctypes_over(numbers, len(numbers)))
     if refused:
         raise explained(refused, "renormalize_all", {})
-    return [trusted(numbers[POSE * i:POSE * (i + 1)], x.from_, x.to) for i, x in enumerate(poses)]
+    return [answered_pose(numbers[POSE * i:POSE * (i + 1)], x.from_, x.to) for i, x in enumerate(poses)]

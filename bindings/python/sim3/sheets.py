@@ -4,17 +4,17 @@ import ctypes
 from typing import NamedTuple, Tuple
 
 from . import raw
-from .numbers import lent
-from .poses import Pose, expected, frames, short, trusted
+from .numbers import ctypes_numbers
+from .poses import Pose, answered_pose, frames, require_pose, uint16
 from .refusals import explained, refusal, wrong_length
 
 POSE = raw.KINDS["pose"][0]
-HOW = {1: "new", 2: "replaced", 3: "older"}
+OUTCOMES = {1: "new", 2: "replaced", 3: "older"}
 
 
 class Shelved(NamedTuple):
-    """What became of a shot: `how` is "new", "replaced" or "older", which is not kept, and `before` the take
-    that stood before, 0 with a new sheet."""
+    """The outcome of Sheets.put: `how` is "new", "replaced" or "older", which is not kept, and `before` the take that
+    was kept before, 0 for a new sheet."""
 
     how: str
     before: int
@@ -32,9 +32,10 @@ class Sheets:
     def put(self, sheet, take, x) -> Shelved:
         """A shot of a sheet, a Pose: it is kept if none of that sheet is, or one of a lower take. Refusal 10
         where the take is the one that is kept, 11 where the sheet would be the 513th; then nothing changes."""
-        sheet, take = short("sim3.Sheets.put: sheet", sheet, "a sheet"), short("sim3.Sheets.put: take", take, "a take")
-        x = expected("sim3.Sheets.put: x", x)
-        numbers = lent("sim3.Sheets.put: x", x.numbers)
+        sheet = uint16("sim3.Sheets.put: sheet", sheet, "a sheet")
+        take = uint16("sim3.Sheets.put: take", take, "a take")
+        x = require_pose("sim3.Sheets.put: x", x)
+        numbers = ctypes_numbers("sim3.Sheets.put: x", x.numbers)
         if len(numbers) != POSE:
             raise wrong_length("Sheets.put", "x", "pose", len(numbers))
         out = (ctypes.c_uint16 * 2)()
@@ -47,15 +48,15 @@ class Sheets:
             raise refusal(11, "Sheets.put", f"sheet {sheet} would be the 513th; 512 are kept, so begin another store")
         if refused:
             raise explained(refused, "Sheets.put", {})
-        return Shelved(HOW[out[0]], out[1])
+        return Shelved(OUTCOMES[out[0]], out[1])
 
     def get(self, sheet) -> Tuple[int, Pose]:
         """The take and the pose that are kept of a sheet; refusal 12 where none was ever kept."""
-        sheet = short("sim3.Sheets.get: sheet", sheet, "a sheet")
+        sheet = uint16("sim3.Sheets.get: sheet", sheet, "a sheet")
         take, numbers, found = (ctypes.c_uint16 * 1)(), (ctypes.c_double * POSE)(), (ctypes.c_uint16 * 2)()
         refused = raw.call("sheets_get", self._store, sheet, take, numbers, found)
         if refused == 12:
             raise refusal(12, "Sheets.get", f"nothing was ever kept of sheet {sheet}; look which sheets were put")
         if refused:
             raise explained(refused, "Sheets.get", {})
-        return take[0], trusted(array.array("d", numbers), *found)
+        return take[0], answered_pose(array.array("d", numbers), *found)

@@ -1,4 +1,4 @@
-"""The square root with what is left, and its double for the host's values."""
+"""The square root with its remainder, and its double for the host's values."""
 from typing import NamedTuple
 
 from . import arrays, raw
@@ -7,9 +7,9 @@ from .refusals import Refusal, explained
 
 
 class Root(NamedTuple):
-    """For a finite z > 0, z = m * 4**exponent with m whole, 2**104 <= m < 2**106: `root` is the largest
-    whole number whose square is at most m, `remainder` is m - root**2, and `nearest` the double nearest
-    to the square root of z. A zero gives zeros, and `nearest` keeps its sign."""
+    """For a finite z > 0, z = m * 4**exponent with an integer m, 2**104 <= m < 2**106: `root` is the largest integer
+    whose square is at most m, `remainder` is m - root**2, and `nearest` the double nearest to the square root of z. For
+    a zero all are zeros, and `nearest` has its sign."""
 
     root: int
     remainder: int
@@ -18,8 +18,8 @@ class Root(NamedTuple):
 
 
 def root(z: float) -> Root:
-    """The square root of z with what is left, a Root; Refusal 1 where z is below zero, 8 where it is a
-    NaN or infinite. Of an array (n,) a RootRows."""
+    """The square root of z with its remainder, a Root; Refusal 1 if z is below zero, 8 if it is a NaN or infinite. Of
+    an array (n,) a RootRows."""
     if arrays.is_rows(z, 1):
         return arrays.roots(z)
     z = number("sim3.root: z", z)
@@ -31,9 +31,8 @@ def root(z: float) -> Root:
 
 
 def nearest_root(z: float) -> float:
-    """The double of root(z), for host.values(sigma, z, root=sim3.nearest_root). What root refuses has
-    the root that IEEE 754 gives it: a NaN below zero; a NaN and +infinity are their own. Of an array (n,) one of the
-    same shape."""
+    """The double of root(z), for host.values(sigma, z, root=sim3.nearest_root). Where root refuses, the root of IEEE
+    754: a NaN below zero; a NaN and +infinity themselves. Of an array (n,) one of the same shape."""
     if arrays.is_rows(z, 1):
         return arrays.nearest_roots(z)
     try:

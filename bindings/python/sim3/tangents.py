@@ -9,7 +9,7 @@ from .numbers import patterns
 from .refusals import explained, refusal, wrong_length
 
 TANGENT, MOST = raw.KINDS["tangent"][0], 7_168
-def over(words):
+def ctypes_over(words):
     """A ctypes array over the words' own bytes."""
     kind = ctypes.c_uint64 * len(words)
     return kind.from_buffer(words) if len(words) else kind()
@@ -20,14 +20,14 @@ def tangent(argument, x):
     words, _ = patterns(f"sim3.compare_tangents: {argument}", x)
     if len(words) != TANGENT:
         raise wrong_length("compare_tangents", argument, "tangent", len(words))
-    return over(words)
+    return ctypes_over(words)
 
 
 def compare_tangents(a: Numbers, b: Numbers) -> int:
     """-1 where the tangent a stands before b, 0 where all bits are the same, 1 where it stands after. Of arrays (n, 7),
     or one and a tangent for all rows, an array (n,) of these."""
     if arrays.is_rows(a, 2) or arrays.is_rows(b, 2):
-        return arrays.compared_tangents(a, b)
+        return arrays.compare_rows(a, b)
     out = (ctypes.c_int64 * 1)()
     refused = raw.call("compare_tangents", tangent("a", a), tangent("b", b), out)
     if refused:
@@ -37,7 +37,7 @@ def compare_tangents(a: Numbers, b: Numbers) -> int:
 
 def sort(words):
     """Patterns of tangents put in order in their place, or Refusal."""
-    refused = raw.call("sort_tangents", over(words))
+    refused = raw.call("sort_tangents", ctypes_over(words))
     if refused:
         raise refusal(refused, "sort_tangents",
                       f"tangents has {len(words):,} numbers; hand in seven of every tangent, flat, "
@@ -50,7 +50,7 @@ def sort_tangents(tangents: Numbers) -> Buffer:
     `tangents` stays as it is. Refusal 5 where it is no multiple of seven or longer than 7,168 numbers (1,024
     tangents)."""
     if arrays.is_rows(tangents, 2, 3):
-        return arrays.sorted_tangents(tangents, sort)
+        return arrays.sort_rows(tangents, sort)
     words, of_patterns = patterns("sim3.sort_tangents: tangents", tangents)
     sort(words)
     return words if of_patterns else array.array("d", words.tobytes())

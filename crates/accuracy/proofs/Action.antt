@@ -39,8 +39,16 @@ pub action : ActionTheorem
 action =
     record {
       action = act_accurate;
-      doubles = λ x up p. act_accurate binary64 x up p (2 ^ 100) (2 ^ 100 + 2 ^ 60) (2 ^ 116) (2 ^ 104) (2 ^ 120) (2 ^ 74) (lit< tt) (unfold no_overflow bound tree_act in tt);
-      singles = λ x up p. act_accurate binary32 x up p (2 ^ 100) (2 ^ 100 + 2 ^ 84) (2 ^ 116) (2 ^ 104) (2 ^ 120) (2 ^ 103) (lit< tt) (unfold no_overflow bound tree_act in tt);
-      unit_doubles = λ x up p. act_accurate binary64 x up p (2 ^ 100) (2 ^ 100 + 2 ^ 60) (2 ^ 100) (2 ^ 100) (2 ^ 100) (2 ^ 54) (lit< tt) (unfold no_overflow bound tree_act in tt);
-      unit_singles = λ x up p. act_accurate binary32 x up p (2 ^ 100) (2 ^ 100 + 2 ^ 84) (2 ^ 100) (2 ^ 100) (2 ^ 100) (2 ^ 83) (lit< tt) (unfold no_overflow bound tree_act in tt);
+      doubles =
+          λ x up p. act_accurate binary64 x up p (2 ^ 100) (2 ^ 100 + 2 ^ 60) (2 ^ 116) (2 ^ 104) (2 ^ 120) (2 ^ 74)
+          (lit< tt) (unfold no_overflow bound tree_act in tt);
+      singles =
+          λ x up p. act_accurate binary32 x up p (2 ^ 100) (2 ^ 100 + 2 ^ 84) (2 ^ 116) (2 ^ 104) (2 ^ 120) (2 ^ 103)
+          (lit< tt) (unfold no_overflow bound tree_act in tt);
+      unit_doubles =
+          λ x up p. act_accurate binary64 x up p (2 ^ 100) (2 ^ 100 + 2 ^ 60) (2 ^ 100) (2 ^ 100) (2 ^ 100) (2 ^ 54)
+          (lit< tt) (unfold no_overflow bound tree_act in tt);
+      unit_singles =
+          λ x up p. act_accurate binary32 x up p (2 ^ 100) (2 ^ 100 + 2 ^ 84) (2 ^ 100) (2 ^ 100) (2 ^ 100) (2 ^ 83)
+          (lit< tt) (unfold no_overflow bound tree_act in tt);
     }

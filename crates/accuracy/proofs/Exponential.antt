@@ -18,21 +18,25 @@ use Rattle.circle.specs.Kernel.{circle_sinc_abd}
 use Rattle.circle.specs.Limits.{row_limit}
 use Rattle.series.specs.Series.{series_sum, series_level, coeffs_delta, series_full, coeffs4}
 use Rattle.series.specs.Floats.{Sim3Coeffs}
-use Rattle.closed.specs.Limits.{short_below, mid_below, upper_below, series_below}
-use Rattle.closed.specs.Arm.{coeffs_arm, arm_terms, arm_ends}
-use Rattle.closed.specs.Floats.{Values}
-use Rattle.coeffs.specs.Group.{coeffs_scaled, closed_scaled, coeffs_unscale, coeffs_plain, coeffs_v}
+use Rattle.arms.specs.Limits.{short_below, mid_below, upper_below, series_below}
+use Rattle.arms.specs.Arm.{coeffs_arm, arm_terms, arm_ends}
+use Rattle.arms.specs.Floats.{Values}
+use Rattle.coeffs.specs.Group.{coeffs_scaled, closed_scaled, coeffs_unscale, coeffs_unscaled, coeffs_v}
 use Rattle.sim3.specs.Exp.{poly_apply, v_apply, pose_exp}
 use Rattle.sim3.specs.Floats.{Sim3Tangent}
 use Rattle.rounding.specs.Value.{Value, times, value_of, AbsoluteError, AtMost}
 use Rattle.rounding.specs.Tree.{Term, computed, exact, Bound, prod_reach, bound, in_range, no_overflow, ForwardError}
 use Rattle.accuracy.specs.Box.{VecIn, VecError, exact_vec}
 use Rattle.accuracy.specs.Domain.{InDomain}
-use Rattle.accuracy.specs.Series.{Five, of_level, Part, xi_part, zeta_part, dxi_part, dzeta_part, part, exact_first, exact_next, exact_level, exact_term, exact_total, exact_horner, bound_total, bound_term, bound_horner, total_no_overflow, term_no_overflow, horner_no_overflow}
-use Rattle.rounding.specs.Leaves.{nth, no_bound, plain}
+use Rattle.accuracy.specs.Series.{Five, of_level, Part, xi_part, zeta_part, dxi_part, dzeta_part, part, exact_first}
+use Rattle.accuracy.specs.Series.{exact_next, exact_level, exact_term, exact_total, exact_horner, bound_total}
+use Rattle.accuracy.specs.Series.{bound_term, bound_horner, total_no_overflow, term_no_overflow, horner_no_overflow}
+use Rattle.rounding.specs.Leaves.{nth, no_bound, errorless}
 use Rattle.so3.specs.So3.{so3_exp}
 use Rattle.accuracy.proofs.Rows.{norm_plain, circle_binary64, circle_binary32, rotation_binary64, rotation_binary32}
-use Rattle.accuracy.specs.Exponential.{unscaled, exp_holds, TranslationIn, RotationAccurate, page_error, unit_error, ExponentialTheorem, sum0, sum1, sum2, exact_poly, tree_poly, poly_bounds, poly_holds}
+use Rattle.accuracy.specs.Exponential.{unscaled, exp_holds, TranslationIn, RotationAccurate, page_error, unit_error}
+use Rattle.accuracy.specs.Exponential.{ExponentialTheorem, sum0, sum1, sum2, exact_poly, tree_poly, poly_bounds}
+use Rattle.accuracy.specs.Exponential.{poly_holds}
 use Rattle.rounding.proofs.Fractions.{most-near, most_wider}
 use Rattle.rounding.proofs.Forward.{forward_error, forward_prod, error_wider}
 use Rattle.rounding.proofs.Leaves.{leaf_forward, value-above, AllForwardError, nth_forward}
@@ -43,13 +47,16 @@ use Rattle.accuracy.proofs.Domain.{domain}
 use Rattle.accuracy.proofs.Coefficients.{by_arm, eight_binary64, eight_binary32}
 
 -- ---- the polynomial
-poly-close : (f : Format) (w a b e : ℕ) (phi rho : Vec3) (x0 x1 x2 : Float) (y0 y1 y2 : Value) (b0 b1 b2 : Bound) → 0 < w → VecIn w a phi
-    → VecIn w b rho → ForwardError w x0 y0 b0 → ForwardError w x1 y1 b1 → ForwardError w x2 y2 b2 → T (poly_holds f w a b b0 b1 b2 e)
+poly-close : (f : Format) (w a b e : ℕ) (phi rho : Vec3) (x0 x1 x2 : Float) (y0 y1 y2 : Value) (b0 b1 b2 : Bound) →
+    0 < w → VecIn w a phi
+    → VecIn w b rho → ForwardError w x0 y0 b0 → ForwardError w x1 y1 b1 → ForwardError w x2 y2 b2 →
+    T (poly_holds f w a b b0 b1 b2 e)
     → VecError w (poly_apply f phi x0 x1 x2 rho) (exact_poly (exact_vec phi) y0 y1 y2 (exact_vec rho)) e
 unfolding computed exact bound no_overflow tree_poly poly_apply vec_scale vec_cross vec_add sub exact_poly poly_holds
 poly-close f w a b e phi rho x0 x1 x2 y0 y1 y2 b0 b1 b2 z hp hr h0 h1 h2 t =
     let l = phi.x ∷ phi.y ∷ phi.z ∷ rho.x ∷ rho.y ∷ rho.z ∷ x0 ∷ x1 ∷ x2 ∷ [] in
-    let v = value_of phi.x ∷ value_of phi.y ∷ value_of phi.z ∷ value_of rho.x ∷ value_of rho.y ∷ value_of rho.z ∷ y0 ∷ y1 ∷ y2 ∷ [] in
+    let v = value_of phi.x ∷ value_of phi.y ∷ value_of phi.z ∷ value_of rho.x ∷ value_of rho.y ∷ value_of rho.z ∷ y0
+    ∷ y1 ∷ y2 ∷ [] in
     let d = poly_bounds a b b0 b1 b2 in
     let all : AllForwardError w l v d = (
       leaf_forward w phi.x a hp.x,
@@ -57,7 +64,13 @@ poly-close f w a b e phi rho x0 x1 x2 y0 y1 y2 b0 b1 b2 z hp hr h0 h1 h2 t =
         leaf_forward w phi.y a hp.y,
         (
           leaf_forward w phi.z a hp.z,
-          (leaf_forward w rho.x b hr.x, (leaf_forward w rho.y b hr.y, (leaf_forward w rho.z b hr.z, (h0, (h1, (h2, tt)))))),
+          (
+            leaf_forward w rho.x b hr.x,
+            (
+              leaf_forward w rho.y b hr.y,
+              (leaf_forward w rho.z b hr.z, (h0, (h1, (h2, tt)))),
+            ),
+          ),
         ),
       ),
     ) in
@@ -65,7 +78,8 @@ poly-close f w a b e phi rho x0 x1 x2 y0 y1 y2 b0 b1 b2 z hp hr h0 h1 h2 t =
     let E = (bound f w (nth no_bound d) tree_poly.x).error in
     let le : E ≤ e = leb→le E e (and_r s (leb E e) t) in
     let ts : T s = and_l s (leb E e) t in
-    let go : (r : Term) → T (no_overflow f w (nth no_bound d) r) → ForwardError w (computed f (nth f0 l) r) (exact (nth (value_of f0) v) r) (bound f w (nth no_bound d) r) =
+    let go : (r : Term) → T (no_overflow f w (nth no_bound d) r) →
+    ForwardError w (computed f (nth f0 l) r) (exact (nth (value_of f0) v) r) (bound f w (nth no_bound d) r) =
     λ r q. forward_error f w (nth f0 l) (nth (value_of f0) v) (nth no_bound d) z (nth_forward w l v d all) r q in
     let P = poly_apply f phi x0 x1 x2 rho in
     let Y = exact_poly (exact_vec phi) y0 y1 y2 (exact_vec rho) in
@@ -87,7 +101,15 @@ record FiveAbove (l : Five Value) : Type 0 where
 module _ (s z : Value) (sp : 0 < s.d) (zp : 0 < z.d) where
   level-above : (j : ℕ) → FiveAbove (exact_level s z j)
   unfolding exact_level exact_first exact_next
-  level-above zero = record { p = value-above f1; xi = value-above f0; zeta = value-above f0; dxi = value-above f0; dzeta = value-above f0 }
+  level-above zero =
+      record {
+        p = value-above f1;
+        xi = value-above f0;
+        zeta = value-above f0;
+        dxi = value-above f0;
+        dzeta =
+            value-above f0;
+      }
   level-above (suc j) =
       let l = level-above j in
       record {
@@ -107,7 +129,8 @@ module _ (s z : Value) (sp : 0 < s.d) (zp : 0 < z.d) where
   total-above : (c : Part) (o n : ℕ) → 0 < (exact_total (exact_term s z c o) n).d
   unfolding exact_total exact_term
   total-above c o zero = value-above f0
-  total-above c o (suc n) = mul-pos (total-above c o n) (mul-pos (part-above c (exact_level s z n) (level-above n)) (factorial_pos (n + o)))
+  total-above c o (suc n) =
+      mul-pos (total-above c o n) (mul-pos (part-above c (exact_level s z n) (level-above n)) (factorial_pos (n + o)))
 
   horner_above : (l n : ℕ) → 0 < (exact_horner s l n).d
   unfolding exact_horner
@@ -115,61 +138,82 @@ module _ (s z : Value) (sp : 0 < s.d) (zp : 0 < z.d) where
   horner_above l (suc n) = mul-pos (factorial_pos l) (mul-pos sp (horner_above (suc l) n))
 
 -- ---- the sizes of the sums
-module _ (f : Format) (w r y k : ℕ) (sigma z : Float) (wp : 0 < w) (half : 2 * r ≤ k * w) (h : InDomain w r y sigma z) where
-  v0-most : (c b : ℕ) → T (horner_no_overflow f w (plain r) 1 k) → w * r ^ k ≤ c * (w ^ k * factorial (k + 1)) → (bound_horner f w
-      (plain r) 1 k).magnitude + 2 * c ≤ b → (n : ℕ) → AtMost w (exact_horner (value_of sigma) 1 (k + n)) b
+module _ (f : Format) (w r y k : ℕ) (sigma z : Float) (wp : 0 < w) (half : 2 * r ≤ k * w)
+    (h : InDomain w r y sigma z) where
+  v0-most : (c b : ℕ) → T (horner_no_overflow f w (errorless r) 1 k) → w * r ^ k ≤ c * (w ^ k * factorial (k + 1)) →
+      (bound_horner f w
+      (errorless r) 1 k).magnitude + 2 * c ≤ b → (n : ℕ) → AtMost w (exact_horner (value_of sigma) 1 (k + n)) b
   v0-most c b t q l n =
       let S = exact_horner (value_of sigma) 1 k in
-      let g = horner_forward f w sigma (value_of sigma) (plain r) wp (leaf_forward w sigma r h.sigma) 1 k t in
-      most_wider w (exact_horner (value_of sigma) 1 (k + n)) ((bound_horner f w (plain r) 1 k).magnitude + 2 * c) b l
-      (most-near w (exact_horner (value_of sigma) 1 (k + n)) S (bound_horner f w (plain r) 1 k).magnitude (2 * c) g.above
-      (tail_horner w r (value_of sigma) (value_of z) wp (value_pos w sigma r h.sigma) (value_pos w z y h.z) (value-signed w sigma r h.sigma) h.plain h.delta 1 k c half q n) g.size)
+      let g = horner_forward f w sigma (value_of sigma) (errorless r) wp (leaf_forward w sigma r h.sigma) 1 k t in
+      most_wider w (exact_horner (value_of sigma) 1 (k + n))
+      ((bound_horner f w (errorless r) 1 k).magnitude + 2 * c) b l
+      (most-near w (exact_horner (value_of sigma) 1 (k + n)) S (bound_horner f w (errorless r) 1 k).magnitude
+      (2 * c) g.above
+      (tail_horner w r (value_of sigma) (value_of z) wp (value_pos w sigma r h.sigma) (value_pos w z y h.z)
+      (value-signed w sigma r h.sigma) h.nonnegative h.delta 1 k c half q n) g.size)
 
-  sum-within : (c : Part) (m : ℕ) → T (total_no_overflow f w (term_no_overflow f w (plain r) (plain y) c 1) (bound_term f w (plain r) (plain y) c 1) m)
-      → ForwardError w (series_sum f (λ j. mul f (part c (of_level (series_level f sigma z j))) (recip_fact f (j + 1))) m)
-      (exact_total (exact_term (value_of sigma) (value_of z) c 1) m) (bound_total f w (bound_term f w (plain r) (plain y) c 1) m)
+  sum-within : (c : Part) (m : ℕ) →
+      T (total_no_overflow f w (term_no_overflow f w (errorless r) (errorless y) c 1)
+      (bound_term f w (errorless r) (errorless y) c 1) m)
+      → ForwardError w (series_sum f (λ j. mul f (part c (of_level (series_level f sigma z j))) (recip_fact f (j + 1)))
+      m)
+      (exact_total (exact_term (value_of sigma) (value_of z) c 1) m)
+      (bound_total f w (bound_term f w (errorless r) (errorless y) c 1) m)
   sum-within c m t =
-      total_forward f w (λ j. mul f (part c (of_level (series_level f sigma z j))) (recip_fact f (j + 1))) (exact_term (value_of sigma) (value_of z) c 1)
-      (bound_term f w (plain r) (plain y) c 1) (term_no_overflow f w (plain r) (plain y) c 1) wp
-      (λ j t. term_forward f w sigma z (value_of sigma) (value_of z) (plain r) (plain y) wp (leaf_forward w sigma r h.sigma) (leaf_forward w z y h.z) c 1 j t) m t
+      total_forward f w (λ j. mul f (part c (of_level (series_level f sigma z j))) (recip_fact f (j + 1)))
+      (exact_term (value_of sigma) (value_of z) c 1)
+      (bound_term f w (errorless r) (errorless y) c 1) (term_no_overflow f w (errorless r) (errorless y) c 1) wp
+      (λ j t. term_forward f w sigma z (value_of sigma) (value_of z) (errorless r) (errorless y) wp
+      (leaf_forward w sigma r h.sigma) (leaf_forward w z y h.z) c 1 j t) m t
 
-  v1-most : (c b : ℕ) → T (total_no_overflow f w (term_no_overflow f w (plain r) (plain y) xi_part 1) (bound_term f w (plain r) (plain y) xi_part 1) (suc k))
-      → Rest w r k (suc (suc k)) c → (bound_total f w (bound_term f w (plain r) (plain y) xi_part 1) (suc k)).magnitude + 2 * c ≤ b
+  v1-most : (c b : ℕ) → T (total_no_overflow f w (term_no_overflow f w (errorless r) (errorless y) xi_part 1)
+      (bound_term f w (errorless r) (errorless y) xi_part 1) (suc k))
+      → Rest w r k (suc (suc k)) c →
+      (bound_total f w (bound_term f w (errorless r) (errorless y) xi_part 1) (suc k)).magnitude + 2 * c ≤ b
       → (n : ℕ) → AtMost w (exact_total (exact_term (value_of sigma) (value_of z) xi_part 1) (suc k + n)) b
   v1-most c b t q l n =
       let V1 = exact_total (exact_term (value_of sigma) (value_of z) xi_part 1) in
       let g = sum-within xi_part (suc k) t in
-      let B = (bound_total f w (bound_term f w (plain r) (plain y) xi_part 1) (suc k)).magnitude in
+      let B = (bound_total f w (bound_term f w (errorless r) (errorless y) xi_part 1) (suc k)).magnitude in
       most_wider w (V1 (suc k + n)) (B + 2 * c) b l
       (most-near w (V1 (suc k + n)) (V1 (suc k)) B (2 * c) g.above
-      (tail-v1 w r (value_of sigma) (value_of z) wp (value_pos w sigma r h.sigma) (value_pos w z y h.z) (value-signed w sigma r h.sigma) h.plain h.delta k c half q n) g.size)
+      (tail-v1 w r (value_of sigma) (value_of z) wp (value_pos w sigma r h.sigma) (value_pos w z y h.z)
+      (value-signed w sigma r h.sigma) h.nonnegative h.delta k c half q n) g.size)
 
-  v2-most : (c b : ℕ) → T (total_no_overflow f w (term_no_overflow f w (plain r) (plain y) zeta_part 1) (bound_term f w (plain r) (plain y) zeta_part 1)
-      (suc (suc k))) → Rest w r k (2 * suc (suc (suc k))) c → (bound_total f w (bound_term f w (plain r) (plain y) zeta_part 1)
+  v2-most : (c b : ℕ) → T (total_no_overflow f w (term_no_overflow f w (errorless r) (errorless y) zeta_part 1)
+      (bound_term f w (errorless r) (errorless y) zeta_part 1)
+      (suc (suc k))) → Rest w r k (2 * suc (suc (suc k))) c →
+      (bound_total f w (bound_term f w (errorless r) (errorless y) zeta_part 1)
       (suc (suc k))).magnitude + 2 * c ≤ b
       → (n : ℕ) → AtMost w (exact_total (exact_term (value_of sigma) (value_of z) zeta_part 1) (suc (suc k) + n)) b
   v2-most c b t q l n =
       let V2 = exact_total (exact_term (value_of sigma) (value_of z) zeta_part 1) in
       let g = sum-within zeta_part (suc (suc k)) t in
-      let B = (bound_total f w (bound_term f w (plain r) (plain y) zeta_part 1) (suc (suc k))).magnitude in
+      let B = (bound_total f w (bound_term f w (errorless r) (errorless y) zeta_part 1) (suc (suc k))).magnitude in
       most_wider w (V2 (suc (suc k) + n)) (B + 2 * c) b l
       (most-near w (V2 (suc (suc k) + n)) (V2 (suc (suc k))) B (2 * c) g.above
-      (tail-v2 w r (value_of sigma) (value_of z) wp (value_pos w sigma r h.sigma) (value_pos w z y h.z) (value-signed w sigma r h.sigma) h.plain h.delta k c half q n) g.size)
+      (tail-v2 w r (value_of sigma) (value_of z) wp (value_pos w sigma r h.sigma) (value_pos w z y h.z)
+      (value-signed w sigma r h.sigma) h.nonnegative h.delta k c half q n) g.size)
 
 -- ---- times 1
 times-one : (y : Value) → times (value_of f1) y ≡ y
 unfolding value_of
 times-one y = ap (λ (p : ℕ). record { p = p; n = 1 * y.n + 0 * y.p; d = 1 * y.d }) (one y.p y.n) ∙ ap
-    (λ (n : ℕ). record { p = y.p; n = n; d = 1 * y.d }) (one y.n y.p) ∙ ap (λ (d : ℕ). record { p = y.p; n = y.n; d = d }) (one-mul y.d)
+    (λ (n : ℕ). record { p = y.p; n = n; d = 1 * y.d }) (one y.n y.p)
+    ∙ ap (λ (d : ℕ). record { p = y.p; n = y.n; d = d }) (one-mul y.d)
   where
     one : (a b : ℕ) → 1 * a + 0 * b ≡ a
     one a b = omega arith
 
-unscaled-within : (f : Format) (w : ℕ) (x : Float) (y : Value) (b e : ℕ) → 0 < w → AbsoluteError w x y e → AtMost w y b → 0 < y.d → T
-    (in_range f w (prod_reach w (plain w) (record { magnitude = b; error = e }))) → ForwardError w (mul f f1 x) y (unscaled f w b e)
+unscaled-within : (f : Format) (w : ℕ) (x : Float) (y : Value) (b e : ℕ) → 0 < w → AbsoluteError w x y e →
+    AtMost w y b → 0 < y.d → T
+    (in_range f w (prod_reach w (errorless w) (record { magnitude = b; error = e }))) →
+    ForwardError w (mul f f1 x) y (unscaled f w b e)
 unscaled-within f w x y b e z h k a t =
     subst (λ (v : Value). ForwardError w (mul f f1 x) v (unscaled f w b e)) (times-one y)
-    (forward_prod f w f1 x (value_of f1) y (plain w) (record { magnitude = b; error = e }) z (one_forward w) (record { close = h; size = k; above = a }) t)
+    (forward_prod f w f1 x (value_of f1) y (errorless w) (record { magnitude = b; error = e }) z (one_forward w)
+    (record { close = h; size = k; above = a }) t)
 
 -- ---- the exponential
 chosen : {A : Type 0} (P : A → Type 0) (t : Bool) (a b : A) → T t → P a → P (cond t a b)
@@ -183,108 +227,140 @@ abbrev coeffs_of : Format → Sim3Tangent → Values → Sim3Coeffs
 coeffs_of f tau v = (coeffs_scaled f tau.sigma (vec_norm_sq f tau.phi) v).c
 
 module _ (f : Format) (w a b e b0 b1 b2 e0 e1 e2 : ℕ) (tau : Sim3Tangent) (v : Values) (y0 y1 y2 : Value) where
-  exp-plain : 0 < w → VecIn w a tau.phi → VecIn w b tau.rho → AbsoluteError w (coeffs_of f tau v).v0 y0 e0 → AbsoluteError w
-      (coeffs_of f tau v).v1 y1 e1 → AbsoluteError w (coeffs_of f tau v).v2 y2 e2 → AtMost w y0 b0 → AtMost w y1 b1 → AtMost w y2 b2 → 0 < y0.d
+  exp-unscaled : 0 < w → VecIn w a tau.phi → VecIn w b tau.rho → AbsoluteError w (coeffs_of f tau v).v0 y0 e0 →
+      AbsoluteError w
+      (coeffs_of f tau v).v1 y1 e1 → AbsoluteError w (coeffs_of f tau v).v2 y2 e2 → AtMost w y0 b0 → AtMost w y1 b1 →
+      AtMost w y2 b2 → 0 < y0.d
       → 0 < y1.d → 0 < y2.d
-      → T (in_range f w (prod_reach w (plain w) (record { magnitude = b0; error = e0 }))) → T
-      (in_range f w (prod_reach w (plain w) (record { magnitude = b1; error = e1 }))) → T
-      (in_range f w (prod_reach w (plain w) (record { magnitude = b2; error = e2 })))
+      → T (in_range f w (prod_reach w (errorless w) (record { magnitude = b0; error = e0 }))) → T
+      (in_range f w (prod_reach w (errorless w) (record { magnitude = b1; error = e1 }))) → T
+      (in_range f w (prod_reach w (errorless w) (record { magnitude = b2; error = e2 })))
       → T (poly_holds f w a b (unscaled f w b0 e0) (unscaled f w b1 e1) (unscaled f w b2 e2) e)
-      → VecError w (poly_apply f tau.phi (mul f f1 (coeffs_of f tau v).v0) (mul f f1 (coeffs_of f tau v).v1) (mul f f1 (coeffs_of f tau v).v2)
+      → VecError w (poly_apply f tau.phi (mul f f1 (coeffs_of f tau v).v0) (mul f f1 (coeffs_of f tau v).v1)
+      (mul f f1 (coeffs_of f tau v).v2)
       tau.rho) (exact_poly (exact_vec tau.phi) y0 y1 y2 (exact_vec tau.rho)) e
-  exp-plain z hp hr h0 h1 h2 m0 m1 m2 a0 a1 a2 i0 i1 i2 t =
+  exp-unscaled z hp hr h0 h1 h2 m0 m1 m2 a0 a1 a2 i0 i1 i2 t =
       poly-close f w a b e tau.phi tau.rho (mul f f1 (coeffs_of f tau v).v0) (mul f f1 (coeffs_of f tau v).v1)
       (mul f f1 (coeffs_of f tau v).v2) y0 y1 y2 (unscaled f w b0 e0) (unscaled f w b1 e1) (unscaled f w b2 e2) z hp hr
-      (unscaled-within f w (coeffs_of f tau v).v0 y0 b0 e0 z h0 m0 a0 i0) (unscaled-within f w (coeffs_of f tau v).v1 y1 b1 e1 z h1 m1 a1 i1)
+      (unscaled-within f w (coeffs_of f tau v).v0 y0 b0 e0 z h0 m0 a0 i0)
+      (unscaled-within f w (coeffs_of f tau v).v1 y1 b1 e1 z h1 m1 a1 i1)
       (unscaled-within f w (coeffs_of f tau v).v2 y2 b2 e2 z h2 m2 a2 i2) t
 
-  exp_chosen : T (lt (vec_norm_sq f tau.phi) (row_limit f b_row)) → (coeffs_scaled f tau.sigma (vec_norm_sq f tau.phi) v).scaled ≡ false
-      → VecError w (poly_apply f tau.phi (mul f f1 (coeffs_of f tau v).v0) (mul f f1 (coeffs_of f tau v).v1) (mul f f1 (coeffs_of f tau v).v2)
+  exp_chosen : T (lt (vec_norm_sq f tau.phi) (row_limit f b_row)) →
+      (coeffs_scaled f tau.sigma (vec_norm_sq f tau.phi) v).scaled ≡ false
+      → VecError w (poly_apply f tau.phi (mul f f1 (coeffs_of f tau v).v0) (mul f f1 (coeffs_of f tau v).v1)
+      (mul f f1 (coeffs_of f tau v).v2)
       tau.rho) (exact_poly (exact_vec tau.phi) y0 y1 y2 (exact_vec tau.rho)) e
       → VecError w (pose_exp f tau v).t (exact_poly (exact_vec tau.phi) y0 y1 y2 (exact_vec tau.rho)) e
-  unfolding pose_exp v_apply coeffs_v coeffs_plain coeffs_unscale coeffs4
+  unfolding pose_exp v_apply coeffs_v coeffs_unscaled coeffs_unscale coeffs4
   exp_chosen t s h =
       let Y = exact_poly (exact_vec tau.phi) y0 y1 y2 (exact_vec tau.rho) in
       let c = coeffs_of f tau v in
       chosen (λ (x : Vec3). VecError w x Y e) (lt (vec_norm_sq f tau.phi) (row_limit f b_row)) _ _ t
-      (subst (λ (i : Bool). VecError w (poly_apply f tau.phi (mul f (cond i v.up f1) c.v0) (mul f (cond i v.up f1) c.v1) (mul f (cond i v.up f1) c.v2) tau.rho) Y e) (sym s) h)
+      (subst (λ (i : Bool). VecError w (poly_apply f tau.phi (mul f (cond i v.up f1) c.v0) (mul f (cond i v.up f1) c.v1)
+      (mul f (cond i v.up f1) c.v2) tau.rho) Y e) (sym s) h)
 
 -- no factor on the arms of the series
-not_scaled : (f : Format) (sigma z : Float) (v : Values) → T (lt (coeffs_delta f sigma z) (series_below f)) → (coeffs_scaled f sigma z v).scaled ≡ false
+not_scaled : (f : Format) (sigma z : Float) (v : Values) → T (lt (coeffs_delta f sigma z) (series_below f)) →
+    (coeffs_scaled f sigma z v).scaled ≡ false
 unfolding coeffs_scaled coeffs_arm
 not_scaled f sigma z v t =
     let d = coeffs_delta f sigma z in
     by_arm (λ (arm : ℕ). (cond (ltb arm 5) (record { c = series_full f sigma z (arm_terms f arm); scaled = false })
-    (closed_scaled f sigma z (circle_sinc_abd f z v.root v.sin_half v.cos_half v.sin) v.e v.m (arm_ends f sigma arm))).scaled
+    (closed_scaled f sigma z (circle_sinc_abd f z v.root v.sin_half v.cos_half v.sin) v.e v.m
+    (arm_ends f sigma arm))).scaled
     ≡ false)
-    (lt d (short_below f)) (lt d (mid_below f)) (lt d (upper_below f)) (lt d (series_below f)) (λ h. refl) (λ h. refl) (λ h. refl) (λ h. refl) t
+    (lt d (short_below f)) (lt d (mid_below f)) (lt d (upper_below f)) (lt d (series_below f)) (λ h. refl) (λ h. refl)
+    (λ h. refl) (λ h. refl) t
 
 -- the sizes of the sums over the whole domain of the series
-most64 : (sigma z : Float) → T (lt (coeffs_delta binary64 sigma z) (series_below binary64)) → T (not (lt z f0)) → (n : ℕ)
-    → AtMost (2 ^ 100) (sum0 sigma (23 + n)) (9 * 2 ^ 98) × AtMost (2 ^ 100) (sum1 sigma z (23 + n)) (7 * 2 ^ 98) × AtMost (2 ^ 100)
+most64 : (sigma z : Float) → T (lt (coeffs_delta binary64 sigma z) (series_below binary64)) → T (not (lt z f0)) →
+    (n : ℕ)
+    → AtMost (2 ^ 100) (sum0 sigma (23 + n)) (9 * 2 ^ 98) × AtMost (2 ^ 100) (sum1 sigma z (23 + n)) (7 * 2 ^ 98)
+    × AtMost (2 ^ 100)
     (sum2 sigma z (23 + n)) (5 * 2 ^ 97) × (0 < (value_of sigma).d) × (0 < (value_of z).d)
 unfolding of_bits horner_no_overflow total_no_overflow term_no_overflow bound_horner bound_total bound_term factorial
 most64 sigma z t p n =
     let w = 2 ^ 100 in
     let r = 386880940757 * 2 ^ 62 in
     let y = 544521253035 * 2 ^ 62 in
-    let h : InDomain w r y sigma z = domain binary64 w (1089042506069 * 2 ^ 61) r y sigma z 2230359052429091 (negsuc 49) (lit< tt) t p (lit≤ tt) (lit≤ tt) (lit≤ tt) in (
-      from (λ (i : ℕ). AtMost w (sum0 sigma i) (9 * 2 ^ 98)) 19 4 23 refl (v0-most binary64 w r y 19 sigma z (lit< tt) (lit≤ tt) h (5 * 2 ^ 46) (9 * 2 ^ 98) tt (lit≤ tt) (lit≤ tt)) n,
-      from (λ (i : ℕ). AtMost w (sum1 sigma z i) (7 * 2 ^ 98)) 20 3 23 refl (v1-most binary64 w r y 19 sigma z (lit< tt) (lit≤ tt) h (19 * 2 ^ 44) (7 * 2 ^ 98) tt (lit≤ tt) (lit≤ tt)) n,
-      from (λ (i : ℕ). AtMost w (sum2 sigma z i) (5 * 2 ^ 97)) 21 2 23 refl (v2-most binary64 w r y 19 sigma z (lit< tt) (lit≤ tt) h (9 * 2 ^ 44) (5 * 2 ^ 97) tt (lit≤ tt) (lit≤ tt)) n,
+    let h : InDomain w r y sigma z = domain binary64 w (1089042506069 * 2 ^ 61) r y sigma z 2230359052429091 (negsuc 49)
+    (lit< tt) t p (lit≤ tt) (lit≤ tt) (lit≤ tt) in (
+      from (λ (i : ℕ). AtMost w (sum0 sigma i) (9 * 2 ^ 98)) 19 4 23 refl
+          (v0-most binary64 w r y 19 sigma z (lit< tt) (lit≤ tt) h (5 * 2 ^ 46) (9 * 2 ^ 98) tt (lit≤ tt) (lit≤ tt)) n,
+      from (λ (i : ℕ). AtMost w (sum1 sigma z i) (7 * 2 ^ 98)) 20 3 23 refl
+          (v1-most binary64 w r y 19 sigma z (lit< tt) (lit≤ tt) h (19 * 2 ^ 44) (7 * 2 ^ 98) tt (lit≤ tt) (lit≤ tt)) n,
+      from (λ (i : ℕ). AtMost w (sum2 sigma z i) (5 * 2 ^ 97)) 21 2 23 refl
+          (v2-most binary64 w r y 19 sigma z (lit< tt) (lit≤ tt) h (9 * 2 ^ 44) (5 * 2 ^ 97) tt (lit≤ tt) (lit≤ tt)) n,
       value_pos w sigma r h.sigma,
       value_pos w z y h.z,
     )
 
--- In units of 2 ^ -100. φ of numbers up to 3 / 2, ρ of numbers up to b, Δ = σ² + z below the limit of the series and z below b's, where z is the computed |φ|²:
--- v₀ ρ + v₁ φ×ρ + v₂ φ×(φ×ρ), with the exact sums of 23 terms or more at σ and z
-exp_of64 : (b e : ℕ) → T (exp_holds binary64 b e) → (tau : Sim3Tangent) (v : Values) → TranslationIn binary64 b e tau (pose_exp binary64 tau v).t
+-- In units of 2 ^ -100. φ of numbers up to 3 / 2, ρ of numbers up to b, Δ = σ² + z below the limit of the series and z
+-- below b's, where z is the computed |φ|²: v₀ ρ + v₁ φ×ρ + v₂ φ×(φ×ρ), with the exact sums of 23 terms or more at σ and
+-- z
+exp_of64 : (b e : ℕ) → T (exp_holds binary64 b e) → (tau : Sim3Tangent) (v : Values) →
+    TranslationIn binary64 b e tau (pose_exp binary64 tau v).t
 exp_of64 b e o tau v t l hp hr n =
     let p = norm_plain binary64 tau.phi in
     let z = vec_norm_sq binary64 tau.phi in
     let s = tau.sigma in
     let c = eight_binary64 s z v t p in
     let m = most64 s z t p n in
-    exp_chosen binary64 (2 ^ 100) (3 * 2 ^ 99) b e (9 * 2 ^ 98) (7 * 2 ^ 98) (5 * 2 ^ 97) (2 ^ 51) (2 ^ 53) (2 ^ 52) tau v (sum0 s (23 + n))
+    exp_chosen binary64 (2 ^ 100) (3 * 2 ^ 99) b e (9 * 2 ^ 98) (7 * 2 ^ 98) (5 * 2 ^ 97) (2 ^ 51) (2 ^ 53)
+    (2 ^ 52) tau v (sum0 s (23 + n))
     (sum1 s z (23 + n)) (sum2 s z (23 + n)) l (not_scaled binary64 s z v t)
-    (exp-plain binary64 (2 ^ 100) (3 * 2 ^ 99) b e (9 * 2 ^ 98) (7 * 2 ^ 98) (5 * 2 ^ 97) (2 ^ 51) (2 ^ 53) (2 ^ 52) tau v (sum0 s (23 + n))
+    (exp-unscaled binary64 (2 ^ 100) (3 * 2 ^ 99) b e (9 * 2 ^ 98) (7 * 2 ^ 98) (5 * 2 ^ 97) (2 ^ 51) (2 ^ 53)
+    (2 ^ 52) tau v (sum0 s (23 + n))
     (sum1 s z (23 + n)) (sum2 s z (23 + n)) (lit< tt) hp hr (c.v0 n) (c.v1 n) (c.v2 n) m.0 m.1 m.2
-    (horner_above (value_of s) (value_of z) m.3 m.4 1 (23 + n)) (total-above (value_of s) (value_of z) m.3 m.4 xi_part 1 (23 + n))
+    (horner_above (value_of s) (value_of z) m.3 m.4 1 (23 + n))
+    (total-above (value_of s) (value_of z) m.3 m.4 xi_part 1 (23 + n))
     (total-above (value_of s) (value_of z) m.3 m.4 zeta_part 1 (23 + n)) tt tt tt o)
 
 -- ---- the same at binary32, with sums of 15 terms or more
-most32 : (sigma z : Float) → T (lt (coeffs_delta binary32 sigma z) (series_below binary32)) → T (not (lt z f0)) → (n : ℕ)
-    → AtMost (2 ^ 100) (sum0 sigma (15 + n)) (5 * 2 ^ 99) × AtMost (2 ^ 100) (sum1 sigma z (15 + n)) (2 ^ 101) × AtMost (2 ^ 100)
+most32 : (sigma z : Float) → T (lt (coeffs_delta binary32 sigma z) (series_below binary32)) → T (not (lt z f0)) →
+    (n : ℕ)
+    → AtMost (2 ^ 100) (sum0 sigma (15 + n)) (5 * 2 ^ 99) × AtMost (2 ^ 100) (sum1 sigma z (15 + n)) (2 ^ 101)
+    × AtMost (2 ^ 100)
     (sum2 sigma z (15 + n)) (3 * 2 ^ 98) × (0 < (value_of sigma).d) × (0 < (value_of z).d)
 unfolding of_bits horner_no_overflow total_no_overflow term_no_overflow bound_horner bound_total bound_term factorial
 most32 sigma z t p n =
     let w = 2 ^ 100 in
     let r = 211645900449 * 2 ^ 63 in
     let y = 651838265285 * 2 ^ 62 in
-    let h : InDomain w r y sigma z = domain binary32 w (4973131 * 2 ^ 79) r y sigma z 4973131 (negsuc 20) (lit< tt) t p (lit≤ tt) (lit≤ tt) (lit≤ tt) in (
-      from (λ (i : ℕ). AtMost w (sum0 sigma i) (5 * 2 ^ 99)) 11 4 15 refl (v0-most binary32 w r y 11 sigma z (lit< tt) (lit≤ tt) h (33 * 2 ^ 73) (5 * 2 ^ 99) tt (lit≤ tt) (lit≤ tt)) n,
-      from (λ (i : ℕ). AtMost w (sum1 sigma z i) (2 ^ 101)) 12 3 15 refl (v1-most binary32 w r y 11 sigma z (lit< tt) (lit≤ tt) h (15 * 2 ^ 74) (2 ^ 101) tt (lit≤ tt) (lit≤ tt)) n,
-      from (λ (i : ℕ). AtMost w (sum2 sigma z i) (3 * 2 ^ 98)) 13 2 15 refl (v2-most binary32 w r y 11 sigma z (lit< tt) (lit≤ tt) h (7 * 2 ^ 74) (3 * 2 ^ 98) tt (lit≤ tt) (lit≤ tt)) n,
+    let h : InDomain w r y sigma z = domain binary32 w (4973131 * 2 ^ 79) r y sigma z 4973131 (negsuc 20) (lit< tt) t p
+    (lit≤ tt) (lit≤ tt) (lit≤ tt) in (
+      from (λ (i : ℕ). AtMost w (sum0 sigma i) (5 * 2 ^ 99)) 11 4 15 refl
+          (v0-most binary32 w r y 11 sigma z (lit< tt) (lit≤ tt) h (33 * 2 ^ 73) (5 * 2 ^ 99) tt (lit≤ tt) (lit≤ tt)) n,
+      from (λ (i : ℕ). AtMost w (sum1 sigma z i) (2 ^ 101)) 12 3 15 refl
+          (v1-most binary32 w r y 11 sigma z (lit< tt) (lit≤ tt) h (15 * 2 ^ 74) (2 ^ 101) tt (lit≤ tt) (lit≤ tt)) n,
+      from (λ (i : ℕ). AtMost w (sum2 sigma z i) (3 * 2 ^ 98)) 13 2 15 refl
+          (v2-most binary32 w r y 11 sigma z (lit< tt) (lit≤ tt) h (7 * 2 ^ 74) (3 * 2 ^ 98) tt (lit≤ tt) (lit≤ tt)) n,
       value_pos w sigma r h.sigma,
       value_pos w z y h.z,
     )
 
 -- φ of numbers up to 13 / 8
-exp_of32 : (b e : ℕ) → T (exp_holds binary32 b e) → (tau : Sim3Tangent) (v : Values) → TranslationIn binary32 b e tau (pose_exp binary32 tau v).t
+exp_of32 : (b e : ℕ) → T (exp_holds binary32 b e) → (tau : Sim3Tangent) (v : Values) →
+    TranslationIn binary32 b e tau (pose_exp binary32 tau v).t
 exp_of32 b e o tau v t l hp hr n =
     let p = norm_plain binary32 tau.phi in
     let z = vec_norm_sq binary32 tau.phi in
     let s = tau.sigma in
     let c = eight_binary32 s z v t p in
     let m = most32 s z t p n in
-    exp_chosen binary32 (2 ^ 100) (13 * 2 ^ 97) b e (5 * 2 ^ 99) (2 ^ 101) (3 * 2 ^ 98) (2 ^ 81) (2 ^ 82) (2 ^ 80) tau v (sum0 s (15 + n))
+    exp_chosen binary32 (2 ^ 100) (13 * 2 ^ 97) b e (5 * 2 ^ 99) (2 ^ 101) (3 * 2 ^ 98) (2 ^ 81) (2 ^ 82) (2 ^ 80) tau v
+    (sum0 s (15 + n))
     (sum1 s z (15 + n)) (sum2 s z (15 + n)) l (not_scaled binary32 s z v t)
-    (exp-plain binary32 (2 ^ 100) (13 * 2 ^ 97) b e (5 * 2 ^ 99) (2 ^ 101) (3 * 2 ^ 98) (2 ^ 81) (2 ^ 82) (2 ^ 80) tau v (sum0 s (15 + n))
+    (exp-unscaled binary32 (2 ^ 100) (13 * 2 ^ 97) b e (5 * 2 ^ 99) (2 ^ 101) (3 * 2 ^ 98) (2 ^ 81) (2 ^ 82)
+    (2 ^ 80) tau v (sum0 s (15 + n))
     (sum1 s z (15 + n)) (sum2 s z (15 + n)) (lit< tt) hp hr (c.v0 n) (c.v1 n) (c.v2 n) m.0 m.1 m.2
-    (horner_above (value_of s) (value_of z) m.3 m.4 1 (15 + n)) (total-above (value_of s) (value_of z) m.3 m.4 xi_part 1 (15 + n))
+    (horner_above (value_of s) (value_of z) m.3 m.4 1 (15 + n))
+    (total-above (value_of s) (value_of z) m.3 m.4 xi_part 1 (15 + n))
     (total-above (value_of s) (value_of z) m.3 m.4 zeta_part 1 (15 + n)) tt tt tt o)
 
-exp-rotation : (f : Format) → ((phi : Vec3) (root sh ch : Float) → RotationAccurate f phi (so3_exp f phi root sh ch)) → (tau : Sim3Tangent)
+exp-rotation : (f : Format) → ((phi : Vec3) (root sh ch : Float) → RotationAccurate f phi (so3_exp f phi root sh ch)) →
+    (tau : Sim3Tangent)
     (v : Values) → RotationAccurate f tau.phi (pose_exp f tau v).q
 unfolding pose_exp
 exp-rotation f h tau v = h tau.phi v.root v.sin_half v.cos_half
@@ -293,14 +369,24 @@ exp-rotation f h tau v = h tau.phi v.root v.sin_half v.cos_half
 pub exponential : (f : Format) → ExponentialTheorem f
 exponential binary32 =
     record {
-      exponential = λ tau v. record { translation = λ b e o. exp_of32 b e o tau v; rotation = exp-rotation binary32 rotation_binary32 tau v };
+      exponential =
+          λ tau v. record {
+            translation = λ b e o. exp_of32 b e o tau v;
+            rotation =
+                exp-rotation binary32 rotation_binary32 tau v;
+          };
       page = exp_of32 (2 ^ 116) (page_error binary32) (unfold poly_holds in tt);
       unit = exp_of32 (2 ^ 100) (unit_error binary32) (unfold poly_holds in tt);
       circle = circle_binary32;
     }
 exponential binary64 =
     record {
-      exponential = λ tau v. record { translation = λ b e o. exp_of64 b e o tau v; rotation = exp-rotation binary64 rotation_binary64 tau v };
+      exponential =
+          λ tau v. record {
+            translation = λ b e o. exp_of64 b e o tau v;
+            rotation =
+                exp-rotation binary64 rotation_binary64 tau v;
+          };
       page = exp_of64 (2 ^ 116) (page_error binary64) (unfold poly_holds in tt);
       unit = exp_of64 (2 ^ 100) (unit_error binary64) (unfold poly_holds in tt);
       circle = circle_binary64;

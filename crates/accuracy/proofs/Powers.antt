@@ -12,35 +12,43 @@ cross : (t u q n m p : ℕ) → q ≡ t + u → p ≡ n + m → q * p + u * m �
 cross t u q n m p a b = rw (a, b) (simp expand (omega arith))
 
 -- the square of (s - s') (h - h')
-square_even : (s s' h h' : ℕ) → (s * h + s' * h') * (s * h + s' * h') + (s * h' + s' * h) * (s * h' + s' * h) ≡ (s * s + s' * s') * (h * h + h' * h') + 2 * (s * s') * (2 * (h * h'))
+square_even : (s s' h h' : ℕ) → (s * h + s' * h') * (s * h + s' * h') + (s * h' + s' * h) * (s * h' + s' * h)
+    ≡ (s * s + s' * s') * (h * h + h' * h') + 2 * (s * s') * (2 * (h * h'))
 square_even s s' h h' = simp expand (omega arith)
 
-square-odd : (s s' h h' : ℕ) → 2 * ((s * h + s' * h') * (s * h' + s' * h)) ≡ (s * s + s' * s') * (2 * (h * h')) + 2 * (s * s') * (h * h + h' * h')
+square-odd : (s s' h h' : ℕ) → 2 * ((s * h + s' * h') * (s * h' + s' * h))
+    ≡ (s * s + s' * s') * (2 * (h * h')) + 2 * (s * s') * (h * h + h' * h')
 square-odd s s' h h' = simp expand (omega arith)
 
 -- (s h) x = (s x) h
-cross_even : (s s' h h' x x' : ℕ) → (s * h + s' * h') * x + (s * h' + s' * h) * x' ≡ (s * x + s' * x') * h + (s * x' + s' * x) * h'
+cross_even : (s s' h h' x x' : ℕ) → (s * h + s' * h') * x + (s * h' + s' * h) * x'
+    ≡ (s * x + s' * x') * h + (s * x' + s' * x) * h'
 cross_even s s' h h' x x' = simp expand (omega arith)
 
-cross_odd : (s s' h h' x x' : ℕ) → (s * h + s' * h') * x' + (s * h' + s' * h) * x ≡ (s * x + s' * x') * h' + (s * x' + s' * x) * h
+cross_odd : (s s' h h' x x' : ℕ) → (s * h + s' * h') * x' + (s * h' + s' * h) * x
+    ≡ (s * x + s' * x') * h' + (s * x' + s' * x) * h
 cross_odd s s' h h' x x' = simp expand (omega arith)
 
 -- the squares of a - y x and b + h
 even_sum : (y a a' b b' h h' x x' : ℕ)
     → (a + y * x') * (a + y * x') + (a' + y * x) * (a' + y * x) + y * ((b + h) * (b + h) + (b' + h') * (b' + h'))
-    ≡ a * a + a' * a' + y * (y * (x * x + x' * x')) + y * (b * b + b' * b') + y * (h * h + h' * h') + y * (2 * (a * x' + a' * x) + 2 * (b * h + b' * h'))
+    ≡ a * a + a' * a' + y * (y * (x * x + x' * x')) + y * (b * b + b' * b') + y * (h * h + h' * h') + y
+    * (2 * (a * x' + a' * x) + 2 * (b * h + b' * h'))
 even_sum y a a' b b' h h' x x' = simp expand (omega arith)
 
 odd-sum : (y a a' b b' h h' x x' : ℕ)
     → 2 * ((a + y * x') * (a' + y * x)) + y * (2 * ((b + h) * (b' + h')))
-    ≡ 2 * (a * a') + y * (y * (2 * (x * x'))) + y * (2 * (b * b')) + y * (2 * (h * h')) + y * (2 * (a * x + a' * x') + 2 * (b * h' + b' * h))
+    ≡ 2 * (a * a') + y * (y * (2 * (x * x'))) + y * (2 * (b * b')) + y * (2 * (h * h')) + y
+    * (2 * (a * x + a' * x') + 2 * (b * h' + b' * h))
 odd-sum y a a' b b' h h' x x' = simp expand (omega arith)
 
 -- with the squares as numbers: q for the sums of squares, r for the double products
 collected : (y k u qh rh qx rx t n c : ℕ) → k + y ≡ t + u → qh + y * qx ≡ n + (rh + y * rx)
-    → k * qh + u * rh + y * (y * qx) + y * (k * qx + u * rx) + y * qh + c ≡ t * n + (k * rh + u * qh + y * (y * rx) + y * (k * rx + u * qx) + y * rh + c)
+    → k * qh + u * rh + y * (y * qx) + y * (k * qx + u * rx) + y * qh + c
+    ≡ t * n + (k * rh + u * qh + y * (y * rx) + y * (k * rx + u * qx) + y * rh + c)
 collected y k u qh rh qx rx t n c a b =
-    let z : (k + y) * (qh + y * qx) + u * (rh + y * rx) ≡ t * n + ((k + y) * (rh + y * rx) + u * (qh + y * qx)) = cross t u (k + y) n (rh + y * rx) (qh + y * qx) a b in
+    let z : (k + y) * (qh + y * qx) + u * (rh + y * rx) ≡ t * n + ((k + y) * (rh + y * rx) + u * (qh + y * qx)) =
+    cross t u (k + y) n (rh + y * rx) (qh + y * qx) a b in
     simp expand (omega (arith, simp expand at z))
 
 swap_cross : (a b c d : ℕ) → a ≡ b → c ≡ d → 2 * c + 2 * b ≡ 2 * a + 2 * d
@@ -52,7 +60,8 @@ pub norm_step : (s s' y t h h' x x' n : ℕ)
     → h * h + h' * h' + y * (x * x + x' * x') ≡ n + (2 * (h * h') + y * (2 * (x * x')))
     → (s * h + s' * h' + y * x') * (s * h + s' * h' + y * x') + (s * h' + s' * h + y * x) * (s * h' + s' * h + y * x)
     + y * ((s * x + s' * x' + h) * (s * x + s' * x' + h) + (s * x' + s' * x + h') * (s * x' + s' * x + h'))
-    ≡ t * n + (2 * ((s * h + s' * h' + y * x') * (s * h' + s' * h + y * x)) + y * (2 * ((s * x + s' * x' + h) * (s * x' + s' * x + h'))))
+    ≡ t * n + (2 * ((s * h + s' * h' + y * x') * (s * h' + s' * h + y * x)) + y
+    * (2 * ((s * x + s' * x' + h) * (s * x' + s' * x + h'))))
 norm_step s s' y t h h' x x' n e g =
     let a = s * h + s' * h' in
     let a' = s * h' + s' * h in
@@ -66,7 +75,8 @@ norm_step s s' y t h h' x x' n e g =
     let rx = 2 * (x * x') in
     let c = y * (2 * (a * x + a' * x') + 2 * (b * h' + b' * h)) in
     let c' : y * (2 * (a * x' + a' * x) + 2 * (b * h + b' * h')) ≡ c =
-    ap (λ (i : ℕ). y * i) (swap_cross (a * x + a' * x') (b * h + b' * h') (a * x' + a' * x) (b * h' + b' * h) (cross_even s s' h h' x x') (cross_odd s s' h h' x x')) in
+    ap (λ (i : ℕ). y * i) (swap_cross (a * x + a' * x') (b * h + b' * h') (a * x' + a' * x) (b * h' + b' * h)
+    (cross_even s s' h h' x x') (cross_odd s s' h h' x x')) in
     even_sum y a a' b b' h h' x x'
     ∙ ap (λ (i : ℕ). a * a + a' * a' + y * (y * qx) + y * (b * b + b' * b') + y * qh + i) c'
     ∙ ap (λ (i : ℕ). i + y * (y * qx) + y * (b * b + b' * b') + y * qh + c) (square_even s s' h h')
@@ -138,7 +148,8 @@ z-step : (c j r k : ℕ) → r * (c * k) + suc (suc j) * (k * r) ≡ (c + suc (s
 z-step c j r k = simp expand (omega arith)
 
 module _ (s s' y t r : ℕ) (e : s * s + s' * s' + y ≡ t + 2 * (s * s')) (b : t ≤ r * r) where
-  norm : (j : ℕ) → (let a = state s s' y j in a.h * a.h + a.h' * a.h' + y * (a.x * a.x + a.x' * a.x') ≡ t ^ j + (2 * (a.h * a.h') + y * (2 * (a.x * a.x'))))
+  norm : (j : ℕ) → (let a = state s s' y j in a.h * a.h + a.h' * a.h' + y * (a.x * a.x + a.x' * a.x')
+      ≡ t ^ j + (2 * (a.h * a.h') + y * (2 * (a.x * a.x'))))
   unfolding state
   norm zero = simp (pow-zero) (omega arith)
   norm (suc j) =
@@ -151,7 +162,8 @@ module _ (s s' y t r : ℕ) (e : s * s + s' * s' + y ≡ t + 2 * (s * s')) (b : 
   pub h_size : (j : ℕ) → Size (state s s' y j).h (state s s' y j).h' (r ^ j)
   h_size j =
       let a = state s s' y j in
-      let d : a.h * a.h + a.h' * a.h' ≤ t ^ j + 2 * (a.h * a.h') = drop-x (a.h * a.h + a.h' * a.h') y (a.x * a.x + a.x' * a.x')
+      let d : a.h * a.h + a.h' * a.h' ≤ t ^ j + 2 * (a.h * a.h') =
+      drop-x (a.h * a.h + a.h' * a.h') y (a.x * a.x + a.x' * a.x')
       (2 * (a.h * a.h')) (t ^ j) (2 * (a.x * a.x')) (norm j) (twice-le a.x a.x') in
       let k : t ^ j ≤ r ^ j * r ^ j = le_trans (pow-le-pow_left b j) (le_of_eq (mul-pow r r j)) in
       size-root a.h a.h' (r ^ j) (omega arith)
@@ -168,8 +180,10 @@ module _ (s s' y t r : ℕ) (e : s * s + s' * s' + y ≡ t + 2 * (s * s')) (b : 
   x-size zero = rw pow-zero (record { above = omega arith; below = omega arith })
   x-size (suc j) =
       let a = state s s' y (suc j) in
-      rw pow-suc (size_same (s * a.x + s' * a.x' + a.h) (s * a.x' + s' * a.x + a.h') (r * (suc j * r ^ j) + r ^ j * r) (suc (suc j) * (r ^ j * r)) (x-step j r (r ^ j))
-      (size-sum (s * a.x + s' * a.x') (s * a.x' + s' * a.x) a.h a.h' (r * (suc j * r ^ j)) (r ^ j * r) (size-product s s' a.x a.x' r (suc j * r ^ j) s_size (x-size j))
+      rw pow-suc (size_same (s * a.x + s' * a.x' + a.h) (s * a.x' + s' * a.x + a.h') (r * (suc j * r ^ j) + r ^ j * r)
+      (suc (suc j) * (r ^ j * r)) (x-step j r (r ^ j))
+      (size-sum (s * a.x + s' * a.x') (s * a.x' + s' * a.x) a.h a.h' (r * (suc j * r ^ j)) (r ^ j * r)
+      (size-product s s' a.x a.x' r (suc j * r ^ j) s_size (x-size j))
       (rw pow-suc at (h_size (suc j)))))
 
   pub z-size : (j : ℕ) → Size (state s s' y (suc (suc j))).z (state s s' y (suc (suc j))).z' (pairs j * r ^ j)
@@ -177,7 +191,8 @@ module _ (s s' y t r : ℕ) (e : s * s + s' * s' + y ≡ t + 2 * (s * s')) (b : 
   z-size zero = rw pow-zero (record { above = omega arith; below = omega arith })
   z-size (suc j) =
       let a = state s s' y (suc (suc j)) in
-      rw pow-suc (size_same (s * a.z + s' * a.z' + a.x) (s * a.z' + s' * a.z + a.x') (r * (pairs j * r ^ j) + suc (suc j) * (r ^ j * r))
+      rw pow-suc (size_same (s * a.z + s' * a.z' + a.x) (s * a.z' + s' * a.z + a.x')
+      (r * (pairs j * r ^ j) + suc (suc j) * (r ^ j * r))
       ((pairs j + suc (suc j)) * (r ^ j * r)) (z-step (pairs j) j r (r ^ j))
       (size-sum (s * a.z + s' * a.z') (s * a.z' + s' * a.z) a.x a.x' (r * (pairs j * r ^ j)) (suc (suc j) * (r ^ j * r))
       (size-product s s' a.z a.z' r (pairs j * r ^ j) s_size (z-size j))

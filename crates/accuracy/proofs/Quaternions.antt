@@ -19,11 +19,15 @@ use Rattle.rounding.specs.Leaves.{Bounded, AllBounded, error_at_most}
 use Rattle.rounding.proofs.Leaves.{tree-error, two_bounded}
 use Rattle.accuracy.specs.Box.{Three, Four, exact_quat}
 use Rattle.accuracy.specs.Action.{all_three}
-use Rattle.accuracy.specs.Quaternions.{all_four, exact_hamilton, exact_newton, exact_inverse, tree_quat_mul, tree_newton, tree_inverse, quat_mul_leaves, quat_mul_sizes, newton_leaves, newton_sizes, inverse_leaves, inverse_sizes, ProductAccurate, RenormalizedAccurate, InverseAccurate, QuaternionTheorem}
+use Rattle.accuracy.specs.Quaternions.{all_four, exact_hamilton, exact_newton, exact_inverse, tree_quat_mul}
+use Rattle.accuracy.specs.Quaternions.{tree_newton, tree_inverse, quat_mul_leaves, quat_mul_sizes, newton_leaves}
+use Rattle.accuracy.specs.Quaternions.{newton_sizes, inverse_leaves, inverse_sizes, ProductAccurate}
+use Rattle.accuracy.specs.Quaternions.{RenormalizedAccurate, InverseAccurate, QuaternionTheorem}
 
 module _ (f : Format) (w : ℕ) (bs : List ℕ) (e : ℕ) where
   four-parts : (t : Four Term) → T (all_four f w bs t e)
-      → T (error_at_most f w bs t.w e) × T (error_at_most f w bs t.x e) × T (error_at_most f w bs t.y e) × T (error_at_most f w bs t.z e)
+      → T (error_at_most f w bs t.w e) × T (error_at_most f w bs t.x e) × T (error_at_most f w bs t.y e)
+      × T (error_at_most f w bs t.z e)
   four-parts t k =
       let a = error_at_most f w bs t.w e in
       let b = error_at_most f w bs t.x e in
@@ -33,7 +37,8 @@ module _ (f : Format) (w : ℕ) (bs : List ℕ) (e : ℕ) where
       let s : T (c && d) = and_r b (c && d) r in
       (and_l a (b && (c && d)) k, and_l b (c && d) r, and_l c d s, and_r c d s)
 
-  three-parts : (t : Three Term) → T (all_three f w bs t e) → T (error_at_most f w bs t.x e) × T (error_at_most f w bs t.y e) × T (error_at_most f w bs t.z e)
+  three-parts : (t : Three Term) → T (all_three f w bs t e) →
+      T (error_at_most f w bs t.x e) × T (error_at_most f w bs t.y e) × T (error_at_most f w bs t.z e)
   three-parts t k =
       let b = error_at_most f w bs t.x e in
       let c = error_at_most f w bs t.y e in
@@ -76,7 +81,8 @@ renormalized_accurate f q w a e z k hq =
     }
 
 pub inverse_accurate : (f : Format) (x : Sim3) (down : Float) → InverseAccurate f x down (pose_inverse f x down).t
-unfolding computed exact tree_inverse pose_inverse vec_neg quat_conjugate so3_act vec_scale vec_cross vec_add sub exact_inverse
+unfolding computed exact tree_inverse pose_inverse vec_neg quat_conjugate so3_act vec_scale vec_cross vec_add sub
+    exact_inverse
 inverse_accurate f x down w q t s e z k hq ht hs =
     let bs = inverse_sizes w q t s in
     let l = inverse_leaves x down in
@@ -97,10 +103,22 @@ quaternions =
       product = product_accurate;
       renormalized = renormalized_accurate;
       inverse = inverse_accurate;
-      product_doubles = λ p q. product_accurate binary64 p q (2 ^ 100) (2 ^ 100 + 2 ^ 60) (2 ^ 100 + 2 ^ 60) (2 ^ 51) (lit< tt) (unfold no_overflow bound tree_quat_mul in tt);
-      product_singles = λ p q. product_accurate binary32 p q (2 ^ 100) (2 ^ 100 + 2 ^ 84) (2 ^ 100 + 2 ^ 84) (2 ^ 80) (lit< tt) (unfold no_overflow bound tree_quat_mul in tt);
-      renormalized_doubles = λ q. renormalized_accurate binary64 q (2 ^ 100) (2 ^ 100 + 2 ^ 60) (2 ^ 52) (lit< tt) (unfold no_overflow bound tree_newton in tt);
-      renormalized_singles = λ q. renormalized_accurate binary32 q (2 ^ 100) (2 ^ 100 + 2 ^ 84) (2 ^ 81) (lit< tt) (unfold no_overflow bound tree_newton in tt);
-      inverse_doubles = λ x down. inverse_accurate binary64 x down (2 ^ 100) (2 ^ 100 + 2 ^ 60) (2 ^ 120) (2 ^ 104) (2 ^ 78) (lit< tt) (unfold no_overflow bound tree_inverse in tt);
-      inverse_singles = λ x down. inverse_accurate binary32 x down (2 ^ 100) (2 ^ 100 + 2 ^ 84) (2 ^ 120) (2 ^ 104) (2 ^ 107) (lit< tt) (unfold no_overflow bound tree_inverse in tt);
+      product_doubles =
+          λ p q. product_accurate binary64 p q (2 ^ 100) (2 ^ 100 + 2 ^ 60) (2 ^ 100 + 2 ^ 60) (2 ^ 51) (lit< tt)
+          (unfold no_overflow bound tree_quat_mul in tt);
+      product_singles =
+          λ p q. product_accurate binary32 p q (2 ^ 100) (2 ^ 100 + 2 ^ 84) (2 ^ 100 + 2 ^ 84) (2 ^ 80) (lit< tt)
+          (unfold no_overflow bound tree_quat_mul in tt);
+      renormalized_doubles =
+          λ q. renormalized_accurate binary64 q (2 ^ 100) (2 ^ 100 + 2 ^ 60) (2 ^ 52) (lit< tt)
+          (unfold no_overflow bound tree_newton in tt);
+      renormalized_singles =
+          λ q. renormalized_accurate binary32 q (2 ^ 100) (2 ^ 100 + 2 ^ 84) (2 ^ 81) (lit< tt)
+          (unfold no_overflow bound tree_newton in tt);
+      inverse_doubles =
+          λ x down. inverse_accurate binary64 x down (2 ^ 100) (2 ^ 100 + 2 ^ 60) (2 ^ 120) (2 ^ 104) (2 ^ 78) (lit< tt)
+          (unfold no_overflow bound tree_inverse in tt);
+      inverse_singles =
+          λ x down. inverse_accurate binary32 x down (2 ^ 100) (2 ^ 100 + 2 ^ 84) (2 ^ 120) (2 ^ 104) (2 ^ 107)
+          (lit< tt) (unfold no_overflow bound tree_inverse in tt);
     }

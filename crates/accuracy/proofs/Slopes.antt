@@ -34,7 +34,8 @@ FirstIn y m p c d = 2 * (c.z + y * d.b) + m * p.x' ≡ 2 * (c.z' + y * d.b') + m
 abbrev Second : ℕ → ℕ → State → State → Slope → Type 0
 Second y m p c d = 2 * (y * d.a) + c.x + m * p.h' ≡ 2 * (y * d.a') + c.x' + m * p.h
 
-first_step : (s s' y m x x' h h' z z' a a' b b' : ℕ) → 2 * (z + y * b) + m * x' ≡ 2 * (z' + y * b') + m * x → 2 * (y * a) +
+first_step : (s s' y m x x' h h' z z' a a' b b' : ℕ) → 2 * (z + y * b) + m * x' ≡ 2 * (z' + y * b') + m * x →
+    2 * (y * a) +
     (s * x + s' * x' + h) + m * h' ≡ 2 * (y * a') + (s * x' + s' * x + h') + m * h
     → 2 * (s * z + s' * z' + (s * x + s' * x' + h) + y * (s * b + s' * b' + a)) + suc m * (s * x' + s' * x + h') ≡ 2 *
     (s * z' + s' * z + (s * x' + s' * x + h') + y * (s * b' + s' * b + a')) + suc m * (s * x + s' * x' + h)
@@ -42,27 +43,40 @@ first_step s s' y m x x' h h' z z' a a' b b' i k =
     rw (suc-mul m (s * x' + s' * x + h'), suc-mul m (s * x + s' * x' + h))
     (go s s' y m x x' h h' z z' a a' b b' (ap (λ (c : ℕ). s * c) i) (ap (λ (c : ℕ). s' * c) i) k)
   where
-    go : (s s' y m x x' h h' z z' a a' b b' : ℕ) → s * (2 * (z + y * b) + m * x') ≡ s * (2 * (z' + y * b') + m * x) → s' * (2 * (z + y * b) + m * x') ≡ s' * (2 * (z' + y * b') + m * x)
+    go : (s s' y m x x' h h' z z' a a' b b' : ℕ) → s * (2 * (z + y * b) + m * x') ≡ s * (2 * (z' + y * b') + m * x) →
+        s' * (2 * (z + y * b) + m * x') ≡ s' * (2 * (z' + y * b') + m * x)
         → 2 * (y * a) + (s * x + s' * x' + h) + m * h' ≡ 2 * (y * a') + (s * x' + s' * x + h') + m * h
-        → 2 * (s * z + s' * z' + (s * x + s' * x' + h) + y * (s * b + s' * b' + a)) + (m * (s * x' + s' * x + h') + (s * x' + s' * x + h')) ≡ 2 *
-        (s * z' + s' * z + (s * x' + s' * x + h') + y * (s * b' + s' * b + a')) + (m * (s * x + s' * x' + h) + (s * x + s' * x' + h))
+        → 2 * (s * z + s' * z' + (s * x + s' * x' + h) + y * (s * b + s' * b' + a))
+        + (m * (s * x' + s' * x + h') + (s * x' + s' * x + h')) ≡ 2 *
+        (s * z' + s' * z + (s * x' + s' * x + h') + y * (s * b' + s' * b + a'))
+        + (m * (s * x + s' * x' + h) + (s * x + s' * x' + h))
     go s s' y m x x' h h' z z' a a' b b' i j k = simp expand (omega (arith, simp expand at i, simp expand at j, k))
 
-second-step : (s s' y m x x' h h' X X' a a' z z' b b' : ℕ) → 2 * (z + y * b) + m * x' ≡ 2 * (z' + y * b') + m * x → 2 * (y * a) + X + m * h' ≡ 2 * (y * a') + X' + m * h
-    → 2 * (y * (s * a + s' * a' + z' + y * b')) + (s * X + s' * X' + (s * h + s' * h' + y * x')) + suc m * (s * h' + s' * h + y * x)
-    ≡ 2 * (y * (s * a' + s' * a + z + y * b)) + (s * X' + s' * X + (s * h' + s' * h + y * x)) + suc m * (s * h + s' * h' + y * x')
+second-step : (s s' y m x x' h h' X X' a a' z z' b b' : ℕ) → 2 * (z + y * b) + m * x' ≡ 2 * (z' + y * b') + m * x →
+    2 * (y * a) + X + m * h' ≡ 2 * (y * a') + X' + m * h
+    → 2 * (y * (s * a + s' * a' + z' + y * b')) + (s * X + s' * X' + (s * h + s' * h' + y * x')) + suc m
+    * (s * h' + s' * h + y * x)
+    ≡ 2 * (y * (s * a' + s' * a + z + y * b)) + (s * X' + s' * X + (s * h' + s' * h + y * x)) + suc m
+    * (s * h + s' * h' + y * x')
 second-step s s' y m x x' h h' X X' a a' z z' b b' i k =
     rw (suc-mul m (s * h' + s' * h + y * x), suc-mul m (s * h + s' * h' + y * x'))
-    (go s s' y m x x' h h' X X' a a' z z' b b' (ap (λ (c : ℕ). y * c) i) (ap (λ (c : ℕ). s * c) k) (ap (λ (c : ℕ). s' * c) k))
+    (go s s' y m x x' h h' X X' a a' z z' b b' (ap (λ (c : ℕ). y * c) i) (ap (λ (c : ℕ). s * c) k)
+    (ap (λ (c : ℕ). s' * c) k))
   where
-    go : (s s' y m x x' h h' X X' a a' z z' b b' : ℕ) → y * (2 * (z + y * b) + m * x') ≡ y * (2 * (z' + y * b') + m * x) → s *
-        (2 * (y * a) + X + m * h') ≡ s * (2 * (y * a') + X' + m * h) → s' * (2 * (y * a) + X + m * h') ≡ s' * (2 * (y * a') + X' + m * h)
-        → 2 * (y * (s * a + s' * a' + z' + y * b')) + (s * X + s' * X' + (s * h + s' * h' + y * x')) + (m * (s * h' + s' * h + y * x) + (s * h' + s' * h + y * x))
-        ≡ 2 * (y * (s * a' + s' * a + z + y * b)) + (s * X' + s' * X + (s * h' + s' * h + y * x)) + (m * (s * h + s' * h' + y * x') + (s * h + s' * h' + y * x'))
-    go s s' y m x x' h h' X X' a a' z z' b b' i j k = simp expand (omega (arith, simp expand at i, simp expand at j, simp expand at k))
+    go : (s s' y m x x' h h' X X' a a' z z' b b' : ℕ) → y * (2 * (z + y * b) + m * x')
+        ≡ y * (2 * (z' + y * b') + m * x) → s *
+        (2 * (y * a) + X + m * h') ≡ s * (2 * (y * a') + X' + m * h) →
+        s' * (2 * (y * a) + X + m * h') ≡ s' * (2 * (y * a') + X' + m * h)
+        → 2 * (y * (s * a + s' * a' + z' + y * b')) + (s * X + s' * X' + (s * h + s' * h' + y * x'))
+        + (m * (s * h' + s' * h + y * x) + (s * h' + s' * h + y * x))
+        ≡ 2 * (y * (s * a' + s' * a + z + y * b)) + (s * X' + s' * X + (s * h' + s' * h + y * x))
+        + (m * (s * h + s' * h' + y * x') + (s * h + s' * h' + y * x'))
+    go s s' y m x x' h h' X X' a a' z z' b b' i j k =
+        simp expand (omega (arith, simp expand at i, simp expand at j, simp expand at k))
 
 module _ (s s' y : ℕ) where
-  both : (j : ℕ) → FirstIn y (suc j) (state s s' y j) (state s s' y (suc j)) (slope s s' y (suc j)) × Second y (suc j) (state s s' y j) (state s s' y (suc j)) (slope s s' y (suc j))
+  both : (j : ℕ) → FirstIn y (suc j) (state s s' y j) (state s s' y (suc j)) (slope s s' y (suc j))
+      × Second y (suc j) (state s s' y j) (state s s' y (suc j)) (slope s s' y (suc j))
   unfolding state slope
   both zero = (omega arith, omega arith)
   both (suc j) =
@@ -102,14 +116,16 @@ swap : (p n b : ℕ) → Size p n b → Size n p b
 swap p n b h = record { above = h.below; below = h.above }
 
 regroup_size : (p q x p' q' x' c : ℕ) → Size (p + (q + x)) (p' + (q' + x')) c → Size (p + q + x) (p' + q' + x') c
-regroup_size p q x p' q' x' c h = let i = h.above in let k = h.below in record { above = omega arith; below = omega arith }
+regroup_size p q x p' q' x' c h =
+    let i = h.above in let k = h.below in record { above = omega arith; below = omega arith }
 
 -- 6 and 24 times these
 six_step : (t p a q : ℕ) → 6 * t ≡ a * q → 2 * p ≡ q → 6 * (t + p) ≡ suc (suc (suc a)) * q
 six_step t p a q h k = rw (suc-mul (suc (suc a)) q, suc-mul (suc a) q, suc-mul a q) (omega arith)
 
 four-step : (t p a q : ℕ) → 24 * t ≡ a * q → 6 * p ≡ q → 24 * (t + p) ≡ suc (suc (suc (suc a))) * q
-four-step t p a q h k = rw (suc-mul (suc (suc (suc a))) q, suc-mul (suc (suc a)) q, suc-mul (suc a) q, suc-mul a q) (omega arith)
+four-step t p a q h k =
+    rw (suc-mul (suc (suc (suc a))) q, suc-mul (suc (suc a)) q, suc-mul (suc a) q, suc-mul a q) (omega arith)
 
 turn3 : (a b c : ℕ) → a * (b * c) ≡ b * (c * a)
 turn3 a b c = simp expand
@@ -128,7 +144,8 @@ pub four_fours : (j : ℕ) → 24 * fours j ≡ suc j * (suc (suc j) * (suc (suc
 unfolding fours
 four_fours zero = refl
 four_fours (suc j) =
-    four-step (fours j) (triples (suc j)) (suc j) (suc (suc j) * (suc (suc (suc j)) * suc (suc (suc (suc j))))) (four_fours j) (six_triples (suc j))
+    four-step (fours j) (triples (suc j)) (suc j) (suc (suc j) * (suc (suc (suc j)) * suc (suc (suc (suc j)))))
+    (four_fours j) (six_triples (suc j))
     ∙ turn4 (suc (suc (suc (suc (suc j))))) (suc (suc j)) (suc (suc (suc j))) (suc (suc (suc (suc j))))
 
 grow : (c d r k : ℕ) → r * (c * k) + d * (k * r) ≡ (c + d) * (k * r)
@@ -136,15 +153,19 @@ grow c d r k = simp expand (omega arith)
 
 module _ (s s' y t r : ℕ) (e : s * s + s' * s' + y ≡ t + 2 * (s * s')) (b : t ≤ r * r) where
   -- g of level j + 2
-  g_size : (j : ℕ) → (let c = state s s' y (suc (suc j)) in let d = slope s s' y (suc (suc j)) in Size (c.z' + y * d.b') (c.z + y * d.b) (pairs j * r ^ j))
+  g_size : (j : ℕ) → (let c = state s s' y (suc (suc j)) in let d = slope s s' y (suc (suc j)) in
+      Size (c.z' + y * d.b') (c.z + y * d.b) (pairs j * r ^ j))
   g_size j =
       let c = state s s' y (suc (suc j)) in
       let d = slope s s' y (suc (suc j)) in
       let p = state s s' y (suc j) in
       swap (c.z + y * d.b) (c.z' + y * d.b') (pairs j * r ^ j)
-      (halved (c.z + y * d.b) (c.z' + y * d.b') (suc (suc j) * suc j) (pairs j) (r ^ j) (mul_comm (suc (suc j)) (suc j) ∙ sym (twice_pairs j))
-      (size_same (2 * (c.z + y * d.b)) (2 * (c.z' + y * d.b')) (suc (suc j) * (suc j * r ^ j)) (suc (suc j) * suc j * r ^ j) (sym (mul_assoc (suc (suc j)) (suc j) (r ^ j)))
-      (half-size (c.z + y * d.b) (c.z' + y * d.b') (suc (suc j)) p.x p.x' (suc j * r ^ j) (both s s' y (suc j)).0 (x-size s s' y t r e b j))))
+      (halved (c.z + y * d.b) (c.z' + y * d.b') (suc (suc j) * suc j) (pairs j) (r ^ j)
+      (mul_comm (suc (suc j)) (suc j) ∙ sym (twice_pairs j))
+      (size_same (2 * (c.z + y * d.b)) (2 * (c.z' + y * d.b')) (suc (suc j) * (suc j * r ^ j))
+      (suc (suc j) * suc j * r ^ j) (sym (mul_assoc (suc (suc j)) (suc j) (r ^ j)))
+      (half-size (c.z + y * d.b) (c.z' + y * d.b') (suc (suc j)) p.x p.x' (suc j * r ^ j) (both s s' y (suc j)).0
+      (x-size s s' y t r e b j))))
 
   a_two : Size (slope s s' y 2).a (slope s s' y 2).a' 0
   unfolding state slope
@@ -152,25 +173,32 @@ module _ (s s' y t r : ℕ) (e : s * s + s' * s' + y ≡ t + 2 * (s * s')) (b : 
 
   g_two : Size ((state s s' y 2).z' + y * (slope s s' y 2).b') ((state s s' y 2).z + y * (slope s s' y 2).b) 1
   unfolding pairs
-  g_two = size_same ((state s s' y 2).z' + y * (slope s s' y 2).b') ((state s s' y 2).z + y * (slope s s' y 2).b) (1 * r ^ 0) 1 (one-mul (r ^ 0) ∙ pow-zero r) (g_size zero)
+  g_two =
+      size_same ((state s s' y 2).z' + y * (slope s s' y 2).b') ((state s s' y 2).z + y * (slope s s' y 2).b)
+      (1 * r ^ 0) 1 (one-mul (r ^ 0) ∙ pow-zero r) (g_size zero)
 
-  pub a-size : (j : ℕ) → Size (slope s s' y (suc (suc (suc j)))).a (slope s s' y (suc (suc (suc j)))).a' (triples j * r ^ j)
+  pub a-size : (j : ℕ) → Size (slope s s' y (suc (suc (suc j)))).a (slope s s' y (suc (suc (suc j)))).a'
+      (triples j * r ^ j)
   unfolding slope triples
   a-size zero =
       let c = state s s' y 2 in
       let d = slope s s' y 2 in
       rw pow-zero (regroup_size (s * d.a + s' * d.a') c.z' (y * d.b') (s * d.a' + s' * d.a) c.z (y * d.b) 1
       (size-sum (s * d.a + s' * d.a') (s * d.a' + s' * d.a) (c.z' + y * d.b') (c.z + y * d.b) 0 1
-      (size_same (s * d.a + s' * d.a') (s * d.a' + s' * d.a) (r * 0) 0 (mul-zero r) (size-product s s' d.a d.a' r 0 (s_size s s' y t r e b) a_two)) g_two))
+      (size_same (s * d.a + s' * d.a') (s * d.a' + s' * d.a) (r * 0) 0 (mul-zero r)
+      (size-product s s' d.a d.a' r 0 (s_size s s' y t r e b) a_two)) g_two))
   a-size (suc j) =
       let c = state s s' y (suc (suc (suc j))) in
       let d = slope s s' y (suc (suc (suc j))) in
-      rw pow-suc (regroup_size (s * d.a + s' * d.a') c.z' (y * d.b') (s * d.a' + s' * d.a) c.z (y * d.b) ((triples j + pairs (suc j)) * (r ^ j * r))
+      rw pow-suc (regroup_size (s * d.a + s' * d.a') c.z' (y * d.b') (s * d.a' + s' * d.a) c.z (y * d.b)
+      ((triples j + pairs (suc j)) * (r ^ j * r))
       (size_same (s * d.a + s' * d.a' + (c.z' + y * d.b')) (s * d.a' + s' * d.a + (c.z + y * d.b))
       (r * (triples j * r ^ j) + pairs (suc j) * (r ^ j * r)) ((triples j + pairs (suc j)) * (r ^ j * r))
       (grow (triples j) (pairs (suc j)) r (r ^ j))
-      (size-sum (s * d.a + s' * d.a') (s * d.a' + s' * d.a) (c.z' + y * d.b') (c.z + y * d.b) (r * (triples j * r ^ j)) (pairs (suc j) * (r ^ j * r))
-      (size-product s s' d.a d.a' r (triples j * r ^ j) (s_size s s' y t r e b) (a-size j)) (rw pow-suc at (g_size (suc j))))))
+      (size-sum (s * d.a + s' * d.a') (s * d.a' + s' * d.a) (c.z' + y * d.b') (c.z + y * d.b) (r * (triples j * r ^ j))
+      (pairs (suc j) * (r ^ j * r))
+      (size-product s s' d.a d.a' r (triples j * r ^ j) (s_size s s' y t r e b) (a-size j))
+      (rw pow-suc at (g_size (suc j))))))
 
   b-three : Size (slope s s' y 3).b (slope s s' y 3).b' 0
   unfolding state slope
@@ -180,16 +208,21 @@ module _ (s s' y t r : ℕ) (e : s * s + s' * s' + y ≡ t + 2 * (s * s')) (b : 
   unfolding triples
   a-three = size_same (slope s s' y 3).a (slope s s' y 3).a' (1 * r ^ 0) 1 (one-mul (r ^ 0) ∙ pow-zero r) (a-size zero)
 
-  pub b-size : (j : ℕ) → Size (slope s s' y (suc (suc (suc (suc j))))).b (slope s s' y (suc (suc (suc (suc j))))).b' (fours j * r ^ j)
+  pub b-size : (j : ℕ) → Size (slope s s' y (suc (suc (suc (suc j))))).b (slope s s' y (suc (suc (suc (suc j))))).b'
+      (fours j * r ^ j)
   unfolding slope fours
   b-size zero =
       let d = slope s s' y 3 in
       rw pow-zero (size-sum (s * d.b + s' * d.b') (s * d.b' + s' * d.b) d.a d.a' 0 1
-      (size_same (s * d.b + s' * d.b') (s * d.b' + s' * d.b) (r * 0) 0 (mul-zero r) (size-product s s' d.b d.b' r 0 (s_size s s' y t r e b) b-three)) a-three)
+      (size_same (s * d.b + s' * d.b') (s * d.b' + s' * d.b) (r * 0) 0 (mul-zero r)
+      (size-product s s' d.b d.b' r 0 (s_size s s' y t r e b) b-three)) a-three)
   b-size (suc j) =
       let d = slope s s' y (suc (suc (suc (suc j)))) in
       rw pow-suc
-      (size_same (s * d.b + s' * d.b' + d.a) (s * d.b' + s' * d.b + d.a') (r * (fours j * r ^ j) + triples (suc j) * (r ^ j * r))
+      (size_same (s * d.b + s' * d.b' + d.a) (s * d.b' + s' * d.b + d.a')
+      (r * (fours j * r ^ j) + triples (suc j) * (r ^ j * r))
       ((fours j + triples (suc j)) * (r ^ j * r)) (grow (fours j) (triples (suc j)) r (r ^ j))
-      (size-sum (s * d.b + s' * d.b') (s * d.b' + s' * d.b) d.a d.a' (r * (fours j * r ^ j)) (triples (suc j) * (r ^ j * r))
-      (size-product s s' d.b d.b' r (fours j * r ^ j) (s_size s s' y t r e b) (b-size j)) (rw pow-suc at (a-size (suc j)))))
+      (size-sum (s * d.b + s' * d.b') (s * d.b' + s' * d.b) d.a d.a' (r * (fours j * r ^ j))
+      (triples (suc j) * (r ^ j * r))
+      (size-product s s' d.b d.b' r (fours j * r ^ j) (s_size s s' y t r e b) (b-size j))
+      (rw pow-suc at (a-size (suc j)))))

@@ -52,7 +52,8 @@ leaves i j k = record { x = leaf i; y = leaf j; z = leaf k }
 
 -- the leaves: 2, the quaternion w x y z, the point, e^σ, the translation
 unfoldable pub tree_act : Three Term
-tree_act = sum3 trees (scale3 trees (rotate trees (leaf 0) (leaf 1) (leaves 2 3 4) (leaves 5 6 7)) (leaf 8)) (leaves 9 10 11)
+tree_act =
+    sum3 trees (scale3 trees (rotate trees (leaf 0) (leaf 1) (leaves 2 3 4) (leaves 5 6 7)) (leaf 8)) (leaves 9 10 11)
 
 abbrev pub act_leaves : Sim3 → Float → Vec3 → List Float
 act_leaves x up p =
@@ -67,8 +68,8 @@ abbrev pub all_three : Format → ℕ → List ℕ → Three Term → ℕ → Bo
 all_three f w bs t e = error_at_most f w bs t.x e && (error_at_most f w bs t.y e && error_at_most f w bs t.z e)
 
 -- ---- what is proved
--- In the box of quaternion's numbers up to q / w, point's up to b / w, e^σ up to s / w and translation's up to t / w, each
--- coordinate of r is finite and within e / w of the exact action of x on p.
+-- In the box of quaternion's numbers up to q / w, point's up to b / w, e^σ up to s / w and translation's up to t / w,
+-- each coordinate of r is finite and within e / w of the exact action of x on p.
 abbrev pub ActionIn : ℕ → ℕ → ℕ → ℕ → ℕ → ℕ → Sim3 → Float → Vec3 → Vec3 → Type 0
 ActionIn w q b s t e x up p r =
     QuatIn w q x.q → VecIn w b p → Bounded w up s → VecIn w t x.t → VecError w r (exact_act x up p) e

@@ -1,4 +1,5 @@
--- Points and quaternions whose numbers are finite and at most b / w in size, and what is said of how near they are to exact ones.
+-- Points and quaternions whose numbers are finite and at most b / w in size, and what is said of how near they are to
+-- exact ones.
 use Rattle.std.specs.Prelude.{ℕ}
 use Rattle.linalg.specs.Floats.{Vec3}
 use Rattle.so3.specs.Floats.{Quat}

@@ -18,5 +18,5 @@ delta_most f w x = before f w x + rounding_error f w (before f w (before f w x))
 pub record InDomain (w r y : ℕ) (s t : Float) : Type 0 where
   pub sigma : Bounded w s r
   pub z : Bounded w t y
-  pub plain : (value_of t).n ≡ 0
+  pub nonnegative : (value_of t).n ≡ 0
   pub delta : AtMost (w * w) (plus (times (value_of s) (value_of s)) (value_of t)) (r * r)

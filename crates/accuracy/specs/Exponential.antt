@@ -1,5 +1,5 @@
--- The exponential below the limits of the series: the translation, v₀ ρ + v₁ φ×ρ + v₂ φ×(φ×ρ), once as formulas; and what is
--- proved of its error and of the quaternion's. z is the computed |φ|², in the exact sums as well.
+-- The exponential below the limits of the series: the translation, v₀ ρ + v₁ φ×ρ + v₂ φ×(φ×ρ), once as formulas; and
+-- what is proved of its error and of the quaternion's. z is the computed |φ|², in the exact sums as well.
 use Rattle.std.specs.Prelude.{Bool, not, ◌&&◌, List, [], ◌∷◌, ℕ, suc, ◌+◌, ◌*◌, ◌^◌, T, leb, Float}
 use Rattle.std.specs.Float.{Format, binary32, binary64}
 use Rattle.std.specs.Float.Ieee.{lt}
@@ -10,8 +10,8 @@ use Rattle.tables.specs.Tables.{b_row, k_row, cos_half_row, row_rule}
 use Rattle.circle.specs.Limits.{row_limit}
 use Rattle.circle.specs.Kernel.{circle_exp}
 use Rattle.circle.specs.Floats.{ExpCoeffs}
-use Rattle.closed.specs.Limits.{coeffs_delta, series_below}
-use Rattle.closed.specs.Floats.{Values}
+use Rattle.arms.specs.Limits.{coeffs_delta, series_below}
+use Rattle.arms.specs.Floats.{Values}
 use Rattle.so3.specs.Floats.{Quat}
 use Rattle.sim3.specs.Exp.{pose_exp}
 use Rattle.sim3.specs.Floats.{Sim3}
@@ -19,7 +19,7 @@ use Rattle.sim3.specs.Floats.{Sim3Tangent}
 use Rattle.rounding.specs.Value.{Value, value_of, AbsoluteError}
 use Rattle.rounding.specs.Tree.{Term, leaf, Bound, prod_bound, bound, no_overflow}
 use Rattle.rounding.specs.Arithmetic.{Arithmetic, trees, exactly}
-use Rattle.rounding.specs.Leaves.{nth, no_bound, plain}
+use Rattle.rounding.specs.Leaves.{nth, no_bound, errorless}
 use Rattle.accuracy.specs.Box.{Three, exact_vec, VecIn, VecError, QuatError}
 use Rattle.accuracy.specs.Action.{sum3, scale3, cross3, leaves}
 use Rattle.accuracy.specs.Series.{xi_part, zeta_part, exact_term, exact_total, exact_horner, most_terms}
@@ -39,12 +39,15 @@ unfoldable pub tree_poly : Three Term
 tree_poly = poly trees (leaves 0 1 2) (leaf 6) (leaf 7) (leaf 8) (leaves 3 4 5)
 
 abbrev pub poly_bounds : ℕ → ℕ → Bound → Bound → Bound → List Bound
-poly_bounds a b x y z = plain a ∷ plain a ∷ plain a ∷ plain b ∷ plain b ∷ plain b ∷ x ∷ y ∷ z ∷ []
+poly_bounds a b x y z =
+    errorless a ∷ errorless a ∷ errorless a ∷ errorless b ∷ errorless b ∷ errorless b ∷ x ∷ y ∷ z ∷ []
 
 -- its error is at most e, and nothing in it overflows, for φ of at most a, ρ of at most b and the coefficients x, y, z
 unfoldable pub poly_holds : Format → ℕ → ℕ → ℕ → Bound → Bound → Bound → ℕ → Bool
 unfolding no_overflow bound tree_poly
-poly_holds f w a b x y z e = no_overflow f w (nth no_bound (poly_bounds a b x y z)) tree_poly.x && leb (bound f w (nth no_bound (poly_bounds a b x y z)) tree_poly.x).error e
+poly_holds f w a b x y z e =
+    no_overflow f w (nth no_bound (poly_bounds a b x y z)) tree_poly.x
+    && leb (bound f w (nth no_bound (poly_bounds a b x y z)) tree_poly.x).error e
 
 -- the exact sums of n terms
 abbrev pub sum0 : Float → ℕ → Value
@@ -64,7 +67,7 @@ phi_most binary64 = 3 * 2 ^ 99
 
 -- v₀, v₁ and v₂ where z is below b's limit: their sizes, and their bounds after one rounding more
 abbrev pub unscaled : Format → ℕ → ℕ → ℕ → Bound
-unscaled f w b e = prod_bound f w (plain w) (record { magnitude = b; error = e })
+unscaled f w b e = prod_bound f w (errorless w) (record { magnitude = b; error = e })
 
 abbrev pub exp_bounds : Format → Three Bound
 exp_bounds binary32 =
@@ -84,15 +87,16 @@ exp_bounds binary64 =
 abbrev pub exp_holds : Format → ℕ → ℕ → Bool
 exp_holds f b e = poly_holds f (2 ^ 100) (phi_most f) b (exp_bounds f).x (exp_bounds f).y (exp_bounds f).z e
 
--- t is the translation of the exponential of τ: where the computed Δ and z are below the limits of the series and of b, and
--- ρ's numbers at most b, each of its numbers is within e of V ρ with every exact sum of `most_terms` terms or more
+-- t is the translation of the exponential of τ: where the computed Δ and z are below the limits of the series and of b,
+-- and ρ's numbers at most b, each of its numbers is within e of V ρ with every exact sum of `most_terms` terms or more
 abbrev pub TranslationIn : Format → ℕ → ℕ → Sim3Tangent → Vec3 → Type 0
 TranslationIn f b e tau t =
     let z = vec_norm_sq f tau.phi in
     T (lt (coeffs_delta f tau.sigma z) (series_below f)) → T (lt z (row_limit f b_row)) →
     VecIn (2 ^ 100) (phi_most f) tau.phi → VecIn (2 ^ 100) b tau.rho → (n : ℕ) →
     VecError (2 ^ 100) t
-    (exact_poly (exact_vec tau.phi) (sum0 tau.sigma (most_terms f + n)) (sum1 tau.sigma z (most_terms f + n)) (sum2 tau.sigma z (most_terms f + n)) (exact_vec tau.rho)) e
+    (exact_poly (exact_vec tau.phi) (sum0 tau.sigma (most_terms f + n)) (sum1 tau.sigma z (most_terms f + n))
+    (sum2 tau.sigma z (most_terms f + n)) (exact_vec tau.rho)) e
 
 -- how many terms of the rows behind the first, and the bounds of cos(θ/2) and of sin(θ/2)/θ
 abbrev pub row_terms : Format → ℕ
@@ -107,23 +111,25 @@ abbrev pub k_error : Format → ℕ
 k_error binary32 = 2 ^ 77
 k_error binary64 = 2 ^ 48
 
--- c are the circle functions at z: where z is below the limits of both rows and not below zero, each is within its bound of
--- every exact sum of as many terms or more
+-- c are the circle functions at z: where z is below the limits of both rows and not below zero, each is within its
+-- bound of every exact sum of as many terms or more
 abbrev pub CircleAccurate : Format → Float → ExpCoeffs → Type 0
 CircleAccurate f z c =
     T (lt z (row_limit f cos_half_row)) → T (lt z (row_limit f k_row)) → T (not (lt z f0)) → (n : ℕ) →
-    AbsoluteError (2 ^ 100) c.cos_half (exact_row (row_rule cos_half_row) (value_of z) 0 (suc (row_terms f + n))) (cos_error f)
+    AbsoluteError (2 ^ 100) c.cos_half (exact_row (row_rule cos_half_row) (value_of z) 0 (suc (row_terms f + n)))
+    (cos_error f)
     × AbsoluteError (2 ^ 100) c.k (exact_row (row_rule k_row) (value_of z) 0 (suc (row_terms f + n))) (k_error f)
 
--- q is the quaternion of the exponential of φ: where z is below the limits of both rows and φ's numbers at most 5 / 2, each of
--- its numbers is within the bound of the exact one with every sum of as many terms or more
+-- q is the quaternion of the exponential of φ: where z is below the limits of both rows and φ's numbers at most 5 / 2,
+-- each of its numbers is within the bound of the exact one with every sum of as many terms or more
 abbrev pub RotationAccurate : Format → Vec3 → Quat → Type 0
 RotationAccurate f phi q =
     let z = vec_norm_sq f phi in
     T (lt z (row_limit f cos_half_row)) → T (lt z (row_limit f k_row)) → VecIn (2 ^ 100) (5 * 2 ^ 99) phi → (n : ℕ) →
     QuatError (2 ^ 100) q (exact_rotation (value_of z) (exact_vec phi) (suc (row_terms f + n))) (cos_error f)
 
--- x is the exponential of τ: its translation for every box of ρ whose bound is computed to be at most e, and its quaternion
+-- x is the exponential of τ: its translation for every box of ρ whose bound is computed to be at most e, and its
+-- quaternion
 pub record ExponentialAccurate (f : Format) (tau : Sim3Tangent) (x : Sim3) : Type 0 where
   pub translation : (b e : ℕ) → T (exp_holds f b e) → TranslationIn f b e tau x.t
   pub rotation : RotationAccurate f tau.phi x.q

@@ -1,3 +1,4 @@
+-- To be read in this order.
 pub mod Box
 pub mod Action
 pub mod Quaternions

@@ -1,5 +1,5 @@
--- The product of quaternions, the Newton step of a renormalisation, and the translation of an inverse: once as formulas,
--- and what is proved of their errors.
+-- The product of quaternions, the Newton step of a renormalisation, and the translation of an inverse: once as
+-- formulas, and what is proved of their errors.
 use Rattle.std.specs.Prelude.{Bool, ◌&&◌, List, [], ◌∷◌, ℕ, ◌+◌, ◌*◌, ◌/◌, ◌^◌, ◌<◌, T, Float}
 use Rattle.std.specs.Float.{Format, binary32, binary64}
 use Rattle.ieee.specs.Numbers.{f2, f3, half}
@@ -94,7 +94,8 @@ inverse_sizes w q t s = 2 * w ∷ q ∷ q ∷ q ∷ q ∷ t ∷ t ∷ t ∷ s �
 -- the computed test: none of four trees overflows, and the bound of each is at most e
 abbrev pub all_four : Format → ℕ → List ℕ → Four Term → ℕ → Bool
 all_four f w bs t e =
-    error_at_most f w bs t.w e && (error_at_most f w bs t.x e && (error_at_most f w bs t.y e && error_at_most f w bs t.z e))
+    error_at_most f w bs t.w e && (error_at_most f w bs t.x e
+    && (error_at_most f w bs t.y e && error_at_most f w bs t.z e))
 
 -- ---- what is proved
 -- r is the product of p and q, with numbers up to a / w and b / w: each of its numbers is within e / w of the exact one
@@ -102,17 +103,19 @@ abbrev pub ProductIn : ℕ → ℕ → ℕ → ℕ → Quat → Quat → Quat �
 ProductIn w a b e p q r = QuatIn w a p → QuatIn w b q → QuatError w r (exact_hamilton (exact_quat p) (exact_quat q)) e
 
 abbrev pub ProductAccurate : Format → Quat → Quat → Quat → Type 0
-ProductAccurate f p q r = (w a b e : ℕ) → 0 < w → T (all_four f w (quat_mul_sizes a b) tree_quat_mul e) → ProductIn w a b e p q r
+ProductAccurate f p q r =
+    (w a b e : ℕ) → 0 < w → T (all_four f w (quat_mul_sizes a b) tree_quat_mul e) → ProductIn w a b e p q r
 
 -- r is the Newton step of q, with numbers up to a / w: each of its numbers is within e / w of the exact one
 abbrev pub RenormalizedIn : ℕ → ℕ → ℕ → Quat → Quat → Type 0
 RenormalizedIn w a e q r = QuatIn w a q → QuatError w r (exact_newton (exact_quat q)) e
 
 abbrev pub RenormalizedAccurate : Format → Quat → Quat → Type 0
-RenormalizedAccurate f q r = (w a e : ℕ) → 0 < w → T (all_four f w (newton_sizes w a) tree_newton e) → RenormalizedIn w a e q r
+RenormalizedAccurate f q r =
+    (w a e : ℕ) → 0 < w → T (all_four f w (newton_sizes w a) tree_newton e) → RenormalizedIn w a e q r
 
--- r is the translation of x⁻¹, with quaternion's numbers up to q / w, translation's up to t / w, e^-σ up to s / w: each of
--- its numbers is within e / w of the exact one
+-- r is the translation of x⁻¹, with quaternion's numbers up to q / w, translation's up to t / w, e^-σ up to s / w: each
+-- of its numbers is within e / w of the exact one
 abbrev pub InverseIn : ℕ → ℕ → ℕ → ℕ → ℕ → Sim3 → Float → Vec3 → Type 0
 InverseIn w q t s e x down r =
     QuatIn w q x.q → VecIn w t x.t → Bounded w down s → VecError w r (exact_inverse x down) e

@@ -28,7 +28,8 @@ entry_bound f w rule i = record { magnitude = entry_size w rule i; error = round
 -- n terms more than one
 unfoldable pub row_bound : Format → ℕ → (ℕ → Rational) → Bound → ℕ → ℕ → Bound
 row_bound f w rule z i zero = entry_bound f w rule i
-row_bound f w rule z i (suc n) = sum_bound f w (entry_bound f w rule i) (prod_bound f w z (row_bound f w rule z (suc i) n))
+row_bound f w rule z i (suc n) =
+    sum_bound f w (entry_bound f w rule i) (prod_bound f w z (row_bound f w rule z (suc i) n))
 
 unfoldable pub row_no_overflow : Format → ℕ → (ℕ → Rational) → Bound → ℕ → ℕ → Bool
 unfolding row_bound
@@ -36,7 +37,8 @@ row_no_overflow f w rule z i zero = in_range f w (entry_size w rule i)
 row_no_overflow f w rule z i (suc n) =
     in_range f w (entry_size w rule i)
     && (row_no_overflow f w rule z (suc i) n
-    && (in_range f w (prod_reach w z (row_bound f w rule z (suc i) n)) && in_range f w (sum_reach (entry_bound f w rule i) (prod_bound f w z (row_bound f w rule z (suc i) n)))))
+    && (in_range f w (prod_reach w z (row_bound f w rule z (suc i) n))
+    && in_range f w (sum_reach (entry_bound f w rule i) (prod_bound f w z (row_bound f w rule z (suc i) n)))))
 
 -- what is left out after k terms more than one, in units of 1 / rest_unit
 unfoldable pub rest_unit : ℕ → (ℕ → Rational) → ℕ → ℕ → ℕ

@@ -1,13 +1,15 @@
--- The series of the coefficients, exactly: the sums of the crate series with the reciprocals of factorials as fractions;
--- the bounds of their rounding errors, with the tests that nothing overflows; and what is proved of the coefficients.
-use Rattle.std.specs.Prelude.{List, [], ◌∷◌, ℕ, zero, suc, ◌+◌, ◌/◌, ◌^◌, Bool, true, false, not, cond, ◌&&◌, T, leb, eqb, Float}
+-- The series of the coefficients, exactly: the sums of the crate series with the reciprocals of factorials as
+-- fractions; the bounds of their rounding errors, with the tests that nothing overflows; and what is proved of the
+-- coefficients.
+use Rattle.std.specs.Prelude.{List, [], ◌∷◌, ℕ, zero, suc, ◌+◌, ◌/◌, ◌^◌, Bool, true, false, not, cond, ◌&&◌, T, leb}
+use Rattle.std.specs.Prelude.{eqb, Float}
 use Rattle.std.specs.Float.{Format, binary32, binary64}
 use Rattle.std.specs.Float.Ieee.{lt}
 use Rattle.ieee.specs.Numbers.{f0, f1}
 use Rattle.ieee.specs.Table.{factorial}
-use Rattle.closed.specs.Limits.{short_below, mid_below, upper_below, series_below}
-use Rattle.closed.specs.Arm.{arm_terms}
-use Rattle.closed.specs.Floats.{Values}
+use Rattle.arms.specs.Limits.{short_below, mid_below, upper_below, series_below}
+use Rattle.arms.specs.Arm.{arm_terms}
+use Rattle.arms.specs.Floats.{Values}
 use Rattle.coeffs.specs.Group.{coeffs_scaled}
 use Rattle.series.specs.Series.{coeffs_delta, series_full}
 use Rattle.series.specs.Floats.{Level}
@@ -16,7 +18,8 @@ use Rattle.rounding.specs.Value.{Value, plus, times, signed, value_of, AbsoluteE
 use Rattle.rounding.specs.Roundoff.{rounding_error}
 use Rattle.rounding.specs.Leaves.{nth, no_bound}
 use Rattle.rounding.specs.Arithmetic.{Arithmetic, trees, exactly}
-use Rattle.rounding.specs.Tree.{Term, leaf, Bound, sum_reach, prod_reach, sum_bound, prod_bound, bound, in_range, no_overflow}
+use Rattle.rounding.specs.Tree.{Term, leaf, Bound, sum_reach, prod_reach, sum_bound, prod_bound, bound, in_range}
+use Rattle.rounding.specs.Tree.{no_overflow}
 
 -- 1 / n!
 abbrev pub exact_recip : ℕ → Value
@@ -68,7 +71,8 @@ exact_level sigma z (suc j) = exact_next sigma z (exact_level sigma z j)
 
 -- as trees, over sigma, z and the five numbers of a level
 unfoldable pub tree_next : Five Term
-tree_next = next trees (leaf 0) (leaf 1) (record { p = leaf 2; xi = leaf 3; zeta = leaf 4; dxi = leaf 5; dzeta = leaf 6 })
+tree_next =
+    next trees (leaf 0) (leaf 1) (record { p = leaf 2; xi = leaf 3; zeta = leaf 4; dxi = leaf 5; dzeta = leaf 6 })
 
 abbrev pub row : {A : Type 0} → A → A → Five A → List A
 row a b l = a ∷ b ∷ l.p ∷ l.xi ∷ l.zeta ∷ l.dxi ∷ l.dzeta ∷ []
@@ -80,17 +84,26 @@ unfoldable pub bound_next : Format → ℕ → Bound → Bound → Five Bound �
 unfolding bound tree_next
 bound_next f w a b l =
     let e = nth no_bound (row a b l) in
-    record { p = bound f w e tree_next.p; xi = bound f w e tree_next.xi; zeta = bound f w e tree_next.zeta; dxi = bound f w e tree_next.dxi; dzeta = bound f w e tree_next.dzeta }
+    record {
+      p = bound f w e tree_next.p;
+      xi = bound f w e tree_next.xi;
+      zeta = bound f w e tree_next.zeta;
+      dxi =
+          bound f w e tree_next.dxi;
+      dzeta = bound f w e tree_next.dzeta;
+    }
 
 unfoldable pub next_no_overflow : Format → ℕ → Bound → Bound → Five Bound → Bool
 unfolding no_overflow tree_next
 next_no_overflow f w a b l =
     let e = nth no_bound (row a b l) in
-    no_overflow f w e tree_next.p && (no_overflow f w e tree_next.xi && (no_overflow f w e tree_next.zeta && (no_overflow f w e tree_next.dxi && no_overflow f w e tree_next.dzeta)))
+    no_overflow f w e tree_next.p && (no_overflow f w e tree_next.xi
+    && (no_overflow f w e tree_next.zeta && (no_overflow f w e tree_next.dxi && no_overflow f w e tree_next.dzeta)))
 
 unfoldable pub bound_level : Format → ℕ → Bound → Bound → ℕ → Five Bound
 unfolding bound_next
-bound_level f w a b zero = record { p = record { magnitude = w; error = 0 }; xi = no_bound; zeta = no_bound; dxi = no_bound; dzeta = no_bound }
+bound_level f w a b zero =
+    record { p = record { magnitude = w; error = 0 }; xi = no_bound; zeta = no_bound; dxi = no_bound; dzeta = no_bound }
 bound_level f w a b (suc j) = bound_next f w a b (bound_level f w a b j)
 
 unfoldable pub level_no_overflow : Format → ℕ → Bound → Bound → ℕ → Bool
@@ -120,7 +133,8 @@ bound_term f w a b c o j = prod_bound f w (part c (bound_level f w a b j)) (reci
 unfoldable pub term_no_overflow : Format → ℕ → Bound → Bound → Part → ℕ → ℕ → Bool
 unfolding bound_level level_no_overflow factorial
 term_no_overflow f w a b c o j =
-    level_no_overflow f w a b j && (in_range f w (recip_size w (j + o)) && in_range f w (prod_reach w (part c (bound_level f w a b j)) (recip_bound f w (j + o))))
+    level_no_overflow f w a b j && (in_range f w (recip_size w (j + o))
+    && in_range f w (prod_reach w (part c (bound_level f w a b j)) (recip_bound f w (j + o))))
 
 -- ---- sums from the left
 unfoldable pub exact_total : (ℕ → Value) → ℕ → Value
@@ -134,7 +148,8 @@ bound_total f w b (suc n) = sum_bound f w (bound_total f w b n) (b n)
 unfoldable pub total_no_overflow : Format → ℕ → (ℕ → Bool) → (ℕ → Bound) → ℕ → Bool
 unfolding bound_total
 total_no_overflow f w ok b zero = true
-total_no_overflow f w ok b (suc n) = total_no_overflow f w ok b n && (ok n && in_range f w (sum_reach (bound_total f w b n) (b n)))
+total_no_overflow f w ok b (suc n) =
+    total_no_overflow f w ok b n && (ok n && in_range f w (sum_reach (bound_total f w b n) (b n)))
 
 -- ---- Horner's sums
 unfoldable pub exact_horner : Value → ℕ → ℕ → Value
@@ -151,7 +166,8 @@ unfolding bound_horner factorial
 horner_no_overflow f w a l zero = true
 horner_no_overflow f w a l (suc n) =
     let b = bound_horner f w a (suc l) n in
-    horner_no_overflow f w a (suc l) n && (in_range f w (recip_size w l) && (in_range f w (prod_reach w a b) && in_range f w (sum_reach (recip_bound f w l) (prod_bound f w a b))))
+    horner_no_overflow f w a (suc l) n && (in_range f w (recip_size w l)
+    && (in_range f w (prod_reach w a b) && in_range f w (sum_reach (recip_bound f w l) (prod_bound f w a b))))
 
 -- ---- χΔ
 unfoldable pub exact_chi : Value → Value → Value → Value → Value
@@ -163,7 +179,9 @@ tree_chi = chi trees (leaf 0) (leaf 1) (leaf 2) (leaf 3)
 -- ---- the tests: a sum's error is at most e, and nothing in it overflows
 unfoldable pub total_holds : Format → ℕ → Bound → Bound → Part → ℕ → ℕ → ℕ → Bool
 unfolding total_no_overflow term_no_overflow bound_total bound_term
-total_holds f w a b c o n e = total_no_overflow f w (term_no_overflow f w a b c o) (bound_term f w a b c o) n && leb (bound_total f w (bound_term f w a b c o) n).error e
+total_holds f w a b c o n e =
+    total_no_overflow f w (term_no_overflow f w a b c o) (bound_term f w a b c o) n
+    && leb (bound_total f w (bound_term f w a b c o) n).error e
 
 unfoldable pub horner_holds : Format → ℕ → Bound → ℕ → ℕ → ℕ → Bool
 unfolding horner_no_overflow bound_horner
@@ -173,10 +191,13 @@ abbrev pub chi_leaves : {A : Type 0} → A → A → A → A → List A
 chi_leaves sigma z v0 v2 = sigma ∷ z ∷ v0 ∷ v2 ∷ []
 
 unfoldable pub chi_holds : Format → ℕ → Bound → Bound → ℕ → ℕ → Bool
-unfolding no_overflow bound tree_chi bound_horner bound_total bound_term horner_no_overflow total_no_overflow term_no_overflow
+unfolding no_overflow bound tree_chi bound_horner bound_total bound_term horner_no_overflow total_no_overflow
+    term_no_overflow
 chi_holds f w a b k e =
-    let l = nth no_bound (chi_leaves a b (bound_horner f w a 1 k) (bound_total f w (bound_term f w a b zeta_part 1) (k + 2))) in
-    horner_no_overflow f w a 1 k && (total_no_overflow f w (term_no_overflow f w a b zeta_part 1) (bound_term f w a b zeta_part 1) (k + 2) && (no_overflow f w l tree_chi && leb (bound f w l tree_chi).error e))
+    let l = nth no_bound (chi_leaves a b (bound_horner f w a 1 k)
+    (bound_total f w (bound_term f w a b zeta_part 1) (k + 2))) in
+    horner_no_overflow f w a 1 k && (total_no_overflow f w (term_no_overflow f w a b zeta_part 1)
+    (bound_term f w a b zeta_part 1) (k + 2) && (no_overflow f w l tree_chi && leb (bound f w l tree_chi).error e))
 
 -- ---- with the truncation: each coefficient is finite, and within its e / w of every sum of k terms or more
 pub record Eight (A : Type 0) : Type 0 where
@@ -197,7 +218,8 @@ pub record Accurate (w : ℕ) (c : Sim3Coeffs) (s t : Value) (k : ℕ) (e : Eigh
   pub w1 : (n : ℕ) → AbsoluteError w c.w1 (exact_total (exact_term s t xi_part 2) (suc k + n)) e.w1
   pub w2 : (n : ℕ) → AbsoluteError w c.w2 (exact_total (exact_term s t zeta_part 2) (suc (suc k) + n)) e.w2
   pub dv1 : (n : ℕ) → AbsoluteError w c.dv1 (exact_total (exact_term s t dxi_part 1) (suc (suc (suc k)) + n)) e.dv1
-  pub dv2 : (n : ℕ) → AbsoluteError w c.dv2 (exact_total (exact_term s t dzeta_part 1) (suc (suc (suc (suc k))) + n)) e.dv2
+  pub dv2 : (n : ℕ) → AbsoluteError w c.dv2 (exact_total (exact_term s t dzeta_part 1) (suc (suc (suc (suc k))) + n))
+      e.dv2
 
 -- the same against every sum of m terms or more
 pub record AccurateFrom (w : ℕ) (c : Sim3Coeffs) (s t : Value) (m : ℕ) (e : Eight ℕ) : Type 0 where
@@ -251,8 +273,8 @@ abbrev pub most_terms : Format → ℕ
 most_terms binary32 = 15
 most_terms binary64 = 23
 
--- c are the coefficients at σ and z: where the computed Δ is below the limit of the series and z not below zero, each is
--- finite and within its bound of every exact sum of `most_terms` terms or more
+-- c are the coefficients at σ and z: where the computed Δ is below the limit of the series and z not below zero, each
+-- is finite and within its bound of every exact sum of `most_terms` terms or more
 pub record CoefficientsAccurate (f : Format) (sigma z : Float) (c : Sim3Coeffs) : Type 0 where
   pub eight : T (lt (coeffs_delta f sigma z) (series_below f)) → T (not (lt z f0)) →
       AccurateFrom (2 ^ 100) c (value_of sigma) (value_of z) (most_terms f) (series_errors f)

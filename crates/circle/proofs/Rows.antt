@@ -22,5 +22,8 @@ cos_half-least binary64 a_row = tt
 cos_half-least binary64 b_row = tt
 cos_half-least binary64 d_row = tt
 
-pub below_all : (f : Format) (row : Row) (z : Float) → lt z (row_limit f cos_half_row) ≡ true → lt z (row_limit f row) ≡ true
-below_all f row z e = is_true _ (lt_of_lt_of_le z (row_limit f cos_half_row) (row_limit f row) (subst T (sym e) tt) (cos_half-least f row))
+pub below_all : (f : Format) (row : Row) (z : Float) → lt z (row_limit f cos_half_row) ≡ true →
+    lt z (row_limit f row) ≡ true
+below_all f row z e =
+    is_true _ (lt_of_lt_of_le z (row_limit f cos_half_row) (row_limit f row) (subst T (sym e) tt)
+    (cos_half-least f row))

@@ -1,5 +1,5 @@
--- The circle functions at a squared angle z, with its root, the sine sh and cosine ch of half the root and the sine s of
--- the root handed in.
+-- The circle functions at a squared angle z, with its root, the sine sh and cosine ch of half the root and the sine s
+-- of the root handed in.
 use Rattle.std.specs.Prelude.{List, [], ◌∷◌, Bool, cond, ℕ, take, Float}
 use Rattle.std.specs.Float.{Format}
 use Rattle.std.specs.Float.Ieee.{lt}

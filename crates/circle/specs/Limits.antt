@@ -1,4 +1,5 @@
--- How many terms of a row an arm reads, and below which limit, in each format. The binary64 limits are the scope's, the binary32 ones the Rust's.
+-- How many terms of a row an arm reads, and below which limit, in each format. The binary64 limits are the scope's, the
+-- binary32 ones the Rust's.
 use Rattle.std.specs.Prelude.{ℕ, Float}
 use Rattle.std.specs.Float.{Format, binary32, binary64}
 use Rattle.std.specs.Float.Ieee.{of_bits}

@@ -8,13 +8,15 @@ ghost use Rattle.linalg.specs.Vector.{vec_norm_sq};
 ghost use Rattle.tables.specs.Tables.{b_row};
 ghost use Rattle.tables.specs.Rows.{row_named};
 ghost use Rattle.circle.specs.Limits.{row_limit};
-ghost use Rattle.circle.specs.Kernel.{horner_sum, row_series, row_whole, row_own, exact_a, exact_b, exact_d, sinc_from, circle_exp, circle_sinc_abd, circle_sinc_a, circle_exp_answer, circle_sinc_answer, circle_sinc_abd_answer, circle_sinc_a_answer, not_below_zero};
-ghost use Rattle.linalg.specs.Answer.{answer, told};
+ghost use Rattle.circle.specs.Kernel.{horner_sum, row_series, row_whole, row_own, exact_a, exact_b, exact_d, sinc_from};
+ghost use Rattle.circle.specs.Kernel.{circle_exp, circle_sinc_abd, circle_sinc_a, circle_exp_answer};
+ghost use Rattle.circle.specs.Kernel.{circle_sinc_answer, circle_sinc_abd_answer, circle_sinc_a_answer, not_below_zero};
+ghost use Rattle.linalg.specs.Answer.{answer, view};
 ghost use Rattle.circle.specs.Private.{asked_of};
 ghost use Rattle.circle.specs.Floats.{as_exp_coeffs, as_sinc_a, as_sinc_abd};
 ghost use Rattle.linalg.specs.Floats.{as_vec3};
 
-use crate::generated::Limits;
+use crate::row_limits::Limits;
 use linalg::refusal::Refusal;
 use linalg::vector::Vec3;
 use tables::Row;
@@ -101,7 +103,8 @@ fn own_arm<T: Limits>(row: Row, z: T, exact: T) -> T
 // The group of k and cos_half. The limit of cos_half is the lesser, so below it both are on their
 // series and no exact form is worked.
 fn exp_group<T: Limits>(z: T, root: T, sin_half: T, cos_half: T) -> ExpCoeffs<T>
-    ensures { as_exp_coeffs T.float result ≡ circle_exp T.format (T.float z) (T.float root) (T.float sin_half) (T.float cos_half) }
+    ensures { as_exp_coeffs T.float result ≡ circle_exp T.format (T.float z) (T.float root) (T.float sin_half)
+        (T.float cos_half) }
 {
     if z.is_below(T::exp_short_below()) {
         let n = T::short_terms();
@@ -130,7 +133,8 @@ pub fn exp_coeffs<T: Limits>(
     sin_half: T,
     cos_half: T,
 ) -> Result<ExpCoeffs<T>, Refusal>
-    ensures { told (as_exp_coeffs T.float) result ≡ circle_exp_answer T.format (T.float z) (T.float root) (T.float sin_half) (T.float cos_half) }
+    ensures { view (as_exp_coeffs T.float) result ≡ circle_exp_answer T.format (T.float z) (T.float root)
+        (T.float sin_half) (T.float cos_half) }
 {
     unless_negative(z)?;
     Ok(exp_group(z, root, sin_half, cos_half))
@@ -138,7 +142,8 @@ pub fn exp_coeffs<T: Limits>(
 
 // (k, cos(x/2)) of a rotation vector: z is its squared norm, which is never below zero.
 pub fn exp_coeffs_of<T: Limits>(phi: Vec3<T>, root: T, sin_half: T, cos_half: T) -> ExpCoeffs<T>
-    ensures { as_exp_coeffs T.float result ≡ circle_exp T.format (vec_norm_sq T.format (as_vec3 T.float phi)) (T.float root) (T.float sin_half) (T.float cos_half) }
+    ensures { as_exp_coeffs T.float result ≡ circle_exp T.format (vec_norm_sq T.format (as_vec3 T.float phi))
+        (T.float root) (T.float sin_half) (T.float cos_half) }
 {
     exp_group(phi.norm_sq(), root, sin_half, cos_half)
 }
@@ -146,7 +151,8 @@ pub fn exp_coeffs_of<T: Limits>(phi: Vec3<T>, root: T, sin_half: T, cos_half: T)
 // sin x/x at x^2 = z, 2 k cos(x/2) of `exp_coeffs`; refusal 1 for z below zero.
 #[tactic(auto, unfolding(crate::specs::Kernel::circle_sinc_answer, crate::specs::Kernel::circle_sinc))]
 pub fn sinc_value<T: Limits>(z: T, root: T, sin_half: T, cos_half: T) -> Result<T, Refusal>
-    ensures { told T.float result ≡ circle_sinc_answer T.format (T.float z) (T.float root) (T.float sin_half) (T.float cos_half) }
+    ensures { view T.float result ≡ circle_sinc_answer T.format (T.float z) (T.float root) (T.float sin_half)
+        (T.float cos_half) }
 {
     unless_negative(z)?;
     let c = exp_group(z, root, sin_half, cos_half);
@@ -163,7 +169,9 @@ fn asked<T: Limits, const ALL: bool>(x: T) -> T
 // The group of five, k and cos_half as sin x/x. Where not all are asked for, b and d are zero, and the
 // compiler leaves out what nothing reads.
 fn group<T: Limits, const ALL: bool>(z: T, root: T, sin_half: T, cos_half: T, sin: T) -> SincABD<T>
-    ensures { as_sinc_abd T.float result ≡ asked_of ALL (circle_sinc_abd T.format (T.float z) (T.float root) (T.float sin_half) (T.float cos_half) (T.float sin)) }
+    ensures { as_sinc_abd T.float result
+        ≡ asked_of ALL (circle_sinc_abd T.format (T.float z) (T.float root) (T.float sin_half) (T.float cos_half)
+        (T.float sin)) }
 {
     if z.is_below(T::five_short_below()) {
         let n = T::short_terms();
@@ -201,7 +209,8 @@ pub fn b_takes_exact_arm_of<T: Limits>(phi: Vec3<T>) -> bool
 
 // The group of five at any z: `sinc_a_b_d` for a caller that has refused z already.
 pub fn five_group<T: Limits>(z: T, root: T, sin_half: T, cos_half: T, sin: T) -> SincABD<T>
-    ensures { as_sinc_abd T.float result ≡ circle_sinc_abd T.format (T.float z) (T.float root) (T.float sin_half) (T.float cos_half) (T.float sin) }
+    ensures { as_sinc_abd T.float result ≡ circle_sinc_abd T.format (T.float z) (T.float root) (T.float sin_half)
+        (T.float cos_half) (T.float sin) }
 {
     group::<T, true>(z, root, sin_half, cos_half, sin)
 }
@@ -209,7 +218,8 @@ pub fn five_group<T: Limits>(z: T, root: T, sin_half: T, cos_half: T, sin: T) ->
 // sinc and a of the group of five alone, with its bits, at any z.
 #[tactic(auto, unfolding(crate::specs::Kernel::circle_sinc_a, crate::specs::Kernel::circle_sinc_abd))]
 pub fn two_group<T: Limits>(z: T, root: T, sin_half: T, cos_half: T) -> SincA<T>
-    ensures { as_sinc_a T.float result ≡ circle_sinc_a T.format (T.float z) (T.float root) (T.float sin_half) (T.float cos_half) }
+    ensures { as_sinc_a T.float result ≡ circle_sinc_a T.format (T.float z) (T.float root) (T.float sin_half)
+        (T.float cos_half) }
 {
     let c = group::<T, false>(z, root, sin_half, cos_half, T::of(0.0));
     SincA {
@@ -227,7 +237,8 @@ pub fn sinc_a_b_d<T: Limits>(
     cos_half: T,
     sin: T,
 ) -> Result<SincABD<T>, Refusal>
-    ensures { told (as_sinc_abd T.float) result ≡ circle_sinc_abd_answer T.format (T.float z) (T.float root) (T.float sin_half) (T.float cos_half) (T.float sin) }
+    ensures { view (as_sinc_abd T.float) result ≡ circle_sinc_abd_answer T.format (T.float z) (T.float root)
+        (T.float sin_half) (T.float cos_half) (T.float sin) }
 {
     unless_negative(z)?;
     Ok(five_group(z, root, sin_half, cos_half, sin))
@@ -236,7 +247,8 @@ pub fn sinc_a_b_d<T: Limits>(
 // sinc and a of `sinc_a_b_d` alone, which the closed form of V reads; refusal 1 for z below zero.
 #[tactic(auto, unfolding(crate::specs::Kernel::circle_sinc_a_answer))]
 pub fn sinc_a<T: Limits>(z: T, root: T, sin_half: T, cos_half: T) -> Result<SincA<T>, Refusal>
-    ensures { told (as_sinc_a T.float) result ≡ circle_sinc_a_answer T.format (T.float z) (T.float root) (T.float sin_half) (T.float cos_half) }
+    ensures { view (as_sinc_a T.float) result ≡ circle_sinc_a_answer T.format (T.float z) (T.float root)
+        (T.float sin_half) (T.float cos_half) }
 {
     unless_negative(z)?;
     Ok(two_group(z, root, sin_half, cos_half))

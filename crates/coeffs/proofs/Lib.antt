@@ -1,2 +1,5 @@
+pub mod Unfolds
+pub mod ClosedForms
+pub mod GroupForms
 pub mod Arms
 pub mod Even

@@ -1,4 +1,5 @@
--- What the entries answer: refusal 1 for a squared angle below zero, else the coefficients; and the pair, the one-sign answers beside each other.
+-- What the entries answer: refusal 1 for a squared angle below zero, else the coefficients; and the pair, the one-sign
+-- answers beside each other.
 use Rattle.std.specs.Prelude.{Float}
 use Rattle.std.specs.Float.{Format}
 use Rattle.std.specs.Float.Ieee.{neg}
@@ -6,9 +7,9 @@ use Rattle.linalg.specs.Answer.{Answer, answers, and_then}
 use Rattle.circle.specs.Kernel.{not_below_zero}
 use Rattle.series.specs.Floats.{Sim3Coeffs}
 use Rattle.series.specs.Floats.{Coeffs4}
-use Rattle.closed.specs.Values.{mirrored}
-use Rattle.coeffs.specs.Group.{coeffs_scaled, coeffs_armed, coeffs_plain, coeffs_v, coeffs_v_scaled}
-use Rattle.closed.specs.Floats.{Values}
+use Rattle.arms.specs.Values.{mirrored}
+use Rattle.coeffs.specs.Group.{coeffs_scaled, coeffs_armed, coeffs_unscaled, coeffs_v, coeffs_v_scaled}
+use Rattle.arms.specs.Floats.{Values}
 use Rattle.coeffs.specs.Floats.{Scaled}
 use Rattle.coeffs.specs.Floats.{VScaled}
 use Rattle.coeffs.specs.Floats.{ScaledPair}
@@ -20,7 +21,7 @@ unfoldable pub scaled_answer : Format → Float → Float → Values → Answer 
 scaled_answer f sigma z v = not_below_zero z (coeffs_scaled f sigma z v)
 
 unfoldable pub coeffs_answer : Format → Float → Float → Values → Answer Sim3Coeffs
-coeffs_answer f sigma z v = not_below_zero z (coeffs_plain f sigma z v)
+coeffs_answer f sigma z v = not_below_zero z (coeffs_unscaled f sigma z v)
 
 unfoldable pub v_answer : Format → Float → Float → Values → Answer Coeffs4
 v_answer f sigma z v = not_below_zero z (coeffs_v f sigma z v)
@@ -43,4 +44,5 @@ unfoldable pub beside_armed : Answer Armed → Answer Armed → Answer ArmedPair
 beside_armed a b = and_then a (λ p. and_then b (λ n. answers (record { pos = p; neg = n })))
 
 unfoldable pub armed_pair_answer : Format → Float → Float → Values → Answer ArmedPair
-armed_pair_answer f sigma z v = beside_armed (armed_answer f sigma z v) (armed_answer f (neg sigma) z (mirrored sigma v))
+armed_pair_answer f sigma z v =
+    beside_armed (armed_answer f sigma z v) (armed_answer f (neg sigma) z (mirrored sigma v))

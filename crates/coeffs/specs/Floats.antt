@@ -1,4 +1,5 @@
--- The structs over the floats that the definitions speak of, and each struct of the code as one of them: `h` gives the float of a number.
+-- The structs over the floats that the definitions speak of, and each struct of the code as one of them: `h` gives the
+-- float of a number.
 use Rattle.std.specs.Prelude.{ℕ, Bool, Float}
 use Rattle.coeffs.specs.declared.closed_form.Ws as CodeWs
 use Rattle.coeffs.specs.declared.closed_form.Dvs as CodeDvs
@@ -11,7 +12,7 @@ use Rattle.series.specs.declared.sim3.Signs as CodeSigns
 use Rattle.series.specs.declared.sim3.Sim3Coeffs as CodeSim3Coeffs
 use Rattle.series.specs.declared.sim3.Coeffs4 as CodeCoeffs4
 use Rattle.series.specs.Floats.{Coeffs4, Sim3Coeffs, as_coeffs4, as_sim3_coeffs}
-use Rattle.closed.specs.Arm.{arm_number}
+use Rattle.arms.specs.Arm.{arm_number}
 
 abbrev pub Ws : Type 0
 Ws = CodeWs.Ws Float
@@ -58,7 +59,8 @@ as_v_scaled h a = record { c = as_coeffs4 h a.c; scaled = a.scaled }
 abbrev pub ScaledPair : Type 0
 ScaledPair = CodeSigns.Signs Scaled
 
-abbrev pub as_scaled_pair : {T : Type 0} → (T → Float) → CodeSigns.Signs (CodeScaled.Scaled (CodeSim3Coeffs.Sim3Coeffs T)) → ScaledPair
+abbrev pub as_scaled_pair : {T : Type 0} → (T → Float) → CodeSigns.Signs
+    (CodeScaled.Scaled (CodeSim3Coeffs.Sim3Coeffs T)) → ScaledPair
 as_scaled_pair h a = record { pos = as_scaled h a.pos; neg = as_scaled h a.neg }
 
 -- the arm by its number

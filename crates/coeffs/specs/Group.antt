@@ -9,11 +9,11 @@ use Rattle.series.specs.Floats.{Sim3Coeffs}
 use Rattle.series.specs.Floats.{Coeffs4}
 use Rattle.circle.specs.Kernel.{circle_sinc_abd}
 use Rattle.circle.specs.Floats.{SincABD}
-use Rattle.closed.specs.Values.{mirrored}
-use Rattle.closed.specs.Limits.{coeffs_delta, form_b_below}
-use Rattle.closed.specs.Arm.{coeffs_arm, arm_terms, arm_ends}
-use Rattle.coeffs.specs.Closed.{closed_from}
-use Rattle.closed.specs.Floats.{Values}
+use Rattle.arms.specs.Values.{mirrored}
+use Rattle.arms.specs.Limits.{coeffs_delta, form_b_below}
+use Rattle.arms.specs.Arm.{coeffs_arm, arm_terms, arm_ends}
+use Rattle.coeffs.specs.ClosedForm.{closed_from}
+use Rattle.arms.specs.Floats.{Values}
 use Rattle.coeffs.specs.Floats.{Scaled}
 use Rattle.coeffs.specs.Floats.{VScaled}
 use Rattle.coeffs.specs.Floats.{ScaledPair}
@@ -24,7 +24,11 @@ use Rattle.coeffs.specs.Floats.{ArmedPair}
 -- exactly where 0 < σ
 abbrev pub closed_scaled : Format → Float → Float → SincABD → Float → Float → Bool → Scaled
 closed_scaled f sigma z t et mt ends =
-    record { c = closed_from f sigma z t et mt (le (form_b_below f) (coeffs_delta f sigma z)) ends; scaled = lt f0 sigma }
+    record {
+      c = closed_from f sigma z t et mt (le (form_b_below f) (coeffs_delta f sigma z)) ends;
+      scaled =
+          lt f0 sigma;
+    }
 
 -- the series on the arms 1 to 4, with the terms of the arm; the closed forms on arm 5
 unfoldable pub coeffs_scaled : Format → Float → Float → Values → Scaled
@@ -66,8 +70,8 @@ module _ (f : Format) where
       let s = cond scaled up f1 in
       record { v0 = s ⊗ c.v0; v1 = s ⊗ c.v1; v2 = s ⊗ c.v2; chi_delta = s ⊗ c.chi_delta }
 
-unfoldable pub coeffs_plain : Format → Float → Float → Values → Sim3Coeffs
-coeffs_plain f sigma z v = coeffs_unscale f (coeffs_scaled f sigma z v).c v.up (coeffs_scaled f sigma z v).scaled
+unfoldable pub coeffs_unscaled : Format → Float → Float → Values → Sim3Coeffs
+coeffs_unscaled f sigma z v = coeffs_unscale f (coeffs_scaled f sigma z v).c v.up (coeffs_scaled f sigma z v).scaled
 
 -- v and χΔ alone are the full answer's, bit for bit
 unfoldable pub coeffs_v_scaled : Format → Float → Float → Values → VScaled
@@ -76,7 +80,7 @@ coeffs_v_scaled f sigma z v =
     record { c = coeffs4 s.c; scaled = s.scaled }
 
 unfoldable pub coeffs_v : Format → Float → Float → Values → Coeffs4
-coeffs_v f sigma z v = coeffs4 (coeffs_plain f sigma z v)
+coeffs_v f sigma z v = coeffs4 (coeffs_unscaled f sigma z v)
 
 -- both signs: at σ on the values, and at -σ on the mirrored values
 unfoldable pub coeffs_pair : Format → Float → Float → Values → ScaledPair

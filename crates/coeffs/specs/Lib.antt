@@ -1,5 +1,6 @@
+-- To be read in this order. Private is for the proofs alone: no public contract cites it.
 pub mod Floats
-pub mod Closed
+pub mod ClosedForm
 pub mod Group
 pub mod Entries
 pub mod Private

@@ -6,11 +6,12 @@ use Rattle.ieee.specs.Numbers.{f0}
 use Rattle.series.specs.Series.{series_full}
 use Rattle.series.specs.Floats.{Sim3Coeffs}
 use Rattle.circle.specs.Floats.{SincABD}
-use Rattle.closed.specs.Values.{at_zero}
-use Rattle.closed.specs.Limits.{form_b_below}
-use Rattle.closed.specs.Arm.{arm_terms}
-use Rattle.closed.specs.Floats.{Values}
-use Rattle.coeffs.specs.Closed.{closed_e, closed_m, closed_g, closed_v0, closed_w0, closed_v, closed_nine, closed_from}
+use Rattle.arms.specs.Values.{at_zero}
+use Rattle.arms.specs.Limits.{form_b_below}
+use Rattle.arms.specs.Arm.{arm_terms}
+use Rattle.arms.specs.Floats.{Values}
+use Rattle.coeffs.specs.ClosedForm.{closed_e, closed_m, closed_g, closed_v0, closed_w0, closed_v, closed_nine}
+use Rattle.coeffs.specs.ClosedForm.{closed_from}
 use Rattle.coeffs.specs.Floats.{Exps}
 use Rattle.coeffs.specs.Floats.{Ends}
 use Rattle.coeffs.specs.Floats.{EtMt}
@@ -50,7 +51,8 @@ pair_ends f sigma small v =
 
 -- one sign of the closed arm at Δ, v₀ and w₀ by their series where `small`; and both, with v₀ and w₀ given
 unfoldable pub closed_one : Format → Float → Float → Float → Bool → SincABD → Values → Scaled
-closed_one f sigma z delta small t v = record { c = closed_from f sigma z t v.e v.m (le (form_b_below f) delta) small; scaled = lt f0 sigma }
+closed_one f sigma z delta small t v =
+    record { c = closed_from f sigma z t v.e v.m (le (form_b_below f) delta) small; scaled = lt f0 sigma }
 
 unfoldable pub closed_pair : Format → Float → Float → Float → Ends → SincABD → Values → ScaledPair
 closed_pair f sigma z delta h t v =

@@ -2,19 +2,20 @@
 // 0 < sigma, so that nothing overflows before the answer does.
 ghost use Rattle.std.specs.Prelude.{◌≡◌};
 ghost use Rattle.std.specs.Float.Ieee.{neg};
-ghost use Rattle.coeffs.specs.Closed.{closed_v0, closed_w0, closed_v, closed_ws, closed_dvs, closed_nine, closed_v_from, closed_only, closed_from};
+ghost use Rattle.coeffs.specs.ClosedForm.{closed_v0, closed_w0, closed_v, closed_ws, closed_dvs, closed_nine};
+ghost use Rattle.coeffs.specs.ClosedForm.{closed_v_from, closed_only, closed_from};
 ghost use Rattle.coeffs.specs.Private.{closed_exps, closed_ends, closed_with};
 ghost use Rattle.series.specs.Floats.{as_coeffs4, as_coeffs_pair, as_sim3_coeffs};
 ghost use Rattle.coeffs.specs.Floats.{as_dvs, as_ends, as_exps, as_ws};
 ghost use Rattle.circle.specs.Floats.{as_sinc_a, as_sinc_abd};
 
 use crate::width::Width;
+use arms::values::at_zero;
 use circle::kernel::{SincA, SincABD};
-use closed::values::at_zero;
 use series::sim3::{Coeffs4, CoeffsPair, Sim3Coeffs};
 
 // v0 by its series where `small`, else m1/sigma, and 1 where sigma is a zero.
-#[tactic(auto, unfolding(crate::specs::Closed::closed_v0))]
+#[tactic(auto, unfolding(crate::specs::ClosedForm::closed_v0))]
 fn v0_of<T: Width>(sigma: T, g: T, m1: T, small: bool) -> T
     ensures { T.float result ≡ closed_v0 T.format (T.float sigma) (T.float g) (T.float m1) small }
 {
@@ -27,7 +28,7 @@ fn v0_of<T: Width>(sigma: T, g: T, m1: T, small: bool) -> T
 }
 
 // w0 by its series where `small`, else (m1 - sigma g)/sigma^2.
-#[tactic(auto, unfolding(crate::specs::Closed::closed_w0))]
+#[tactic(auto, unfolding(crate::specs::ClosedForm::closed_w0))]
 fn w0_of<T: Width>(sigma: T, g: T, m1: T, small: bool) -> T
     ensures { T.float result ≡ closed_w0 T.format (T.float sigma) (T.float g) (T.float m1) small }
 {
@@ -39,9 +40,10 @@ fn w0_of<T: Width>(sigma: T, g: T, m1: T, small: bool) -> T
 }
 
 // v1, v2 and chi_delta from v0.
-#[tactic(auto, unfolding(crate::specs::Closed::closed_v, crate::specs::Closed::closed_only, closed::specs::Limits::coeffs_delta))]
+#[tactic(auto, unfolding(crate::proofs::ClosedForms::closed_forms, arms::specs::Limits::coeffs_delta))]
 fn v_from<T: Width>(sigma: T, z: T, t: SincA<T>, e: T, m1: T, v0: T, form_b: bool) -> Coeffs4<T>
-    ensures { as_coeffs4 T.float result ≡ closed_v T.format (T.float sigma) (T.float z) (closed_only (as_sinc_a T.float t)) (T.float e) (T.float m1) (T.float v0) form_b }
+    ensures { as_coeffs4 T.float result ≡ closed_v T.format (T.float sigma) (T.float z)
+        (closed_only (as_sinc_a T.float t)) (T.float e) (T.float m1) (T.float v0) form_b }
 {
     let sinc = t.sinc;
     let a = t.a;
@@ -67,9 +69,10 @@ pub struct Ws<T> {
 }
 
 // w1 and w2 from v1, v2 and w0.
-#[tactic(auto, unfolding(crate::specs::Closed::closed_ws, closed::specs::Limits::coeffs_delta))]
+#[tactic(auto, unfolding(crate::specs::ClosedForm::closed_ws, arms::specs::Limits::coeffs_delta))]
 fn w_from<T: Width>(sigma: T, z: T, v: Coeffs4<T>, w0: T) -> Ws<T>
-    ensures { as_ws T.float result ≡ closed_ws T.format (T.float sigma) (T.float z) (as_coeffs4 T.float v) (T.float w0) }
+    ensures { as_ws T.float result ≡ closed_ws T.format (T.float sigma) (T.float z) (as_coeffs4 T.float v)
+        (T.float w0) }
 {
     let delta = sigma * sigma + z;
     let w2 = ((w0 + sigma * v.v2) - v.v1) / delta;
@@ -88,7 +91,8 @@ pub struct Dvs<T> {
 
 // The derivatives from v2 and those of the circle functions.
 fn dv_from<T: Width>(sigma: T, z: T, t: SincABD<T>, e: T, v2: T) -> Dvs<T>
-    ensures { as_dvs T.float result ≡ closed_dvs T.format (T.float sigma) (T.float z) (as_sinc_abd T.float t) (T.float e) (T.float v2) }
+    ensures { as_dvs T.float result ≡ closed_dvs T.format (T.float sigma) (T.float z) (as_sinc_abd T.float t)
+        (T.float e) (T.float v2) }
 {
     let delta = sigma * sigma + z;
     let da = -(T::of(0.5) * (t.b - T::of(2.0) * t.d));
@@ -101,9 +105,10 @@ fn dv_from<T: Width>(sigma: T, z: T, t: SincABD<T>, e: T, v2: T) -> Dvs<T>
 }
 
 // All nine from v, w0 and e: w1, w2 and the derivatives are formed here.
-#[tactic(auto, unfolding(crate::specs::Closed::closed_joined, crate::specs::Closed::closed_nine))]
+#[tactic(auto, unfolding(crate::specs::ClosedForm::closed_joined, crate::specs::ClosedForm::closed_nine))]
 fn nine<T: Width>(sigma: T, z: T, t: SincABD<T>, e: T, v: Coeffs4<T>, w0: T) -> Sim3Coeffs<T>
-    ensures { as_sim3_coeffs T.float result ≡ closed_nine T.format (T.float sigma) (T.float z) (as_sinc_abd T.float t) (T.float e) (as_coeffs4 T.float v) (T.float w0) }
+    ensures { as_sim3_coeffs T.float result ≡ closed_nine T.format (T.float sigma) (T.float z) (as_sinc_abd T.float t)
+        (T.float e) (as_coeffs4 T.float v) (T.float w0) }
 {
     let w = w_from(sigma, z, v, w0);
     let d = dv_from(sigma, z, t, e, v.v2);
@@ -158,10 +163,10 @@ fn of_v<T: Width>(t: SincABD<T>) -> SincA<T>
     }
 }
 
-// v and chi_delta alone, from the circle functions t and from e^t, e^t - 1 at t = -|sigma|. PERF: it and `v_at` have
-// several callers, and as functions of their own they would be handed their numbers in memory.
+// v and chi_delta alone, from the circle functions t and from e^t, e^t - 1 at t = -|sigma|. PERF (D122): it and `v_at`
+// have several callers, and as functions of their own they would be handed their numbers in memory.
 #[inline(always)]
-#[tactic(auto, unfolding(crate::specs::Closed::closed_v_from, crate::specs::Private::closed_exps))]
+#[tactic(auto, unfolding(crate::specs::ClosedForm::closed_v_from, crate::specs::Private::closed_exps))]
 pub fn closed_v<T: Width>(
     sigma: T,
     z: T,
@@ -170,7 +175,8 @@ pub fn closed_v<T: Width>(
     form_b: bool,
     small: bool,
 ) -> Coeffs4<T>
-    ensures { as_coeffs4 T.float result ≡ closed_v_from T.format (T.float sigma) (T.float z) (closed_only (as_sinc_a T.float t)) (T.float et_mt.et) (T.float et_mt.mt) form_b small }
+    ensures { as_coeffs4 T.float result ≡ closed_v_from T.format (T.float sigma) (T.float z)
+        (closed_only (as_sinc_a T.float t)) (T.float et_mt.et) (T.float et_mt.mt) form_b small }
 {
     let x = exps_of(sigma, et_mt);
     let v0 = v0_of(sigma, x.g, x.m1, small);
@@ -178,7 +184,7 @@ pub fn closed_v<T: Width>(
 }
 
 // All nine, from the same.
-#[tactic(auto, unfolding(crate::specs::Closed::closed_from, crate::specs::Closed::closed_v, crate::specs::Closed::closed_v_from, crate::specs::Closed::closed_only, crate::specs::Private::closed_exps))]
+#[tactic(auto, unfolding(crate::proofs::ClosedForms::closed_forms))]
 pub fn closed_from<T: Width>(
     sigma: T,
     z: T,
@@ -187,7 +193,8 @@ pub fn closed_from<T: Width>(
     form_b: bool,
     small: bool,
 ) -> Sim3Coeffs<T>
-    ensures { as_sim3_coeffs T.float result ≡ closed_from T.format (T.float sigma) (T.float z) (as_sinc_abd T.float t) (T.float et_mt.et) (T.float et_mt.mt) form_b small }
+    ensures { as_sim3_coeffs T.float result ≡ closed_from T.format (T.float sigma) (T.float z) (as_sinc_abd T.float t)
+        (T.float et_mt.et) (T.float et_mt.mt) form_b small }
 {
     let v = closed_v(sigma, z, of_v(t), et_mt, form_b, small);
     let x = exps_of(sigma, et_mt);
@@ -205,9 +212,10 @@ pub struct Ends<T> {
 }
 
 // v0 and w0 at sigma, with the numbers x of the exponential, and at -sigma, with y.
-#[tactic(auto, unfolding(crate::specs::Private::closed_ends, crate::specs::Closed::closed_v0, crate::specs::Closed::closed_w0, series::specs::Series::g_series_pair))]
+#[tactic(auto, unfolding(crate::proofs::ClosedForms::closed_forms, series::specs::Series::g_series_pair))]
 fn ends_of<T: Width>(sigma: T, x: Exps<T>, y: Exps<T>, small: bool) -> Ends<T>
-    ensures { as_ends T.float result ≡ closed_ends T.format (T.float sigma) (as_exps T.float x) (as_exps T.float y) small }
+    ensures { as_ends T.float result ≡ closed_ends T.format (T.float sigma) (as_exps T.float x)
+        (as_exps T.float y) small }
 {
     if small {
         let h = series::small::horner_small(sigma);
@@ -231,7 +239,9 @@ fn ends_of<T: Width>(sigma: T, x: Exps<T>, y: Exps<T>, small: bool) -> Ends<T>
 
 // The same from e^t and e^t - 1 of each sign.
 pub fn ends_both<T: Width>(sigma: T, x: EtMt<T>, y: EtMt<T>, small: bool) -> Ends<T>
-    ensures { as_ends T.float result ≡ closed_ends T.format (T.float sigma) (closed_exps (T.float sigma) (T.float x.et) (T.float x.mt)) (closed_exps (neg (T.float sigma)) (T.float y.et) (T.float y.mt)) small }
+    ensures { as_ends T.float result ≡ closed_ends T.format (T.float sigma)
+        (closed_exps (T.float sigma) (T.float x.et) (T.float x.mt))
+        (closed_exps (neg (T.float sigma)) (T.float y.et) (T.float y.mt)) small }
 {
     let p = exps_of(sigma, x);
     let n = exps_of(-sigma, y);
@@ -240,7 +250,7 @@ pub fn ends_both<T: Width>(sigma: T, x: EtMt<T>, y: EtMt<T>, small: bool) -> End
 
 // All nine at sigma, from x, and at -sigma, from y, with v0 and w0 of both: the circle functions and
 // the squares are shared.
-#[tactic(auto, unfolding(crate::specs::Closed::closed_v, crate::specs::Closed::closed_only, crate::specs::Private::closed_exps, crate::specs::Private::closed_with))]
+#[tactic(auto, unfolding(crate::proofs::ClosedForms::closed_forms))]
 pub fn closed_both<T: Width>(
     sigma: T,
     z: T,
@@ -250,7 +260,13 @@ pub fn closed_both<T: Width>(
     h: Ends<T>,
     form_b: bool,
 ) -> CoeffsPair<T>
-    ensures { as_coeffs_pair T.float result ≡ record { pos = closed_with T.format (T.float sigma) (T.float z) (as_sinc_abd T.float t) (T.float x.et) (T.float x.mt) (T.float h.v0) (T.float h.w0) form_b; neg = closed_with T.format (neg (T.float sigma)) (T.float z) (as_sinc_abd T.float t) (T.float y.et) (T.float y.mt) (T.float h.v0_neg) (T.float h.w0_neg) form_b } }
+    ensures { as_coeffs_pair T.float result ≡ record {
+      pos =
+          closed_with T.format (T.float sigma) (T.float z) (as_sinc_abd T.float t) (T.float x.et) (T.float x.mt)
+          (T.float h.v0) (T.float h.w0) form_b;
+      neg = closed_with T.format (neg (T.float sigma)) (T.float z)
+          (as_sinc_abd T.float t) (T.float y.et) (T.float y.mt) (T.float h.v0_neg) (T.float h.w0_neg) form_b;
+    } }
 {
     let minus = -sigma;
     let p = exps_of(sigma, x);

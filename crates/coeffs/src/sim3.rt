@@ -2,23 +2,25 @@
 // both signs. Each finds the arm once.
 ghost use Rattle.std.specs.Prelude.{◌≡◌};
 ghost use Rattle.linalg.specs.Vector.{vec_norm_sq};
-ghost use Rattle.coeffs.specs.Group.{coeffs_scaled, coeffs_unscale, coeffs_unscale_v, coeffs_plain, coeffs_v_scaled, coeffs_v, coeffs_armed, coeffs_pair, coeffs_armed_pair};
+ghost use Rattle.coeffs.specs.Group.{coeffs_scaled, coeffs_unscale, coeffs_unscale_v, coeffs_unscaled, coeffs_v_scaled};
+ghost use Rattle.coeffs.specs.Group.{coeffs_v, coeffs_armed, coeffs_pair, coeffs_armed_pair};
 ghost use Rattle.coeffs.specs.Private.{closed_one, minus_et_mt, pair_ends, closed_pair, series_arm, series_arms};
 ghost use Rattle.coeffs.specs.Entries.{scaled_answer, coeffs_answer, v_answer, v_scaled_answer, pair_answer};
 ghost use Rattle.coeffs.specs.Entries.{armed_answer, armed_pair_answer};
-ghost use Rattle.linalg.specs.Answer.{told};
+ghost use Rattle.linalg.specs.Answer.{view};
 ghost use Rattle.series.specs.Floats.{as_coeffs4, as_sim3_coeffs};
-ghost use Rattle.coeffs.specs.Floats.{as_armed, as_armed_pair, as_ends, as_et_mt, as_scaled, as_scaled_pair, as_v_scaled};
+ghost use Rattle.coeffs.specs.Floats.{as_armed, as_armed_pair, as_ends, as_et_mt, as_scaled, as_scaled_pair};
+ghost use Rattle.coeffs.specs.Floats.{as_v_scaled};
 ghost use Rattle.circle.specs.Floats.{as_sinc_abd};
 ghost use Rattle.linalg.specs.Floats.{as_vec3};
-ghost use Rattle.closed.specs.Arm.{arm_number, series_number};
-ghost use Rattle.closed.specs.Floats.{as_values};
+ghost use Rattle.arms.specs.Arm.{arm_number, series_number};
+ghost use Rattle.arms.specs.Floats.{as_values};
 
 use crate::closed_form::{Ends, EtMt, closed_both, closed_from, closed_v, ends_both};
 use crate::width::Width;
+use arms::limits::{Arm, SeriesArm, on_form_b, w0_small};
+use arms::values::{Values, at_zero};
 use circle::kernel::{SincABD, five_group, two_group, unless_negative};
-use closed::limits::{Arm, SeriesArm, on_form_b, w0_small};
-use closed::values::{Values, at_zero};
 use linalg::refusal::Refusal;
 use linalg::vector::Vec3;
 use series::count::Count;
@@ -54,7 +56,8 @@ impl<T: Width> Scaled<Sim3Coeffs<T>> {
     // The coefficients times up where scaled, times 1 elsewhere: the last step of the scaled form.
     #[tactic(auto, unfolding(crate::specs::Group::coeffs_unscale))]
     pub fn unscale(self, up: T) -> Sim3Coeffs<T>
-        ensures { as_sim3_coeffs T.float result ≡ coeffs_unscale T.format (as_sim3_coeffs T.float self.c) (T.float up) self.scaled }
+        ensures { as_sim3_coeffs T.float result ≡ coeffs_unscale T.format (as_sim3_coeffs T.float self.c)
+            (T.float up) self.scaled }
     {
         let s = ieee::pick(self.scaled, up, T::of(1.0));
         let c = self.c;
@@ -76,7 +79,8 @@ impl<T: Width> Scaled<Coeffs4<T>> {
     // The same on v and chi_delta alone.
     #[tactic(auto, unfolding(crate::specs::Group::coeffs_unscale_v))]
     fn unscale_v(self, up: T) -> Coeffs4<T>
-        ensures { as_coeffs4 T.float result ≡ coeffs_unscale_v T.format (as_coeffs4 T.float self.c) (T.float up) self.scaled }
+        ensures { as_coeffs4 T.float result ≡ coeffs_unscale_v T.format (as_coeffs4 T.float self.c)
+            (T.float up) self.scaled }
     {
         let s = ieee::pick(self.scaled, up, T::of(1.0));
         let c = self.c;
@@ -119,7 +123,8 @@ fn closed_one<T: Width>(
     t: SincABD<T>,
     v: Values<T>,
 ) -> Scaled<Sim3Coeffs<T>>
-    ensures { as_scaled T.float result ≡ closed_one T.format (T.float sigma) (T.float z) (T.float delta) small (as_sinc_abd T.float t) (as_values T.float v) }
+    ensures { as_scaled T.float result ≡ closed_one T.format (T.float sigma) (T.float z) (T.float delta) small
+        (as_sinc_abd T.float t) (as_values T.float v) }
 {
     Scaled {
         c: closed_from(sigma, z, t, at_plus(v), on_form_b(delta), small),
@@ -148,7 +153,7 @@ fn armed_at<T: Width>(sigma: T, z: T, v: Values<T>) -> Armed<T>
     }
 }
 
-// sim3_v_scaled. PERF: see `closed_v`.
+// sim3_v_scaled. PERF (D122): see `closed_v`.
 #[inline(always)]
 fn v_at<T: Width>(sigma: T, z: T, v: Values<T>) -> VScaled<T>
     ensures { as_v_scaled T.float result ≡ coeffs_v_scaled T.format (T.float sigma) (T.float z) (as_values T.float v) }
@@ -213,7 +218,8 @@ fn closed_pair<T: Width>(
     t: SincABD<T>,
     v: Values<T>,
 ) -> ScaledPair<T>
-    ensures { as_scaled_pair T.float result ≡ closed_pair T.format (T.float sigma) (T.float z) (T.float delta) (as_ends T.float h) (as_sinc_abd T.float t) (as_values T.float v) }
+    ensures { as_scaled_pair T.float result ≡ closed_pair T.format (T.float sigma) (T.float z) (T.float delta)
+        (as_ends T.float h) (as_sinc_abd T.float t) (as_values T.float v) }
 {
     let c = closed_both(
         sigma,
@@ -260,25 +266,31 @@ fn pair_by_series<T: Width>(sigma: T, z: T, arm: SeriesArm) -> ScaledPair<T>
 }
 
 // Both signs with the arm told: it is even in sigma.
-fn tell_pair<T: Width>(p: ScaledPair<T>, arm: Arm, ends: bool) -> ArmedPair<T>
-    ensures { as_armed_pair T.float result ≡ record { pos = record { s = as_scaled T.float p.pos; arm = arm_number arm; ends = ends }; neg = record { s = as_scaled T.float p.neg; arm = arm_number arm; ends = ends } } }
+fn with_arm<T: Width>(p: ScaledPair<T>, arm: Arm, ends: bool) -> ArmedPair<T>
+    ensures { as_armed_pair T.float result
+        ≡ record {
+          pos = record { s = as_scaled T.float p.pos; arm = arm_number arm; ends = ends };
+          neg =
+              record { s = as_scaled T.float p.neg; arm = arm_number arm; ends = ends };
+        } }
 {
     each_sign(p, |s| Armed { s, arm, ends })
 }
 
 // sim3_coeffs_armed_pair.
 fn armed_pair_at<T: Width>(sigma: T, z: T, v: Values<T>) -> ArmedPair<T>
-    ensures { as_armed_pair T.float result ≡ coeffs_armed_pair T.format (T.float sigma) (T.float z) (as_values T.float v) }
+    ensures { as_armed_pair T.float result ≡ coeffs_armed_pair T.format (T.float sigma) (T.float z)
+        (as_values T.float v) }
 {
     let delta = sigma * sigma + z;
     let arm = Arm::at(delta);
     match arm {
-        Arm::Series(by) => tell_pair(pair_by_series(sigma, z, by), arm, false),
+        Arm::Series(by) => with_arm(pair_by_series(sigma, z, by), arm, false),
         Arm::Closed => {
             let ends = w0_small(sigma);
             let h = pair_ends(sigma, ends, v);
             let t = five_group(z, v.root, v.sin_half, v.cos_half, v.sin);
-            tell_pair(closed_pair(sigma, z, delta, h, t, v), arm, ends)
+            with_arm(closed_pair(sigma, z, delta, h, t, v), arm, ends)
         }
     }
 }
@@ -288,38 +300,41 @@ fn armed_pair_at<T: Width>(sigma: T, z: T, v: Values<T>) -> ArmedPair<T>
 // The coefficients at (sigma, z) with the arm told.
 #[tactic(auto, unfolding(crate::specs::Entries::armed_answer))]
 pub fn sim3_coeffs_armed<T: Width>(sigma: T, z: T, v: Values<T>) -> Result<Armed<T>, Refusal>
-    ensures { told (as_armed T.float) result ≡ armed_answer T.format (T.float sigma) (T.float z) (as_values T.float v) }
+    ensures { view (as_armed T.float) result ≡ armed_answer T.format (T.float sigma) (T.float z) (as_values T.float v) }
 {
     unless_negative(z)?;
     Ok(armed_at(sigma, z, v))
 }
 
 // The coefficients at (sigma, z) and whether they are scaled: sim3_coeffs_armed without its arm.
-#[tactic(auto, unfolding(crate::specs::Entries::scaled_answer, crate::specs::Entries::armed_answer, crate::specs::Group::coeffs_armed))]
+#[tactic(auto, unfolding(crate::proofs::GroupForms::entry_answers))]
 pub fn sim3_coeffs_scaled<T: Width>(
     sigma: T,
     z: T,
     v: Values<T>,
 ) -> Result<Scaled<Sim3Coeffs<T>>, Refusal>
-    ensures { told (as_scaled T.float) result ≡ scaled_answer T.format (T.float sigma) (T.float z) (as_values T.float v) }
+    ensures { view (as_scaled T.float) result ≡ scaled_answer T.format (T.float sigma) (T.float z)
+        (as_values T.float v) }
 {
     Ok(sim3_coeffs_armed(sigma, z, v)?.s)
 }
 
 // The coefficients at (sigma, z), unscaled.
-#[tactic(auto, unfolding(crate::specs::Entries::scaled_answer, crate::specs::Entries::coeffs_answer, crate::specs::Group::coeffs_plain))]
+#[tactic(auto, unfolding(crate::proofs::Unfolds::sim3_coeffs_unfolds))]
 pub fn sim3_coeffs<T: Width>(sigma: T, z: T, v: Values<T>) -> Result<Sim3Coeffs<T>, Refusal>
-    ensures { told (as_sim3_coeffs T.float) result ≡ coeffs_answer T.format (T.float sigma) (T.float z) (as_values T.float v) }
+    ensures { view (as_sim3_coeffs T.float) result ≡ coeffs_answer T.format (T.float sigma) (T.float z)
+        (as_values T.float v) }
 {
     let s = sim3_coeffs_scaled(sigma, z, v)?;
     Ok(s.unscale(v.up))
 }
 
-// v and chi_delta of sim3_coeffs_scaled alone: the same bits. PERF: a call of its own would copy the ten values.
+// v and chi_delta of sim3_coeffs_scaled alone: the same bits. PERF (D122): a call of its own would copy the ten values.
 #[inline(always)]
 #[tactic(auto, unfolding(crate::specs::Entries::v_scaled_answer))]
 pub fn sim3_v_scaled<T: Width>(sigma: T, z: T, v: Values<T>) -> Result<VScaled<T>, Refusal>
-    ensures { told (as_v_scaled T.float) result ≡ v_scaled_answer T.format (T.float sigma) (T.float z) (as_values T.float v) }
+    ensures { view (as_v_scaled T.float) result ≡ v_scaled_answer T.format (T.float sigma) (T.float z)
+        (as_values T.float v) }
 {
     unless_negative(z)?;
     Ok(v_at(sigma, z, v))
@@ -327,7 +342,7 @@ pub fn sim3_v_scaled<T: Width>(sigma: T, z: T, v: Values<T>) -> Result<VScaled<T
 
 // v and chi_delta of sim3_coeffs alone: the same bits.
 pub fn sim3_v<T: Width>(sigma: T, z: T, v: Values<T>) -> Result<Coeffs4<T>, Refusal>
-    ensures { told (as_coeffs4 T.float) result ≡ v_answer T.format (T.float sigma) (T.float z) (as_values T.float v) }
+    ensures { view (as_coeffs4 T.float) result ≡ v_answer T.format (T.float sigma) (T.float z) (as_values T.float v) }
 {
     let s = sim3_v_scaled(sigma, z, v)?;
     Ok(s.unscale_v(v.up))
@@ -340,7 +355,8 @@ pub fn sim3_coeffs_armed_pair<T: Width>(
     z: T,
     v: Values<T>,
 ) -> Result<ArmedPair<T>, Refusal>
-    ensures { told (as_armed_pair T.float) result ≡ armed_pair_answer T.format (T.float sigma) (T.float z) (as_values T.float v) }
+    ensures { view (as_armed_pair T.float) result ≡ armed_pair_answer T.format (T.float sigma) (T.float z)
+        (as_values T.float v) }
 {
     unless_negative(z)?;
     Ok(armed_pair_at(sigma, z, v))
@@ -349,13 +365,14 @@ pub fn sim3_coeffs_armed_pair<T: Width>(
 // sim3_coeffs_scaled at sigma and at -sigma, likewise: the armed pair without what it tells besides.
 // So a library has the pair's code once, and the closed arm's numbers are stored once: with callers
 // of its own, closed_pair would be a call, whose answer is copied.
-#[tactic(auto, unfolding(crate::specs::Entries::scaled_answer, crate::specs::Entries::beside, crate::specs::Entries::pair_answer, crate::specs::Entries::armed_answer, crate::specs::Entries::beside_armed, crate::specs::Entries::armed_pair_answer, crate::specs::Group::coeffs_armed))]
+#[tactic(auto, unfolding(crate::proofs::GroupForms::entry_answers))]
 pub fn sim3_coeffs_scaled_pair<T: Width>(
     sigma: T,
     z: T,
     v: Values<T>,
 ) -> Result<ScaledPair<T>, Refusal>
-    ensures { told (as_scaled_pair T.float) result ≡ pair_answer T.format (T.float sigma) (T.float z) (as_values T.float v) }
+    ensures { view (as_scaled_pair T.float) result ≡ pair_answer T.format (T.float sigma) (T.float z)
+        (as_values T.float v) }
 {
     let p = sim3_coeffs_armed_pair(sigma, z, v)?;
     Ok(each_sign(p, |a| a.s))
@@ -370,38 +387,43 @@ pub fn sim3_coeffs_scaled_of<T: Width>(
     sigma: T,
     v: Values<T>,
 ) -> Scaled<Sim3Coeffs<T>>
-    ensures { as_scaled T.float result ≡ coeffs_scaled T.format (T.float sigma) (vec_norm_sq T.format (as_vec3 T.float phi)) (as_values T.float v) }
+    ensures { as_scaled T.float result ≡ coeffs_scaled T.format (T.float sigma)
+        (vec_norm_sq T.format (as_vec3 T.float phi)) (as_values T.float v) }
 {
     armed_at(sigma, phi.norm_sq(), v).s
 }
 
 // sim3_coeffs at |phi|^2.
-#[tactic(auto, unfolding(crate::specs::Group::coeffs_plain))]
+#[tactic(auto, unfolding(crate::specs::Group::coeffs_unscaled))]
 pub fn sim3_coeffs_of<T: Width>(phi: Vec3<T>, sigma: T, v: Values<T>) -> Sim3Coeffs<T>
-    ensures { as_sim3_coeffs T.float result ≡ coeffs_plain T.format (T.float sigma) (vec_norm_sq T.format (as_vec3 T.float phi)) (as_values T.float v) }
+    ensures { as_sim3_coeffs T.float result ≡ coeffs_unscaled T.format (T.float sigma)
+        (vec_norm_sq T.format (as_vec3 T.float phi)) (as_values T.float v) }
 {
     sim3_coeffs_scaled_of(phi, sigma, v).unscale(v.up)
 }
 
 // sim3_v at |phi|^2.
-#[tactic(auto, unfolding(crate::specs::Group::coeffs_plain, crate::specs::Group::coeffs_v, crate::specs::Group::coeffs_v_scaled, crate::specs::Group::coeffs_unscale, crate::specs::Group::coeffs_unscale_v, series::specs::Series::coeffs4))]
+#[tactic(auto, unfolding(crate::proofs::GroupForms::unscaled_forms))]
 pub fn sim3_v_of<T: Width>(phi: Vec3<T>, sigma: T, v: Values<T>) -> Coeffs4<T>
-    ensures { as_coeffs4 T.float result ≡ coeffs_v T.format (T.float sigma) (vec_norm_sq T.format (as_vec3 T.float phi)) (as_values T.float v) }
+    ensures { as_coeffs4 T.float result ≡ coeffs_v T.format (T.float sigma) (vec_norm_sq T.format (as_vec3 T.float phi))
+        (as_values T.float v) }
 {
     v_at(sigma, phi.norm_sq(), v).unscale_v(v.up)
 }
 
 // sim3_coeffs_armed_pair at |phi|^2.
 pub fn sim3_coeffs_armed_pair_of<T: Width>(phi: Vec3<T>, sigma: T, v: Values<T>) -> ArmedPair<T>
-    ensures { as_armed_pair T.float result ≡ coeffs_armed_pair T.format (T.float sigma) (vec_norm_sq T.format (as_vec3 T.float phi)) (as_values T.float v) }
+    ensures { as_armed_pair T.float result ≡ coeffs_armed_pair T.format (T.float sigma)
+        (vec_norm_sq T.format (as_vec3 T.float phi)) (as_values T.float v) }
 {
     armed_pair_at(sigma, phi.norm_sq(), v)
 }
 
 // sim3_coeffs_scaled_pair at |phi|^2.
-#[tactic(auto, unfolding(crate::specs::Group::coeffs_armed, crate::specs::Group::coeffs_armed_pair, crate::specs::Group::coeffs_pair))]
+#[tactic(auto, unfolding(crate::proofs::GroupForms::armed_forms))]
 pub fn sim3_coeffs_scaled_pair_of<T: Width>(phi: Vec3<T>, sigma: T, v: Values<T>) -> ScaledPair<T>
-    ensures { as_scaled_pair T.float result ≡ coeffs_pair T.format (T.float sigma) (vec_norm_sq T.format (as_vec3 T.float phi)) (as_values T.float v) }
+    ensures { as_scaled_pair T.float result ≡ coeffs_pair T.format (T.float sigma)
+        (vec_norm_sq T.format (as_vec3 T.float phi)) (as_values T.float v) }
 {
     each_sign(sim3_coeffs_armed_pair_of(phi, sigma, v), |a| a.s)
 }

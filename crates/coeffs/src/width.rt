@@ -1,6 +1,6 @@
 // The widths of numbers that the coefficients are formed in.
-use circle::generated::Limits;
-use closed::limits::Arms;
+use arms::limits::Arms;
+use circle::row_limits::Limits;
 use series::terms::Terms;
 
 pub trait Width: Limits + Terms + Arms {}

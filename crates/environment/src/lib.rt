@@ -1,5 +1,6 @@
-// Whether the machine computes as the proofs say: with rounding to nearest, and with nothing flushed to
-// zero. Two products of numbers that come from outside, so that no compiler works them out beforehand.
+// Whether the machine computes as the proofs say: with rounding to nearest, and with nothing flushed to zero. Two
+// products of numbers that come from outside, so that no compiler works them out beforehand. Proved: in the documented
+// setting both are what is due (DocumentedIsDue). Rests on ieee.
 #![tactic(auto)]
 
 ghost use Rattle.std.specs.Prelude.{◌≡◌};

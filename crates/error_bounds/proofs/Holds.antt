@@ -5,7 +5,7 @@ use lib.Ieee.{Float, Format, lt}
 use Rattle.ieee.specs.Numbers.{f0}
 use Rattle.linalg.specs.Answer.{Answer}
 use Rattle.linalg.specs.Floats.{Vec3}
-use Rattle.closed.specs.Floats.{Values}
+use Rattle.arms.specs.Floats.{Values}
 use Rattle.coeffs.specs.Entries.{scaled_answer}
 use Rattle.coeffs.specs.Floats.{Scaled}
 use Rattle.sim3.specs.Pose.{pose_act, pose_mul, pose_inverse, pose_renormalized}
@@ -25,31 +25,45 @@ act_holds f x up p r e = subst (λ (y : Vec3). ActionAccurate f x up p y) (sym e
 
 mul_accurate : (f : Format) (x y : Sim3) (up : Float) → MulAccurate f x y up (pose_mul f x y up)
 unfolding pose_mul
-mul_accurate f x y up = record { rotation = product_accurate f x.q y.q; translation = act_accurate f x up y.t; sigma = refl }
+mul_accurate f x y up =
+    record { rotation = product_accurate f x.q y.q; translation = act_accurate f x up y.t; sigma = refl }
 
 pub mul_holds : (f : Format) (x y : Sim3) (up : Float) (r : Sim3) → r ≡ pose_mul f x y up → MulAccurate f x y up r
 mul_holds f x y up r e = subst (λ (z : Sim3). MulAccurate f x y up z) (sym e) (mul_accurate f x y up)
 
 pose-inverse_accurate : (f : Format) (x : Sim3) (down : Float) → InversePoseAccurate f x down (pose_inverse f x down)
-pose-inverse_accurate f x down = record { rotation = unfold pose_inverse in refl; translation = inverse_accurate f x down; sigma = unfold pose_inverse in refl }
+pose-inverse_accurate f x down =
+    record {
+      rotation = unfold pose_inverse in refl;
+      translation = inverse_accurate f x down;
+      sigma =
+          unfold pose_inverse in refl;
+    }
 
-pub inverse-holds : (f : Format) (x : Sim3) (down : Float) (r : Sim3) → r ≡ pose_inverse f x down → InversePoseAccurate f x down r
-inverse-holds f x down r e = subst (λ (z : Sim3). InversePoseAccurate f x down z) (sym e) (pose-inverse_accurate f x down)
+pub inverse-holds : (f : Format) (x : Sim3) (down : Float) (r : Sim3) → r ≡ pose_inverse f x down →
+    InversePoseAccurate f x down r
+inverse-holds f x down r e =
+    subst (λ (z : Sim3). InversePoseAccurate f x down z) (sym e) (pose-inverse_accurate f x down)
 
 pose-renormalized_accurate : (f : Format) (x : Sim3) → RenormalizedPoseAccurate f x (pose_renormalized f x)
 unfolding pose_renormalized
 pose-renormalized_accurate f x = record { rotation = renormalized_accurate f x.q; translation = refl; sigma = refl }
 
 pub renormalized-holds : (f : Format) (x r : Sim3) → r ≡ pose_renormalized f x → RenormalizedPoseAccurate f x r
-renormalized-holds f x r e = subst (λ (z : Sim3). RenormalizedPoseAccurate f x z) (sym e) (pose-renormalized_accurate f x)
+renormalized-holds f x r e =
+    subst (λ (z : Sim3). RenormalizedPoseAccurate f x z) (sym e) (pose-renormalized_accurate f x)
 
-pub exp-holds : (f : Format) (tau : Sim3Tangent) (v : Values) (r : Sim3) → r ≡ pose_exp f tau v → ExponentialAccurate f tau r
+pub exp-holds : (f : Format) (tau : Sim3Tangent) (v : Values) (r : Sim3) → r ≡ pose_exp f tau v →
+    ExponentialAccurate f tau r
 exp-holds f tau v r e = subst (λ (z : Sim3). ExponentialAccurate f tau z) (sym e) ((exponential f).exponential tau v)
 
-answer_accurate : (f : Format) (sigma z : Float) (v : Values) (b : Bool) → lt z f0 ≡ b → CoefficientsAnswered f sigma z (scaled_answer f sigma z v)
+answer_accurate : (f : Format) (sigma z : Float) (v : Values) (b : Bool) → lt z f0 ≡ b →
+    CoefficientsAnswered f sigma z (scaled_answer f sigma z v)
 unfolding scaled_answer
 answer_accurate f sigma z v true e = rw e e
 answer_accurate f sigma z v false e = rw e ((coefficients f).scaled sigma z v)
 
-pub coefficients_hold : (f : Format) (sigma z : Float) (v : Values) (r : Answer Scaled) → r ≡ scaled_answer f sigma z v → CoefficientsAnswered f sigma z r
-coefficients_hold f sigma z v r e = subst (λ (a : Answer Scaled). CoefficientsAnswered f sigma z a) (sym e) (answer_accurate f sigma z v (lt z f0) refl)
+pub coefficients_hold : (f : Format) (sigma z : Float) (v : Values) (r : Answer Scaled) →
+    r ≡ scaled_answer f sigma z v → CoefficientsAnswered f sigma z r
+coefficients_hold f sigma z v r e =
+    subst (λ (a : Answer Scaled). CoefficientsAnswered f sigma z a) (sym e) (answer_accurate f sigma z v (lt z f0) refl)

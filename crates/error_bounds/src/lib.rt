@@ -6,13 +6,14 @@
 
 ghost use Rattle.accuracy.specs.Action.{ActionAccurate};
 ghost use Rattle.accuracy.specs.Exponential.{ExponentialAccurate};
-ghost use Rattle.error_bounds.specs.Poses.{MulAccurate, InversePoseAccurate, RenormalizedPoseAccurate, CoefficientsAnswered};
-ghost use Rattle.linalg.specs.Answer.{told};
+ghost use Rattle.error_bounds.specs.Poses.{MulAccurate, InversePoseAccurate, RenormalizedPoseAccurate};
+ghost use Rattle.error_bounds.specs.Poses.{CoefficientsAnswered};
+ghost use Rattle.linalg.specs.Answer.{view};
 ghost use Rattle.sim3.specs.Floats.{as_sim3, as_sim3_tangent};
 ghost use Rattle.coeffs.specs.Floats.{as_scaled};
 ghost use Rattle.linalg.specs.Floats.{as_vec3};
 
-use closed::values::Values;
+use arms::values::Values;
 use coeffs::sim3::Scaled;
 use coeffs::width::Width;
 use linalg::refusal::Refusal;
@@ -63,7 +64,7 @@ pub fn coefficients<T: Width>(
     z: T,
     v: Values<T>,
 ) -> Result<Scaled<Sim3Coeffs<T>>, Refusal>
-    ensures { CoefficientsAnswered T.format (T.float sigma) (T.float z) (told (as_scaled T.float) result) }
+    ensures { CoefficientsAnswered T.format (T.float sigma) (T.float z) (view (as_scaled T.float) result) }
 {
     coeffs::sim3::sim3_coeffs_scaled(sigma, z, v)
 }

@@ -2,9 +2,9 @@
 use Rattle.std.specs.Prelude.{ℕ}
 use Rattle.std.specs.Float.{Format}
 use Rattle.linalg.specs.Floats.{Mat3}
-use Rattle.closed.specs.Floats.{Values}
+use Rattle.arms.specs.Floats.{Values}
 use Rattle.sim3.specs.Floats.{Sim3Tangent}
-use Rattle.sides.specs.Blocks.{jac_jl}
+use Rattle.side_jacobians.specs.Blocks.{jac_jl}
 use Rattle.frames.specs.Pose.{framed_exp}
 use Rattle.framed_jacobian.specs.Floats.{PoseAndJl}
 

@@ -1,6 +1,7 @@
--- The structs over the floats that the definitions speak of, and each struct of the code as one of them: `h` gives the float of a number.
+-- The structs over the floats that the definitions speak of, and each struct of the code as one of them: `h` gives the
+-- float of a number.
 use Rattle.std.specs.Prelude.{Float}
-use Rattle.sides.specs.declared.side.ExpAndJl as CodeExpAndJl
+use Rattle.side_jacobians.specs.declared.side.ExpAndJl as CodeExpAndJl
 use Rattle.frames.specs.declared.Pose as CodePose
 use Rattle.frames.specs.Floats.{Pose, as_pose}
 use Rattle.jacobian.specs.Floats.{as_sim3_jac}

@@ -1,5 +1,5 @@
-// The exponential beside its left Jacobian, as a pose with its frames. It starts from no pose, so both
-// frames are given; the Jacobian reads none. The numbers are those of crate sides.
+// The exponential beside its left Jacobian, as a pose with its frames. It starts from no pose, so both frames are
+// given; the Jacobian reads none. Proved: the numbers are those of crate side_jacobians. Rests on that and on frames.
 #![tactic(auto)]
 
 ghost use Rattle.std.specs.Prelude.{◌≡◌};
@@ -7,17 +7,17 @@ ghost use Rattle.framed_jacobian.specs.ExpAndJl.{framed_exp_and_jl};
 ghost use Rattle.sim3.specs.Floats.{as_sim3_tangent};
 ghost use Rattle.linalg.specs.Floats.{as_mat3};
 ghost use Rattle.framed_jacobian.specs.Floats.{as_pose_and_jl};
-ghost use Rattle.closed.specs.Floats.{as_values};
+ghost use Rattle.arms.specs.Floats.{as_values};
 
-use closed::values::Values;
+use arms::values::Values;
 use coeffs::width::Width;
 use frames::{Frames, Pose};
 use linalg::matrix::Mat3;
-use sides::side::ExpAndJl;
+use side_jacobians::side::ExpAndJl;
 use sim3::tangent::Sim3Tangent;
 
 // (Exp tau, J_l(tau)) from one evaluation of the coefficients, with the values of tau and J_l(phi).
-#[tactic(auto, unfolding(crate::specs::ExpAndJl::framed_exp_and_jl, frames::specs::Pose::framed_exp, sides::specs::Side::exp_and_jl))]
+#[tactic(auto, unfolding(crate::proofs::Unfolds::exp_and_jl_unfolds))]
 pub fn exp_and_jl<T: Width>(
     tau: Sim3Tangent<T>,
     v: Values<T>,
@@ -28,7 +28,7 @@ pub fn exp_and_jl<T: Width>(
         ≡ framed_exp_and_jl T.format (as_sim3_tangent T.float tau) (as_values T.float v) (as_mat3 T.float jl_phi)
         frames.from frames.to }
 {
-    let both = sides::side::exp_and_jl(tau, v, jl_phi);
+    let both = side_jacobians::side::exp_and_jl(tau, v, jl_phi);
     let Frames { from, to } = frames;
     ExpAndJl {
         x: Pose {

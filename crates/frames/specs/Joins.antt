@@ -1,4 +1,5 @@
--- Poses joined: the frames must meet, and the result has the frames of the joined map. Refusal 9 where they do not meet.
+-- Poses joined: the frames must meet, and the result has the frames of the joined map. Refusal 9 where they do not
+-- meet.
 use Rattle.std.specs.Prelude.{ℕ, cond, eqb, Float}
 use Rattle.std.specs.Float.{Format}
 use Rattle.linalg.specs.Answer.{Answer, answers, refuses}

@@ -2,7 +2,7 @@
 -- What starts from a pose keeps its frames, and the inverse exchanges them; what starts from none is given both.
 use Rattle.std.specs.Prelude.{ℕ, Float}
 use Rattle.std.specs.Float.{Format}
-use Rattle.closed.specs.Floats.{Values}
+use Rattle.arms.specs.Floats.{Values}
 use Rattle.sim3.specs.Pose.{pose_identity, pose_inverse, pose_renormalized}
 use Rattle.sim3.specs.Exp.{pose_exp, pose_rplus, pose_lplus}
 use Rattle.sim3.specs.Floats.{Sim3}

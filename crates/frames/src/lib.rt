@@ -1,21 +1,21 @@
-// Poses with their frames: a pose maps points of the frame `from` to points of the frame `to`. Poses
-// are joined only where the frames meet. The numbers are those of crate sim3, whose functions these
-// call and whose argument orders they keep; the action and the Jacobians read no frame, and take
-// `x.sim3`.
+// Poses with their frames: a pose maps points of the frame `from` to points of the frame `to`. Poses are joined only
+// where the frames meet. Proved: the numbers are those of crate sim3, whose argument orders are kept, and frames behave
+// as those of maps (FramesLaws). The action and the Jacobians read no frame, and take `x.sim3`. Rests on sim3.
 #![tactic(auto)]
 
 ghost use Rattle.std.specs.Prelude.{◌≡◌};
 ghost use Rattle.sim3.specs.Pose.{pose};
-ghost use Rattle.frames.specs.Pose.{framed, framed_identity, framed_exp, framed_inverse, framed_renormalized, framed_rplus, framed_lplus};
+ghost use Rattle.frames.specs.Pose.{framed, framed_identity, framed_exp, framed_inverse, framed_renormalized};
+ghost use Rattle.frames.specs.Pose.{framed_rplus, framed_lplus};
 ghost use Rattle.frames.specs.Joins.{meets, framed_mul, framed_mul_inv, framed_inv_mul};
-ghost use Rattle.linalg.specs.Answer.{told};
-ghost use Rattle.closed.specs.Floats.{as_values};
+ghost use Rattle.linalg.specs.Answer.{view};
+ghost use Rattle.arms.specs.Floats.{as_values};
 ghost use Rattle.linalg.specs.Floats.{as_vec3};
 ghost use Rattle.so3.specs.Floats.{as_quat};
 ghost use Rattle.sim3.specs.Floats.{as_sim3, as_sim3_tangent};
 ghost use Rattle.frames.specs.Floats.{as_pose};
 
-use closed::values::Values;
+use arms::values::Values;
 use coeffs::width::Width;
 use ieee::Real;
 use linalg::refusal::Refusal;
@@ -49,10 +49,10 @@ fn between<T: Real>(sim3: Sim3<T>, frames: Frames) -> Pose<T>
 }
 
 // A product's numbers and frames, where the frames a and b, at which its operands meet, are one and the same.
-// PERF: it and `mul` are written into their callers, since a call would copy the poses.
+// PERF (D122): it and `mul` are written into their callers, since a call would copy the poses.
 #[inline(always)]
 fn joined<T: Real>(a: u16, b: u16, sim3: Sim3<T>, frames: Frames) -> Result<Pose<T>, Refusal>
-    ensures { told (as_pose T.float) result ≡ meets a b (framed (as_sim3 T.float sim3) frames.from frames.to) }
+    ensures { view (as_pose T.float) result ≡ meets a b (framed (as_sim3 T.float sim3) frames.from frames.to) }
 {
     if a == b {
         Ok(between(sim3, frames))
@@ -77,11 +77,11 @@ impl<T: Real> Pose<T> {
         between(Sim3::identity(), frames)
     }
 
-    // X Y, where X starts from the frame to which Y goes; up is e^sigma of X. PERF: see `joined`.
+    // X Y, where X starts from the frame to which Y goes; up is e^sigma of X. PERF (D122): see `joined`.
     #[inline(always)]
     #[tactic(auto, unfolding(crate::specs::Joins::framed_mul))]
     pub fn mul(self, other: Pose<T>, up: T) -> Result<Pose<T>, Refusal>
-        ensures { told (as_pose T.float) result
+        ensures { view (as_pose T.float) result
             ≡ framed_mul T.format (as_pose T.float self) (as_pose T.float other) (T.float up) }
     {
         let frames = Frames {
@@ -107,7 +107,7 @@ impl<T: Real> Pose<T> {
     // log scales.
     #[tactic(auto, unfolding(crate::specs::Joins::framed_mul_inv))]
     pub fn mul_inv(self, other: Pose<T>, ds: T) -> Result<Pose<T>, Refusal>
-        ensures { told (as_pose T.float) result
+        ensures { view (as_pose T.float) result
             ≡ framed_mul_inv T.format (as_pose T.float self) (as_pose T.float other) (T.float ds) }
     {
         let to = self.to;
@@ -123,7 +123,7 @@ impl<T: Real> Pose<T> {
     // Y^-1 X, where both go to one frame; down is e^-sigma of Y.
     #[tactic(auto, unfolding(crate::specs::Joins::framed_inv_mul))]
     pub fn inv_mul(self, other: Pose<T>, down: T) -> Result<Pose<T>, Refusal>
-        ensures { told (as_pose T.float) result
+        ensures { view (as_pose T.float) result
             ≡ framed_inv_mul T.format (as_pose T.float self) (as_pose T.float other) (T.float down) }
     {
         let to = other.from;

@@ -1,34 +1,36 @@
 -- A thing is what its numbers are read as; so what is told by its numbers is told of the thing. Assumes nothing.
 use Rattle.std.proofs.Common.{◌≡◌, ℕ, List, length, refl, Float, cond, eqb}
 use Rattle.std.specs.Prelude.{Result, Ok, Err, Bool, true, false}
-use Rattle.linalg.specs.Answer.{answers, refuses, told}
+use Rattle.linalg.specs.Answer.{answers, refuses, view}
 use Rattle.linalg.specs.declared.refusal.Refusal.{Refusal}
 use Rattle.linalg.specs.Floats.{Vec3}
 use Rattle.linalg.specs.Floats.{Mat3}
 use Rattle.linalg.specs.Vector.{vec_numbers}
-use Rattle.closed.specs.Floats.{Values}
+use Rattle.arms.specs.Floats.{Values}
 use Rattle.sim3.specs.Floats.{Sim3}
 use Rattle.sim3.specs.Floats.{Sim3Tangent}
 use Rattle.jacobian.specs.Floats.{Sim3Jac}
-use Rattle.layout.specs.Layout.{vec_in, mat_in, quat_in, pose_in, tangent_in, values_in, block_in, mat_numbers, quat_numbers, pose_numbers, block_numbers}
+use Rattle.layout.specs.Layout.{vec_in, mat_in, quat_in, pose_in, tangent_in, values_in, block_in, mat_numbers}
+use Rattle.layout.specs.Layout.{quat_numbers, pose_numbers, block_numbers}
 use Rattle.from_lists.specs.Lists.{wrong_length, sized, number_in}
 use Rattle.from_lists.specs.Numbers.{tangent_numbers, values_numbers}
 
 told_if :
-    {A P : Type 0} (h : A → P) (numbers : P → List Float) (back : List Float → P) (b : Bool) (l : List Float) (r : Result A Refusal) →
-    ((p : P) → back (numbers p) ≡ p) → told (λ a. numbers (h a)) r ≡ cond b (answers l) (refuses wrong_length) →
-    told h r ≡ cond b (answers (back l)) (refuses wrong_length)
+    {A P : Type 0} (h : A → P) (numbers : P → List Float) (back : List Float → P) (b : Bool) (l : List Float)
+    (r : Result A Refusal) →
+    ((p : P) → back (numbers p) ≡ p) → view (λ a. numbers (h a)) r ≡ cond b (answers l) (refuses wrong_length) →
+    view h r ≡ cond b (answers (back l)) (refuses wrong_length)
 told_if h numbers back true l (Ok a) inv e = let i = inv (h a) in cc
 told_if h numbers back true l (Err r) inv e = cc
 told_if h numbers back false l (Ok a) inv e = cc
 told_if h numbers back false l (Err r) inv e = cc
 
-pub told_back :
+pub view_back :
     {A B P : Type 0} (h : A → P) (numbers : P → List Float) (back : List Float → P) → ((p : P) → back (numbers p) ≡ p) →
     (n : ℕ) (l : List B) (floats : List Float) (r : Result A Refusal) → length floats ≡ length l →
-    told (λ a. numbers (h a)) r ≡ sized l n floats → told h r ≡ sized floats n (back floats)
+    view (λ a. numbers (h a)) r ≡ sized l n floats → view h r ≡ sized floats n (back floats)
 unfolding sized
-told_back h numbers back inv n l floats r k e = rw k (told_if h numbers back (eqb (length l) n) floats r inv e)
+view_back h numbers back inv n l floats r k e = rw k (told_if h numbers back (eqb (length l) n) floats r inv e)
 
 -- ---- each thing is read from its numbers
 pub vec_back : (v : Vec3) → vec_in (number_in (vec_numbers v)) 0 ≡ v

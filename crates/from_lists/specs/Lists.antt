@@ -4,13 +4,14 @@ use Rattle.std.specs.Float.{nan}
 use Rattle.linalg.specs.Answer.{Answer, answers, refuses, and_then}
 use Rattle.linalg.specs.Floats.{Vec3}
 use Rattle.linalg.specs.Floats.{Mat3}
-use Rattle.closed.specs.Floats.{Values}
+use Rattle.arms.specs.Floats.{Values}
 use Rattle.sim3.specs.Floats.{Sim3}
 use Rattle.sim3.specs.Floats.{Sim3Tangent}
 use Rattle.frames.specs.Pose.{framed}
 use Rattle.frames.specs.Floats.{Pose}
 use Rattle.jacobian.specs.Floats.{Sim3Jac}
-use Rattle.layout.specs.Layout.{vec_count, mat_count, pose_count, tangent_count, values_count, block_count, vec_in, mat_in, pose_in, tangent_in, values_in, block_in}
+use Rattle.layout.specs.Layout.{vec_count, mat_count, pose_count, tangent_count, values_count, block_count, vec_in}
+use Rattle.layout.specs.Layout.{mat_in, pose_in, tangent_in, values_in, block_in}
 use Rattle.frames.specs.declared.Frames.{Frames}
 
 -- the refusal of a list whose length is not the one that is due
@@ -59,4 +60,5 @@ unfoldable pub frames_from : List ℕ → Answer Frames
 frames_from l = sized l frames_count (record { from = get_or l 0 0; to = get_or l 1 0 })
 
 unfoldable pub framed_from : PoseLists → Answer Pose
-framed_from l = and_then (pose_from l.numbers) (λ x. and_then (frames_from l.frames) (λ k. answers (framed x k.from k.to)))
+framed_from l =
+    and_then (pose_from l.numbers) (λ x. and_then (frames_from l.frames) (λ k. answers (framed x k.from k.to)))

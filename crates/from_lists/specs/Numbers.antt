@@ -1,7 +1,7 @@
 -- The numbers of what only is read, in the order in which Layout.antt of crate `layout` reads them.
 use Rattle.std.specs.Prelude.{List, [], ◌∷◌, ◌++◌, Float}
 use Rattle.linalg.specs.Vector.{vec_numbers}
-use Rattle.closed.specs.Floats.{Values}
+use Rattle.arms.specs.Floats.{Values}
 use Rattle.sim3.specs.Floats.{Sim3Tangent}
 
 -- φ, ρ, σ

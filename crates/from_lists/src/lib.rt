@@ -1,21 +1,24 @@
-// The things that stand in the numbers of a list that a C function is lent; refused where the list has
-// another length. Matrices go column by column.
+// The things that stand in the numbers of a list that a C function is lent; refused where the list has another length.
+// Matrices go column by column. Proved: what is read has the list's numbers in the order of layout (specs/Lists). Rests
+// on layout.
 #![tactic(auto)]
 
 ghost use Rattle.std.specs.Prelude.{◌≡◌, ◌+◌, ◌≤◌, ◌++◌, ℕ, List, Float, length};
-ghost use Rattle.linalg.specs.Answer.{answer, told};
+ghost use Rattle.linalg.specs.Answer.{answer, view};
 ghost use Rattle.linalg.specs.Vector.{vec_numbers};
-ghost use Rattle.layout.specs.Layout.{vec_count, mat_count, pose_count, tangent_count, values_count, block_count, mat_numbers, quat_numbers, pose_numbers, block_numbers};
-ghost use Rattle.from_lists.specs.Lists.{sized, vec_from, mat_from, pose_from, tangent_from, values_from, block_from, pose_lists, frames_from, framed_from};
+ghost use Rattle.layout.specs.Layout.{vec_count, mat_count, pose_count, tangent_count, values_count, block_count};
+ghost use Rattle.layout.specs.Layout.{mat_numbers, quat_numbers, pose_numbers, block_numbers};
+ghost use Rattle.from_lists.specs.Lists.{sized, vec_from, mat_from, pose_from, tangent_from, values_from, block_from};
+ghost use Rattle.from_lists.specs.Lists.{pose_lists, frames_from, framed_from};
 ghost use Rattle.from_lists.specs.Numbers.{tangent_numbers, values_numbers};
 ghost use Rattle.linalg.specs.Floats.{as_mat3, as_vec3};
-ghost use Rattle.closed.specs.Floats.{as_values};
+ghost use Rattle.arms.specs.Floats.{as_values};
 ghost use Rattle.so3.specs.Floats.{as_quat};
 ghost use Rattle.sim3.specs.Floats.{as_sim3, as_sim3_tangent};
 ghost use Rattle.frames.specs.Floats.{as_pose};
 ghost use Rattle.jacobian.specs.Floats.{as_sim3_jac};
 
-use closed::values::Values;
+use arms::values::Values;
 use frames::{Frames, Pose};
 use ieee::Real;
 use jacobian::jac::Sim3Jac;
@@ -56,7 +59,7 @@ fn front<T: Real, X: FromNumbers<T>>(l: &[T]) -> (X, &[T])
 // What a list says that has just the numbers of one thing.
 #[tactic(auto, unfolding(crate::specs::Lists::sized))]
 fn from_list<T: Real, X: FromNumbers<T>>(l: &[T]) -> Result<X, Refusal>
-    ensures { told X.numbers result ≡ sized l.now X.COUNT (T.floats l.now) }
+    ensures { view X.numbers result ≡ sized l.now X.COUNT (T.floats l.now) }
 {
     if l.len() != X::COUNT {
         return Err(Refusal::ListLength);
@@ -208,37 +211,37 @@ impl<T: Real> FromNumbers<T> for Sim3Jac<T> {
 }
 
 pub fn vec_from<T: Real>(l: &[T]) -> Result<Vec3<T>, Refusal>
-    ensures { told (as_vec3 T.float) result ≡ vec_from (T.floats l.now) }
+    ensures { view (as_vec3 T.float) result ≡ vec_from (T.floats l.now) }
 {
     from_list(l)
 }
 
 pub fn mat_from<T: Real>(l: &[T]) -> Result<Mat3<T>, Refusal>
-    ensures { told (as_mat3 T.float) result ≡ mat_from (T.floats l.now) }
+    ensures { view (as_mat3 T.float) result ≡ mat_from (T.floats l.now) }
 {
     from_list(l)
 }
 
 pub fn pose_from<T: Real>(l: &[T]) -> Result<Sim3<T>, Refusal>
-    ensures { told (as_sim3 T.float) result ≡ pose_from (T.floats l.now) }
+    ensures { view (as_sim3 T.float) result ≡ pose_from (T.floats l.now) }
 {
     from_list(l)
 }
 
 pub fn tangent_from<T: Real>(l: &[T]) -> Result<Sim3Tangent<T>, Refusal>
-    ensures { told (as_sim3_tangent T.float) result ≡ tangent_from (T.floats l.now) }
+    ensures { view (as_sim3_tangent T.float) result ≡ tangent_from (T.floats l.now) }
 {
     from_list(l)
 }
 
 pub fn values_from<T: Real>(l: &[T]) -> Result<Values<T>, Refusal>
-    ensures { told (as_values T.float) result ≡ values_from (T.floats l.now) }
+    ensures { view (as_values T.float) result ≡ values_from (T.floats l.now) }
 {
     from_list(l)
 }
 
 pub fn block_from<T: Real>(l: &[T]) -> Result<Sim3Jac<T>, Refusal>
-    ensures { told (as_sim3_jac T.float) result ≡ block_from (T.floats l.now) }
+    ensures { view (as_sim3_jac T.float) result ≡ block_from (T.floats l.now) }
 {
     from_list(l)
 }
@@ -257,7 +260,7 @@ pub fn frames_from(l: &[u16]) -> Result<Frames, Refusal>
 // A pose's numbers, and its frames from a list beside them.
 #[tactic(auto, unfolding(crate::specs::Lists::framed_from))]
 pub fn framed_from<T: Real>(l: &[T], k: &[u16]) -> Result<Pose<T>, Refusal>
-    ensures { told (as_pose T.float) result ≡ framed_from (pose_lists (T.floats l.now) k.now) }
+    ensures { view (as_pose T.float) result ≡ framed_from (pose_lists (T.floats l.now) k.now) }
 {
     let sim3 = pose_from(l)?;
     let Frames { from, to } = frames_from(k)?;

@@ -7,26 +7,26 @@ use borrow.Author.Tests.{eq-eqb}
 use lib.Dec.{T}
 use lib.IntN.{ℤ}
 use lib.Ieee.{Float, nan, inf, fin, Format, binary32, binary64, up, down, mul, eq, of_bits, is_nan}
-use Rattle.ieee.specs.Signs.{plain}
+use Rattle.ieee.specs.Signs.{unsigned_zero}
 use Rattle.ieee.specs.Finite.{is_finite, ZeroIf}
 use Rattle.ieee.proofs.Product.{mul-zero_l}
 
 -- it begins
 pub zero-starts : (f : Format) → ZeroIf true (of_bits f 0)
-unfolding plain of_bits
+unfolding unsigned_zero of_bits
 zero-starts binary32 = refl
 zero-starts binary64 = refl
 
 -- a zero times a value
 zero_by : (f : Format) (s : Bool) (e : ℤ) (x : Float) → ZeroIf (is_finite x) (mul f (fin s 0 e) x)
-unfolding plain is_finite mul
+unfolding unsigned_zero is_finite mul
 zero_by f s e nan = refl
 zero_by f s e (inf t) = refl
 zero_by f s e (fin t n d) = mul-zero_l f s e t n d
 
 -- one factor more
 pub zero-times : (f : Format) (b : Bool) (z x : Float) → ZeroIf b z → ZeroIf (b && is_finite x) (mul f z x)
-unfolding plain mul
+unfolding unsigned_zero mul
 zero-times f true nan x h = cc
 zero-times f false nan x h = refl
 zero-times f true (inf s) x h = cc
@@ -38,7 +38,7 @@ zero-times f false (fin s (suc m) e) x h = cc
 
 -- such a product is finite exactly where it is a zero
 zero-finite : (b : Bool) (z : Float) → ZeroIf b z → is_finite z ≡ b
-unfolding plain is_finite
+unfolding unsigned_zero is_finite
 zero-finite true nan h = cc
 zero-finite false nan h = refl
 zero-finite true (inf s) h = cc
@@ -57,15 +57,15 @@ unfolding eq
 equals_itself true m e = rw (eq-eqb (m * up e * down e) (m * up e * down e) refl)
 equals_itself false m e = rw (eq-eqb (m * up e * down e) (m * up e * down e) refl)
 
-pub zero-told : (b : Bool) (z : Float) → ZeroIf b z → eq z z ≡ b
-unfolding plain eq
-zero-told true nan h = cc
-zero-told false nan h = refl
-zero-told true (inf s) h = cc
-zero-told false (inf s) h = cc
-zero-told true (fin s m e) h = equals_itself s m e
-zero-told false (fin s zero e) h = cc
-zero-told false (fin s (suc m) e) h = cc
+pub zero-view : (b : Bool) (z : Float) → ZeroIf b z → eq z z ≡ b
+unfolding unsigned_zero eq
+zero-view true nan h = cc
+zero-view false nan h = refl
+zero-view true (inf s) h = cc
+zero-view false (inf s) h = cc
+zero-view true (fin s m e) h = equals_itself s m e
+zero-view false (fin s zero e) h = cc
+zero-view false (fin s (suc m) e) h = cc
 
 -- ---- a finite value is no NaN
 pub finite-no_nan : (x : Float) → is_finite x ≡ true → T (not (is_nan x))

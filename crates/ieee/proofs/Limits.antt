@@ -3,7 +3,7 @@ use mathlib.Core.Path.{◌≡◌, refl}
 use mathlib.Core.Bool.{true, false}
 use lib.IntN.{pos, negsuc}
 use lib.Ieee.{nan, inf, fin, binary64, neg, add, div, eq}
-use Rattle.ieee.specs.Signs.{plain}
+use Rattle.ieee.specs.Signs.{unsigned_zero}
 
 -- `add_clear` wants values that fit: +0 and a number far below the format's smallest one round to -0
 unfit : add binary64 (fin false 0 (pos 0)) (fin true 1 (negsuc 5000)) ≡ fin true 0 (pos 0)
@@ -34,7 +34,7 @@ unfolding div
 minus_quotient = refl
 
 -- `Same` is no `eq`: a NaN is the same as a NaN
-nan_same : plain nan ≡ plain nan
+nan_same : unsigned_zero nan ≡ unsigned_zero nan
 nan_same = refl
 
 nan_not_eq : eq nan nan ≡ false

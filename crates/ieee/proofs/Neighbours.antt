@@ -1,5 +1,5 @@
--- Neighbouring patterns are neighbouring values: the values rise strictly with the patterns, every finite value from zero up that is not -0 has a pattern, and
--- so none lies between those of p and p + 1. Assumes nothing.
+-- Neighbouring patterns are neighbouring values: the values rise strictly with the patterns, every finite value from
+-- zero up that is not -0 has a pattern, and so none lies between those of p and p + 1. Assumes nothing.
 use mathlib.Core.Path.{◌≡◌, sym, ap, ◌∙◌, subst}
 use mathlib.Core.Logic.{inl, inr}
 use Prim.Native.Nat.{ℕ, ◌+◌, ◌<◌}
@@ -30,12 +30,14 @@ strictly_rising f p q k h =
     lt_i x y (value-number x false _ _ (pattern_value f p p-in)) (value-number y false _ _ (pattern_value f q h))
     (λ below.
     let same = le_antisym f x y (of_bits-fits f p) (of_bits-fits f q) (rising f p q (omega arith) h) below in
-    let e = same-is f x y (of_bits-fits f p) (of_bits-fits f q) (value_clear x _ _ (pattern_value f p p-in)) (value_clear y _ _ (pattern_value f q h)) same in
+    let e = same-is f x y (of_bits-fits f p) (of_bits-fits f q) (value_clear x _ _ (pattern_value f p p-in))
+    (value_clear y _ _ (pattern_value f q h)) same in
     let w : p ≡ q = sym (back f p p-in) ∙ ap (to_bits f) e ∙ back f q h in
     omega arith)
 
 -- nothing lies between neighbours
-pub neighbours : (f : Format) (p m : ℕ) (e : ℤ) → p < patterns f → T (fits f (fin false m e)) → T (lt (of_bits f p) (fin false m e)) → T (le (of_bits f (p + 1)) (fin false m e))
+pub neighbours : (f : Format) (p m : ℕ) (e : ℤ) → p < patterns f → T (fits f (fin false m e)) →
+    T (lt (of_bits f p) (fin false m e)) → T (le (of_bits f (p + 1)) (fin false m e))
 neighbours f p m e p-in h k =
     let x = fin false m e in
     let q = to_bits f x in

@@ -1,5 +1,5 @@
--- The comparisons, as comparisons of signed fractions: `le` is reflexive, and respects `Same`; away from a NaN `lt` is its opposite, and a sign turns
--- both round. Assumes nothing.
+-- The comparisons, as comparisons of signed fractions: `le` is reflexive, and respects `Same`; away from a NaN `lt` is
+-- its opposite, and a sign turns both round. Assumes nothing.
 use mathlib.Core.Path.{◌≡◌, refl, sym, ap, ◌∙◌}
 use mathlib.Core.Logic.{◌⊎◌, inl, inr}
 use Prim.Native.Nat.{ℕ, zero, suc, ◌+◌, ◌*◌, ◌≤◌, zero-le}
@@ -15,8 +15,9 @@ use lib.Ieee.Positive.{den}
 use lib.Ieee.Scale.{finite}
 use Rattle.std.proofs.lemmas.Float.{le_trans, lt_irrefl, lt_of_lt_of_le}
 use Rattle.std.proofs.lemmas.Bool.{cases_lt}
-use Rattle.ieee.specs.Signs.{plain, Same}
-use Rattle.ieee.proofs.Signed.{over, under, hi, lo, over-mul, under_mul, hi_neg, lo_neg, den-neg, finite-neg, Level, zero-level}
+use Rattle.ieee.specs.Signs.{unsigned_zero, Same}
+use Rattle.ieee.proofs.Signed.{over, under, hi, lo, over-mul, under_mul, hi_neg, lo_neg, den-neg, finite-neg, Level}
+use Rattle.ieee.proofs.Signed.{zero-level}
 
 -- not a NaN
 abbrev pub number : Float → Bool
@@ -50,8 +51,10 @@ below-is true a true b = simp zero-add
 zeros : (a b : ℕ) → (eqb a b && eqb a 0) ≡ eqb (a + b) 0
 zeros a b =
     iff (eqb a b && eqb a 0) (eqb (a + b) 0)
-    (λ t. let p = eqb→eq a b (and_l (eqb a b) (eqb a 0) t) in let q = eqb→eq a 0 (and_r (eqb a b) (eqb a 0) t) in eq→eqb {a = a + b} {b = 0} (omega arith))
-    (λ t. let p = eqb→eq (a + b) 0 t in and_i (eqb a b) (eqb a 0) (eq→eqb {a = a} {b = b} (omega arith)) (eq→eqb {a = a} {b = 0} (omega arith)))
+    (λ t. let p = eqb→eq a b (and_l (eqb a b) (eqb a 0) t) in let q = eqb→eq a 0 (and_r (eqb a b) (eqb a 0) t) in
+    eq→eqb {a = a + b} {b = 0} (omega arith))
+    (λ t. let p = eqb→eq (a + b) 0 t in and_i (eqb a b) (eqb a 0) (eq→eqb {a = a} {b = b} (omega arith))
+    (eq→eqb {a = a} {b = 0} (omega arith)))
 
 eqb_comm : (a b : ℕ) → eqb a b ≡ eqb b a
 eqb_comm a b = iff (eqb a b) (eqb b a) (λ t. eq→eqb (sym (eqb→eq a b t))) (λ t. eq→eqb (sym (eqb→eq b a t)))
@@ -75,7 +78,13 @@ lt-is (fin s m e) nan p q = absurd q
 lt-is (fin s m e) (inf t) p q = absurd q
 lt-is (fin s m e) (fin t n d) p q =
     below-is s (m * up e * down d) t (n * up d * down e)
-    ∙ rw (over-mul s (m * up e) (down d), over-mul t (n * up d) (down e), under_mul s (m * up e) (down d), under_mul t (n * up d) (down e))
+    ∙ rw (
+      over-mul s (m * up e) (down d),
+      over-mul t (n * up d) (down e),
+      under_mul s (m * up e) (down d),
+      under_mul t
+          (n * up d) (down e),
+    )
 
 pub eq_is : (x y : Float) → T (finite x) → T (finite y) → eq x y ≡ eqb (side x y) (side y x)
 unfolding eq
@@ -85,7 +94,13 @@ eq_is (fin s m e) nan p q = absurd q
 eq_is (fin s m e) (inf t) p q = absurd q
 eq_is (fin s m e) (fin t n d) p q =
     level-is s (m * up e * down d) t (n * up d * down e)
-    ∙ rw (over-mul s (m * up e) (down d), over-mul t (n * up d) (down e), under_mul s (m * up e) (down d), under_mul t (n * up d) (down e))
+    ∙ rw (
+      over-mul s (m * up e) (down d),
+      over-mul t (n * up d) (down e),
+      under_mul s (m * up e) (down d),
+      under_mul t
+          (n * up d) (down e),
+    )
 
 pub le_is : (x y : Float) → T (finite x) → T (finite y) → le x y ≡ leb (side x y) (side y x)
 unfolding le
@@ -110,7 +125,8 @@ le_refl (fin s m e) p = under→le (fin s m e) (fin s m e) tt tt (le_of_eq refl)
 
 -- ---- away from a NaN `lt` is the opposite of `le`
 ltb_not : (a b : ℕ) → ltb a b ≡ not (leb b a)
-ltb_not a b = elim (cases_lt a b) [ inl h ↦ rw (lt-ltb a b h, lt-leb b a h) refl | inr h ↦ rw (le-ltb a b h, le-leb b a h) refl ]
+ltb_not a b =
+    elim (cases_lt a b) [ inl h ↦ rw (lt-ltb a b h, lt-leb b a h) refl | inr h ↦ rw (le-ltb a b h, le-leb b a h) refl ]
 
 pub lt_not_le : (x y : Float) → T (number x) → T (number y) → lt x y ≡ not (le y x)
 lt_not_le nan y p q = absurd p
@@ -124,7 +140,9 @@ lt_not_le (inf true) (fin t n d) p q = unfold le in refl
 lt_not_le (inf false) (fin t n d) p q = unfold le in refl
 lt_not_le (fin s m e) (inf true) p q = unfold le in refl
 lt_not_le (fin s m e) (inf false) p q = unfold le in refl
-lt_not_le (fin s m e) (fin t n d) p q = rw (lt-is (fin s m e) (fin t n d) tt tt, le_is (fin t n d) (fin s m e) tt tt) (ltb_not (side (fin s m e) (fin t n d)) (side (fin t n d) (fin s m e)))
+lt_not_le (fin s m e) (fin t n d) p q =
+    rw (lt-is (fin s m e) (fin t n d) tt tt, le_is (fin t n d) (fin s m e) tt tt)
+    (ltb_not (side (fin s m e) (fin t n d)) (side (fin t n d) (fin s m e)))
 
 -- ---- a sign turns an order round
 pub lt-neg : (x y : Float) → lt (neg x) (neg y) ≡ lt y x
@@ -145,7 +163,8 @@ lt-neg (fin s m e) (fin t n d) = finites (fin s m e) (fin t n d) tt tt
     finites : (x y : Float) → T (finite x) → T (finite y) → lt (neg x) (neg y) ≡ lt y x
     finites x y p q =
         lt-is (neg x) (neg y) (rw finite-neg p) (rw finite-neg q)
-        ∙ rw (hi_neg x, hi_neg y, lo_neg x, lo_neg y, den-neg x, den-neg y) (rw (plus_comm (lo x * den y), plus_comm (lo y * den x)) (sym (lt-is y x q p)))
+        ∙ rw (hi_neg x, hi_neg y, lo_neg x, lo_neg y, den-neg x, den-neg y)
+        (rw (plus_comm (lo x * den y), plus_comm (lo y * den x)) (sym (lt-is y x q p)))
 
 pub eq-neg : (x y : Float) → eq (neg x) (neg y) ≡ eq y x
 eq-neg nan nan = unfold eq neg in refl
@@ -164,7 +183,8 @@ eq-neg (fin s m e) (fin t n d) = finites (fin s m e) (fin t n d) tt tt
     finites : (x y : Float) → T (finite x) → T (finite y) → eq (neg x) (neg y) ≡ eq y x
     finites x y p q =
         eq_is (neg x) (neg y) (rw finite-neg p) (rw finite-neg q)
-        ∙ rw (hi_neg x, hi_neg y, lo_neg x, lo_neg y, den-neg x, den-neg y) (rw (plus_comm (lo x * den y), plus_comm (lo y * den x)) (sym (eq_is y x q p)))
+        ∙ rw (hi_neg x, hi_neg y, lo_neg x, lo_neg y, den-neg x, den-neg y)
+        (rw (plus_comm (lo x * den y), plus_comm (lo y * den x)) (sym (eq_is y x q p)))
 
 pub le-neg : (x y : Float) → le (neg x) (neg y) ≡ le y x
 unfolding le
@@ -174,12 +194,12 @@ le-neg x y = rw (lt-neg x y, eq-neg x y)
 pub level→le : (x y : Float) → T (finite x) → T (finite y) → Level x y → T (le x y) × T (le y x)
 level→le x y p q h = (under→le x y p q (le_of_eq h), under→le y x q p (le_of_eq (sym h)))
 
-le-plain : (x : Float) → T (number x) → T (le x (plain x)) × T (le (plain x) x)
-unfolding plain
-le-plain nan p = absurd p
-le-plain (inf s) p = (le_refl (inf s) tt, le_refl (inf s) tt)
-le-plain (fin s zero e) p = level→le (fin s zero e) (fin false 0 (pos 0)) tt tt (zero-level s e)
-le-plain (fin s (suc m) e) p = (le_refl (fin s (suc m) e) tt, le_refl (fin s (suc m) e) tt)
+le-unsigned_zero : (x : Float) → T (number x) → T (le x (unsigned_zero x)) × T (le (unsigned_zero x) x)
+unfolding unsigned_zero
+le-unsigned_zero nan p = absurd p
+le-unsigned_zero (inf s) p = (le_refl (inf s) tt, le_refl (inf s) tt)
+le-unsigned_zero (fin s zero e) p = level→le (fin s zero e) (fin false 0 (pos 0)) tt tt (zero-level s e)
+le-unsigned_zero (fin s (suc m) e) p = (le_refl (fin s (suc m) e) tt, le_refl (fin s (suc m) e) tt)
 
 le_left : (y : Float) → le nan y ≡ false
 unfolding le
@@ -197,24 +217,28 @@ nan_or nan = inl refl
 nan_or (inf s) = inr tt
 nan_or (fin s m e) = inr tt
 
-plain_nan : plain nan ≡ nan
-unfolding plain
+plain_nan : unsigned_zero nan ≡ nan
+unfolding unsigned_zero
 plain_nan = refl
 
-le-to-plain : (x y : Float) → le x y ≡ le (plain x) (plain y)
-le-to-plain x y = elim (nan_or x) [
-  | inl e ↦ rw (e, plain_nan, le_left y, le_left (plain y)) refl
+le-to-unsigned_zero : (x y : Float) → le x y ≡ le (unsigned_zero x) (unsigned_zero y)
+le-to-unsigned_zero x y = elim (nan_or x) [
+  | inl e ↦ rw (e, plain_nan, le_left y, le_left (unsigned_zero y)) refl
   | inr p ↦ elim (nan_or y) [
-    | inl e ↦ rw (e, plain_nan, le_right x, le_right (plain x)) refl
+    | inl e ↦ rw (e, plain_nan, le_right x, le_right (unsigned_zero x)) refl
     | inr q ↦
-        iff (le x y) (le (plain x) (plain y))
-        (λ h. le_trans (plain x) x (plain y) (le-plain x p).1 (le_trans x y (plain y) h (le-plain y q).0))
-        (λ h. le_trans x (plain x) y (le-plain x p).0 (le_trans (plain x) (plain y) y h (le-plain y q).1))
+        iff (le x y) (le (unsigned_zero x) (unsigned_zero y))
+        (λ h. le_trans (unsigned_zero x) x (unsigned_zero y) (le-unsigned_zero x p).1
+        (le_trans x y (unsigned_zero y) h (le-unsigned_zero y q).0))
+        (λ h. le_trans x (unsigned_zero x) y (le-unsigned_zero x p).0
+        (le_trans (unsigned_zero x) (unsigned_zero y) y h (le-unsigned_zero y q).1))
   ]
 ]
 
 pub le_same : (x x' y y' : Float) → Same x x' → Same y y' → le x y ≡ le x' y'
-le_same x x' y y' p q = le-to-plain x y ∙ ap (λ (z : Float). le z (plain y)) p ∙ ap (λ (z : Float). le (plain x') z) q ∙ sym (le-to-plain x' y')
+le_same x x' y y' p q =
+    le-to-unsigned_zero x y ∙ ap (λ (z : Float). le z (unsigned_zero y)) p
+    ∙ ap (λ (z : Float). le (unsigned_zero x') z) q ∙ sym (le-to-unsigned_zero x' y')
 
 -- ---- `lt` and `le` of the same two
 

@@ -1,16 +1,20 @@
--- The patterns below the infinity's are those of the finite values from +0 up, and stand in the order of the values; and each such value is a whole number of units. Assumes nothing.
+-- The patterns below the infinity's are those of the finite values from +0 up, and stand in the order of the values;
+-- and each such value is a whole number of units. Assumes nothing.
 use mathlib.Core.Path.{◌≡◌, sym, ap, ◌∙◌, subst}
 use mathlib.Core.Logic.{inl, inr}
 use Prim.Native.Nat.{ℕ, zero, suc, ◌+◌, ◌-◌, ◌*◌, ◌/◌, ◌%◌, ◌^◌, ◌≤◌, ◌<◌}
-use native.Mathlib.Nat.{le_trans, lt_irrefl, mul-le-mul_right, mul-le-mul_left, one-le-pow, div-lt_iff_lt-mul, le-div_iff_mul-le, div-eq_of_lt, mod-lt, mod-eq_of_lt, div-add-mod'}
-use native.Mathlib.Nat.{zero-add, zero-mul, zero-lt-suc, mul-one, one-mul, mul_right_comm, mul-lt-mul_of_pos_right, mul-div_cancel, eq_of_mul-eq-mul_right, pow-suc, pow-succ', mul-pos}
+use native.Mathlib.Nat.{le_trans, lt_irrefl, mul-le-mul_right, mul-le-mul_left, one-le-pow, div-lt_iff_lt-mul}
+use native.Mathlib.Nat.{le-div_iff_mul-le, div-eq_of_lt, mod-lt, mod-eq_of_lt, div-add-mod'}
+use native.Mathlib.Nat.{zero-add, zero-mul, zero-lt-suc, mul-one, one-mul, mul_right_comm, mul-lt-mul_of_pos_right}
+use native.Mathlib.Nat.{mul-div_cancel, eq_of_mul-eq-mul_right, pow-suc, pow-succ', mul-pos}
 use native.Mathlib.Omega.{arith}
 use mathlib.Core.Bool.{Bool, false}
 use lib.IntN.{ℤ}
 use lib.Dec.{T, ltb→lt}
 use lib.Pow.{pow_pos, pow-add, pow_mono}
 use borrow.Author.Tests.{lt-leb, ne_eqb}
-use lib.Ieee.{Float, fin, Format, prec, emax, low, up, down, hid, ones, top, size, odd, of_fields, of_bits, to_bits, fits, le}
+use lib.Ieee.{Float, fin, Format, prec, emax, low, up, down, hid, ones, top, size, odd, of_fields, of_bits, to_bits}
+use lib.Ieee.{fits, le}
 use lib.Ieee.Digits.{size-le}
 use lib.Ieee.Fits.{two, reach, kept-lt, up_pos, down_pos, and_l, and_r}
 use lib.Ieee.Bits.{of_bits-to_bits}
@@ -83,9 +87,12 @@ units_large f p h =
     ap (λ (x : ℕ). field_units (hid f) x (p % hid f)) (one_up (p / hid f) some)
 
 -- ---- what a pattern below the infinity's is read as
-read : (f : Format) (x t : ℕ) → x < ones f → HasValue (of_fields f false x t) false (field_units (hid f) x t) (2 ^ low f)
+read : (f : Format) (x t : ℕ) → x < ones f → HasValue (of_fields f false x t) false (field_units (hid f) x t)
+    (2 ^ low f)
 unfolding of_fields field_units
-read f zero t h = subst (λ (u : ℕ). HasValue (odd (prec f) false t 0 (low f)) false u (2 ^ low f)) (mul-one t) (odd_sign (prec f) false t 0 (low f))
+read f zero t h =
+    subst (λ (u : ℕ). HasValue (odd (prec f) false t 0 (low f)) false u (2 ^ low f)) (mul-one t)
+    (odd_sign (prec f) false t 0 (low f))
 read f (suc x) t h = rw (ne_eqb (suc x) (ones f) (λ e. omega arith)) (odd_sign (prec f) false (hid f + t) x (low f))
 
 field : (f : Format) (p : ℕ) → p < patterns f → p / hid f < ones f
@@ -99,7 +106,9 @@ under_top f p h = wider p (ones f) (hid f) h
 
 pub pattern_value : (f : Format) (p : ℕ) → p < patterns f → HasValue (of_bits f p) false (pattern_units f p) (2 ^ low f)
 unfolding of_bits pattern_units
-pattern_value f p h = rw (lt-leb (top f) p (under_top f p h), mod-eq_of_lt (under_top f p h)) (read f (p / hid f) (p % hid f) (field f p h))
+pattern_value f p h =
+    rw (lt-leb (top f) p (under_top f p h), mod-eq_of_lt (under_top f p h))
+    (read f (p / hid f) (p % hid f) (field f p h))
 
 -- the order of patterns is that of the values
 pub rising : (f : Format) (p q : ℕ) → p ≤ q → q < patterns f → T (le (of_bits f p) (of_bits f q))
@@ -129,9 +138,11 @@ below : (f : Format) (m : ℕ) (e : ℤ) → m * up e < 2 ^ suc (emax f) * down 
 unfolding to_bits
 below f m e h =
     let n = m * up e * 2 ^ low f / down e in
-    let more : m * up e * 2 ^ low f < 2 ^ suc (emax f) * down e * 2 ^ low f = mul-lt-mul_of_pos_right h (pow_pos (low f)) in
+    let more : m * up e * 2 ^ low f < 2 ^ suc (emax f) * down e * 2 ^ low f =
+    mul-lt-mul_of_pos_right h (pow_pos (low f)) in
     let same : 2 ^ (suc (emax f) + low f) ≡ 2 ^ suc (emax f) * 2 ^ low f = pow-add 2 (suc (emax f)) (low f) in
-    let whole : n < 2 ^ (suc (emax f) + low f) = (div-lt_iff_lt-mul (down_pos e)).1 (rw same (rw (mul_right_comm (2 ^ suc (emax f)) (2 ^ low f) (down e)) more)) in
+    let whole : n < 2 ^ (suc (emax f) + low f) = (div-lt_iff_lt-mul (down_pos e)).1
+    (rw same (rw (mul_right_comm (2 ^ suc (emax f)) (2 ^ low f) (down e)) more)) in
     rw zero-add
     (room (n / 2 ^ (size n - prec f)) (size n - prec f) (hid f) (2 ^ prec f) (ones f) (kept-lt (prec f) n) (twice_hid f)
     (exponent (size n) (prec f) (emax f) (two f) (reach f) (size-le n _ whole)))
@@ -146,7 +157,8 @@ module _ (f : Format) (m : ℕ) (e : ℤ) (h : T (fits f (fin false m e))) where
   own_value : HasValue (fin false m e) false (pattern_units f (to_bits f (fin false m e))) (2 ^ low f)
   own_value =
       let p = to_bits f (fin false m e) in
-      subst (λ (x : Float). HasValue x false (pattern_units f p) (2 ^ low f)) (of_bits-to_bits f (fin false m e) h) (pattern_value f p (pattern_below f m e h))
+      subst (λ (x : Float). HasValue x false (pattern_units f p) (2 ^ low f)) (of_bits-to_bits f (fin false m e) h)
+      (pattern_value f p (pattern_below f m e h))
 
   pub pattern_units_lem : units_of f m e ≡ pattern_units f (to_bits f (fin false m e))
   unfolding units_of
@@ -161,8 +173,10 @@ units_pos f m e h = elim (cases_lt 0 (units_of f (suc m) e)) [
   | inl l ↦ l
   | inr l ↦
       let none : units_of f (suc m) e ≡ 0 = omega arith in
-      let size : suc m * up e * 2 ^ low f ≡ 0 = units_exact f (suc m) e h ∙ ap (λ (x : ℕ). x * down e) none ∙ zero-mul (down e) in
-      absurd (lt_irrefl 0 (subst (λ (x : ℕ). 0 < x) size (mul-pos (mul-pos (zero-lt-suc m) (up_pos e)) (pow_pos (low f)))))
+      let size : suc m * up e * 2 ^ low f ≡ 0 = units_exact f (suc m) e h ∙ ap (λ (x : ℕ). x * down e) none
+      ∙ zero-mul (down e) in
+      absurd (lt_irrefl 0
+      (subst (λ (x : ℕ). 0 < x) size (mul-pos (mul-pos (zero-lt-suc m) (up_pos e)) (pow_pos (low f)))))
 ]
 
 pub pattern_pos : (f : Format) (m : ℕ) (e : ℤ) → T (fits f (fin false (suc m) e)) → 0 < to_bits f (fin false (suc m) e)
@@ -170,10 +184,13 @@ pattern_pos f m e h = elim (cases_lt 0 (to_bits f (fin false (suc m) e))) [
   | inl l ↦ l
   | inr l ↦
       let none : to_bits f (fin false (suc m) e) ≡ 0 = omega arith in
-      let size : units_of f (suc m) e ≡ 0 = pattern_units_lem f (suc m) e h ∙ ap (pattern_units f) none ∙ units_small f 0 (hid_pos f) in
+      let size : units_of f (suc m) e ≡ 0 = pattern_units_lem f (suc m) e h ∙ ap (pattern_units f) none
+      ∙ units_small f 0 (hid_pos f) in
       absurd (lt_irrefl 0 (subst (λ (x : ℕ). 0 < x) size (units_pos f m e h)))
 ]
 
 -- ---- of either sign: the units of a value are those of its size
-pub units_are : (f : Format) (s t : Bool) (m : ℕ) (e : ℤ) (a : ℕ) → T (fits f (fin s m e)) → HasValue (fin s m e) t a (2 ^ low f) → a ≡ units_of f m e
-units_are f s t m e a h v = eq_of_mul-eq-mul_right (down e) (down_pos e) a (units_of f m e) (sym v.1 ∙ units_exact f m e (unsigned f s m e h))
+pub units_are : (f : Format) (s t : Bool) (m : ℕ) (e : ℤ) (a : ℕ) → T (fits f (fin s m e)) →
+    HasValue (fin s m e) t a (2 ^ low f) → a ≡ units_of f m e
+units_are f s t m e a h v =
+    eq_of_mul-eq-mul_right (down e) (down_pos e) a (units_of f m e) (sym v.1 ∙ units_exact f m e (unsigned f s m e h))

@@ -1,9 +1,11 @@
--- How far apart the values of a format are: beside v * 2 ^ h units, where v has all its digits, the next larger value is at least 2 ^ h units away, and so is the
--- next smaller one, unless v is the least number with that many digits. Assumes nothing.
+-- How far apart the values of a format are: beside v * 2 ^ h units, where v has all its digits, the next larger value
+-- is at least 2 ^ h units away, and so is the next smaller one, unless v is the least number with that many digits.
+-- Assumes nothing.
 use mathlib.Core.Path.{◌≡◌, sym, ap, ◌∙◌, subst}
 use mathlib.Core.Logic.{◌⊎◌, inl, inr}
 use Prim.Native.Nat.{ℕ, suc, ◌+◌, ◌-◌, ◌*◌, ◌/◌, ◌%◌, ◌^◌, ◌≤◌, ◌<◌}
-use native.Mathlib.Nat.{le_trans, lt_of_lt_of_le, not-le_of_lt, le_of_lt, mod-lt, mul-one, mul_assoc, mul-le-mul_right, mul-le-mul_left, mul-lt-mul_of_pos_right, lt_of_mul-lt-mul_right, pow-succ'}
+use native.Mathlib.Nat.{le_trans, lt_of_lt_of_le, not-le_of_lt, le_of_lt, mod-lt, mul-one, mul_assoc, mul-le-mul_right}
+use native.Mathlib.Nat.{mul-le-mul_left, mul-lt-mul_of_pos_right, lt_of_mul-lt-mul_right, pow-succ'}
 use native.Mathlib.Omega.{arith}
 use mathlib.Core.Bool.{false}
 use lib.IntN.{ℤ}
@@ -26,7 +28,8 @@ module _ (H v h q x : ℕ) (full : H ≤ v) (few : q < 2 * H) where
   finer : x < h → q * 2 ^ x < H * 2 ^ h
   finer l =
       let twice : 2 * H * 2 ^ x ≡ H * 2 ^ suc x = omega (arith, ap (λ (y : ℕ). H * y) (pow-succ' 2 x)) in
-      lt_of_lt_of_le (mul-lt-mul_of_pos_right few (pow_pos x)) (subst (λ (y : ℕ). y ≤ H * 2 ^ h) (sym twice) (mul-le-mul_left H (pow_mono l)))
+      lt_of_lt_of_le (mul-lt-mul_of_pos_right few (pow_pos x))
+      (subst (λ (y : ℕ). y ≤ H * 2 ^ h) (sym twice) (mul-le-mul_left H (pow_mono l)))
 
   coarser : h ≤ x → q * 2 ^ x ≡ q * 2 ^ (x - h) * 2 ^ h
   coarser l =
@@ -36,7 +39,9 @@ module _ (H v h q x : ℕ) (full : H ≤ v) (few : q < 2 * H) where
   over : v * 2 ^ h < q * 2 ^ x → (v + 1) * 2 ^ h ≤ q * 2 ^ x
   over g = elim (cases_lt x h) [
     | inl l ↦ absurd (not-le_of_lt g (le_trans (le_of_lt (finer l)) (mul-le-mul_right (2 ^ h) full)))
-    | inr l ↦ rw (coarser l) (mul-le-mul_right (2 ^ h) (next (lt_of_mul-lt-mul_right (2 ^ h) (subst (λ (y : ℕ). v * 2 ^ h < y) (coarser l) g))))
+    | inr l ↦ rw (coarser l)
+        (mul-le-mul_right (2 ^ h)
+        (next (lt_of_mul-lt-mul_right (2 ^ h) (subst (λ (y : ℕ). v * 2 ^ h < y) (coarser l) g))))
   ]
     where
       next : {a b : ℕ} → a < b → a + 1 ≤ b
@@ -45,7 +50,9 @@ module _ (H v h q x : ℕ) (full : H ≤ v) (few : q < 2 * H) where
   under : q * 2 ^ x < v * 2 ^ h → (q * 2 ^ x ≤ (v - 1) * 2 ^ h) ⊎ (q * 2 ^ x < H * 2 ^ h)
   under g = elim (cases_lt x h) [
     | inl l ↦ inr (finer l)
-    | inr l ↦ inl (rw (coarser l) (mul-le-mul_right (2 ^ h) (last (lt_of_mul-lt-mul_right (2 ^ h) (subst (λ (y : ℕ). y < v * 2 ^ h) (coarser l) g)))))
+    | inr l ↦ inl (rw (coarser l)
+        (mul-le-mul_right (2 ^ h)
+        (last (lt_of_mul-lt-mul_right (2 ^ h) (subst (λ (y : ℕ). y < v * 2 ^ h) (coarser l) g)))))
   ]
     where
       last : {a b : ℕ} → a < b → a ≤ b - 1

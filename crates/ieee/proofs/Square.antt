@@ -1,4 +1,5 @@
--- A sum of squares is never below zero: a square is a NaN or carries no minus sign, and so does a sum of two such values. Assumes nothing.
+-- A sum of squares is never below zero: a square is a NaN or carries no minus sign, and so does a sum of two such
+-- values. Assumes nothing.
 use mathlib.Core.Path.{◌≡◌, refl}
 use Prim.Native.Nat.{ℕ, zero, suc, ◌+◌, ◌*◌, ◌^◌, zero-le}
 use native.Mathlib.Nat.{zero-mul}
@@ -27,7 +28,9 @@ odd-upper d (suc q) k l = tt
 
 units_upper : (f : Format) (q k : ℕ) → T (upper (units f false q k))
 unfolding units
-units_upper f q k = cond-upper (ltb (q * 2 ^ k) (2 ^ (low f + suc (emax f)))) (odd (suc (prec f)) false q k (low f)) (inf false) (odd-upper (suc (prec f)) q k (low f)) tt
+units_upper f q k =
+    cond-upper (ltb (q * 2 ^ k) (2 ^ (low f + suc (emax f)))) (odd (suc (prec f)) false q k (low f)) (inf false)
+    (odd-upper (suc (prec f)) q k (low f)) tt
 
 pub round-upper : (f : Format) (a c : ℕ) → T (upper (round f false a c))
 round-upper f a c = rw (round_is f false a c) (units_upper f _ _)
@@ -52,7 +55,8 @@ add-upper f (inf true) (inf t) p q = absurd p
 add-upper f (inf s) (fin t n d) p q = p
 add-upper f (fin s m e) nan p q = tt
 add-upper f (fin s m e) (inf t) p q = q
-add-upper f (fin false m e) (fin false n d) p q = round-upper f (m * up e * down d + n * up d * down e) (down e * down d)
+add-upper f (fin false m e) (fin false n d) p q =
+    round-upper f (m * up e * down d + n * up d * down e) (down e * down d)
 add-upper f (fin false m e) (fin true n d) p q = absurd q
 add-upper f (fin true m e) (fin t n d) p q = absurd p
 
@@ -62,7 +66,8 @@ unfolding lt
 upper_not_below nan p = refl
 upper_not_below (inf false) p = refl
 upper_not_below (inf true) p = absurd p
-upper_not_below (fin false m e) p = rw (zero-mul (up (pos 0))) (rw (zero-mul (down e)) (le-ltb (m * up e * down (pos 0)) 0 zero-le))
+upper_not_below (fin false m e) p =
+    rw (zero-mul (up (pos 0))) (rw (zero-mul (down e)) (le-ltb (m * up e * down (pos 0)) 0 zero-le))
 upper_not_below (fin true m e) p = absurd p
 
 -- (x² + y²) + z², the order of |φ|²

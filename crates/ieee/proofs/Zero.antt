@@ -1,5 +1,6 @@
--- Values up to the sign of a zero. `Same x y` says that x and y are equal once the sign of a zero is dropped: a NaN is the same as a NaN, and -0 as +0.
--- It is an equation, so it is reflexive, symmetric and transitive by `refl`, `sym` and `◌∙◌`. `neg`, `add`, `sub` and `mul` respect it. Assumes nothing.
+-- Values up to the sign of a zero. `Same x y` says that x and y are equal once the sign of a zero is dropped: a NaN is
+-- the same as a NaN, and -0 as +0. It is an equation, so it is reflexive, symmetric and transitive by `refl`, `sym` and
+-- `◌∙◌`. `neg`, `add`, `sub` and `mul` respect it. Assumes nothing.
 use mathlib.Core.Path.{◌≡◌, refl, sym, ap, ◌∙◌}
 use Prim.Native.Nat.compare
 use Prim.Native.Nat.{ℕ, zero, suc, ◌<◌}
@@ -7,18 +8,18 @@ use native.Mathlib.Nat.{lt_irrefl, zero-mul, zero-div, zero-mod, mul-one}
 use mathlib.Core.Bool.{Bool}
 use lib.IntN.{pos}
 use lib.Ieee.{Float, nan, inf, fin, Format, binary32, binary64, size, odd, units, round, neg}
-use Rattle.ieee.specs.Signs.{plain, Same}
+use Rattle.ieee.specs.Signs.{unsigned_zero, Same}
 
 -- ---- `neg`
-plain-neg : (x : Float) → plain (neg x) ≡ plain (neg (plain x))
-unfolding plain neg
-plain-neg nan = refl
-plain-neg (inf s) = refl
-plain-neg (fin s zero e) = refl
-plain-neg (fin s (suc m) e) = refl
+unsigned_zero-neg : (x : Float) → unsigned_zero (neg x) ≡ unsigned_zero (neg (unsigned_zero x))
+unfolding unsigned_zero neg
+unsigned_zero-neg nan = refl
+unsigned_zero-neg (inf s) = refl
+unsigned_zero-neg (fin s zero e) = refl
+unsigned_zero-neg (fin s (suc m) e) = refl
 
 pub neg_same : (x x' : Float) → Same x x' → Same (neg x) (neg x')
-neg_same x x' p = plain-neg x ∙ ap (λ (z : Float). plain (neg z)) p ∙ sym (plain-neg x')
+neg_same x x' p = unsigned_zero-neg x ∙ ap (λ (z : Float). unsigned_zero (neg z)) p ∙ sym (unsigned_zero-neg x')
 
 -- ---- 0 / c rounds to a zero
 pub round-zero : (f : Format) (s : Bool) (c : ℕ) → 0 < c → round f s 0 c ≡ fin s 0 (pos 0)

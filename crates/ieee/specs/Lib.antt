@@ -1,3 +1,4 @@
+-- To be read in this order.
 pub mod Numbers
 pub mod Patterns
 pub mod Signs

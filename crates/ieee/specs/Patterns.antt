@@ -1,4 +1,5 @@
--- The finite values from +0 up as whole numbers: by their bit patterns, and by their size in units of the format's smallest value.
+-- The finite values from +0 up as whole numbers: by their bit patterns, and by their size in units of the format's
+-- smallest value.
 use Rattle.std.specs.Prelude.{ℕ, zero, suc, ◌+◌, ◌*◌, ◌/◌, ◌%◌, ◌^◌, ℤ}
 use Rattle.std.specs.Float.{Format}
 use Rattle.std.specs.Float.Ieee.{low, up, down, hid, ones}

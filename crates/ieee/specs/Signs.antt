@@ -3,15 +3,16 @@ use Rattle.std.specs.Prelude.{◌≡◌, zero, suc, Bool, true, false, pos, Floa
 use Rattle.std.specs.Float.{nan, inf, fin}
 
 -- a value with the sign of a zero dropped
-unfoldable pub plain : Float → Float
-plain nan = nan
-plain (inf s) = inf s
-plain (fin s zero e) = fin false zero (pos zero)
-plain (fin s (suc m) e) = fin s (suc m) e
+unfoldable pub unsigned_zero : Float → Float
+unsigned_zero nan = nan
+unsigned_zero (inf s) = inf s
+unsigned_zero (fin s zero e) = fin false zero (pos zero)
+unsigned_zero (fin s (suc m) e) = fin s (suc m) e
 
--- equal up to the sign of a zero: a NaN is the same as a NaN, and -0 as +0. It is an equation, so `refl`, `sym` and `◌∙◌` serve it.
+-- equal up to the sign of a zero: a NaN is the same as a NaN, and -0 as +0. It is an equation, so `refl`, `sym` and
+-- `◌∙◌` serve it.
 abbrev pub Same : Float → Float → Type 0
-Same x y = plain x ≡ plain y
+Same x y = unsigned_zero x ≡ unsigned_zero y
 
 -- not -0
 abbrev pub not_minus_zero : Float → Bool

@@ -1,7 +1,7 @@
-// IEEE 754 numbers, of either width: the arithmetic that every crate above is written in, bit
-// patterns both ways on every input, and a select. `specs` has the notions of a value up to the sign
-// of a zero, of a value that is not -0, and of a table that follows a rule; `proofs` has the laws of
-// the operations, over any format, that the crates above cite.
+// IEEE 754 numbers of either width: the arithmetic in which every crate above is written, bit patterns both ways on
+// every input, and a select that the compiler turns into no branch. Proved: each operation is the format's of the
+// logic, and every pattern reads back. The laws of rounding, signs and order in proofs/ hold in every format. Rests on
+// the toolchain's library alone.
 #![tactic(auto)]
 
 ghost use Rattle.std.specs.Prelude.{◌≡◌, ◌≤◌, ℕ, List, Float, cond, map, refl};

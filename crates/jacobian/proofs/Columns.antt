@@ -30,25 +30,35 @@ part_at l a =
     let n = number l a in
     λ i.
     record {
-      phi = record { x = (n 0 (omega arith) ∙ ap (λ (k : ℕ). get_or l k nan) z) i; y = n 1 (omega arith) i; z = n 2 (omega arith) i };
+      phi =
+          record {
+            x = (n 0 (omega arith) ∙ ap (λ (k : ℕ). get_or l k nan) z) i;
+            y = n 1 (omega arith) i;
+            z =
+                n 2 (omega arith) i;
+          };
       rho = record { x = n 3 (omega arith) i; y = n 4 (omega arith) i; z = n 5 (omega arith) i };
       sigma = n 6 (omega arith) i;
     }
 
 pub column :
-    {A : Type 0} (h : A → Float) (l r : List A) (cs : List (List A)) (n i : ℕ) → cs ≡ first_chunks 7 n l → i < n → r ≡ get_or cs i r →
+    {A : Type 0} (h : A → Float) (l r : List A) (cs : List (List A)) (n i : ℕ) → cs ≡ first_chunks 7 n l → i < n →
+    r ≡ get_or cs i r →
     tangent_from_dense (map h r) ≡ column_at (map h l) (i * 7)
 column {A} h l r cs n i e k q =
     let p : r ≡ take 7 (drop (i * 7) l) = q ∙ ap (λ (c : List (List A)). get_or c i r) e ∙ chunk_at n i l r k in
-    let m : map h r ≡ take 7 (drop (i * 7) (map h l)) = ap (map h) p ∙ sym (take-map h 7 (drop (i * 7) l)) ∙ ap (take 7) (sym (drop-map h (i * 7) l)) in
+    let m : map h r ≡ take 7 (drop (i * 7) (map h l)) = ap (map h) p ∙ sym (take-map h 7 (drop (i * 7) l))
+    ∙ ap (take 7) (sym (drop-map h (i * 7) l)) in
     ap tangent_from_dense m ∙ part_at (map h l) (i * 7)
 
 -- ---- stored: a part that is lent and comes back as d
 pub stored :
-    {A : Type 0} (h : A → Float) (l d : List A) (v : List Float) (a : ℕ) → map h d ≡ v → length v ≡ 7 → a + 7 ≤ length l →
+    {A : Type 0} (h : A → Float) (l d : List A) (v : List Float) (a : ℕ) → map h d ≡ v → length v ≡ 7 →
+    a + 7 ≤ length l →
     map h (take a l ++ (d ++ drop 7 (drop a l))) ≡ sets (map h l) a v
 stored h l d v a e n q =
     let m : a + length v ≡ a + 7 = omega (arith, n) in
     map-append h (take a l) (d ++ drop 7 (drop a l))
     ∙ rw (map-append h d (drop 7 (drop a l)), drop-drop 7 a l, e, ← (take-map h a l), ← (drop-map h (a + 7) l))
-    (sym (rw m at (sets-eq v (map h l) a (simp length-map (omega (arith, n)))) ∙ append_assoc (take a (map h l)) v (drop (a + 7) (map h l))))
+    (sym (rw m at (sets-eq v (map h l) a (simp length-map (omega (arith, n))))
+    ∙ append_assoc (take a (map h l)) v (drop (a + 7) (map h l))))

@@ -1,2 +1,3 @@
 -- The columns of a flat matrix as parts of a list.
+pub mod Unfolds
 pub mod Columns

@@ -11,20 +11,25 @@ use Rattle.jacobian.specs.Floats.{Sim3Jac}
 use Rattle.jacobian.specs.Floats.{Seven}
 
 -- seven columns of seven numbers, each held as a tangent
-abbrev pub seven : Sim3Tangent → Sim3Tangent → Sim3Tangent → Sim3Tangent → Sim3Tangent → Sim3Tangent → Sim3Tangent → Seven
+abbrev pub seven : Sim3Tangent → Sim3Tangent → Sim3Tangent → Sim3Tangent → Sim3Tangent → Sim3Tangent → Sim3Tangent →
+    Seven
 seven a b c d e g h = record { c0 = a; c1 = b; c2 = c; c3 = d; c4 = e; c5 = g; c6 = h }
 
 -- column c of a flat matrix
 abbrev pub column_at : List Float → ℕ → Sim3Tangent
 column_at l i =
-    tangent (vec (get_or l i nan) (get_or l (i + 1) nan) (get_or l (i + 2) nan)) (vec (get_or l (i + 3) nan) (get_or l (i + 4) nan) (get_or l (i + 5) nan)) (get_or l (i + 6) nan)
+    tangent (vec (get_or l i nan) (get_or l (i + 1) nan) (get_or l (i + 2) nan))
+    (vec (get_or l (i + 3) nan) (get_or l (i + 4) nan) (get_or l (i + 5) nan)) (get_or l (i + 6) nan)
 
 unfoldable pub seven_of : List Float → Seven
-seven_of l = seven (column_at l 0) (column_at l 7) (column_at l 14) (column_at l 21) (column_at l 28) (column_at l 35) (column_at l 42)
+seven_of l =
+    seven (column_at l 0) (column_at l 7) (column_at l 14) (column_at l 21) (column_at l 28) (column_at l 35)
+    (column_at l 42)
 
 unfoldable pub seven_flat : Seven → List Float
 seven_flat m =
-    tangent_to_dense m.c0 ++ tangent_to_dense m.c1 ++ tangent_to_dense m.c2 ++ tangent_to_dense m.c3 ++ tangent_to_dense m.c4 ++ tangent_to_dense m.c5 ++ tangent_to_dense m.c6
+    tangent_to_dense m.c0 ++ tangent_to_dense m.c1 ++ tangent_to_dense m.c2 ++ tangent_to_dense m.c3
+    ++ tangent_to_dense m.c4 ++ tangent_to_dense m.c5 ++ tangent_to_dense m.c6
 
 -- rows for columns: g picks one number of a column
 abbrev pub row_by : Seven → (Sim3Tangent → Float) → Sim3Tangent
@@ -32,12 +37,14 @@ row_by m g = tangent (vec (g m.c0) (g m.c1) (g m.c2)) (vec (g m.c3) (g m.c4) (g 
 
 unfoldable pub seven_transpose : Seven → Seven
 seven_transpose m =
-    seven (row_by m (λ t. t.phi.x)) (row_by m (λ t. t.phi.y)) (row_by m (λ t. t.phi.z)) (row_by m (λ t. t.rho.x)) (row_by m (λ t. t.rho.y)) (row_by m (λ t. t.rho.z)) (row_by m (λ t. t.sigma))
+    seven (row_by m (λ t. t.phi.x)) (row_by m (λ t. t.phi.y)) (row_by m (λ t. t.phi.z)) (row_by m (λ t. t.rho.x))
+    (row_by m (λ t. t.rho.y)) (row_by m (λ t. t.rho.z)) (row_by m (λ t. t.sigma))
 
 -- J applied to each column
 unfoldable pub seven_apply : Format → Sim3Jac → Seven → Seven
 seven_apply f j m =
-    seven (jac_apply f j m.c0) (jac_apply f j m.c1) (jac_apply f j m.c2) (jac_apply f j m.c3) (jac_apply f j m.c4) (jac_apply f j m.c5) (jac_apply f j m.c6)
+    seven (jac_apply f j m.c0) (jac_apply f j m.c1) (jac_apply f j m.c2) (jac_apply f j m.c3) (jac_apply f j m.c4)
+    (jac_apply f j m.c5) (jac_apply f j m.c6)
 
 -- J Σ Jᵀ: M = J Σ by columns, then row r of the result is J applied to row r of M
 unfoldable pub jac_sandwich : Format → Sim3Jac → List Float → List Float

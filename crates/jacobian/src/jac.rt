@@ -1,11 +1,12 @@
 // A Sim(3) Jacobian: the matrix with the rows (a, 0, 0), (b, c, f), (0, 0, e).
 ghost use Rattle.std.specs.Prelude.{◌≡◌};
-ghost use Rattle.jacobian.specs.Jac.{jac_identity, jac_mul, jac_inverse_answer, jac_neg, jac_add, jac_scale, jac_apply, jac_apply_transpose};
-ghost use Rattle.linalg.specs.Answer.{told};
+ghost use Rattle.jacobian.specs.Jac.{jac_identity, jac_mul, jac_inverse_answer, jac_neg, jac_add, jac_scale, jac_apply};
+ghost use Rattle.jacobian.specs.Jac.{jac_apply_transpose};
+ghost use Rattle.linalg.specs.Answer.{view};
 ghost use Rattle.sim3.specs.Floats.{as_sim3_tangent};
 ghost use Rattle.jacobian.specs.Floats.{as_sim3_jac};
 
-use closed::values::at_zero;
+use arms::values::at_zero;
 use ieee::Real;
 use linalg::matrix::Mat3;
 use linalg::refusal::Refusal;
@@ -54,9 +55,9 @@ impl<T: Real> Sim3Jac<T> {
     // (A^-1, -C^-1 B A^-1, C^-1, -C^-1 f / e, 1 / e), by the adjugates of A and C; refusal 2 where e
     // is a zero. A zero determinant is divided by. PERF (D122): C^-1 is formed first and before the test
     // of e, since the compiler then packs the products better.
-    #[tactic(auto, unfolding(crate::specs::Jac::jac_inverse_answer, crate::specs::Jac::jac_inverse, closed::specs::Values::at_zero))]
+    #[tactic(auto, unfolding(crate::proofs::Unfolds::inverse_unfolds))]
     pub fn inverse(self) -> Result<Sim3Jac<T>, Refusal>
-        ensures { told (as_sim3_jac T.float) result ≡ jac_inverse_answer T.format (as_sim3_jac T.float self) }
+        ensures { view (as_sim3_jac T.float) result ≡ jac_inverse_answer T.format (as_sim3_jac T.float self) }
     {
         let e = self.e;
         let ci = self.c.inverse_adj().inv;

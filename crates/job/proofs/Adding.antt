@@ -1,15 +1,17 @@
--- The job's counts: they are what is written last, of no more records than the limit, and the last three of the four add up to the first, as those by mark do. Assumes nothing.
+-- The job's counts: they are what is written last, of no more records than the limit, and the last three of the four
+-- add up to the first, as those by mark do. Assumes nothing.
 use Prim.Native.Nat.{ℕ, zero, suc, ◌+◌}
 use mathlib.Core.Path.{◌≡◌, refl, sym, ap, ◌∙◌}
 use mathlib.Core.List.{List, [], ◌++◌, append_assoc}
 use native.Mathlib.Omega.{arith}
 use lib.ListN.{drop}
-use Rattle.outcome.specs.declared.Kind.TheVariants.{Refused}
-use Rattle.outcome.specs.Outcome.{unknown_mark, cut_record, no_bytes, Found, took, ended, unknown, cut}
-use Rattle.marks.specs.Marks.{found_of}
+use Rattle.record_result.specs.declared.Disposition.TheVariants.{Refused}
+use Rattle.record_result.specs.RecordResult.{unknown_mark, cut_record, no_bytes, InputHead, took, ended, unknown, cut}
+use Rattle.marks.specs.Marks.{head_of}
 use Rattle.marks.specs.Rows.{row_at}
 use Rattle.job.specs.Counts.{counts_none}
-use Rattle.job.specs.Job.{Standing, standing_none, moved, trailer, job_on, job_from, counts_on, counts_from, CountsTheorem}
+use Rattle.job.specs.Job.{Standing, standing_none, moved, trailer, job_on, job_from, counts_on, counts_from}
+use Rattle.job.specs.Job.{CountsTheorem}
 use Rattle.job.specs.Private.{Sound}
 use Rattle.job.proofs.Rows.{none-total}
 use Rattle.job.proofs.Loop.{counted_sound}
@@ -20,9 +22,10 @@ abbrev Ends : ℕ → Standing → List ℕ → Type 0
 Ends n j xs = (body : List ℕ) × (job_from n j xs ≡ body ++ trailer (counts_from n j xs))
 
 ends_on :
-    (n : ℕ) (j : Standing) (xs : List ℕ) (f : Found) → ((j : Standing) (xs : List ℕ) → Ends n j xs) →
+    (n : ℕ) (j : Standing) (xs : List ℕ) (f : InputHead) → ((j : Standing) (xs : List ℕ) → Ends n j xs) →
     (body : List ℕ)
-    × (job_on f j xs (λ how k. job_from n (moved how xs j) (drop k xs)) ≡ body ++ trailer (counts_on f j xs (λ how k. counts_from n (moved how xs j) (drop k xs))))
+    × (job_on f j xs (λ how k. job_from n (moved how xs j) (drop k xs))
+    ≡ body ++ trailer (counts_on f j xs (λ how k. counts_from n (moved how xs j) (drop k xs))))
 unfolding job_on counts_on
 ends_on n j xs (took how k b) ih =
     let e = ih (moved how xs j) (drop k xs) in
@@ -31,36 +34,41 @@ ends_on n j xs ended ih = ([], refl)
 ends_on n j xs unknown ih = (no_bytes unknown_mark, refl)
 ends_on n j xs cut ih = (no_bytes cut_record, refl)
 
-ends : (n : ℕ) (j : Standing) (xs : List ℕ) → Ends n j xs
+is_over : (n : ℕ) (j : Standing) (xs : List ℕ) → Ends n j xs
 unfolding job_from counts_from
-ends zero j xs = ([], refl)
-ends (suc n) j xs = ends_on n j xs (found_of j.state xs) (ends n)
+is_over zero j xs = ([], refl)
+is_over (suc n) j xs = ends_on n j xs (head_of j.state xs) (is_over n)
 
 -- the counts stay those of a job of so many records and n more
 counts_on_lem :
-    (n : ℕ) (j : Standing) (xs : List ℕ) (f : Found) → Sound (j.counts.four.begun + suc n) j.counts →
-    ((j : Standing) (xs : List ℕ) → Sound (j.counts.four.begun + n) j.counts → Sound (j.counts.four.begun + n) (counts_from n j xs)) →
-    Sound (j.counts.four.begun + suc n) (counts_on f j xs (λ how k. counts_from n (moved how xs j) (drop k xs)))
+    (n : ℕ) (j : Standing) (xs : List ℕ) (f : InputHead) → Sound (j.counts.totals.begun + suc n) j.counts →
+    ((j : Standing) (xs : List ℕ) → Sound (j.counts.totals.begun + n) j.counts →
+    Sound (j.counts.totals.begun + n) (counts_from n j xs)) →
+    Sound (j.counts.totals.begun + suc n) (counts_on f j xs (λ how k. counts_from n (moved how xs j) (drop k xs)))
 unfolding counts_on
 counts_on_lem n j xs (took how k b) s ih =
-    let l : (moved how xs j).counts.four.begun + n ≡ j.counts.four.begun + suc n = rw (counted_begun how (row_at xs) j.counts) (omega arith) in
-    rw l at (ih (moved how xs j) (drop k xs) (rw l (counted_sound how (j.counts.four.begun + suc n) xs j.counts s (λ x. omega arith))))
+    let l : (moved how xs j).counts.totals.begun + n ≡ j.counts.totals.begun + suc n =
+    rw (counted_begun how (row_at xs) j.counts) (omega arith) in
+    rw l at (ih (moved how xs j) (drop k xs)
+    (rw l (counted_sound how (j.counts.totals.begun + suc n) xs j.counts s (λ x. omega arith))))
 counts_on_lem n j xs ended s ih = s
-counts_on_lem n j xs unknown s ih = counted_sound Refused (j.counts.four.begun + suc n) xs j.counts s (λ x. omega arith)
-counts_on_lem n j xs cut s ih = counted_sound Refused (j.counts.four.begun + suc n) xs j.counts s (λ x. omega arith)
+counts_on_lem n j xs unknown s ih =
+    counted_sound Refused (j.counts.totals.begun + suc n) xs j.counts s (λ x. omega arith)
+counts_on_lem n j xs cut s ih = counted_sound Refused (j.counts.totals.begun + suc n) xs j.counts s (λ x. omega arith)
 
-counts_sound_lem : (n : ℕ) (j : Standing) (xs : List ℕ) → Sound (j.counts.four.begun + n) j.counts → Sound (j.counts.four.begun + n) (counts_from n j xs)
+counts_sound_lem : (n : ℕ) (j : Standing) (xs : List ℕ) → Sound (j.counts.totals.begun + n) j.counts →
+    Sound (j.counts.totals.begun + n) (counts_from n j xs)
 unfolding counts_from
 counts_sound_lem zero j xs s = s
-counts_sound_lem (suc n) j xs s = counts_on_lem n j xs (found_of j.state xs) s (counts_sound_lem n)
+counts_sound_lem (suc n) j xs s = counts_on_lem n j xs (head_of j.state xs) s (counts_sound_lem n)
 
 none_sound : (limit : ℕ) → Sound (0 + limit) counts_none
 none_sound limit = record { few = omega arith; sum = refl; each = (refl, none-total) }
 
 pub job_counts : CountsTheorem
 job_counts = record {
-  written = λ limit xs. ends limit standing_none xs;
+  written = λ limit xs. is_over limit standing_none xs;
   few = λ limit xs. omega (arith, (counts_sound_lem limit standing_none xs (none_sound limit)).few);
   adds = λ limit xs. (counts_sound_lem limit standing_none xs (none_sound limit)).sum;
-  rows = λ limit xs. (counts_sound_lem limit standing_none xs (none_sound limit)).each;
+  by_mark = λ limit xs. (counts_sound_lem limit standing_none xs (none_sound limit)).each;
 }

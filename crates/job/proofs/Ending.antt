@@ -1,4 +1,5 @@
--- What is written at the end: the stores of the counts and of a refusal before them, and how many bytes they are. Assumes nothing.
+-- What is written at the end: the stores of the counts and of a refusal before them, and how many bytes they are.
+-- Assumes nothing.
 use Prim.Native.Nat.{ℕ, ◌+◌, ◌≤◌}
 use mathlib.Core.Path.{◌≡◌, refl}
 use mathlib.Core.Bool.{true}
@@ -10,17 +11,17 @@ use lib.Seq.{sets}
 use Rattle.wire.specs.Wire.{count_bytes}
 use Rattle.wire.proofs.Bytes.{count-length}
 use Rattle.layout.proofs.Runs.{sets_split}
-use Rattle.outcome.specs.Outcome.{longest, unknown_mark, cut_record, mark_bytes, no_bytes}
-use Rattle.outcome.proofs.Record.{mark_length, no_length}
+use Rattle.record_result.specs.RecordResult.{longest, unknown_mark, cut_record, mark_bytes, no_bytes}
+use Rattle.record_result.proofs.Record.{mark_length, no_length}
 use Rattle.job.specs.declared.Counts.{Counts}
 use Rattle.job.specs.declared.Reason.{Reason}
 use Rattle.job.specs.declared.Reason.TheVariants.{More, Room, Bad, Full, End, Unknown, Cut}
 use Rattle.job.specs.Job.{trailer}
 use Rattle.marks.specs.Rows.{row_count}
-use Rattle.job.specs.Counts.{rows_bytes}
+use Rattle.job.specs.Counts.{by_mark_bytes}
 use Rattle.job.specs.Private.{trailer_length}
-use Rattle.job.specs.Feed.{closing, closing_of, ends}
-use Rattle.job.proofs.Rows.{rows-length}
+use Rattle.job.specs.Feed.{closing, closing_of, is_over}
+use Rattle.job.proofs.Rows.{by_mark-length}
 
 -- how long the pieces are, and a run of several pieces as the runs that the code writes
 ruleset sizes = (length-append, count-length)
@@ -31,27 +32,31 @@ pub trailer_run :
     (c : Counts) (l : List ℕ) (i : ℕ) →
     sets
     (sets
-    (sets (sets (sets (sets l i (mark_bytes 0x5a 0x5a)) (i + 2) (count_bytes c.four.begun)) (i + 6) (count_bytes c.four.answered)) (i + 10) (count_bytes c.four.refused))
+    (sets (sets (sets (sets l i (mark_bytes 0x5a 0x5a)) (i + 2) (count_bytes c.totals.begun)) (i + 6)
+    (count_bytes c.totals.answered)) (i + 10) (count_bytes c.totals.refused))
     (i + 14)
-    (count_bytes c.four.unusable))
+    (count_bytes c.totals.unusable))
     (i + 18)
-    (rows_bytes c.rows)
+    (by_mark_bytes c.by_mark)
     ≡ sets l i (trailer c)
 unfolding trailer
 trailer_run c l i = simp (runs, mark_length)
 
-pub trailer-length : (c : Counts) → length c.rows ≡ row_count → length (trailer c) ≡ trailer_length
+pub trailer-length : (c : Counts) → length c.by_mark ≡ row_count → length (trailer c) ≡ trailer_length
 unfolding trailer
-trailer-length c h = simp (sizes, mark_length, rows-length, h)
+trailer-length c h = simp (sizes, mark_length, by_mark-length, h)
 
-pub refused_run : (k : ℕ) (c : Counts) (l : List ℕ) (i : ℕ) → sets (sets l i (no_bytes k)) (i + 3) (trailer c) ≡ sets l i (no_bytes k ++ trailer c)
+pub refused_run : (k : ℕ) (c : Counts) (l : List ℕ) (i : ℕ) →
+    sets (sets l i (no_bytes k)) (i + 3) (trailer c) ≡ sets l i (no_bytes k ++ trailer c)
 refused_run k c l i = simp (runs, no_length)
 
-pub refused-length : (k : ℕ) (c : Counts) → length c.rows ≡ row_count → length (no_bytes k ++ trailer c) ≡ 3 + trailer_length
+pub refused-length : (k : ℕ) (c : Counts) → length c.by_mark ≡ row_count →
+    length (no_bytes k ++ trailer c) ≡ 3 + trailer_length
 refused-length k c h = simp (sizes, no_length, trailer-length c h)
 
 -- where the loop left room for the longest answer, the end has room
-pub closing_fits : (r : Reason) (c : Counts) (m room : ℕ) → length c.rows ≡ row_count → m ≤ room → (ends r ≡ true → m + longest ≤ room) → m + length (closing r c) ≤ room
+pub closing_fits : (r : Reason) (c : Counts) (m room : ℕ) → length c.by_mark ≡ row_count → m ≤ room →
+    (is_over r ≡ true → m + longest ≤ room) → m + length (closing r c) ≤ room
 unfolding closing_of
 closing_fits More c m room w h k = omega arith
 closing_fits Room c m room w h k = omega arith

@@ -5,11 +5,11 @@ use mathlib.Core.Path.{◌≡◌, refl, sym, ap, subst, ◌∙◌}
 use mathlib.Core.List.{List, [], ◌∷◌, ◌++◌, append_assoc}
 use lib.ListN.{length, take, drop, get_or}
 use lib.Seq.{length-take-le}
-use Rattle.outcome.specs.Outcome.{Reply, took, ended, unknown, cut}
+use Rattle.record_result.specs.RecordResult.{Reply, took, ended, unknown, cut}
 use Rattle.sheets.specs.Back.{Bytes}
 use Rattle.sheets.proofs.Back.{bytes_take, bytes_drop}
-use Rattle.kept.specs.State.{State, state_none}
-use Rattle.marks.specs.Marks.{found_of, next_of}
+use Rattle.job_state.specs.State.{State, state_none}
+use Rattle.marks.specs.Marks.{head_of, next_of}
 use Rattle.marks.specs.History.{kept_after, KeptAfter}
 use Rattle.marks.specs.Answers.{reply_on, reply_to}
 use Rattle.marks.proofs.Past.{Each, each_map, each_first, each_last, kept-after}
@@ -29,22 +29,22 @@ none_written j xs = refl
 
 -- where no record stands at the head
 module _ (n : ℕ) (j : Standing) (xs : List ℕ) where
-  end_written : ((z : State) → found_of z xs ≡ ended) → Written (suc n) j xs
+  end_written : ((z : State) → head_of z xs ≡ ended) → Written (suc n) j xs
   unfolding job_from job_on input_records records_on input_end end_on counts_from counts_on replies_to
   end_written e = rw (e j.state, e state_none) refl
 
-  unknown-written : ((z : State) → found_of z xs ≡ unknown) → Written (suc n) j xs
+  unknown-written : ((z : State) → head_of z xs ≡ unknown) → Written (suc n) j xs
   unfolding job_from job_on input_records records_on input_end end_on counts_from counts_on replies_to
   unknown-written e = rw (e j.state, e state_none) refl
 
-  cut-written : ((z : State) → found_of z xs ≡ cut) → Written (suc n) j xs
+  cut-written : ((z : State) → head_of z xs ≡ cut) → Written (suc n) j xs
   unfolding job_from job_on input_records records_on input_end end_on counts_from counts_on replies_to
   cut-written e = rw (e j.state, e state_none) refl
 
   -- and where one does
   module _ (k : ℕ) (reply : State → Reply) (e : Takes xs k reply) where
     abbrev next : Standing
-    next = moved (reply j.state).kind xs j
+    next = moved (reply j.state).disposition xs j
 
     job_record : job_from (suc n) j xs ≡ (reply j.state).bytes ++ job_from n next (drop k xs)
     unfolding job_from job_on
@@ -90,7 +90,7 @@ written (suc n) j xs = by (head xs) (written n)
     by (at-unknown e) go = unknown-written n j xs e
     by (at_cut e) go = cut-written n j xs e
     by (at_record k l reply e f g) go =
-        record_written n j xs k reply e f g (go (moved (reply j.state).kind xs j) (drop k xs))
+        record_written n j xs k reply e f g (go (moved (reply j.state).disposition xs j) (drop k xs))
 
 -- ---- where a reply stands
 placed :
@@ -113,7 +113,7 @@ fine_first :
 fine_first k xs reply l e h =
     let n : k ≡ length (take k xs) = sym (length-take-le k xs l) in
     let z = reply state_none in
-    ((z.kind, (z.bytes, e state_none ∙ ap (λ (i : ℕ). took z.kind i z.bytes) n)), bytes_take k xs h)
+    ((z.disposition, (z.bytes, e state_none ∙ ap (λ (i : ℕ). took z.disposition i z.bytes) n)), bytes_take k xs h)
 
 module _ (n : ℕ) (xs : List ℕ) (go : (xs : List ℕ) → Bytes xs → Each Fine (input_records n xs)) (h : Bytes xs) where
   fine_by : Head xs → Each Fine (input_records (suc n) xs)

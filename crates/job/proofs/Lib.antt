@@ -3,7 +3,7 @@ pub mod Rows
 pub mod Turns
 pub mod Loop
 pub mod Steps
-pub mod Heard
+pub mod Dispatched
 pub mod Lent
 pub mod Ending
 pub mod Pieces

@@ -1,7 +1,8 @@
--- One call: the loop's value fits the input and the output, and with the end written behind it it is `feed_of`. Assumes nothing.
+-- One call: the loop's value fits the input and the output, and with the end written behind it it is `feed_of`. Assumes
+-- nothing.
 use Prim.Native.Nat.{ℕ, suc, ◌+◌, ◌-◌, ◌≤◌}
 use mathlib.Core.Path.{◌≡◌, refl, sym, ap, ◌∙◌}
-use mathlib.Core.Bool.{Bool, true, false, cond, ◌&&◌}
+use mathlib.Core.Bool.{Bool, true, false, cond}
 use mathlib.Core.List.{List, ◌++◌}
 use native.Mathlib.Nat.{zero-add}
 use native.Mathlib.Omega.{arith}
@@ -11,18 +12,21 @@ use lib.Seq.{sets, length-sets}
 use lib.Dec.{leb, eqb}
 use Rattle.std.proofs.lemmas.Bool.{false≢true, and_parts}
 use Rattle.layout.proofs.Runs.{sets_front, sets_split}
-use Rattle.outcome.specs.declared.Kind.TheVariants.{Refused}
-use Rattle.outcome.specs.Outcome.{longest, unknown_mark, Found}
+use Rattle.record_result.specs.declared.Disposition.TheVariants.{Refused}
+use Rattle.record_result.specs.RecordResult.{longest, unknown_mark, InputHead}
 use Rattle.job.specs.declared.Counts.{Counts}
 use Rattle.job.specs.declared.Fed.{Fed}
 use Rattle.job.specs.declared.Reason.{Reason}
 use Rattle.job.specs.declared.Reason.TheVariants.{More, Room, Bad, Full, End, Unknown, Cut}
 use Rattle.job.specs.Counts.{total, counts_sound}
-use Rattle.kept.specs.State.{State, holds}
+use Rattle.job_state.specs.State.{State}
+use Rattle.job_state.specs.declared.JobState.{JobState}
 use Rattle.marks.specs.Rows.{row_count, row_at}
 use Rattle.job.specs.Job.{Standing, job_limit}
-use Rattle.job.specs.Feed.{Part, halt, closed, closing, ends, records_of, mem_records, feed_of, fed_mem, Told, wants_bytes, wants_room, unsound, at_limit, at_end, refused}
-use Rattle.job.specs.Feed.{reason_told, CallTold, fed_told, part_told}
+use Rattle.job.specs.Feed.{Part, halt, closed, closing, is_over, records_of, kept_records, feed_of, fed_kept}
+use Rattle.job.specs.Feed.{ReasonView}
+use Rattle.job.specs.Feed.{wants_bytes, wants_room, unsound, at_limit, at_end, refused}
+use Rattle.job.specs.Feed.{reason_view, FedView, fed_view, part_view}
 use Rattle.job.specs.Private.{Sound, part_fed}
 use Rattle.marks.proofs.Heads.{taken}
 use Rattle.job.proofs.Turns.{Stops, at_end_lem, at_pause, at-unknown, at_cut, at_part, records_by, counted_begun}
@@ -33,7 +37,7 @@ use Rattle.job.proofs.Ending.{closing_fits}
 record Fits (xs : List ℕ) (room : ℕ) (p : Part) : Type 0 where
   uses : p.used ≤ length xs
   within : length p.bytes ≤ room
-  spare : ends p.reason ≡ true → length p.bytes + longest ≤ room
+  spare : is_over p.reason ≡ true → length p.bytes + longest ≤ room
 
 records_fit : (n : ℕ) (j : Standing) (xs : List ℕ) (last : Bool) (room : ℕ) → Fits xs room (records_of n j xs last room)
 records_fit n j xs last room =
@@ -46,16 +50,22 @@ records_fit n j xs last room =
     let whole : k ≤ length xs = t.whole in
     let short : length b ≤ longest = t.short in
     let u : p.used ≤ length xs - k = simp length-drop at i.uses in
-    record { uses = omega arith; within = simp length-append (omega (arith, i.within)); spare = λ u. simp length-append (omega (arith, i.spare u)) })
+    record {
+      uses = omega arith;
+      within = simp length-append (omega (arith, i.within));
+      spare =
+          λ u. simp length-append (omega (arith, i.spare u));
+    })
     n j xs room
 
 -- ---- the counts stay those of a job
 module _ (limit : ℕ) (last : Bool) where
   abbrev Keeps : ℕ → Standing → List ℕ → ℕ → Part → Type 0
-  Keeps n j xs room p = Sound limit j.counts → limit - j.counts.four.begun ≡ n → Sound limit p.standing.counts
+  Keeps n j xs room p = Sound limit j.counts → limit - j.counts.totals.begun ≡ n → Sound limit p.standing.counts
 
   stop_sound :
-      (n : ℕ) (j : Standing) (xs : List ℕ) (f : Found) (r : Reason) (e : Standing) → Stops last j xs f r e → Sound limit j.counts → limit - j.counts.four.begun ≡ suc n →
+      (n : ℕ) (j : Standing) (xs : List ℕ) (f : InputHead) (r : Reason) (e : Standing) → Stops last j xs f r e →
+      Sound limit j.counts → limit - j.counts.totals.begun ≡ suc n →
       Sound limit e.counts
   stop_sound n j xs f r e (at_end_lem l) s i = s
   stop_sound n j xs f r e (at_pause l) s i = s
@@ -63,27 +73,29 @@ module _ (limit : ℕ) (last : Bool) where
   stop_sound n j xs f r e (at_cut l) s i = counted_sound Refused limit xs j.counts s (λ x. omega arith)
   stop_sound n j xs f r e (at_part l) s i = s
 
-  pub records_sound : (j : Standing) (xs : List ℕ) (room : ℕ) → Sound limit j.counts → Sound limit (records_of (limit - j.counts.four.begun) j xs last room).standing.counts
+  pub records_sound : (j : Standing) (xs : List ℕ) (room : ℕ) → Sound limit j.counts →
+      Sound limit (records_of (limit - j.counts.totals.begun) j xs last room).standing.counts
   records_sound j xs room s =
       records_by last Keeps
       (λ n j xs room h s i. s)
       (λ j xs room h s i. s)
       (λ n j xs room h f r e q t s i. stop_sound n j xs f r e t s i)
-      (λ n j xs room h how k b q p ih s i. ih (counted_sound how limit xs j.counts s (λ x. omega arith)) (rw (counted_begun how (row_at xs) j.counts) (omega arith)))
-      (limit - j.counts.four.begun) j xs room s refl
+      (λ n j xs room h how k b q p ih s i. ih (counted_sound how limit xs j.counts s (λ x. omega arith))
+      (rw (counted_begun how (row_at xs) j.counts) (omega arith)))
+      (limit - j.counts.totals.begun) j xs room s refl
 
 -- ---- the counts handed in
 pub sound_is : (limit : ℕ) (c : Counts) → counts_sound limit c ≡ true → Sound limit c
 unfolding counts_sound
 sound_is limit c e =
-    let x = and_parts (leb c.four.begun limit) _ e in
-    let y = and_parts (leb c.four.answered c.four.begun) _ x.1 in
-    let z = and_parts (leb c.four.refused (c.four.begun - c.four.answered)) _ y.1 in
-    let w = and_parts (eqb c.four.unusable (c.four.begun - c.four.answered - c.four.refused)) _ z.1 in
-    let v = and_parts (eqb (length c.rows) row_count) _ w.1 in
-    let a : c.four.answered ≤ c.four.begun = leb-true _ _ y.0 in
-    let b : c.four.refused ≤ c.four.begun - c.four.answered = leb-true _ _ z.0 in
-    let u : c.four.unusable ≡ c.four.begun - c.four.answered - c.four.refused = eqb-true _ _ w.0 in
+    let x = and_parts (leb c.totals.begun limit) _ e in
+    let y = and_parts (leb c.totals.answered c.totals.begun) _ x.1 in
+    let z = and_parts (leb c.totals.refused (c.totals.begun - c.totals.answered)) _ y.1 in
+    let w = and_parts (eqb c.totals.unusable (c.totals.begun - c.totals.answered - c.totals.refused)) _ z.1 in
+    let v = and_parts (eqb (length c.by_mark) row_count) _ w.1 in
+    let a : c.totals.answered ≤ c.totals.begun = leb-true _ _ y.0 in
+    let b : c.totals.refused ≤ c.totals.begun - c.totals.answered = leb-true _ _ z.0 in
+    let u : c.totals.unusable ≡ c.totals.begun - c.totals.answered - c.totals.refused = eqb-true _ _ w.0 in
     record {
       few = leb-true _ _ x.0;
       sum = omega arith;
@@ -93,29 +105,31 @@ sound_is limit c e =
 pub is_sound : (limit : ℕ) (c : Counts) → Sound limit c → counts_sound limit c ≡ true
 unfolding counts_sound
 is_sound limit c s =
-    let f : c.four.begun ≤ limit = s.few in
-    let e : c.four.answered + c.four.refused + c.four.unusable ≡ c.four.begun = s.sum in
+    let f : c.totals.begun ≤ limit = s.few in
+    let e : c.totals.answered + c.totals.refused + c.totals.unusable ≡ c.totals.begun = s.sum in
     rw (
-      le-leb c.four.begun limit f,
-      le-leb c.four.answered c.four.begun (omega arith),
-      le-leb c.four.refused (c.four.begun - c.four.answered) (omega arith),
-      eq-eqb c.four.unusable (c.four.begun - c.four.answered - c.four.refused) (omega arith),
-      eq-eqb (length c.rows) row_count s.each.0,
-      eq-eqb (total c.rows) c.four.begun s.each.1,
+      le-leb c.totals.begun limit f,
+      le-leb c.totals.answered c.totals.begun (omega arith),
+      le-leb c.totals.refused (c.totals.begun - c.totals.answered) (omega arith),
+      eq-eqb c.totals.unusable (c.totals.begun - c.totals.answered - c.totals.refused) (omega arith),
+      eq-eqb (length c.by_mark) row_count s.each.0,
+      eq-eqb (total c.by_mark) c.totals.begun s.each.1,
     )
 
-pub feed_bad : (limit : ℕ) (held : Bool) (j : Standing) (xs : List ℕ) (last : Bool) (room : ℕ) → held && counts_sound limit j.counts ≡ false → feed_of limit held j xs last room ≡ halt Bad j
+pub feed_bad : (limit : ℕ) (j : Standing) (xs : List ℕ) (last : Bool) (room : ℕ) →
+    counts_sound limit j.counts ≡ false → feed_of limit j xs last room ≡ halt Bad j
 unfolding feed_of
-feed_bad limit held j xs last room e = rw e
+feed_bad limit j xs last room e = rw e
 
 pub feed_good :
-    (limit : ℕ) (held : Bool) (j : Standing) (xs : List ℕ) (last : Bool) (room : ℕ) → held && counts_sound limit j.counts ≡ true →
-    feed_of limit held j xs last room ≡ closed (records_of (limit - j.counts.four.begun) j xs last room)
+    (limit : ℕ) (j : Standing) (xs : List ℕ) (last : Bool) (room : ℕ) →
+    counts_sound limit j.counts ≡ true →
+    feed_of limit j xs last room ≡ closed (records_of (limit - j.counts.totals.begun) j xs last room)
 unfolding feed_of
-feed_good limit held j xs last room e = rw e
+feed_good limit j xs last room e = rw e
 
 -- ---- what an answer says is all of it: the reason can be read back
-reason_of : Told → Reason
+reason_of : ReasonView → Reason
 reason_of wants_bytes = More
 reason_of wants_room = Room
 reason_of unsound = Bad
@@ -123,7 +137,7 @@ reason_of at_limit = Full
 reason_of at_end = End
 reason_of (refused k) = cond (eqb k unknown_mark) Unknown Cut
 
-reason_back : (r : Reason) → reason_of (reason_told r) ≡ r
+reason_back : (r : Reason) → reason_of (reason_view r) ≡ r
 unfolding reason_of
 reason_back More = refl
 reason_back Room = refl
@@ -133,72 +147,78 @@ reason_back End = refl
 reason_back Unknown = refl
 reason_back Cut = refl
 
-pub told_back : (f : Fed) (p : Part) → fed_told f ≡ part_told p → f ≡ part_fed p
-told_back f p e = λ i. record {
-  reason = (sym (reason_back f.reason) ∙ ap (λ (t : CallTold). reason_of t.reason) e ∙ reason_back p.reason) i;
+pub view_back : (f : Fed) (p : Part) → fed_view f ≡ part_view p → f ≡ part_fed p
+view_back f p e = λ i. record {
+  reason = (sym (reason_back f.reason) ∙ ap (λ (t : FedView). reason_of t.reason) e ∙ reason_back p.reason) i;
   counts = (e i).counts;
   used = (e i).used;
   written = (e i).written;
 }
 
--- the bytes lent for the state, likewise
-module _ (c : Counts) (m xs : List ℕ) (room : ℕ) where
-  pub mem_bad : holds m && counts_sound job_limit c ≡ false → fed_mem c m xs room ≡ m
-  unfolding fed_mem
-  mem_bad e = rw e
+-- what the code keeps, likewise
+module _ (c : Counts) (m : JobState) (xs : List ℕ) (room : ℕ) where
+  pub kept_bad : counts_sound job_limit c ≡ false → fed_kept c m xs room ≡ m
+  unfolding fed_kept
+  kept_bad e = rw e
 
-  pub mem_good : holds m && counts_sound job_limit c ≡ true →
-      fed_mem c m xs room ≡ mem_records (job_limit - c.four.begun) m xs room
-  unfolding fed_mem
-  mem_good e = rw e
+  pub kept_good : counts_sound job_limit c ≡ true →
+      fed_kept c m xs room ≡ kept_records (job_limit - c.totals.begun) m xs room
+  unfolding fed_kept
+  kept_good e = rw e
 
--- ---- the counts are a job's, the bytes hold a state, and the loop has answered l and left the output out₁ and the state w
-pub record Looped (limit : ℕ) (held : Bool) (j : Standing) (xs : List ℕ) (last : Bool) (out : List ℕ) (l : Fed) (out₁ : List ℕ) (w : State) : Type 0 where
-  pub good : held && counts_sound limit j.counts ≡ true
-  pub told : l ≡ part_fed (records_of (limit - j.counts.four.begun) j xs last (length out))
-  pub wrote : out₁ ≡ sets out 0 (records_of (limit - j.counts.four.begun) j xs last (length out)).bytes
-  pub left : w ≡ (records_of (limit - j.counts.four.begun) j xs last (length out)).standing.state
+-- ---- the counts are a job's, and the loop has answered l and left the output out₁ and the
+-- state w
+pub record Looped (limit : ℕ) (j : Standing) (xs : List ℕ) (last : Bool) (out : List ℕ) (l : Fed)
+    (out₁ : List ℕ) (w : State) : Type 0 where
+  pub good : counts_sound limit j.counts ≡ true
+  pub view : l ≡ part_fed (records_of (limit - j.counts.totals.begun) j xs last (length out))
+  pub wrote : out₁ ≡ sets out 0 (records_of (limit - j.counts.totals.begun) j xs last (length out)).bytes
+  pub left : w ≡ (records_of (limit - j.counts.totals.begun) j xs last (length out)).standing.state
 
-module _ {limit : ℕ} {held : Bool} {j : Standing} {xs : List ℕ} {last : Bool} {out : List ℕ} {l : Fed} {out₁ : List ℕ} {w : State} (k : Looped limit held j xs last out l out₁ w) where
-  pub feed_room : ends l.reason ≡ true → l.written + longest ≤ length out₁
-  feed_room u = rw (k.told, k.wrote, length-sets) ((records_fit (limit - j.counts.four.begun) j xs last (length out)).spare (rw k.told at u))
+module _ {limit : ℕ} {j : Standing} {xs : List ℕ} {last : Bool} {out : List ℕ} {l : Fed} {out₁ : List ℕ}
+    {w : State} (k : Looped limit j xs last out l out₁ w) where
+  pub feed_room : is_over l.reason ≡ true → l.written + longest ≤ length out₁
+  feed_room u =
+      rw (k.view, k.wrote, length-sets) ((records_fit (limit - j.counts.totals.begun) j xs last (length out)).spare
+      (rw k.view at u))
 
   pub feed_uses : l.used ≤ length xs
-  feed_uses = rw k.told (records_fit (limit - j.counts.four.begun) j xs last (length out)).uses
+  feed_uses = rw k.view (records_fit (limit - j.counts.totals.begun) j xs last (length out)).uses
 
   pub feed_within : l.written + length (closing l.reason l.counts) ≤ length out
   feed_within =
-      let f = records_fit (limit - j.counts.four.begun) j xs last (length out) in
-      let P = records_of (limit - j.counts.four.begun) j xs last (length out) in
-      let s = records_sound limit last j xs (length out) (sound_is limit j.counts (and_parts held _ k.good).1) in
-      rw k.told (closing_fits P.reason P.standing.counts _ _ s.each.0 f.within f.spare)
+      let f = records_fit (limit - j.counts.totals.begun) j xs last (length out) in
+      let P = records_of (limit - j.counts.totals.begun) j xs last (length out) in
+      let s = records_sound limit last j xs (length out) (sound_is limit j.counts k.good) in
+      rw k.view (closing_fits P.reason P.standing.counts _ _ s.each.0 f.within f.spare)
 
-  pub feed_told :
-      (n : ℕ) → n ≡ length (closing l.reason l.counts) →
-      record { reason = l.reason; counts = l.counts; used = l.used; written = l.written + n } ≡
-      part_fed (feed_of limit held j xs last (length out))
-  feed_told n e = rw (e, k.told, feed_good limit held j xs last (length out) k.good, length-append)
-
-  -- as it is read
   pub feed_view :
       (n : ℕ) → n ≡ length (closing l.reason l.counts) →
-      fed_told (record { reason = l.reason; counts = l.counts; used = l.used; written = l.written + n }) ≡
-      part_told (feed_of limit held j xs last (length out))
-  feed_view n e = ap fed_told (feed_told n e)
+      record { reason = l.reason; counts = l.counts; used = l.used; written = l.written + n } ≡
+      part_fed (feed_of limit j xs last (length out))
+  feed_view n e = rw (e, k.view, feed_good limit j xs last (length out) k.good, length-append)
+
+  -- as a caller reads it
+  pub feed_viewed :
+      (n : ℕ) → n ≡ length (closing l.reason l.counts) →
+      fed_view (record { reason = l.reason; counts = l.counts; used = l.used; written = l.written + n }) ≡
+      part_view (feed_of limit j xs last (length out))
+  feed_viewed n e = ap fed_view (feed_view n e)
 
   pub feed_wrote :
-      (n : ℕ) (out₂ : List ℕ) → n ≡ length (closing l.reason l.counts) → out₂ ≡ sets out₁ l.written (closing l.reason l.counts) →
-      out₂ ≡ (feed_of limit held j xs last (length out)).bytes ++ drop (l.written + n) out
+      (n : ℕ) (out₂ : List ℕ) → n ≡ length (closing l.reason l.counts) →
+      out₂ ≡ sets out₁ l.written (closing l.reason l.counts) →
+      out₂ ≡ (feed_of limit j xs last (length out)).bytes ++ drop (l.written + n) out
   feed_wrote n out₂ e v =
-      let P = records_of (limit - j.counts.four.begun) j xs last (length out) in
+      let P = records_of (limit - j.counts.totals.begun) j xs last (length out) in
       let B = closing P.reason P.standing.counts in
-      let h : length (P.bytes ++ B) ≤ length out = simp length-append (rw k.told at feed_within) in
+      let h : length (P.bytes ++ B) ≤ length out = simp length-append (rw k.view at feed_within) in
       v
-      ∙ rw (e, k.told, k.wrote, feed_good limit held j xs last (length out) k.good)
+      ∙ rw (e, k.view, k.wrote, feed_good limit j xs last (length out) k.good)
       (ap (λ (i : ℕ). sets (sets out 0 P.bytes) i B) (sym (zero-add (length P.bytes)))
       ∙ sym (sets_split P.bytes B out 0)
       ∙ sets_front (P.bytes ++ B) out h
       ∙ ap (λ (i : ℕ). P.bytes ++ B ++ drop i out) (length-append P.bytes B))
 
-  pub feed_left : w ≡ (feed_of limit held j xs last (length out)).standing.state
-  feed_left = rw (feed_good limit held j xs last (length out) k.good) k.left
+  pub feed_left : w ≡ (feed_of limit j xs last (length out)).standing.state
+  feed_left = rw (feed_good limit j xs last (length out) k.good) k.left

@@ -12,11 +12,11 @@ use Rattle.std.proofs.lemmas.Bool.Decides.{nat_tests}
 use Rattle.wire.specs.Wire.{count_bytes}
 use Rattle.wire.proofs.Bytes.{count-length}
 use Rattle.layout.proofs.Runs.{sets_split}
-use Rattle.outcome.specs.declared.Kind.{Kind}
-use Rattle.outcome.specs.declared.Kind.TheVariants.{Answered, Refused, Unusable}
+use Rattle.record_result.specs.declared.Disposition.{Disposition}
+use Rattle.record_result.specs.declared.Disposition.TheVariants.{Answered, Refused, Unusable}
 use Rattle.marks.specs.Rows.{row_count}
-use Rattle.job.specs.declared.Four.{Four}
-use Rattle.job.specs.Counts.{rows_more, total, rows_bytes, four_more, counts_more}
+use Rattle.job.specs.declared.Totals.{Totals}
+use Rattle.job.specs.Counts.{by_mark_more, total, by_mark_bytes, totals_more, counts_more}
 use Rattle.job.specs.Job.{job_limit}
 use Rattle.job.specs.Private.{Sound, Small, joined}
 
@@ -32,9 +32,10 @@ set-total (x ∷ l) zero h = omega arith
 set-total (x ∷ l) (suc r) h = let i = set-total l r (omega arith) in omega arith
 
 -- one more in one of them is one more in their sum
-pub rows-add : (r n : ℕ) (l : List ℕ) → r < row_count → (length l ≡ row_count) × (total l ≡ n) → (length (rows_more r l) ≡ row_count) × (total (rows_more r l) ≡ n + 1)
-unfolding rows_more
-rows-add r n l h e = (length-set l r _ ∙ e.0, set-total l r (omega (arith, e.0)) ∙ ap (λ (x : ℕ). x + 1) e.1)
+pub by_mark-add : (r n : ℕ) (l : List ℕ) → r < row_count → (length l ≡ row_count) × (total l ≡ n) →
+    (length (by_mark_more r l) ≡ row_count) × (total (by_mark_more r l) ≡ n + 1)
+unfolding by_mark_more
+by_mark-add r n l h e = (length-set l r _ ∙ e.0, set-total l r (omega (arith, e.0)) ∙ ap (λ (x : ℕ). x + 1) e.1)
 
 -- none is more than their sum
 row_within : (l : List ℕ) (r : ℕ) → get_or l r 0 ≤ total l
@@ -44,7 +45,7 @@ row_within [] (suc r) = omega arith
 row_within (x ∷ l) zero = omega arith
 row_within (x ∷ l) (suc r) = let i = row_within l r in omega arith
 
-pub row_small : (f : Four) (l : List ℕ) (r : ℕ) → Sound job_limit (joined f l) → get_or l r 0 ≤ job_limit
+pub row_small : (f : Totals) (l : List ℕ) (r : ℕ) → Sound job_limit (joined f l) → get_or l r 0 ≤ job_limit
 row_small f l r s = let a : f.begun ≤ job_limit = s.few in omega (arith, row_within l r, s.each.1)
 
 total-append : (a b : List ℕ) → total (a ++ b) ≡ total a + total b
@@ -67,52 +68,61 @@ pub taken_none : (l : List ℕ) (n : ℕ) → total (take 0 l) + n ≡ n
 unfolding total
 taken_none l n = omega arith
 
-pub taken_short : (l : List ℕ) (i left n : ℕ) → i < length l → total (take i l) + left ≡ n → left < get_or l i 0 → false ≡ eqb (total l) n
+pub taken_short : (l : List ℕ) (i left n : ℕ) → i < length l → total (take i l) + left ≡ n → left < get_or l i 0 →
+    false ≡ eqb (total l) n
 taken_short l i left n h e less =
     let a = total_more l i h in
     let b = total-least l (i + 1) in
     grind (arith, nat_tests)
 
-pub taken_more : (l : List ℕ) (i left n : ℕ) → i < length l → total (take i l) + left ≡ n → get_or l i 0 ≤ left → total (take (i + 1) l) + (left - get_or l i 0) ≡ n
+pub taken_more : (l : List ℕ) (i left n : ℕ) → i < length l → total (take i l) + left ≡ n → get_or l i 0 ≤ left →
+    total (take (i + 1) l) + (left - get_or l i 0) ≡ n
 taken_more l i left n h e more = let a = total_more l i h in omega arith
 
 -- ---- their bytes
-pub rows-length : (l : List ℕ) → length (rows_bytes l) ≡ 4 * length l
-unfolding rows_bytes
-rows-length [] = refl
-rows-length (x ∷ l) = let i = rows-length l in let c = count-length x in length-append (count_bytes x) (rows_bytes l) ∙ omega arith
+pub by_mark-length : (l : List ℕ) → length (by_mark_bytes l) ≡ 4 * length l
+unfolding by_mark_bytes
+by_mark-length [] = refl
+by_mark-length (x ∷ l) =
+    let i = by_mark-length l in let c = count-length x in length-append (count_bytes x) (by_mark_bytes l) ∙ omega arith
 
-bytes-append : (a b : List ℕ) → rows_bytes (a ++ b) ≡ rows_bytes a ++ rows_bytes b
-unfolding rows_bytes
+bytes-append : (a b : List ℕ) → by_mark_bytes (a ++ b) ≡ by_mark_bytes a ++ by_mark_bytes b
+unfolding by_mark_bytes
 bytes-append [] b = refl
-bytes-append (x ∷ a) b = ap (λ (l : List ℕ). count_bytes x ++ l) (bytes-append a b) ∙ sym (append_assoc (count_bytes x) (rows_bytes a) (rows_bytes b))
+bytes-append (x ∷ a) b =
+    ap (λ (l : List ℕ). count_bytes x ++ l) (bytes-append a b)
+    ∙ sym (append_assoc (count_bytes x) (by_mark_bytes a) (by_mark_bytes b))
 
-pub stored_none : (l out : List ℕ) (at : ℕ) → out ≡ sets out at (rows_bytes (take 0 l))
-unfolding rows_bytes
+pub stored_none : (l out : List ℕ) (at : ℕ) → out ≡ sets out at (by_mark_bytes (take 0 l))
+unfolding by_mark_bytes
 stored_none l out at = refl
 
 pub stored_more :
     (l out : List ℕ) (at i : ℕ) → i < length l →
-    sets (sets out at (rows_bytes (take i l))) (at + 4 * i) (count_bytes (get_or l i 0)) ≡ sets out at (rows_bytes (take (i + 1) l))
-unfolding rows_bytes
+    sets (sets out at (by_mark_bytes (take i l))) (at + 4 * i) (count_bytes (get_or l i 0))
+    ≡ sets out at (by_mark_bytes (take (i + 1) l))
+unfolding by_mark_bytes
 stored_more l out at i h =
-    let n : length (rows_bytes (take i l)) ≡ 4 * i = rows-length (take i l) ∙ ap (λ (k : ℕ). 4 * k) (length-take-le i l (omega arith)) in
+    let n : length (by_mark_bytes (take i l)) ≡ 4 * i = by_mark-length (take i l)
+    ∙ ap (λ (k : ℕ). 4 * k) (length-take-le i l (omega arith)) in
     sym
-    (ap (λ (x : List ℕ). sets out at (rows_bytes x)) (take_more l i 0 h)
-    ∙ ap (sets out at) (bytes-append (take i l) (get_or l i 0 ∷ []) ∙ ap (λ (x : List ℕ). rows_bytes (take i l) ++ x) (append-nil (count_bytes (get_or l i 0))))
-    ∙ sets_split (rows_bytes (take i l)) (count_bytes (get_or l i 0)) out at
-    ∙ ap (λ (k : ℕ). sets (sets out at (rows_bytes (take i l))) (at + k) (count_bytes (get_or l i 0))) n)
+    (ap (λ (x : List ℕ). sets out at (by_mark_bytes x)) (take_more l i 0 h)
+    ∙ ap (sets out at) (bytes-append (take i l) (get_or l i 0 ∷ [])
+    ∙ ap (λ (x : List ℕ). by_mark_bytes (take i l) ++ x) (append-nil (count_bytes (get_or l i 0))))
+    ∙ sets_split (by_mark_bytes (take i l)) (count_bytes (get_or l i 0)) out at
+    ∙ ap (λ (k : ℕ). sets (sets out at (by_mark_bytes (take i l))) (at + k) (count_bytes (get_or l i 0))) n)
 
 -- ---- the four counts and those by mark, counted apart
-pub small : (f : Four) (l : List ℕ) → Sound job_limit (joined f l) → Small f
+pub small : (f : Totals) (l : List ℕ) → Sound job_limit (joined f l) → Small f
 small f l s = (s.few, s.sum)
 
-pub more_begun : (how : Kind) (f g : Four) → g ≡ four_more how f → g.begun ≡ f.begun + 1
-unfolding four_more
-more_begun Answered f g e = ap (λ (x : Four). x.begun) e
-more_begun Refused f g e = ap (λ (x : Four). x.begun) e
-more_begun Unusable f g e = ap (λ (x : Four). x.begun) e
+pub more_begun : (how : Disposition) (f g : Totals) → g ≡ totals_more how f → g.begun ≡ f.begun + 1
+unfolding totals_more
+more_begun Answered f g e = ap (λ (x : Totals). x.begun) e
+more_begun Refused f g e = ap (λ (x : Totals). x.begun) e
+more_begun Unusable f g e = ap (λ (x : Totals). x.begun) e
 
-pub joined_more : (how : Kind) (r : ℕ) (f g : Four) (l : List ℕ) → g ≡ four_more how f → joined g (set l r (get_or l r 0 + 1)) ≡ counts_more how r (joined f l)
-unfolding rows_more counts_more
-joined_more how r f g l e = ap (λ (x : Four). joined x (set l r (get_or l r 0 + 1))) e
+pub joined_more : (how : Disposition) (r : ℕ) (f g : Totals) (l : List ℕ) → g ≡ totals_more how f →
+    joined g (set l r (get_or l r 0 + 1)) ≡ counts_more how r (joined f l)
+unfolding by_mark_more counts_more
+joined_more how r f g l e = ap (λ (x : Totals). joined x (set l r (get_or l r 0 + 1))) e

@@ -1,4 +1,5 @@
--- The record loop as the code goes through it: by the limit, by what it is answered of the record at the head, and by the room that is left for the end. Assumes nothing.
+-- The record loop as the code goes through it: by the limit, by what it is answered of the record at the head, and by
+-- the room that is left for the end. Assumes nothing.
 use Prim.Native.Nat.{ℕ, suc, ◌+◌, ◌-◌, ◌≤◌, ◌<◌}
 use mathlib.Core.Path.{◌≡◌, refl, sym, ap, ◌∙◌}
 use mathlib.Core.Bool.{Bool, true, false, cond}
@@ -8,67 +9,80 @@ use borrow.Author.Tests.{lt-ltb, le-ltb, ltb-true, ltb-false}
 use lib.Dec.{ltb}
 use lib.ListN.{length, take, drop, length-drop}
 use lib.Seq.{sets, take_all, length-take-le}
-use Rattle.outcome.specs.declared.Kind.{Kind}
-use Rattle.outcome.specs.declared.Kind.TheVariants.{Refused}
+use Rattle.record_result.specs.declared.Disposition.{Disposition}
+use Rattle.record_result.specs.declared.Disposition.TheVariants.{Refused}
 use Rattle.job.specs.declared.Counts.{Counts}
 use Rattle.job.specs.declared.Fed.{Fed}
 use Rattle.job.specs.declared.Reason.{Reason}
 use Rattle.job.specs.declared.Reason.TheVariants.{More, Room, Full, End, Unknown, Cut}
 use Rattle.job.specs.Counts.{counts_more}
-use Rattle.outcome.specs.Outcome.{longest, Found, ended, unknown, cut, became_of, written_of, step_told}
-use Rattle.kept.specs.State.{State}
-use Rattle.marks.specs.Marks.{found_of, next_of}
+use Rattle.record_result.specs.RecordResult.{longest, InputHead, ended, unknown, cut, record_result, written_of}
+use Rattle.record_result.specs.RecordResult.{step_view}
+use Rattle.job_state.specs.State.{State}
+use Rattle.marks.specs.Marks.{head_of, next_of}
 use Rattle.marks.specs.Rows.{row_count, row_at}
 use Rattle.job.specs.Job.{Standing, standing, lost}
 use Rattle.job.specs.Feed.{halt, records_of}
 use Rattle.job.specs.Private.{stop_of}
 use Rattle.layout.proofs.Runs.{sets-part}
-use Rattle.outcome.specs.declared.Step.{Step}
-use Rattle.outcome.specs.declared.Step.TheVariants as step
-use Rattle.outcome.proofs.Told.{told-took, told_room, told-ended, told-unknown, told-cut, stop_bytes}
+use Rattle.record_result.specs.declared.Step.{Step}
+use Rattle.record_result.specs.declared.Step.TheVariants as step
+use Rattle.record_result.proofs.Views.{view-took, told_room, view-ended, view-unknown, view-cut, stop_bytes}
 use Rattle.marks.proofs.Heads.{taken, taking, still}
 use Rattle.marks.proofs.Rows.{row-few}
 use Rattle.job.proofs.Turns.{records_room, records_full, records_ended, records_unknown, records_cut}
 use Rattle.job.proofs.Loop.{Going, Left, going_halt, going_took}
 
-module _ {limit : ℕ} {input : List ℕ} {last : Bool} {j₀ : Standing} {out₀ : List ℕ} {j : Standing} {out : List ℕ} {at to : ℕ} (g : Going limit input last j₀ out₀ j out at to) where
-  left_room : (f : Fed) → f ≡ record { reason = Room; counts = j.counts; used = at; written = to } → length out - to < longest → Left limit input last j₀ out₀ f out j.state
-  left_room f told h =
+module _ {limit : ℕ} {input : List ℕ} {last : Bool} {j₀ : Standing} {out₀ : List ℕ} {j : Standing} {out : List ℕ}
+    {at to : ℕ} (g : Going limit input last j₀ out₀ j out at to) where
+  left_room : (f : Fed) → f ≡ record { reason = Room; counts = j.counts; used = at; written = to } →
+      length out - to < longest → Left limit input last j₀ out₀ f out j.state
+  left_room f view h =
       let len : length out ≡ length out₀ = g.kept in
-      going_halt g Room j f told (records_room _ j _ last _ (omega arith))
+      going_halt g Room j f view (records_room _ j _ last _ (omega arith))
 
   -- out of the loop by the test for room: the reason r and the counts e are the definition's where there is room
   stopped :
-      (r : Reason) (e : Standing) (f : Fed) → e.state ≡ j.state → f ≡ stop_of r j.counts e.counts at to (length out - to) →
-      (longest ≤ length out₀ - to → records_of (limit - j.counts.four.begun) j (drop at input) last (length out₀ - to) ≡ halt r e) → Left limit input last j₀ out₀ f out j.state
+      (r : Reason) (e : Standing) (f : Fed) → e.state ≡ j.state →
+      f ≡ stop_of r j.counts e.counts at to (length out - to) →
+      (longest ≤ length out₀ - to → records_of (limit - j.counts.totals.begun) j (drop at input) last (length out₀ - to)
+      ≡ halt r e) → Left limit input last j₀ out₀ f out j.state
   unfolding stop_of
-  stopped r e f stays told turn = by (ltb (length out - to) longest) refl
+  stopped r e f stays view turn = by (ltb (length out - to) longest) refl
     where
       by : (t : Bool) → ltb (length out - to) longest ≡ t → Left limit input last j₀ out₀ f out j.state
-      by true t = left_room f (told ∙ rw t) (ltb-true (length out - to) longest t)
+      by true t = left_room f (view ∙ rw t) (ltb-true (length out - to) longest t)
       by false t =
           let len : length out ≡ length out₀ = g.kept in
           let room : longest ≤ length out - to = ltb-false (length out - to) longest t in
-          rw (← stays) (going_halt g r e f (told ∙ rw t) (turn (omega arith)))
+          rw (← stays) (going_halt g r e f (view ∙ rw t) (turn (omega arith)))
 
-  pub left-full : (f : Fed) → f ≡ stop_of Full j.counts j.counts at to (length out - to) → j.counts.four.begun ≡ limit → Left limit input last j₀ out₀ f out j.state
-  left-full f told full = let z : limit - j.counts.four.begun ≡ 0 = omega arith in stopped Full j f refl told (λ h. rw z (records_full j _ last _ h))
+  pub left-full : (f : Fed) → f ≡ stop_of Full j.counts j.counts at to (length out - to) →
+      j.counts.totals.begun ≡ limit → Left limit input last j₀ out₀ f out j.state
+  left-full f view full =
+      let z : limit - j.counts.totals.begun ≡ 0 = omega arith in
+      stopped Full j f refl view (λ h. rw z (records_full j _ last _ h))
 
--- the limit is not met, and the code has lent `reply` the input from `at` on and the output from `to` on: q is the answer, p the place among the marks, R what that part of the output holds
--- then, and w the state
+-- the limit is not met, and the code has lent `reply` the input from `at` on and the output from `to` on: q is the
+-- answer, p the place among the marks, R what that part of the output holds then, and w the state
 pub record Turn
-    (limit : ℕ) (input : List ℕ) (last : Bool) (j₀ : Standing) (out₀ : List ℕ) (j : Standing) (out : List ℕ) (at to : ℕ) (q : Step) (p : ℕ) (R : List ℕ) (w : State) : Type 0 where
+    (limit : ℕ) (input : List ℕ) (last : Bool) (j₀ : Standing) (out₀ : List ℕ) (j : Standing) (out : List ℕ) (at to : ℕ)
+    (q : Step) (p : ℕ) (R : List ℕ) (w : State) : Type 0 where
   pub going : Going limit input last j₀ out₀ j out at to
-  pub few : j.counts.four.begun ≡ limit → ⊥
-  pub told : step_told q ≡ became_of (found_of j.state (take (length input - at) (drop at input))) (length (take (length out - to) (drop to out)))
+  pub few : j.counts.totals.begun ≡ limit → ⊥
+  pub view : step_view q ≡ record_result (head_of j.state (take (length input - at) (drop at input)))
+      (length (take (length out - to) (drop to out)))
   pub wrote :
       R ≡
-      sets (take (length out - to) (drop to out)) 0 (written_of (found_of j.state (take (length input - at) (drop at input))) (length (take (length out - to) (drop to out))))
+      sets (take (length out - to) (drop to out)) 0 (written_of
+      (head_of j.state (take (length input - at) (drop at input))) (length (take (length out - to) (drop to out))))
   pub place : p ≡ row_at (take (length input - at) (drop at input))
-  pub left : w ≡ cond (ltb (length (take (length out - to) (drop to out))) longest) j.state (next_of j.state (take (length input - at) (drop at input)))
+  pub left : w ≡ cond (ltb (length (take (length out - to) (drop to out))) longest) j.state
+      (next_of j.state (take (length input - at) (drop at input)))
 
 module _
-    {limit : ℕ} {input : List ℕ} {last : Bool} {j₀ : Standing} {out₀ : List ℕ} {j : Standing} {out : List ℕ} {at to : ℕ} {q : Step} {p : ℕ} {R : List ℕ} {w : State}
+    {limit : ℕ} {input : List ℕ} {last : Bool} {j₀ : Standing} {out₀ : List ℕ} {j : Standing} {out : List ℕ} {at to : ℕ}
+    {q : Step} {p : ℕ} {R : List ℕ} {w : State}
     (t : Turn limit input last j₀ out₀ j out at to q p R w) where
   pub here : take (length input - at) (drop at input) ≡ drop at input
   here = take_all (length input - at) (drop at input) (simp length-drop (omega arith))
@@ -80,17 +94,20 @@ module _
   abbrev after_it : List ℕ
   after_it = take to out ++ (R ++ drop (length out - to) (drop to out))
 
-  pub told_here : step_told q ≡ became_of (found_of j.state (drop at input)) (length out - to)
-  told_here = rw (here, spare) at t.told
+  pub told_here : step_view q ≡ record_result (head_of j.state (drop at input)) (length out - to)
+  told_here = rw (here, spare) at t.view
 
-  stored : length (written_of (found_of j.state (drop at input)) (length out - to)) ≤ length out - to → after_it ≡ sets out to (written_of (found_of j.state (drop at input)) (length out - to))
+  stored : length (written_of (head_of j.state (drop at input)) (length out - to)) ≤ length out - to →
+      after_it ≡ sets out to (written_of (head_of j.state (drop at input)) (length out - to))
   stored h =
       let room : to ≤ length out = t.going.room in
-      let b = written_of (found_of j.state (drop at input)) (length out - to) in
+      let b = written_of (head_of j.state (drop at input)) (length out - to) in
       rw (rw (here, spare) at t.wrote) (sets-part out b to (length out - to) (omega arith) h)
 
-  quiet : written_of (found_of j.state (drop at input)) (length out - to) ≡ [] → after_it ≡ out
-  quiet e = let h : length (written_of (found_of j.state (drop at input)) (length out - to)) ≤ length out - to = rw e (omega arith) in stored h ∙ ap (sets out to) e
+  quiet : written_of (head_of j.state (drop at input)) (length out - to) ≡ [] → after_it ≡ out
+  quiet e =
+      let h : length (written_of (head_of j.state (drop at input)) (length out - to)) ≤ length out - to =
+      rw e (omega arith) in stored h ∙ ap (sets out to) e
 
   -- the place among the marks
   place_here : p ≡ row_at (drop at input)
@@ -109,7 +126,7 @@ module _
   went : longest ≤ length out - to → next_of j.state (drop at input) ≡ w
   went h = sym (left_here ∙ rw (le-ltb (length out - to) longest h))
 
-  stayed : (f : Found) → found_of j.state (drop at input) ≡ f → taking f ≡ false → w ≡ j.state
+  stayed : (f : InputHead) → head_of j.state (drop at input) ≡ f → taking f ≡ false → w ≡ j.state
   stayed f e n = left_here ∙ rw (still j.state (drop at input) f e n) (by (ltb (length out - to) longest))
     where
       by : (u : Bool) → cond u j.state j.state ≡ j.state
@@ -117,68 +134,99 @@ module _
       by false = refl
 
   -- round the loop
-  pub round : (how : Kind) (k n : ℕ) → q ≡ step.Took how k n → Going limit input last j₀ out₀ (standing (counts_more how (row_at (drop at input)) j.counts) w) after_it (at + k) (to + n)
+  pub round : (how : Disposition) (k n : ℕ) → q ≡ step.Took how k n →
+      Going limit input last j₀ out₀ (standing (counts_more how (row_at (drop at input)) j.counts) w) after_it (at + k)
+      (to + n)
   round how k n e =
-      let b = written_of (found_of j.state (drop at input)) (length out - to) in
-      let f = told-took (found_of j.state (drop at input)) (length out - to) how k n (sym told_here ∙ ap step_told e) in
+      let b = written_of (head_of j.state (drop at input)) (length out - to) in
+      let f = view-took (head_of j.state (drop at input)) (length out - to) how k n (sym told_here ∙ ap step_view e) in
       let short : length b ≤ longest = (taken j.state (drop at input) how k b f.found).short in
       let roomy : longest ≤ length out - to = f.roomy in
       rw (stored (omega arith), ← f.long, ← (went roomy)) (going_took t.going how k b f.roomy t.few f.found)
 
-  pub round-to : (how : Kind) (k n : ℕ) → q ≡ step.Took how k n → (d : Counts) → d ≡ counts_more how p j.counts → Going limit input last j₀ out₀ (standing d w) after_it (at + k) (to + n)
+  pub round-to : (how : Disposition) (k n : ℕ) → q ≡ step.Took how k n → (d : Counts) → d ≡ counts_more how p j.counts →
+      Going limit input last j₀ out₀ (standing d w) after_it (at + k) (to + n)
   round-to how k n e d is = rw (is ∙ ap (λ (x : ℕ). counts_more how x j.counts) place_here) (round how k n e)
 
   -- ---- out of it: nothing was written
   quiet_room : q ≡ step.Room → after_it ≡ out
-  quiet_room e = quiet (told_room (found_of j.state (drop at input)) (length out - to) (sym told_here ∙ ap step_told e)).1
+  quiet_room e =
+      quiet (told_room (head_of j.state (drop at input)) (length out - to) (sym told_here ∙ ap step_view e)).1
 
   stays_room : q ≡ step.Room → w ≡ j.state
-  stays_room e = left_here ∙ rw (lt-ltb (length out - to) longest (told_room (found_of j.state (drop at input)) (length out - to) (sym told_here ∙ ap step_told e)).0)
+  stays_room e =
+      left_here ∙ rw (lt-ltb (length out - to) longest (told_room (head_of j.state (drop at input)) (length out - to)
+      (sym told_here ∙ ap step_view e)).0)
 
-  pub found-ended : q ≡ step.End → found_of j.state (drop at input) ≡ ended
-  found-ended e = told-ended (found_of j.state (drop at input)) (length out - to) (sym told_here ∙ ap step_told e)
+  pub found-ended : q ≡ step.End → head_of j.state (drop at input) ≡ ended
+  found-ended e = view-ended (head_of j.state (drop at input)) (length out - to) (sym told_here ∙ ap step_view e)
 
-  pub found-unknown : q ≡ step.Unknown → found_of j.state (drop at input) ≡ unknown
-  found-unknown e = told-unknown (found_of j.state (drop at input)) (length out - to) (sym told_here ∙ ap step_told e)
+  pub found-unknown : q ≡ step.Unknown → head_of j.state (drop at input) ≡ unknown
+  found-unknown e = view-unknown (head_of j.state (drop at input)) (length out - to) (sym told_here ∙ ap step_view e)
 
-  pub found-cut : q ≡ step.Cut → found_of j.state (drop at input) ≡ cut
-  found-cut e = told-cut (found_of j.state (drop at input)) (length out - to) (sym told_here ∙ ap step_told e)
+  pub found-cut : q ≡ step.Cut → head_of j.state (drop at input) ≡ cut
+  found-cut e = view-cut (head_of j.state (drop at input)) (length out - to) (sym told_here ∙ ap step_view e)
 
   quiet_end : q ≡ step.End → after_it ≡ out
-  quiet_end e = quiet ((stop_bytes (found_of j.state (drop at input)) (length out - to)).0 (found-ended e))
+  quiet_end e = quiet ((stop_bytes (head_of j.state (drop at input)) (length out - to)).0 (found-ended e))
 
   quiet-unknown : q ≡ step.Unknown → after_it ≡ out
-  quiet-unknown e = quiet ((stop_bytes (found_of j.state (drop at input)) (length out - to)).1 (found-unknown e))
+  quiet-unknown e = quiet ((stop_bytes (head_of j.state (drop at input)) (length out - to)).1 (found-unknown e))
 
   quiet-cut : q ≡ step.Cut → after_it ≡ out
-  quiet-cut e = quiet ((stop_bytes (found_of j.state (drop at input)) (length out - to)).2 (found-cut e))
+  quiet-cut e = quiet ((stop_bytes (head_of j.state (drop at input)) (length out - to)).2 (found-cut e))
 
   -- there was no room for its answer
-  pub left-roomless : q ≡ step.Room → (f : Fed) → f ≡ record { reason = Room; counts = j.counts; used = at; written = to } → Left limit input last j₀ out₀ f after_it w
-  left-roomless e f is = rw (quiet_room e, stays_room e) (left_room t.going f is (told_room (found_of j.state (drop at input)) (length out - to) (sym told_here ∙ ap step_told e)).0)
+  pub left-roomless : q ≡ step.Room → (f : Fed) → f ≡ record {
+    reason = Room;
+    counts = j.counts;
+    used = at;
+    written =
+        to;
+  } → Left limit input last j₀ out₀ f after_it w
+  left-roomless e f is =
+      rw (quiet_room e, stays_room e) (left_room t.going f is
+      (told_room (head_of j.state (drop at input)) (length out - to) (sym told_here ∙ ap step_view e)).0)
 
   -- by the test for room
   stop :
-      after_it ≡ out → w ≡ j.state → (r : Reason) (e : Standing) (f : Fed) → e.state ≡ j.state → f ≡ stop_of r j.counts e.counts at to (length after_it - to) →
-      ((n : ℕ) → longest ≤ length out₀ - to → records_of (suc n) j (drop at input) last (length out₀ - to) ≡ halt r e) → Left limit input last j₀ out₀ f after_it w
+      after_it ≡ out → w ≡ j.state → (r : Reason) (e : Standing) (f : Fed) → e.state ≡ j.state →
+      f ≡ stop_of r j.counts e.counts at to (length after_it - to) →
+      ((n : ℕ) → longest ≤ length out₀ - to → records_of (suc n) j (drop at input) last (length out₀ - to) ≡ halt r e) →
+      Left limit input last j₀ out₀ f after_it w
   stop same stay r e f stays is turn =
-      let begun : j.counts.four.begun ≤ limit = t.going.sound.few in
-      let few : j.counts.four.begun ≡ limit → ⊥ = t.few in
-      let one_less : limit - j.counts.four.begun ≡ suc (limit - (j.counts.four.begun + 1)) = omega arith in
-      rw (same, stay) (stopped t.going r e f stays (rw same at is) (λ h. rw one_less (turn (limit - (j.counts.four.begun + 1)) h)))
+      let begun : j.counts.totals.begun ≤ limit = t.going.sound.few in
+      let few : j.counts.totals.begun ≡ limit → ⊥ = t.few in
+      let one_less : limit - j.counts.totals.begun ≡ suc (limit - (j.counts.totals.begun + 1)) = omega arith in
+      rw (same, stay) (stopped t.going r e f stays (rw same at is)
+      (λ h. rw one_less (turn (limit - (j.counts.totals.begun + 1)) h)))
 
-  pub left_end : q ≡ step.End → last ≡ true → (f : Fed) → f ≡ stop_of End j.counts j.counts at to (length after_it - to) → Left limit input last j₀ out₀ f after_it w
-  left_end e l f is = stop (quiet_end e) (stayed ended (found-ended e) refl) End j f refl is (λ n r. records_ended n j _ last _ r (found-ended e) ∙ rw l)
+  pub left_end : q ≡ step.End → last ≡ true → (f : Fed) → f ≡ stop_of End j.counts j.counts at to
+      (length after_it - to) → Left limit input last j₀ out₀ f after_it w
+  left_end e l f is =
+      stop (quiet_end e) (stayed ended (found-ended e) refl) End j f refl is
+      (λ n r. records_ended n j _ last _ r (found-ended e) ∙ rw l)
 
-  pub left_pause : q ≡ step.End → last ≡ false → (f : Fed) → f ≡ stop_of More j.counts j.counts at to (length after_it - to) → Left limit input last j₀ out₀ f after_it w
-  left_pause e l f is = stop (quiet_end e) (stayed ended (found-ended e) refl) More j f refl is (λ n r. records_ended n j _ last _ r (found-ended e) ∙ rw l)
+  pub left_pause : q ≡ step.End → last ≡ false → (f : Fed) →
+      f ≡ stop_of More j.counts j.counts at to (length after_it - to) → Left limit input last j₀ out₀ f after_it w
+  left_pause e l f is =
+      stop (quiet_end e) (stayed ended (found-ended e) refl) More j f refl is
+      (λ n r. records_ended n j _ last _ r (found-ended e) ∙ rw l)
 
-  pub left-unknown : q ≡ step.Unknown → (f : Fed) → f ≡ stop_of Unknown j.counts (counts_more Refused p j.counts) at to (length after_it - to) → Left limit input last j₀ out₀ f after_it w
+  pub left-unknown : q ≡ step.Unknown → (f : Fed) → f ≡ stop_of Unknown j.counts (counts_more Refused p j.counts) at to
+      (length after_it - to) → Left limit input last j₀ out₀ f after_it w
   left-unknown e f is =
-      stop (quiet-unknown e) (stayed unknown (found-unknown e) refl) Unknown (lost (drop at input) j) f refl (rw lost_here at is) (λ n r. records_unknown n j _ last _ r (found-unknown e))
+      stop (quiet-unknown e) (stayed unknown (found-unknown e) refl) Unknown (lost (drop at input) j) f refl
+      (rw lost_here at is) (λ n r. records_unknown n j _ last _ r (found-unknown e))
 
-  pub left_cut : q ≡ step.Cut → last ≡ true → (f : Fed) → f ≡ stop_of Cut j.counts (counts_more Refused p j.counts) at to (length after_it - to) → Left limit input last j₀ out₀ f after_it w
-  left_cut e l f is = stop (quiet-cut e) (stayed cut (found-cut e) refl) Cut (lost (drop at input) j) f refl (rw lost_here at is) (λ n r. records_cut n j _ last _ r (found-cut e) ∙ rw l)
+  pub left_cut : q ≡ step.Cut → last ≡ true → (f : Fed) → f ≡ stop_of Cut j.counts
+      (counts_more Refused p j.counts) at to (length after_it - to) → Left limit input last j₀ out₀ f after_it w
+  left_cut e l f is =
+      stop (quiet-cut e) (stayed cut (found-cut e) refl) Cut (lost (drop at input) j) f refl (rw lost_here at is)
+      (λ n r. records_cut n j _ last _ r (found-cut e) ∙ rw l)
 
-  pub left-part : q ≡ step.Cut → last ≡ false → (f : Fed) → f ≡ stop_of More j.counts j.counts at to (length after_it - to) → Left limit input last j₀ out₀ f after_it w
-  left-part e l f is = stop (quiet-cut e) (stayed cut (found-cut e) refl) More j f refl is (λ n r. records_cut n j _ last _ r (found-cut e) ∙ rw l)
+  pub left-part : q ≡ step.Cut → last ≡ false → (f : Fed) → f
+      ≡ stop_of More j.counts j.counts at to (length after_it - to) → Left limit input last j₀ out₀ f after_it w
+  left-part e l f is =
+      stop (quiet-cut e) (stayed cut (found-cut e) refl) More j f refl is
+      (λ n r. records_cut n j _ last _ r (found-cut e) ∙ rw l)

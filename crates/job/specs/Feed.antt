@@ -1,14 +1,18 @@
 -- The job in pieces: what one call does with the bytes at hand.
-use Rattle.std.specs.Prelude.{ℕ, zero, suc, ◌+◌, ◌-◌, ◌≡◌, Bool, true, false, cond, ◌&&◌, List, [], ◌++◌, length, drop, ltb}
-use Rattle.outcome.specs.declared.Kind.{Kind}
-use Rattle.outcome.specs.Outcome.{longest, unknown_mark, cut_record, no_bytes, Found, took, ended, unknown, cut}
-use Rattle.kept.specs.State.{state_of, holds}
-use Rattle.marks.specs.Marks.{longest_record, found_of, behind_of}
+use Rattle.std.specs.Prelude.{ℕ, zero, suc, ◌+◌, ◌-◌, ◌≡◌, ◌≤◌, Bool, true, false, cond, List, [], ◌++◌, length}
+use Rattle.std.specs.Prelude.{drop}
+use Rattle.std.specs.Prelude.{ltb}
+use Rattle.record_result.specs.declared.Disposition.{Disposition}
+use Rattle.record_result.specs.RecordResult.{longest, unknown_mark, cut_record, no_bytes, InputHead, took, ended}
+use Rattle.record_result.specs.RecordResult.{unknown, cut}
+use Rattle.job_state.specs.State.{state_of}
+use Rattle.job_state.specs.declared.JobState.{JobState}
+use Rattle.marks.specs.Marks.{longest_record, head_of, behind_of}
 use Rattle.job.specs.declared.Counts.{Counts}
 use Rattle.job.specs.declared.Fed.{Fed}
 use Rattle.job.specs.declared.Reason.{Reason}
 use Rattle.job.specs.declared.Reason.TheVariants.{More, Room, Bad, Full, End, Unknown, Cut}
-use Rattle.job.specs.Counts.{Adds, RowsAdd, counts_sound}
+use Rattle.job.specs.Counts.{Adds, ByMarkAdd, counts_sound}
 use Rattle.job.specs.Job.{Standing, standing, moved, lost, trailer, job_limit}
 
 -- why it stopped, where the job stands then, how many bytes it is done with, and what it wrote
@@ -19,62 +23,62 @@ pub record Part : Type 0 where
   pub bytes : List ℕ
 
 abbrev pub halt : Reason → Standing → Part
-halt r j = record { reason = r; standing = j; used = 0; bytes = [] }
+halt r s = record { reason = r; standing = s; used = 0; bytes = [] }
 
 -- a record of k bytes, for which `bytes` are written, and then p
 abbrev pub after : ℕ → List ℕ → Part → Part
 after k bytes p = record { reason = p.reason; standing = p.standing; used = k + p.used; bytes = bytes ++ p.bytes }
 
 -- by what stands at the head of xs; where the bytes at hand are not the last, an end and a cut wait for more
-unfoldable pub part_on : Bool → Found → Standing → List ℕ → (Kind → ℕ → List ℕ → Part) → Part
-part_on last (took q k bytes) j xs go = after k bytes (go q k bytes)
-part_on last ended j xs go = cond last (halt End j) (halt More j)
-part_on last unknown j xs go = halt Unknown (lost xs j)
-part_on last cut j xs go = cond last (halt Cut (lost xs j)) (halt More j)
+unfoldable pub part_on : Bool → InputHead → Standing → List ℕ → (Disposition → ℕ → List ℕ → Part) → Part
+part_on last (took d k bytes) s xs go = after k bytes (go d k bytes)
+part_on last ended s xs go = cond last (halt End s) (halt More s)
+part_on last unknown s xs go = halt Unknown (lost xs s)
+part_on last cut s xs go = cond last (halt Cut (lost xs s)) (halt More s)
 
 -- the record loop, where at most n more records are begun: each turn asks first for the room of the longest answer
 unfoldable pub records_of : ℕ → Standing → List ℕ → Bool → ℕ → Part
-records_of zero j xs last room = cond (ltb room longest) (halt Room j) (halt Full j)
-records_of (suc n) j xs last room =
-    cond (ltb room longest) (halt Room j)
-    (part_on last (found_of j.state xs) j xs (λ q k bytes. records_of n (moved q xs j) (drop k xs) last (room - length bytes)))
+records_of zero s xs last room = cond (ltb room longest) (halt Room s) (halt Full s)
+records_of (suc n) s xs last room =
+    cond (ltb room longest) (halt Room s)
+    (part_on last (head_of s.state xs) s xs (λ d k bytes. records_of n (moved d xs s) (drop k xs) last
+    (room - length bytes)))
 
--- the bytes m lent for the state, behind the records that the loop takes: by the same turns,
--- and as they were where it takes none
-unfoldable pub mem_on : Found → List ℕ → (ℕ → List ℕ → List ℕ) → List ℕ
-mem_on (took q k bytes) m go = go k bytes
-mem_on ended m go = m
-mem_on unknown m go = m
-mem_on cut m go = m
+-- what the code keeps behind the records that the loop takes: by the same turns, and m as it was where it takes none
+unfoldable pub kept_on : InputHead → JobState → (ℕ → List ℕ → JobState) → JobState
+kept_on (took d k bytes) m go = go k bytes
+kept_on ended m go = m
+kept_on unknown m go = m
+kept_on cut m go = m
 
-unfoldable pub mem_records : ℕ → List ℕ → List ℕ → ℕ → List ℕ
-mem_records zero m xs room = m
-mem_records (suc n) m xs room =
+unfoldable pub kept_records : ℕ → JobState → List ℕ → ℕ → JobState
+kept_records zero m xs room = m
+kept_records (suc n) m xs room =
     cond (ltb room longest) m
-    (mem_on (found_of (state_of m) xs) m (λ k bytes. mem_records n (behind_of m xs) (drop k xs) (room - length bytes)))
+    (kept_on (head_of (state_of m) xs) m (λ k bytes. kept_records n (behind_of m xs) (drop k xs) (room - length bytes)))
 
 -- what a reason says: the caller is to call again, with more bytes, or with more room; the counts handed in are none
--- of a job's, or the bytes lent for the state are not so many; the job has ended, at the limit, or with the input; or
+-- of a job's; the job has ended, at the limit, or with the input; or
 -- it has ended by a refusal. The first three are no refusals: nothing is written for them.
-pub data Told : Type 0 where
-  wants_bytes : Told
-  wants_room : Told
-  unsound : Told
-  at_limit : Told
-  at_end : Told
-  refused : ℕ → Told
+pub data ReasonView : Type 0 where
+  wants_bytes : ReasonView
+  wants_room : ReasonView
+  unsound : ReasonView
+  at_limit : ReasonView
+  at_end : ReasonView
+  refused : ℕ → ReasonView
 
-abbrev pub reason_told : Reason → Told
-reason_told More = wants_bytes
-reason_told Room = wants_room
-reason_told Bad = unsound
-reason_told Full = at_limit
-reason_told End = at_end
-reason_told Unknown = refused unknown_mark
-reason_told Cut = refused cut_record
+abbrev pub reason_view : Reason → ReasonView
+reason_view More = wants_bytes
+reason_view Room = wants_room
+reason_view Bad = unsound
+reason_view Full = at_limit
+reason_view End = at_end
+reason_view Unknown = refused unknown_mark
+reason_view Cut = refused cut_record
 
 -- what is written when the loop was left: the refusal, if any, and the counts
-unfoldable pub closing_of : Told → Counts → List ℕ
+unfoldable pub closing_of : ReasonView → Counts → List ℕ
 closing_of wants_bytes c = []
 closing_of wants_room c = []
 closing_of unsound c = []
@@ -83,71 +87,91 @@ closing_of at_end c = trailer c
 closing_of (refused k) c = no_bytes k ++ trailer c
 
 abbrev pub closing : Reason → Counts → List ℕ
-closing r c = closing_of (reason_told r) c
+closing r c = closing_of (reason_view r) c
 
 abbrev pub closed : Part → Part
-closed p = record { reason = p.reason; standing = p.standing; used = p.used; bytes = p.bytes ++ closing p.reason p.standing.counts }
+closed p =
+    record {
+      reason = p.reason;
+      standing = p.standing;
+      used = p.used;
+      bytes =
+          p.bytes ++ closing p.reason p.standing.counts;
+    }
 
--- one call, with an output of some room, `held` where as many bytes are lent as a state has; else, and with counts that are none of a job's, all is handed back
-unfoldable pub feed_of : ℕ → Bool → Standing → List ℕ → Bool → ℕ → Part
-feed_of limit held j xs last room =
-    cond (held && counts_sound limit j.counts) (closed (records_of (limit - j.counts.four.begun) j xs last room)) (halt Bad j)
+-- one call, with an output of some room; with counts that are none of a job's, all is handed back
+unfoldable pub feed_of : ℕ → Standing → List ℕ → Bool → ℕ → Part
+feed_of limit s xs last room =
+    cond (counts_sound limit s.counts) (closed (records_of (limit - s.counts.totals.begun) s xs last room)) (halt Bad s)
 
--- with the counts c and the bytes m for the state
-abbrev pub fed_of : Counts → List ℕ → List ℕ → Bool → ℕ → Part
-fed_of c m xs last room = feed_of job_limit (holds m) (standing c (state_of m)) xs last room
+-- with the counts c and the state m
+abbrev pub fed_of : Counts → JobState → List ℕ → Bool → ℕ → Part
+fed_of c m xs last room = feed_of job_limit (standing c (state_of m)) xs last room
 
--- all bytes lent for the state behind that call: none is written where all is handed back
-unfoldable pub fed_mem : Counts → List ℕ → List ℕ → ℕ → List ℕ
-fed_mem c m xs room = cond (holds m && counts_sound job_limit c) (mem_records (job_limit - c.four.begun) m xs room) m
+-- what the code keeps behind that call
+unfoldable pub fed_kept : Counts → JobState → List ℕ → ℕ → JobState
+fed_kept c m xs room = cond (counts_sound job_limit c) (kept_records (job_limit - c.totals.begun) m xs room) m
 
--- with the counts of a job each call, whatever its input and its room, leaves counts of a job: the last three of the four add up to the first, and those by mark too
+-- with the counts of a job each call, whatever its input and its room, leaves counts of a job: the last three of the
+-- four add up to the first, and those by mark too
 abbrev pub FeedTheorem : Type 0
 FeedTheorem =
-    (limit : ℕ) (held : Bool) (j : Standing) (xs : List ℕ) (last : Bool) (room : ℕ) → counts_sound limit j.counts ≡ true →
-    (counts_sound limit (feed_of limit held j xs last room).standing.counts ≡ true)
-    × (Adds (feed_of limit held j xs last room).standing.counts × RowsAdd (feed_of limit held j xs last room).standing.counts)
+    (limit : ℕ) (s : Standing) (xs : List ℕ) (last : Bool) (room : ℕ) →
+    counts_sound limit s.counts ≡ true →
+    (counts_sound limit (feed_of limit s xs last room).standing.counts ≡ true)
+    × (Adds (feed_of limit s xs last room).standing.counts
+    × ByMarkAdd (feed_of limit s xs last room).standing.counts)
 
 -- what the function answers: what its reason says, the counts, how many bytes it is done with, and how many it wrote
-pub record CallTold : Type 0 where
-  pub reason : Told
+pub record FedView : Type 0 where
+  pub reason : ReasonView
   pub counts : Counts
   pub used : ℕ
   pub written : ℕ
 
-abbrev pub fed_told : Fed → CallTold
-fed_told r = record { reason = reason_told r.reason; counts = r.counts; used = r.used; written = r.written }
+abbrev pub fed_view : Fed → FedView
+fed_view r = record { reason = reason_view r.reason; counts = r.counts; used = r.used; written = r.written }
 
-abbrev pub part_told : Part → CallTold
-part_told p = record {
-  reason = reason_told p.reason;
+abbrev pub part_view : Part → FedView
+part_view p = record {
+  reason = reason_view p.reason;
   counts = p.standing.counts;
   used = p.used;
   written = length p.bytes;
 }
 
+-- ---- a call with the counts c, the state m, the input xs and the output out: what it answers, and what the lent
+-- things are then
+pub record Feeds (c : Counts) (m : JobState) (xs : List ℕ) (last : Bool) (out : List ℕ) (r : Fed) (out' : List ℕ)
+    (m' : JobState) : Type 0 where
+  pub result_value : fed_view r ≡ part_view (fed_of c m xs last (length out))
+  pub out_after : out' ≡ (fed_of c m xs last (length out)).bytes ++ drop r.written out
+  pub kept_after : m' ≡ fed_kept c m xs (length out)
+  pub state_after : state_of m' ≡ (fed_of c m xs last (length out)).standing.state
+  pub in_bounds : (r.used ≤ length xs) × (r.written ≤ length out)
+
 -- whether the job has ended, and whether a call is to be made again
-abbrev pub ends_by : Told → Bool
-ends_by wants_bytes = false
-ends_by wants_room = false
-ends_by unsound = false
-ends_by at_limit = true
-ends_by at_end = true
-ends_by (refused k) = true
+abbrev pub view_is_over : ReasonView → Bool
+view_is_over wants_bytes = false
+view_is_over wants_room = false
+view_is_over unsound = false
+view_is_over at_limit = true
+view_is_over at_end = true
+view_is_over (refused k) = true
 
-abbrev pub ends : Reason → Bool
-ends r = ends_by (reason_told r)
+abbrev pub is_over : Reason → Bool
+is_over r = view_is_over (reason_view r)
 
-abbrev pub again_by : Told → Bool
-again_by wants_bytes = true
-again_by wants_room = true
-again_by unsound = false
-again_by at_limit = false
-again_by at_end = false
-again_by (refused k) = false
+abbrev pub view_goes_on : ReasonView → Bool
+view_goes_on wants_bytes = true
+view_goes_on wants_room = true
+view_goes_on unsound = false
+view_goes_on at_limit = false
+view_goes_on at_end = false
+view_goes_on (refused k) = false
 
 abbrev pub goes_on : Reason → Bool
-goes_on r = again_by (reason_told r)
+goes_on r = view_goes_on (reason_view r)
 
 -- whether more is read before the next call
 abbrev pub asks_for : Reason → Bool
@@ -159,7 +183,8 @@ asks_for End = false
 asks_for Unknown = false
 asks_for Cut = false
 
--- ---- what the caller of a call provides for: an output with less room than this takes no answer, and of an input that a call waits on fewer bytes than these are left
+-- ---- what the caller of a call provides for: an output with less room than this takes no answer, and of an input that
+-- a call waits on fewer bytes than these are left
 abbrev pub answer_room : ℕ
 answer_room = longest
 

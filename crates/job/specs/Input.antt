@@ -1,40 +1,40 @@
 -- The records of an input, what is kept behind each of them, and what each is answered. Proved as `input` in
 -- proofs/Input.antt, of any bytes.
 use Rattle.std.specs.Prelude.{ℕ, zero, suc, ◌≡◌, List, [], ◌∷◌, ◌++◌, take, drop}
-use Rattle.outcome.specs.Outcome.{unknown_mark, cut_record, no_bytes, Found, took, ended, unknown, cut}
-use Rattle.kept.specs.State.{State, state_none}
-use Rattle.marks.specs.Marks.{found_of, next_of}
+use Rattle.record_result.specs.RecordResult.{unknown_mark, cut_record, no_bytes, InputHead, took, ended, unknown, cut}
+use Rattle.job_state.specs.State.{State, state_none}
+use Rattle.marks.specs.Marks.{head_of, next_of}
 use Rattle.marks.specs.History.{kept_after, KeptAfter}
 use Rattle.marks.specs.Answers.{reply_to, reply_after, RecordAnswered}
 use Rattle.job.specs.Job.{trailer, job_of, counts_of}
 
 -- ---- the whole records of an input in their order, at most n, up to an unknown mark, a cut record or the end. Where
 -- one ends does not depend on what is kept.
-unfoldable pub records_on : Found → List ℕ → (ℕ → List (List ℕ)) → List (List ℕ)
-records_on (took q k bytes) xs go = take k xs ∷ go k
+unfoldable pub records_on : InputHead → List ℕ → (ℕ → List (List ℕ)) → List (List ℕ)
+records_on (took d k bytes) xs go = take k xs ∷ go k
 records_on ended xs go = []
 records_on unknown xs go = []
 records_on cut xs go = []
 
 unfoldable pub input_records : ℕ → List ℕ → List (List ℕ)
 input_records zero xs = []
-input_records (suc n) xs = records_on (found_of state_none xs) xs (λ k. input_records n (drop k xs))
+input_records (suc n) xs = records_on (head_of state_none xs) xs (λ k. input_records n (drop k xs))
 
 -- the refusal behind them, if it is an unknown mark or a cut record that ends the job
-unfoldable pub end_on : Found → (ℕ → List ℕ) → List ℕ
-end_on (took q k bytes) go = go k
+unfoldable pub end_on : InputHead → (ℕ → List ℕ) → List ℕ
+end_on (took d k bytes) go = go k
 end_on ended go = []
 end_on unknown go = no_bytes unknown_mark
 end_on cut go = no_bytes cut_record
 
 unfoldable pub input_end : ℕ → List ℕ → List ℕ
 input_end zero xs = []
-input_end (suc n) xs = end_on (found_of state_none xs) (λ k. input_end n (drop k xs))
+input_end (suc n) xs = end_on (head_of state_none xs) (λ k. input_end n (drop k xs))
 
--- the replies to records, one behind the other, where z is kept before the first
+-- the replies to records, one behind the other, where st is kept before the first
 unfoldable pub replies_to : State → List (List ℕ) → List ℕ
-replies_to z [] = []
-replies_to z (r ∷ rs) = reply_to z r ++ replies_to (next_of z r) rs
+replies_to st [] = []
+replies_to st (r ∷ rs) = reply_to st r ++ replies_to (next_of st r) rs
 
 -- ---- a job of at most `limit` records on the input xs
 pub record InputTheorem (limit : ℕ) (xs : List ℕ) : Type 0 where

@@ -1,31 +1,32 @@
 -- What the private functions ask for and answer; no public contract cites it.
 use Rattle.std.specs.Prelude.{ℕ, ◌+◌, ◌-◌, ◌*◌, ◌≤◌, ◌<◌, ◌≡◌, Bool, cond, List, length, ltb, Option, None, Some}
-use Rattle.outcome.specs.Outcome.{longest}
-use Rattle.outcome.specs.declared.Kind.TheVariants.{Refused}
+use Rattle.record_result.specs.RecordResult.{longest}
+use Rattle.record_result.specs.declared.Disposition.TheVariants.{Refused}
 use Rattle.job.specs.declared.Counts.{Counts}
-use Rattle.job.specs.declared.Four.{Four}
+use Rattle.job.specs.declared.Totals.{Totals}
 use Rattle.job.specs.declared.Fed.{Fed}
 use Rattle.job.specs.declared.Reason.{Reason}
 use Rattle.job.specs.declared.Reason.TheVariants.{Room}
-use Rattle.kept.specs.State.{state_of}
+use Rattle.job_state.specs.State.{state_of}
+use Rattle.job_state.specs.declared.JobState.{JobState}
 use Rattle.marks.specs.Rows.{row_count}
-use Rattle.job.specs.Counts.{Adds, RowsAdd, counts_more}
+use Rattle.job.specs.Counts.{Adds, ByMarkAdd, counts_more}
 use Rattle.job.specs.Job.{standing, job_limit}
-use Rattle.job.specs.Feed.{Part, records_of, mem_records}
+use Rattle.job.specs.Feed.{Part, records_of, kept_records}
 
 -- counts of a job of at most `limit` records
 pub record Sound (limit : ℕ) (c : Counts) : Type 0 where
-  pub few : c.four.begun ≤ limit
+  pub few : c.totals.begun ≤ limit
   pub sum : Adds c
-  pub each : RowsAdd c
+  pub each : ByMarkAdd c
 
 -- the four counts are of no more records than the limit, which they add up to
-abbrev pub Small : Four → Type 0
+abbrev pub Small : Totals → Type 0
 Small f = (f.begun ≤ job_limit) × (f.answered + f.refused + f.unusable ≡ f.begun)
 
 -- the four counts with those by mark
-abbrev pub joined : Four → List ℕ → Counts
-joined f l = record { four = f; rows = l }
+abbrev pub joined : Totals → List ℕ → Counts
+joined f l = record { totals = f; by_mark = l }
 
 -- the counts beside those of one record more, which is refused and not read, where there is one
 abbrev pub counts_lost : Option ℕ → Counts → Counts
@@ -37,17 +38,17 @@ abbrev pub InRows : Option ℕ → Type 0
 InRows None = Unit {0}
 InRows (Some row) = row < row_count
 
--- the record loop with the counts c and the bytes m for the state
-abbrev pub looped_of : Counts → List ℕ → List ℕ → Bool → ℕ → Part
-looped_of c m xs last room = records_of (job_limit - c.four.begun) (standing c (state_of m)) xs last room
+-- the record loop with the counts c and the state m
+abbrev pub looped_of : Counts → JobState → List ℕ → Bool → ℕ → Part
+looped_of c m xs last room = records_of (job_limit - c.totals.begun) (standing c (state_of m)) xs last room
 
 -- what the loop's function answers: the counts, and how many bytes it wrote in place of the bytes
 abbrev pub part_fed : Part → Fed
 part_fed p = record { reason = p.reason; counts = p.standing.counts; used = p.used; written = length p.bytes }
 
--- and those bytes behind it
-abbrev pub looped_mem : Counts → List ℕ → List ℕ → ℕ → List ℕ
-looped_mem c m xs room = mem_records (job_limit - c.four.begun) m xs room
+-- and what the code keeps behind it
+abbrev pub looped_kept : Counts → JobState → List ℕ → ℕ → JobState
+looped_kept c m xs room = kept_records (job_limit - c.totals.begun) m xs room
 
 -- the bytes of ZZ, of the four counts and of those by mark
 abbrev pub trailer_length : ℕ
@@ -56,4 +57,5 @@ trailer_length = 2 + 4 * 4 + 4 * row_count
 -- out of the loop with the counts e; or, where the output has too little room for the end, with the counts c
 unfoldable pub stop_of : Reason → Counts → Counts → ℕ → ℕ → ℕ → Fed
 stop_of r c e used written room =
-    cond (ltb room longest) (record { reason = Room; counts = c; used = used; written = written }) (record { reason = r; counts = e; used = used; written = written })
+    cond (ltb room longest) (record { reason = Room; counts = c; used = used; written = written })
+    (record { reason = r; counts = e; used = used; written = written })

@@ -1,25 +1,29 @@
-// The job: records are read and answered one after another until the input ends, a mark is unknown,
-// a record is cut or the limit is met; then the counts are written. `feed` does this with the bytes
-// at hand, so that a program may read its input in any pieces.
+// The job: records are read and answered one after another until the input ends, a mark is unknown, a record is cut or
+// the limit is met; then the counts are written. `feed` does this with the bytes at hand, so that a program may read
+// its input in any pieces. Proved: each call is the definition's (Feeds), any way of feeding writes what the whole job
+// writes (StreamTheorem), which are the replies in their order (InputTheorem), and the counts add up (CountsTheorem).
+// Rests on marks.
 #![tactic(auto)]
 
-ghost use Rattle.std.specs.Prelude.{◌≡◌, true, false, cond, ◌++◌, ◌+◌, ◌*◌, ◌≤◌, ◌<◌, length, drop, eqb};
+ghost use Rattle.std.specs.Prelude.{◌≡◌, true, false, ◌++◌, ◌+◌, ◌*◌, ◌≤◌, ◌<◌, length, drop, eqb};
 ghost use Rattle.std.proofs.lemmas.List.Edits.{sets};
 ghost use Rattle.linalg.specs.Answer.{number};
 ghost use Rattle.wire.specs.Wire.{count_bytes};
-ghost use Rattle.outcome.specs.declared.Kind.{Kind};
-ghost use Rattle.outcome.specs.Outcome.{longest, mark_bytes, no_bytes};
+ghost use Rattle.record_result.specs.declared.Disposition.{Disposition};
+ghost use Rattle.record_result.specs.RecordResult.{longest, mark_bytes, no_bytes};
 ghost use Rattle.marks.specs.Rows.{row_count};
-ghost use Rattle.job.specs.Counts.{counts_none, counts_more, four_more, counts_sound, rows_bytes, total};
-ghost use Rattle.kept.specs.State.{state_none, state_of, memory, holds, fresh_of};
+ghost use Rattle.job.specs.Counts.{counts_none, counts_more, totals_more, counts_sound, by_mark_bytes, total};
+ghost use Rattle.job_state.specs.State.{state_of};
 ghost use Rattle.job.specs.Job.{standing_none, trailer, job_of, job_limit};
 ghost use Rattle.job.specs.Input.{InputTheorem};
-ghost use Rattle.job.specs.Feed.{Part, closing, ends, goes_on, asks_for, feed_of, fed_of, fed_mem, fed_told, part_told};
-ghost use Rattle.job.specs.Private.{Sound, Small, InRows, counts_lost, looped_of, part_fed, looped_mem, stop_of, trailer_length};
+ghost use Rattle.job.specs.Feed.{Part, closing, is_over, goes_on, asks_for, feed_of, fed_view, part_view, Feeds};
+ghost use Rattle.job.specs.Private.{Sound, Small, InRows, counts_lost, looped_of, part_fed, looped_kept, stop_of};
+ghost use Rattle.job.specs.Private.{trailer_length};
 
+use job_state::JobState;
 use linalg::refusal::Refusal;
 use marks::ROWS;
-use outcome::{Kind, LONGEST, Step};
+use record_result::{Disposition, LONGEST, Step};
 
 // No more records than these are begun.
 const LIMIT: u32 = 1_000_000;
@@ -31,7 +35,7 @@ const TRAILER: usize = 2 + 4 * 4 + 4 * ROWS;
 // refused, and were answered with a NaN or an infinity. An unknown mark, a half mark and a cut record
 // count as begun and refused.
 #[derive(Clone, Copy, Default)]
-pub struct Four {
+pub struct Totals {
     pub begun: u32,
     pub answered: u32,
     pub refused: u32,
@@ -42,14 +46,13 @@ pub struct Four {
 // and last how many unknown and half marks.
 #[derive(Clone, Copy)]
 pub struct Counts {
-    pub four: Four,
-    pub rows: [u32; ROWS],
+    pub totals: Totals,
+    pub by_mark: [u32; ROWS],
 }
 
 // Why the record loop was left. `More`: the bytes at hand end within a record, or with one, and more
 // may come. `Room`: the output has no room for the longest answer. `Bad`: the counts handed in are
-// not those of a job, or the bytes lent for the state are not as many as it has. The other four end
-// the job: the limit, the end of the input, an unknown mark, a cut record.
+// not those of a job. The other four end the job: the limit, the end of the input, an unknown mark, a cut record.
 #[derive(Clone, Copy, PartialEq, Eq)]
 pub enum Reason {
     More,
@@ -88,23 +91,23 @@ pub struct Fed {
 }
 
 // ---- the record loop
-fn counted(c: Four, kind: Kind) -> Four
+fn counted(c: Totals, disposition: Disposition) -> Totals
     requires { Small c }
-    ensures { result ≡ four_more kind c }
+    ensures { result ≡ totals_more disposition c }
 {
     let begun = c.begun + 1;
-    match kind {
-        Kind::Answered => Four {
+    match disposition {
+        Disposition::Answered => Totals {
             begun,
             answered: c.answered + 1,
             ..c
         },
-        Kind::Refused => Four {
+        Disposition::Refused => Totals {
             begun,
             refused: c.refused + 1,
             ..c
         },
-        Kind::Unusable => Four {
+        Disposition::Unusable => Totals {
             begun,
             unusable: c.unusable + 1,
             ..c
@@ -116,12 +119,12 @@ fn counted(c: Four, kind: Kind) -> Four
 fn refused(c: Counts, row: usize) -> Counts
     requires sound { Sound job_limit c }
     requires row_lt_row_count { row < row_count }
-    ensures { result ≡ counts_more Kind.Refused row c }
+    ensures { result ≡ counts_more Disposition.Refused row c }
 {
-    let mut rows = c.rows;
-    rows[row] += 1;
-    let four = counted(c.four, Kind::Refused);
-    Counts { four, rows }
+    let mut by_mark = c.by_mark;
+    by_mark[row] += 1;
+    let totals = counted(c.totals, Disposition::Refused);
+    Counts { totals, by_mark }
 }
 
 fn leave(reason: Reason, counts: Counts, used: usize, written: usize) -> Fed
@@ -161,45 +164,45 @@ fn stop(
 
 // The whole records at hand. A record is asked for room where it is replied to, an end where the loop
 // is left.
-#[tactic(auto, using(crate::proofs::Loop::going_sound, crate::proofs::Loop::going_inside, crate::proofs::Loop::going_room))]
-fn records(c0: Counts, mem: &mut [u8], input: &[u8], last: bool, out: &mut [u8]) -> Fed
+#[tactic(auto, using(crate::proofs::Loop::going))]
+fn records(c0: Counts, state: &mut JobState, input: &[u8], last: bool, out: &mut [u8]) -> Fed
     requires sound { Sound job_limit c0 }
-    requires mem_len { length mem.old ≡ memory }
-    ensures value { result ≡ part_fed (looped_of c0 mem.old input.now last (length out.old)) }
-    ensures out_after { out.new ≡ sets out.old 0 (looped_of c0 mem.old input.now last (length out.old)).bytes }
-    ensures mem_after { mem.new ≡ looped_mem c0 mem.old input.now (length out.old) }
-    ensures mem_after_2 { state_of mem.new ≡ (looped_of c0 mem.old input.now last (length out.old)).standing.state }
+    ensures value { result ≡ part_fed (looped_of c0 state.old input.now last (length out.old)) }
+    ensures out_after { out.new ≡ sets out.old 0 (looped_of c0 state.old input.now last (length out.old)).bytes }
+    ensures kept_after { state.new ≡ looped_kept c0 state.old input.now (length out.old) }
+    ensures state_after { state_of state.new
+        ≡ (looped_of c0 state.old input.now last (length out.old)).standing.state }
 {
-    let mut four = c0.four;
-    let mut rows = c0.rows;
+    let mut totals = c0.totals;
+    let mut by_mark = c0.by_mark;
     let mut at = 0;
     let mut to = 0;
     let left = loop {
-        if four.begun == LIMIT {
+        if totals.begun == LIMIT {
             break stop(
                 Reason::Full,
-                Counts { four, rows },
+                Counts { totals, by_mark },
                 None,
                 at,
                 to,
                 out.len() - to,
             );
         }
-        let heard = marks::reply(&input[at..], mem, &mut out[to..]);
-        let row = heard.row;
-        match heard.step {
-            Step::Took(kind, used, written) => {
-                four = counted(four, kind);
-                rows[row] += 1;
+        let dispatched = marks::reply(&input[at..], state, &mut out[to..]);
+        let row = dispatched.row;
+        match dispatched.step {
+            Step::Took(disposition, used, written) => {
+                totals = counted(totals, disposition);
+                by_mark[row] += 1;
                 at += used;
                 to += written;
             }
-            Step::Room => break leave(Reason::Room, Counts { four, rows }, at, to),
+            Step::Room => break leave(Reason::Room, Counts { totals, by_mark }, at, to),
             Step::End => {
                 if last {
                     break stop(
                         Reason::End,
-                        Counts { four, rows },
+                        Counts { totals, by_mark },
                         None,
                         at,
                         to,
@@ -208,7 +211,7 @@ fn records(c0: Counts, mem: &mut [u8], input: &[u8], last: bool, out: &mut [u8])
                 }
                 break stop(
                     Reason::More,
-                    Counts { four, rows },
+                    Counts { totals, by_mark },
                     None,
                     at,
                     to,
@@ -218,7 +221,7 @@ fn records(c0: Counts, mem: &mut [u8], input: &[u8], last: bool, out: &mut [u8])
             Step::Unknown => {
                 break stop(
                     Reason::Unknown,
-                    Counts { four, rows },
+                    Counts { totals, by_mark },
                     Some(row),
                     at,
                     to,
@@ -229,7 +232,7 @@ fn records(c0: Counts, mem: &mut [u8], input: &[u8], last: bool, out: &mut [u8])
                 if last {
                     break stop(
                         Reason::Cut,
-                        Counts { four, rows },
+                        Counts { totals, by_mark },
                         Some(row),
                         at,
                         to,
@@ -238,7 +241,7 @@ fn records(c0: Counts, mem: &mut [u8], input: &[u8], last: bool, out: &mut [u8])
                 }
                 break stop(
                     Reason::More,
-                    Counts { four, rows },
+                    Counts { totals, by_mark },
                     None,
                     at,
                     to,
@@ -273,11 +276,11 @@ fn put_count(out: &mut [u8], at: usize, n: u32)
 }
 
 // The counts by mark.
-fn put_rows(out: &mut [u8], at: usize, rows: [u32; ROWS])
+fn put_by_mark(out: &mut [u8], at: usize, by_mark: [u32; ROWS])
     requires { at + 4 * row_count ≤ length out.old }
-    ensures { out.new ≡ sets out.old at (rows_bytes rows) }
+    ensures { out.new ≡ sets out.old at (by_mark_bytes by_mark) }
 {
-    for (i, n) in rows.iter().enumerate() {
+    for (i, n) in by_mark.iter().enumerate() {
         put_count(out, at + 4 * i, *n);
     }
 }
@@ -289,11 +292,11 @@ fn put_trailer(out: &mut [u8], at: usize, c: Counts) -> usize
     ensures out_after { out.new ≡ sets out.old at (trailer c) }
 {
     put_zz(out, at);
-    put_count(out, at + 2, c.four.begun);
-    put_count(out, at + 6, c.four.answered);
-    put_count(out, at + 10, c.four.refused);
-    put_count(out, at + 14, c.four.unusable);
-    put_rows(out, at + 18, c.rows);
+    put_count(out, at + 2, c.totals.begun);
+    put_count(out, at + 6, c.totals.answered);
+    put_count(out, at + 10, c.totals.refused);
+    put_count(out, at + 14, c.totals.unusable);
+    put_by_mark(out, at + 18, c.by_mark);
     TRAILER
 }
 
@@ -309,7 +312,7 @@ fn put_refused(out: &mut [u8], at: usize, refusal: Refusal, c: Counts) -> usize
 
 // What is written when the loop was left.
 fn close(reason: Reason, c: Counts, out: &mut [u8], at: usize) -> usize
-    requires { ends reason ≡ true → at + longest ≤ length out.old }
+    requires { is_over reason ≡ true → at + longest ≤ length out.old }
     ensures value { result ≡ length (closing reason c) }
     ensures out_after { out.new ≡ sets out.old at (closing reason c) }
 {
@@ -323,11 +326,11 @@ fn close(reason: Reason, c: Counts, out: &mut [u8], at: usize) -> usize
 
 // Whether the counts by mark add up to n: each is taken from what is left of it, so that no sum can
 // wrap.
-fn add_up(rows: [u32; ROWS], n: u32) -> bool
-    ensures { result ≡ eqb (total rows) n }
+fn add_up(by_mark: [u32; ROWS], n: u32) -> bool
+    ensures { result ≡ eqb (total by_mark) n }
 {
     let mut left = n;
-    for x in &rows {
+    for x in &by_mark {
         if left < *x {
             return false;
         }
@@ -339,12 +342,12 @@ fn add_up(rows: [u32; ROWS], n: u32) -> bool
 fn sound(c: Counts) -> bool
     ensures { result ≡ counts_sound job_limit c }
 {
-    if c.four.begun <= LIMIT {
-        if c.four.answered <= c.four.begun {
-            let left = c.four.begun - c.four.answered;
-            if c.four.refused <= left {
-                if c.four.unusable == left - c.four.refused {
-                    return add_up(c.rows, c.four.begun);
+    if c.totals.begun <= LIMIT {
+        if c.totals.answered <= c.totals.begun {
+            let left = c.totals.begun - c.totals.answered;
+            if c.totals.refused <= left {
+                if c.totals.unusable == left - c.totals.refused {
+                    return add_up(c.by_mark, c.totals.begun);
                 }
             }
         }
@@ -354,23 +357,15 @@ fn sound(c: Counts) -> bool
 
 // One call with the bytes at hand, `last` where no more will come: handles whole records while the
 // output has room for the longest answer, and ends the job where there is a reason to. The bytes it
-// is done with are to be taken from the input, the counts and the rest handed in again, with the same
-// `mem`, in which the job's state stands. Counts that are none of a job's, and a `mem` that is not as
-// long as a state, are answered `Bad`, and nothing is written.
-pub fn feed(c: Counts, mem: &mut [u8], input: &[u8], last: bool, out: &mut [u8]) -> Fed
-    ensures result_value { fed_told result ≡ part_told (fed_of c mem.old input.now last (length out.old)) }
-    ensures out_after { out.new ≡ (fed_of c mem.old input.now last (length out.old)).bytes ++ drop result.written out.old }
-    ensures mem_after { mem.new ≡ fed_mem c mem.old input.now (length out.old) }
-    ensures mem_after_2 { state_of mem.new ≡ (fed_of c mem.old input.now last (length out.old)).standing.state }
-    ensures used_in_bounds { (result.used ≤ length input.now) × (result.written ≤ length out.old) }
+// is done with are to be taken from the input, the counts and the rest handed in again, with the same state. Counts
+// that are none of a job's are answered `Bad`, and nothing is written.
+pub fn feed(c: Counts, state: &mut JobState, input: &[u8], last: bool, out: &mut [u8]) -> Fed
+    ensures { Feeds c state.old input.now last out.old result out.new state.new }
 {
-    if mem.len() != kept::MEMORY {
-        return leave(Reason::Bad, c, 0, 0);
-    }
     if !sound(c) {
         return leave(Reason::Bad, c, 0, 0);
     }
-    let l = records(c, mem, input, last, out);
+    let l = records(c, state, input, last, out);
     let n = close(l.reason, l.counts, out, l.written);
     Fed {
         written: l.written + n,
@@ -383,29 +378,23 @@ pub fn no_counts() -> Counts
     ensures { result ≡ counts_none }
 {
     Counts {
-        four: Four::default(),
-        rows: [0; ROWS],
+        totals: Totals::default(),
+        by_mark: [0; ROWS],
     }
-}
-
-// Makes the bytes lent for the state those of a job that has not begun, if they are as many as it has.
-pub fn fresh(mem: &mut [u8])
-    ensures mem_after { mem.new ≡ fresh_of mem.old }
-    ensures mem_after_2 { state_of mem.new ≡ cond (holds mem.old) state_none (state_of mem.old) }
-{
-    kept::fresh(mem);
 }
 
 // The whole job on one slice. Where `out` is too short the reason is `Room`, and the records that
 // found room are answered. What the job writes are the replies to the records of the input, each by
 // what is kept after those before it (`InputTheorem`).
 pub fn run(input: &[u8], out: &mut [u8]) -> Fed
-    ensures result_value { fed_told result ≡ part_told (feed_of job_limit true standing_none input.now true (length out.old)) }
-    ensures out_after { out.new ≡ (feed_of job_limit true standing_none input.now true (length out.old)).bytes ++ drop result.written out.old }
-    ensures out_after_2 { ends result.reason ≡ true → out.new ≡ job_of job_limit input.now ++ drop result.written out.old }
+    ensures result_value { fed_view result
+        ≡ part_view (feed_of job_limit standing_none input.now true (length out.old)) }
+    ensures out_after { out.new ≡ (feed_of job_limit standing_none input.now true (length out.old)).bytes
+        ++ drop result.written out.old }
+    ensures job_value { is_over result.reason ≡ true → out.new
+        ≡ job_of job_limit input.now ++ drop result.written out.old }
     ensures input_theorem { InputTheorem job_limit input.now }
 {
-    let mut mem = [0; kept::MEMORY];
-    fresh(&mut mem);
-    feed(no_counts(), &mut mem, input, true, out)
+    let mut state = job_state::fresh();
+    feed(no_counts(), &mut state, input, true, out)
 }

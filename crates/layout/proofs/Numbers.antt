@@ -10,11 +10,13 @@ use Rattle.coeffs.specs.Floats.{ScaledPair}
 use Rattle.so3.specs.Floats.{Quat}
 use Rattle.sim3.specs.Floats.{Sim3}
 use Rattle.jacobian.specs.Floats.{Sim3Jac}
-use Rattle.sides.specs.Floats.{BlockPair}
-use Rattle.sides.specs.Floats.{ActJacobians}
-use Rattle.sides.specs.Floats.{TwoJacobians}
-use Rattle.layout.specs.Layout.{vec_count, mat_count, pose_count, block_count, block_pair_count, scaled_pair_count, two_count, act_count}
-use Rattle.layout.specs.Layout.{mat_numbers, quat_numbers, pose_numbers, block_numbers, block_pair_numbers, coeffs_numbers, scaled_numbers, scaled_pair_numbers, two_numbers, act_numbers}
+use Rattle.side_jacobians.specs.Floats.{BlockPair}
+use Rattle.side_jacobians.specs.Floats.{ActJacobians}
+use Rattle.side_jacobians.specs.Floats.{TwoJacobians}
+use Rattle.layout.specs.Layout.{vec_count, mat_count, pose_count, block_count, block_pair_count, scaled_pair_count}
+use Rattle.layout.specs.Layout.{two_count, act_count}
+use Rattle.layout.specs.Layout.{mat_numbers, quat_numbers, pose_numbers, block_numbers, block_pair_numbers}
+use Rattle.layout.specs.Layout.{coeffs_numbers, scaled_numbers, scaled_pair_numbers, two_numbers, act_numbers}
 
 pub vec-count : (v : Vec3) → length (vec_numbers v) ≡ vec_count
 unfolding vec_numbers

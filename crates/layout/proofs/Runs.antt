@@ -17,13 +17,16 @@ pub sets_front : {A : Type 0} (b l : List A) → length b ≤ length l → sets 
 sets_front b l h = rw (sets-eq b l 0 (omega arith), zero-add)
 
 -- a run within a part of a list that is lent, as a run of the whole list
-pub sets-part : (l b : List ℕ) (a k : ℕ) → a + k ≤ length l → length b ≤ k → take a l ++ (sets (take k (drop a l)) 0 b ++ drop k (drop a l)) ≡ sets l a b
+pub sets-part : (l b : List ℕ) (a k : ℕ) → a + k ≤ length l → length b ≤ k →
+    take a l ++ (sets (take k (drop a l)) 0 b ++ drop k (drop a l)) ≡ sets l a b
 sets-part l b a k h s =
     let d = drop a l in
     let n : length (take k d) ≡ k = length-take-le k d (simp length-drop (omega arith)) in
     let back : drop (length b) (take k d) ++ drop k d ≡ drop (a + length b) l =
-    sym (drop-append-le (length b) (take k d) (drop k d) (omega arith)) ∙ ap (drop (length b)) (take-append-drop k d) ∙ drop-drop (length b) a l in
-    rw (sets_front b (take k d) (omega arith), sets-eq b l a (omega arith), append_assoc b, back) (sym (append_assoc (take a l) b _))
+    sym (drop-append-le (length b) (take k d) (drop k d) (omega arith)) ∙ ap (drop (length b)) (take-append-drop k d)
+    ∙ drop-drop (length b) a l in
+    rw (sets_front b (take k d) (omega arith), sets-eq b l a (omega arith), append_assoc b, back)
+    (sym (append_assoc (take a l) b _))
 
 -- what is stored behind a, at the place where a ends
 pub run_behind : (a b l : List ℕ) (i j : ℕ) → i + length a ≡ j → sets (sets l i a) j b ≡ sets l i (a ++ b)

@@ -1,5 +1,6 @@
--- The order of the numbers, wherever a thing is read or written: in the job's records, in either format, and in the lists of the C functions. What is read is read by
--- a function that gives the i-th number. Matrices go column by column.
+-- The order of the numbers, wherever a thing is read or written: in the job's records, in either format, and in the
+-- lists of the C functions. What is read is read by a function that gives the i-th number. Matrices go column by
+-- column.
 use Rattle.std.specs.Prelude.{ℕ, ◌+◌, ◌*◌, cond, List, [], ◌∷◌, ◌++◌, Float}
 use Rattle.ieee.specs.Numbers.{f0, f1}
 use Rattle.linalg.specs.Vector.{vec, vec_numbers}
@@ -7,7 +8,7 @@ use Rattle.linalg.specs.Matrix.{mat}
 use Rattle.linalg.specs.Floats.{Vec3}
 use Rattle.linalg.specs.Floats.{Mat3}
 use Rattle.series.specs.Floats.{Sim3Coeffs}
-use Rattle.closed.specs.Floats.{Values}
+use Rattle.arms.specs.Floats.{Values}
 use Rattle.coeffs.specs.Floats.{Scaled}
 use Rattle.coeffs.specs.Floats.{ScaledPair}
 use Rattle.coeffs.specs.Floats.{ArmedPair}
@@ -19,9 +20,9 @@ use Rattle.sim3.specs.Floats.{Sim3}
 use Rattle.sim3.specs.Floats.{Sim3Tangent}
 use Rattle.jacobian.specs.Jac.{blocks}
 use Rattle.jacobian.specs.Floats.{Sim3Jac}
-use Rattle.sides.specs.Floats.{BlockPair}
-use Rattle.sides.specs.Floats.{ActJacobians}
-use Rattle.sides.specs.Floats.{TwoJacobians}
+use Rattle.side_jacobians.specs.Floats.{BlockPair}
+use Rattle.side_jacobians.specs.Floats.{ActJacobians}
+use Rattle.side_jacobians.specs.Floats.{TwoJacobians}
 
 -- ---- how many numbers each has
 abbrev pub vec_count : ℕ
@@ -111,7 +112,8 @@ unfoldable pub block_numbers : Sim3Jac → List Float
 block_numbers j = mat_numbers j.a ++ (mat_numbers j.b ++ (mat_numbers j.c ++ (vec_numbers j.f ++ (j.e ∷ []))))
 
 unfoldable pub block_pair_numbers : BlockPair → List Float
-block_pair_numbers p = block_numbers p.left ++ (block_numbers p.left_inv ++ (block_numbers p.right ++ block_numbers p.right_inv))
+block_pair_numbers p =
+    block_numbers p.left ++ (block_numbers p.left_inv ++ (block_numbers p.right ++ block_numbers p.right_inv))
 
 unfoldable pub coeffs_numbers : Sim3Coeffs → List Float
 coeffs_numbers c = c.v0 ∷ c.v1 ∷ c.v2 ∷ c.w0 ∷ c.w1 ∷ c.w2 ∷ c.dv1 ∷ c.dv2 ∷ c.chi_delta ∷ []

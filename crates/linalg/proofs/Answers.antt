@@ -1,4 +1,5 @@
--- The two cases of an answer are apart, and an answer gives its numbers back. A test that refuses hands its refusal upward. Assumes nothing.
+-- The two cases of an answer are apart, and an answer gives its numbers back. A test that refuses hands its refusal
+-- upward. Assumes nothing.
 use mathlib.Core.Path.{◌≡◌, refl}
 use Prim.Native.Nat.{ℕ}
 use mathlib.Core.Bool.{Bool, true, false, cond}
@@ -11,13 +12,15 @@ pub answers-is : {A : Type 0} (a b : A) → answers a ≡ answers b → a ≡ b
 answers-is a b e = cc
 
 -- ---- t: the test that refuses by n
-pub answered_as : {A B : Type 0} (t : Bool) (n : ℕ) (a c : A) (g : A → B) → cond t (refuses n) (answers a) ≡ answers c → cond t (refuses n) (answers (g a)) ≡ answers (g c)
+pub answered_as : {A B : Type 0} (t : Bool) (n : ℕ) (a c : A) (g : A → B) → cond t (refuses n) (answers a) ≡ answers c →
+    cond t (refuses n) (answers (g a)) ≡ answers (g c)
 answered_as true n a c g h = cc
 answered_as false n a c g h = cc
 
 -- two answers behind one test are one answer behind it
 pub both_as :
     {A B C : Type 0} (t : Bool) (n : ℕ) (a : A) (b : B) (g : A → B → C) →
-    and_then (cond t (refuses n) (answers a)) (λ x. and_then (cond t (refuses n) (answers b)) (λ y. answers (g x y))) ≡ cond t (refuses n) (answers (g a b))
+    and_then (cond t (refuses n) (answers a)) (λ x. and_then (cond t (refuses n) (answers b)) (λ y. answers (g x y)))
+    ≡ cond t (refuses n) (answers (g a b))
 both_as true n a b g = refl
 both_as false n a b g = refl

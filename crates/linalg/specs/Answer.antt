@@ -35,10 +35,10 @@ number refusal.NeverKept = 12
 number refusal.ListLength = 100
 
 -- what a result says; h reads the numbers of the code as those of the definitions
-abbrev pub told : {A B : Type 0} → (A → B) → Result A Refusal → Answer B
-told h (Ok a) = answers (h a)
-told h (Err r) = refuses (number r)
+abbrev pub view : {A B : Type 0} → (A → B) → Result A Refusal → Answer B
+view h (Ok a) = answers (h a)
+view h (Err r) = refuses (number r)
 
 -- the same where the numbers are floats already
 abbrev pub answer : {A : Type 0} → Result A Refusal → Answer A
-answer r = told (λ a. a) r
+answer r = view (λ a. a) r

@@ -1,5 +1,5 @@
--- Matrices of three columns, in the operations of a format f, and the answers of the entries that refuse a row or column
--- above 2.
+-- Matrices of three columns, in the operations of a format f, and the answers of the entries that refuse a row or
+-- column above 2.
 use Rattle.std.specs.Prelude.{ℕ, Bool, cond, ◌&&◌, eqb, Float}
 use Rattle.std.specs.Float.{Format}
 use Rattle.std.specs.Float.Ieee.{neg}
@@ -78,7 +78,8 @@ module _ (f : Format) where
   row_mul a b c v = sum3 f (a ⊗ v.x) (b ⊗ v.y) (c ⊗ v.z)
 
   unfoldable pub mat_mul_vec : Mat3 → Vec3 → Vec3
-  mat_mul_vec m v = vec (row_mul m.c0.x m.c1.x m.c2.x v) (row_mul m.c0.y m.c1.y m.c2.y v) (row_mul m.c0.z m.c1.z m.c2.z v)
+  mat_mul_vec m v =
+      vec (row_mul m.c0.x m.c1.x m.c2.x v) (row_mul m.c0.y m.c1.y m.c2.y v) (row_mul m.c0.z m.c1.z m.c2.z v)
 
   unfoldable pub mat_mul : Mat3 → Mat3 → Mat3
   mat_mul a b = mat (mat_mul_vec a b.c0) (mat_mul_vec a b.c1) (mat_mul_vec a b.c2)
@@ -105,8 +106,8 @@ module _ (f : Format) where
   unfoldable pub mat_hat_mul : Vec3 → Mat3 → Mat3
   mat_hat_mul v b = mat (vec_hat_mul v b.c0) (vec_hat_mul v b.c1) (vec_hat_mul v b.c2)
 
--- the same between matrices, for files that open them: the sum a ⊞ᵐ b, the difference a ⊟ᵐ b, a ⊡ᵐ s (each entry times s),
--- the product a ⊠ b, and a ⊠ᵛ v, the matrix times a vector
+-- the same between matrices, for files that open them: the sum a ⊞ᵐ b, the difference a ⊟ᵐ b, a ⊡ᵐ s (each entry times
+-- s), the product a ⊠ b, and a ⊠ᵛ v, the matrix times a vector
 pub record MatOperations : Type 0 where
   pub ◌⊞ᵐ◌ : Mat3 → Mat3 → Mat3
   pub ◌⊟ᵐ◌ : Mat3 → Mat3 → Mat3
@@ -115,4 +116,5 @@ pub record MatOperations : Type 0 where
   pub ◌⊠ᵛ◌ : Mat3 → Vec3 → Vec3
 
 abbrev pub mat_operations : Format → MatOperations
-mat_operations f = record { ◌⊞ᵐ◌ = mat_add f; ◌⊟ᵐ◌ = mat_sub f; ◌⊡ᵐ◌ = mat_scale f; ◌⊠◌ = mat_mul f; ◌⊠ᵛ◌ = mat_mul_vec f }
+mat_operations f =
+    record { ◌⊞ᵐ◌ = mat_add f; ◌⊟ᵐ◌ = mat_sub f; ◌⊡ᵐ◌ = mat_scale f; ◌⊠◌ = mat_mul f; ◌⊠ᵛ◌ = mat_mul_vec f }

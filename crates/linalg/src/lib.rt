@@ -1,4 +1,5 @@
-// Vectors of three numbers and 3x3 matrices of three columns, by value, at either width.
+// Vectors of three numbers and 3x3 matrices of three columns, by value, at either width; and the refusals. Proved: each
+// function is its formula, operation by operation in the Rust's order (specs/Vector, specs/Matrix). Rests on ieee.
 #![tactic(auto)]
 
 pub mod refusal; // why an entry refuses

@@ -1,8 +1,10 @@
 // A 3x3 matrix of three columns. Every entry of a product is a sum in index order from its first
 // term.
 ghost use Rattle.std.specs.Prelude.{◌≡◌, true};
-ghost use Rattle.linalg.specs.Answer.{answer, told};
-ghost use Rattle.linalg.specs.Matrix.{mat_of_rows, mat_get, mat_set, mat_col, mat_row, mat_transpose, mat_scale, mat_identity, mat_inverse_adj, mat_add, mat_sub, mat_neg, mat_mul, mat_mul_vec, mat_hat, mat_mul_hat, mat_hat_mul, of_three, vec_put, vec_hat_mul};
+ghost use Rattle.linalg.specs.Answer.{answer, view};
+ghost use Rattle.linalg.specs.Matrix.{mat_of_rows, mat_get, mat_set, mat_col, mat_row, mat_transpose, mat_scale};
+ghost use Rattle.linalg.specs.Matrix.{mat_identity, mat_inverse_adj, mat_add, mat_sub, mat_neg, mat_mul, mat_mul_vec};
+ghost use Rattle.linalg.specs.Matrix.{mat_hat, mat_mul_hat, mat_hat_mul, of_three, vec_put, vec_hat_mul};
 ghost use Rattle.linalg.specs.Floats.{as_inverse, as_mat3, as_vec3};
 
 use crate::refusal::Refusal;
@@ -79,7 +81,12 @@ impl<T: Real> Mat3<T> {
 
     // The matrix with these columns.
     pub fn from_cols(c0: Vec3<T>, c1: Vec3<T>, c2: Vec3<T>) -> Mat3<T>
-        ensures { as_mat3 T.float result ≡ record { c0 = (as_vec3 T.float c0); c1 = (as_vec3 T.float c1); c2 = (as_vec3 T.float c2) } }
+        ensures { as_mat3 T.float result ≡ record {
+          c0 = (as_vec3 T.float c0);
+          c1 = (as_vec3 T.float c1);
+          c2 =
+              (as_vec3 T.float c2);
+        } }
     {
         Mat3 { c0, c1, c2 }
     }
@@ -109,18 +116,18 @@ impl<T: Real> Mat3<T> {
     }
 
     // Entry (r, c); refused for r or c above 2.
-    #[tactic(auto, unfolding(crate::specs::Matrix::mat_get, crate::specs::Matrix::mat_col, crate::specs::Matrix::vec_component))]
+    #[tactic(auto, unfolding(crate::proofs::Unfolds::get_unfolds))]
     pub fn get(self, r: usize, c: usize) -> Result<T, Refusal>
-        ensures { told T.float result ≡ mat_get (as_mat3 T.float self) r c }
+        ensures { view T.float result ≡ mat_get (as_mat3 T.float self) r c }
     {
         let v = self.col(c)?;
         of_three(v.x, v.y, v.z, r)
     }
 
     // The matrix with entry (r, c) set to v; refused for r or c above 2.
-    #[tactic(auto, unfolding(crate::specs::Matrix::mat_set, crate::specs::Matrix::mat_get, crate::specs::Matrix::mat_col, crate::specs::Matrix::vec_component, crate::specs::Matrix::vec_put))]
+    #[tactic(auto, unfolding(crate::proofs::Unfolds::set_unfolds))]
     pub fn set(self, r: usize, c: usize, v: T) -> Result<Mat3<T>, Refusal>
-        ensures { told (as_mat3 T.float) result ≡ mat_set (as_mat3 T.float self) r c (T.float v) }
+        ensures { view (as_mat3 T.float) result ≡ mat_set (as_mat3 T.float self) r c (T.float v) }
     {
         let Ok(_) = self.get(r, c) else {
             return Err(Refusal::NoSuchEntry);
@@ -144,7 +151,7 @@ impl<T: Real> Mat3<T> {
     // Column c; refused for c above 2.
     #[tactic(auto, unfolding(crate::specs::Matrix::mat_col))]
     pub fn col(self, c: usize) -> Result<Vec3<T>, Refusal>
-        ensures { told (as_vec3 T.float) result ≡ mat_col (as_mat3 T.float self) c }
+        ensures { view (as_vec3 T.float) result ≡ mat_col (as_mat3 T.float self) c }
     {
         of_three(self.c0, self.c1, self.c2, c)
     }
@@ -152,7 +159,7 @@ impl<T: Real> Mat3<T> {
     // Row r; refused for r above 2.
     #[tactic(auto, unfolding(crate::specs::Matrix::mat_row))]
     pub fn row(self, r: usize) -> Result<Vec3<T>, Refusal>
-        ensures { told (as_vec3 T.float) result ≡ mat_row (as_mat3 T.float self) r }
+        ensures { view (as_vec3 T.float) result ≡ mat_row (as_mat3 T.float self) r }
     {
         self.transpose().col(r)
     }

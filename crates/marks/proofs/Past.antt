@@ -21,11 +21,12 @@ use Rattle.sheets.proofs.Back.{bytes_take, bytes_drop}
 use Rattle.sheets.proofs.Past.{history as shots_history}
 use Rattle.sheets.proofs.Highest.{highest-is}
 use Rattle.sheets.proofs.Counted.{counted}
-use Rattle.kept.specs.State.{State, state_none}
-use Rattle.kept.specs.Chain.{ch_letters, rn_letters, ch_size, rn_size}
-use Rattle.kept.specs.Retakes.{sh_letters, sh_size}
+use Rattle.job_state.specs.State.{State, state_none}
+use Rattle.job_state.specs.Chain.{ch_letters, rn_letters, ch_size, rn_size}
+use Rattle.job_state.specs.Retakes.{sh_letters, sh_size}
 use Rattle.marks.specs.Marks.{mark_of, next_of}
-use Rattle.marks.specs.History.{kept_after, join_in, renew_in, event_on, event_in, events_of, shot_is, shot_on, shot_from}
+use Rattle.marks.specs.History.{kept_after, join_in, renew_in, event_on, event_in, events_of, shot_is, shot_on}
+use Rattle.marks.specs.History.{shot_from}
 use Rattle.marks.specs.History.{shots_of, pose_after, accepted_of, sheet_after, sheet_count, KeptAfter}
 use Rattle.marks.proofs.Table.{good, event_at, shot-at}
 
@@ -146,7 +147,8 @@ shots_small (r ∷ rs) e = shot_small r (shots_of rs) e.0 (shots_small rs e.1)
 -- ---- any records
 pose-after : (rs : List (List ℕ)) → Each Bytes rs → (kept_after state_none rs).running.pose ≡ pose_after rs
 unfolding pose_after
-pose-after rs e = ap (λ (r : Running). r.pose) (kept rs state_none) ∙ history binary64 (events_of rs) (events_small rs e)
+pose-after rs e =
+    ap (λ (r : Running). r.pose) (kept rs state_none) ∙ history binary64 (events_of rs) (events_small rs e)
 
 sheet_past : (rs : List (List ℕ)) (n : ℕ) → (after_shots no_sheets (shots_of rs)).at n ≡ sheet_after rs n
 unfolding sheet_after accepted_of
@@ -154,7 +156,8 @@ sheet_past rs n = (shots_history (shots_of rs) n).0
 
 count_past : (rs : List (List ℕ)) → Each Bytes rs → (after_shots no_sheets (shots_of rs)).count ≡ sheet_count rs
 unfolding sheet_count
-count_past rs e = (counted (shots_of rs) (shots_small rs e)).0 ∙ (λ i. kept_below (λ n. sheet_past rs n i) sheet_numbers)
+count_past rs e =
+    (counted (shots_of rs) (shots_small rs e)).0 ∙ (λ i. kept_below (λ n. sheet_past rs n i) sheet_numbers)
 
 highest-after : (rs : List (List ℕ)) (n : ℕ) → Highest n (accepted_of rs) (sheet_after rs n)
 unfolding sheet_after

@@ -1,5 +1,6 @@
--- What holds of every row of the table, and so of whatever two letters are found to be: a record has its mark, no record and no reply is longer than the longest, and a record moves
--- the running join and the sheets as what it means does. Assumes nothing.
+-- What holds of every row of the table, and so of whatever two letters are found to be: a record has its mark, no
+-- record and no reply is longer than the longest, and a record moves the running join and the sheets as what it means
+-- does. Assumes nothing.
 use Prim.Native.Nat.{ℕ, ◌+◌, ◌≤◌, ◌<◌}
 use mathlib.Core.Path.{◌≡◌, refl, sym, ap, ◌∙◌}
 use mathlib.Core.Bool.{Bool, true, false, cond}
@@ -11,31 +12,33 @@ use lib.Dec.{eqb, ltb}
 use lib.Ieee.{Format, binary32, binary64}
 use Rattle.std.proofs.lemmas.Bool.{false≢true}
 use Rattle.linalg.specs.Answer.{Answer, answers, refuses}
-use Rattle.outcome.specs.declared.Entry.{Entry}
-use Rattle.outcome.specs.declared.Entry.TheVariants.{Ex, Co, Pa, Ac, Mu, In, Ji, Ar}
-use Rattle.outcome.specs.Outcome.{longest}
+use Rattle.record_result.specs.declared.Operation.{Operation}
+use Rattle.record_result.specs.declared.Operation.TheVariants.{Ex, Co, Pa, Ac, Mu, In, Ji, Ar}
+use Rattle.record_result.specs.RecordResult.{longest}
 use Rattle.running.specs.History.{Event, after}
 use Rattle.running.specs.declared.Running.{Running}
 use Rattle.sheets.specs.Sheets.{Sheets}
 use Rattle.sheets.specs.History.{Sent, after as after_shots}
 use Rattle.replies.proofs.Replies.{width-most, entry-most}
-use Rattle.kept.specs.State.{State}
-use Rattle.kept.specs.Records.{Asks, next_by}
-use Rattle.kept.specs.Chain.{ch_letters, rn_letters, ch_size, rn_size, ch_of, ch_step, rn_step, ch_asks, rn_asks}
-use Rattle.kept.specs.Retakes.{sh_letters, sq_letters, sh_size, sq_size, sh_of, sh_step, sq_step, sh_asks, sq_asks}
+use Rattle.job_state.specs.State.{State}
+use Rattle.job_state.specs.Records.{RecordRule, next_by}
+use Rattle.job_state.specs.Chain.{ch_letters, rn_letters, ch_size, rn_size, ch_of, ch_step, rn_step, ch_rule, rn_rule}
+use Rattle.job_state.specs.Retakes.{sh_letters, sq_letters, sh_size, sq_size, sh_of, sh_step, sq_step, sh_rule, sq_rule}
 use Rattle.wire.proofs.Lists.{one_of_two}
-use Rattle.kept.proofs.Most.{ch-most, rn-most, sh-most, sq-most}
-use Rattle.marks.specs.Marks.{Row, entry_asks, table, Listed, listed, look_up, longest_record, next_at}
+use Rattle.job_state.proofs.Most.{ch-most, rn-most, sh-most, sq-most}
+use Rattle.marks.specs.Marks.{Row, operation_rule, table, Listed, listed, look_up, longest_record, next_at}
 use Rattle.marks.specs.Rows.{row_count}
 use Rattle.marks.specs.History.{join_in, renew_in, event_on, shot_is, shot_on}
 
 -- ---- of the letters k that ask for a
-pub record Sound (k : ℕ) (a : Asks) : Type 0 where
+pub record Sound (k : ℕ) (a : RecordRule) : Type 0 where
   pub least : 2 ≤ a.bytes
   pub size : a.bytes ≤ longest_record
   pub reply : (z : State) (r : List ℕ) → length (a.step z r).reply.bytes ≤ longest
-  pub event : (z : State) (r : List ℕ) (h : List Event) → after binary64 (next_by a z r).running h ≡ after binary64 z.running (event_on k r h)
-  pub shot : (z : State) (r : List ℕ) (h : List Sent) → after_shots (next_by a z r).sheets h ≡ after_shots z.sheets (shot_on k r h)
+  pub event : (z : State) (r : List ℕ) (h : List Event) → after binary64 (next_by a z r).running h
+      ≡ after binary64 z.running (event_on k r h)
+  pub shot : (z : State) (r : List ℕ) (h : List Sent) → after_shots (next_by a z r).sheets h
+      ≡ after_shots z.sheets (shot_on k r h)
 
 -- a record that is cut moves nothing
 pick :
@@ -45,12 +48,14 @@ pick true z w h g e = refl
 pick false z w h g e = e
 
 pick_shot :
-    (t : Bool) (z w : State) (h g : List Sent) → after_shots w.sheets h ≡ after_shots z.sheets g → after_shots (cond t z w).sheets h ≡ after_shots z.sheets (cond t h g)
+    (t : Bool) (z w : State) (h g : List Sent) → after_shots w.sheets h ≡ after_shots z.sheets g →
+    after_shots (cond t z w).sheets h ≡ after_shots z.sheets (cond t h g)
 pick_shot true z w h g e = refl
 pick_shot false z w h g e = e
 
 -- what a record leaves of one part, where it moves the other
-beside : (t : Bool) (z : State) (s : Sheets) → (cond t z (record { running = z.running; sheets = s })).running ≡ z.running
+beside : (t : Bool) (z : State) (s : Sheets) → (cond t z (record { running = z.running; sheets = s })).running
+    ≡ z.running
 beside true z s = refl
 beside false z s = refl
 
@@ -59,7 +64,8 @@ before true z r = refl
 before false z r = refl
 
 -- ---- an entry of the engine, whose letters are none of CH's, RN's and SH's
-other_event : (k : ℕ) (r : List ℕ) (h : List Event) → eqb k ch_letters ≡ false → eqb k rn_letters ≡ false → h ≡ event_on k r h
+other_event : (k : ℕ) (r : List ℕ) (h : List Event) → eqb k ch_letters ≡ false → eqb k rn_letters ≡ false →
+    h ≡ event_on k r h
 unfolding event_on
 other_event k r h c n = sym (rw (c, n) refl)
 
@@ -67,18 +73,23 @@ other-shot : (k : ℕ) (r : List ℕ) (h : List Sent) → eqb k sh_letters ≡ f
 unfolding shot_on
 other-shot k r h s = sym (rw s refl)
 
-entry_sound : (f : Format) (e : Entry) (k : ℕ) → eqb k ch_letters ≡ false → eqb k rn_letters ≡ false → eqb k sh_letters ≡ false → Sound k (entry_asks f e)
+entry_sound : (f : Format) (e : Operation) (k : ℕ) → eqb k ch_letters ≡ false → eqb k rn_letters ≡ false →
+    eqb k sh_letters ≡ false → Sound k (operation_rule f e)
 unfolding next_by
 entry_sound f e k c n s = record {
   least = omega arith;
   size = omega (arith, width-most f e);
   reply = λ z r. entry-most f e r;
-  event = λ z r h. ap (λ (w : State). after binary64 w.running h) (one_of_two (ltb (length r) (entry_asks f e).bytes) z) ∙ ap (after binary64 z.running) (other_event k r h c n);
-  shot = λ z r h. ap (λ (w : State). after_shots w.sheets h) (one_of_two (ltb (length r) (entry_asks f e).bytes) z) ∙ ap (after_shots z.sheets) (other-shot k r h s);
+  event =
+      λ z r h. ap (λ (w : State). after binary64 w.running h) (one_of_two (ltb (length r) (operation_rule f e).bytes) z)
+      ∙ ap (after binary64 z.running) (other_event k r h c n);
+  shot =
+      λ z r h. ap (λ (w : State). after_shots w.sheets h) (one_of_two (ltb (length r) (operation_rule f e).bytes) z)
+      ∙ ap (after_shots z.sheets) (other-shot k r h s);
 }
 
 -- ---- the four that read or move what is kept
-ch_sound : Sound ch_letters ch_asks
+ch_sound : Sound ch_letters ch_rule
 unfolding next_by ch_step ch_of event_on join_in shot_on after
 ch_sound = record {
   least = omega arith;
@@ -88,7 +99,7 @@ ch_sound = record {
   shot = λ z r h. ap (λ (x : Sheets). after_shots x h) (before (ltb (length r) ch_size) z _);
 }
 
-rn_sound : Sound rn_letters rn_asks
+rn_sound : Sound rn_letters rn_rule
 unfolding next_by rn_step event_on renew_in shot_on after
 rn_sound = record {
   least = omega arith;
@@ -98,7 +109,7 @@ rn_sound = record {
   shot = λ z r h. ap (λ (x : Sheets). after_shots x h) (before (ltb (length r) rn_size) z _);
 }
 
-sh_sound : Sound sh_letters sh_asks
+sh_sound : Sound sh_letters sh_rule
 unfolding next_by sh_step sh_of event_on shot_on shot_is after_shots
 sh_sound = record {
   least = omega arith;
@@ -108,7 +119,7 @@ sh_sound = record {
   shot = λ z r h. pick_shot (ltb (length r) sh_size) z _ h _ refl;
 }
 
-sq_sound : Sound sq_letters sq_asks
+sq_sound : Sound sq_letters sq_rule
 unfolding next_by sq_step event_on shot_on
 sq_sound = record {
   least = omega arith;
@@ -122,7 +133,7 @@ sq_sound = record {
 infixr 67 ◌▸◌
 data Each : List Row → Type 0 where
   none : Each []
-  ◌▸◌ : {r : Row} {t : List Row} → Sound r.letters r.asks → Each t → Each (r ∷ t)
+  ◌▸◌ : {r : Row} {t : List Row} → Sound r.letters r.rule → Each t → Each (r ∷ t)
 
 -- the letters of an entry are none of CH's, RN's and SH's, by computing
 rows : Each table
@@ -150,17 +161,18 @@ rows =
 
 -- and so of what is found, whose place is that of a row
 abbrev At : ℕ → Listed → ℕ → Type 0
-At k l n = (l.place < n) × Sound k l.asks
+At k l n = (l.place < n) × Sound k l.rule
 
 found-row : (k : ℕ) (l : Listed) (t : List Row) (n : ℕ) → Each t → look_up k n t ≡ answers l → At k l (n + length t)
 unfolding look_up
 found-row k l [] n none e = absurd (cc)
 found-row k l (r ∷ t) n (s ▸ g) e = by (eqb k r.letters) refl (found-row k l t (n + 1) g)
   where
-    by : (b : Bool) → eqb k r.letters ≡ b → (look_up k (n + 1) t ≡ answers l → At k l (n + 1 + length t)) → At k l (n + length (r ∷ t))
+    by : (b : Bool) → eqb k r.letters ≡ b → (look_up k (n + 1) t ≡ answers l → At k l (n + 1 + length t)) →
+        At k l (n + length (r ∷ t))
     by true b rest =
-        let q : answers (listed n r.asks) ≡ answers l = rw b at e in
-        let w : listed n r.asks ≡ l = cc in
+        let q : answers (listed n r.rule) ≡ answers l = rw b at e in
+        let w : listed n r.rule ≡ l = cc in
         rw (← w) (omega arith, rw (eqb-true k r.letters b) s)
     by false b rest = let w = rest (rw b at e) in (omega (arith, w.0), w.1)
 
@@ -179,7 +191,7 @@ absent k c n e a = by (eqb k c) refl
 
 -- ---- whatever two letters are
 abbrev pub Good : ℕ → Answer Listed → Type 0
-Good k (answers l) = (l.place < row_count) × Sound k l.asks
+Good k (answers l) = (l.place < row_count) × Sound k l.rule
 Good k (refuses n) = (eqb k ch_letters ≡ false) × (eqb k rn_letters ≡ false) × (eqb k sh_letters ≡ false)
 
 good_by : (k : ℕ) (v : Answer Listed) → look_up k 0 table ≡ v → Good k v
@@ -191,12 +203,14 @@ pub good : (k : ℕ) → Good k (look_up k 0 table)
 good k = good_by k (look_up k 0 table) refl
 
 -- the state behind letters that are in no row is as it was, and they bring nothing
-pub event_at : (k : ℕ) (v : Answer Listed) → Good k v → (z : State) (r : List ℕ) (h : List Event) → after binary64 (next_at v z r).running h ≡ after binary64 z.running (event_on k r h)
+pub event_at : (k : ℕ) (v : Answer Listed) → Good k v → (z : State) (r : List ℕ) (h : List Event) →
+    after binary64 (next_at v z r).running h ≡ after binary64 z.running (event_on k r h)
 unfolding next_at
 event_at k (answers l) g z r h = g.1.event z r h
 event_at k (refuses n) g z r h = ap (after binary64 z.running) (other_event k r h g.0 g.1)
 
-pub shot-at : (k : ℕ) (v : Answer Listed) → Good k v → (z : State) (r : List ℕ) (h : List Sent) → after_shots (next_at v z r).sheets h ≡ after_shots z.sheets (shot_on k r h)
+pub shot-at : (k : ℕ) (v : Answer Listed) → Good k v → (z : State) (r : List ℕ) (h : List Sent) →
+    after_shots (next_at v z r).sheets h ≡ after_shots z.sheets (shot_on k r h)
 unfolding next_at
 shot-at k (answers l) g z r h = g.1.shot z r h
 shot-at k (refuses n) g z r h = ap (after_shots z.sheets) (other-shot k r h g.2)

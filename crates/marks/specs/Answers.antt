@@ -5,23 +5,23 @@ use Rattle.std.specs.Float.{binary64}
 use Rattle.frames.specs.Floats.{Pose}
 use Rattle.running.specs.Running.{Start}
 use Rattle.wire.specs.Wire.{word_at, word_bytes, items_bytes}
-use Rattle.outcome.specs.Outcome.{mark_bytes, no_bytes, Found, took, ended, unknown, cut}
+use Rattle.record_result.specs.RecordResult.{mark_bytes, no_bytes, InputHead, took, ended, unknown, cut}
 use Rattle.replies.specs.Table.{framed_in, framed_items}
 use Rattle.sheets.specs.Sheets.{Kept, none, kept, most, same_take, no_room, never_kept}
 use Rattle.sheets.specs.declared.Shot.{Shot}
-use Rattle.kept.specs.State.{State, state_none}
-use Rattle.marks.specs.Marks.{found_of}
+use Rattle.job_state.specs.State.{State, state_none}
+use Rattle.marks.specs.Marks.{head_of}
 use Rattle.marks.specs.History.{kept_after, pose_after, sheet_after, sheet_count}
 
--- ---- the bytes that a whole record r is answered, where z is kept; and behind the records rs
-unfoldable pub reply_on : Found → List ℕ
-reply_on (took q k bytes) = bytes
+-- ---- the bytes that a whole record r is answered, where st is kept; and behind the records rs
+unfoldable pub reply_on : InputHead → List ℕ
+reply_on (took d k bytes) = bytes
 reply_on ended = []
 reply_on unknown = []
 reply_on cut = []
 
 unfoldable pub reply_to : State → List ℕ → List ℕ
-reply_to z r = reply_on (found_of z r)
+reply_to st r = reply_on (head_of st r)
 
 abbrev pub reply_after : List (List ℕ) → List ℕ → List ℕ
 reply_after rs r = reply_to (kept_after state_none rs) r
@@ -64,7 +64,7 @@ pub record ShAnswered (k : Kept) (count t : ℕ) (reply : List ℕ) : Type 0 whe
 -- ---- SQ, where k is kept of its sheet
 pub record SqAnswered (k : Kept) (reply : List ℕ) : Type 0 where
   -- the take and the pose that are kept
-  pub told : (o : Shot) → k ≡ kept o → reply ≡ sq_bytes o
+  pub found : (o : Shot) → k ≡ kept o → reply ≡ sq_bytes o
   -- 12 where nothing is
   pub never : k ≡ none → reply ≡ no_bytes never_kept
 

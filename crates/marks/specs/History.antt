@@ -9,21 +9,23 @@ use Rattle.sheets.specs.Store.{shot_in}
 use Rattle.sheets.specs.History.{Sent, accepted, highest, Highest}
 use Rattle.wire.specs.Wire.{word_at, number_at}
 use Rattle.replies.specs.Table.{framed_width, framed_in}
-use Rattle.kept.specs.State.{State, state_none}
-use Rattle.kept.specs.Chain.{ch_letters, rn_letters, ch_size, rn_size}
-use Rattle.kept.specs.Retakes.{sh_letters, sh_size}
+use Rattle.job_state.specs.State.{State, state_none}
+use Rattle.job_state.specs.Chain.{ch_letters, rn_letters, ch_size, rn_size}
+use Rattle.job_state.specs.Retakes.{sh_letters, sh_size}
 use Rattle.marks.specs.Marks.{next_of}
 
 -- what is kept after these records, each with its mark
 unfoldable pub kept_after : State → List (List ℕ) → State
-kept_after z [] = z
-kept_after z (r ∷ rs) = kept_after (next_of z r) rs
+kept_after st [] = st
+kept_after st (r ∷ rs) = kept_after (next_of st r) rs
 
--- a whole CH and a whole RN, before what h holds, where k are the record's letters; other records mean nothing to the running join
+-- a whole CH and a whole RN, before what h holds, where k are the record's letters; other records mean nothing to the
+-- running join
 unfoldable pub join_in : List ℕ → List Event → List Event
 join_in r h =
     let b = drop 2 (take ch_size r) in
-    cond (ltb (length r) ch_size) h (join (framed_in binary64 b) (number_at binary64 (drop (framed_width binary64) b) 0) ∷ h)
+    cond (ltb (length r) ch_size) h (join (framed_in binary64 b) (number_at binary64 (drop (framed_width binary64) b) 0)
+    ∷ h)
 
 unfoldable pub renew_in : List ℕ → List Event → List Event
 renew_in r h = cond (ltb (length r) rn_size) h (renew (word_at 2 (drop 2 (take rn_size r)) 0) ∷ h)

@@ -1,3 +1,4 @@
+-- To be read in this order.
 pub mod Marks
 pub mod Rows
 pub mod History

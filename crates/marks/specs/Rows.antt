@@ -1,7 +1,6 @@
 -- The counts by mark: in which of them a record counts. Its place is that of its row in the table of marks.
-use Rattle.std.specs.Prelude.{ℕ, ◌+◌, cond, List, [], ◌∷◌, length}
+use Rattle.std.specs.Prelude.{ℕ, ◌+◌, List, [], ◌∷◌, length}
 use Rattle.linalg.specs.Answer.{Answer, answers, refuses}
-use Rattle.kept.specs.State.{holds}
 use Rattle.marks.specs.Marks.{table, Listed, mark_of}
 
 -- the place of what is in no row, behind all rows; and how many places there are
@@ -21,7 +20,3 @@ unfoldable pub row_at : List ℕ → ℕ
 row_at [] = unlisted
 row_at (a ∷ []) = unlisted
 row_at (a ∷ b ∷ s) = row_known (mark_of a b)
-
--- as it is told, where the bytes m are lent for the state
-unfoldable pub met_row : List ℕ → List ℕ → ℕ
-met_row m s = cond (holds m) (row_at s) unlisted

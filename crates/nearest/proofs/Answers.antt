@@ -6,7 +6,7 @@ use lib.Ieee.{Float, Format, to_bits, lt}
 use Rattle.ieee.specs.Finite.{is_finite}
 use Rattle.ieee.specs.Numbers.{f0}
 use Rattle.ieee.specs.Patterns.{patterns}
-use Rattle.ieee.specs.Signs.{plain}
+use Rattle.ieee.specs.Signs.{unsigned_zero}
 use Rattle.linalg.specs.Answer.{answers, refuses}
 use Rattle.nearest.specs.Nearest.{Way, nearest_from, arm_at, nearest_of}
 
@@ -19,7 +19,7 @@ module _ (f : Format) (first : Way) (sigma z : Float) where
   unfolding nearest_of
   not_finite a b = rw (a, b) refl
 
-  pub accepted : (p : ℕ) → lt z f0 ≡ false → is_finite sigma && is_finite z ≡ true → p ≡ to_bits f (plain z)
+  pub accepted : (p : ℕ) → lt z f0 ≡ false → is_finite sigma && is_finite z ≡ true → p ≡ to_bits f (unsigned_zero z)
       → answers (nearest_from (arm_at f sigma) (patterns f) first p) ≡ nearest_of f first sigma z
   unfolding nearest_of
   accepted p a b e = rw (a, b) (ap (λ (n : ℕ). answers (nearest_from (arm_at f sigma) (patterns f) first n)) e)

@@ -1,4 +1,5 @@
--- The search by halves: one arm, at a pattern between the two ends of what is left, settles all patterns on one side of it. Assumes nothing.
+-- The search by halves: one arm, at a pattern between the two ends of what is left, settles all patterns on one side of
+-- it. Assumes nothing.
 use Prim.Native.Nat.{ℕ, ◌+◌, ◌≤◌, ◌<◌, zero-le}
 use native.Mathlib.Nat.{le_refl, le_trans}
 use native.Mathlib.Omega.{arith}
@@ -13,10 +14,18 @@ pub record Left (arm : ℕ → ℕ) (end a from to : ℕ) : Type 0 where
 
 module _ (arm : ℕ → ℕ) (end a : ℕ) where
   pub all_left : Left arm end a 0 end
-  all_left = record { ordered = zero-le; within = le_refl end; before = λ q h. absurd (omega arith); after = λ q h k. absurd (omega arith) }
+  all_left =
+      record {
+        ordered = zero-le;
+        within = le_refl end;
+        before = λ q h. absurd (omega arith);
+        after =
+            λ q h k. absurd (omega arith);
+      }
 
   pub none_left : {from to : ℕ} → Left arm end a from to → to ≤ from → Parts arm end a from
-  none_left {from} {to} s h = record { within = omega arith; before = s.before; after = λ q l k. s.after q (omega arith) k }
+  none_left {from} {to} s h =
+      record { within = omega arith; before = s.before; after = λ q l k. s.after q (omega arith) k }
 
   module _ (rising : (p q : ℕ) → p ≤ q → q < end → arm p ≤ arm q) where
     pub go_up : {from to : ℕ} (m : ℕ) → Left arm end a from to → m < to → arm m ≤ a → Left arm end a (m + 1) to

@@ -1,6 +1,6 @@
--- From patterns to values: the patterns below the end are those of the permitted values, the next pattern is that of the
--- next value, and so n moves lead where n steps of the pattern lead. With them `NearestTheorem` is one of values, at the
--- entry. Assumes nothing.
+-- From patterns to values: the patterns below the end are those of the permitted values, the next pattern is that of
+-- the next value, and so n moves lead where n steps of the pattern lead. With them `NearestTheorem` is one of values,
+-- at the entry. Assumes nothing.
 use mathlib.Core.Path.{◌≡◌, refl, sym, ap, ◌∙◌, subst}
 use mathlib.Core.Logic.{inl, inr}
 use mathlib.Core.Bool.{true, false, ◌&&◌}
@@ -15,7 +15,7 @@ use Rattle.std.proofs.lemmas.Bool.{cases_lt}
 use Rattle.ieee.specs.Finite.{is_finite}
 use Rattle.ieee.specs.Numbers.{f0}
 use Rattle.ieee.specs.Patterns.{patterns}
-use Rattle.ieee.specs.Signs.{plain, Same}
+use Rattle.ieee.specs.Signs.{unsigned_zero, Same}
 use Rattle.ieee.proofs.Order.{le_same, lt-e}
 use Rattle.ieee.proofs.Clear.{plain_id}
 use Rattle.ieee.proofs.Values.{value_clear}
@@ -23,7 +23,7 @@ use Rattle.ieee.proofs.Finite.{zero-starts}
 use Rattle.ieee.proofs.Patterns.{rising, pattern_value, pattern_finite}
 use Rattle.ieee.proofs.Neighbours.{strictly_rising}
 use Rattle.nearest.specs.Nearest.{Way, down, up, Near, step, none, place, changes}
-use Rattle.nearest.specs.Nearest.{nearest_from, arm_of, arm_at, first_told}
+use Rattle.nearest.specs.Nearest.{nearest_from, arm_of, arm_at, preferred}
 use Rattle.nearest.specs.Theorem.{OneArm, NearIs}
 use Rattle.nearest.specs.Neighbours.{Permitted, Next, NeighboursTheorem, Beside, Moves, Changed}
 use Rattle.nearest.specs.Neighbours.{IsNearest, NearestArmTheorem}
@@ -33,19 +33,19 @@ use Rattle.nearest.proofs.Answers.{accepted}
 use Rattle.nearest.proofs.Theorem.{nearest_theorem}
 
 -- ---- values
-plain_fits : (f : Format) (x : Float) → T (fits f x) → T (fits f (plain x))
-unfolding plain
+plain_fits : (f : Format) (x : Float) → T (fits f x) → T (fits f (unsigned_zero x))
+unfolding unsigned_zero
 plain_fits f nan h = h
 plain_fits f (inf s) h = h
 plain_fits f (fin s zero e) h = unfold fits in tt
 plain_fits f (fin s (suc m) e) h = h
 
-plain-same : (x : Float) → Same (plain x) x
-unfolding plain
-plain-same nan = refl
-plain-same (inf s) = refl
-plain-same (fin s zero e) = refl
-plain-same (fin s (suc m) e) = refl
+unsigned_zero-same : (x : Float) → Same (unsigned_zero x) x
+unfolding unsigned_zero
+unsigned_zero-same nan = refl
+unsigned_zero-same (inf s) = refl
+unsigned_zero-same (fin s zero e) = refl
+unsigned_zero-same (fin s (suc m) e) = refl
 
 is-finite : (x : Float) → T (finite x) → is_finite x ≡ true
 unfolding is_finite
@@ -68,7 +68,7 @@ inner_finite (fin s m e) v (inf t) p q h k = absurd q
 module _ (f : Format) where
   -- no pattern's value is below zero
   from_zero : (p : ℕ) → p < patterns f → T (le f0 (of_bits f p))
-  unfolding plain
+  unfolding unsigned_zero
   from_zero p h =
       let x = of_bits f p in
       rw (le_same f0 (of_bits f 0) x x (sym (zero-starts f)) refl) (rising f 0 p (omega arith) h)
@@ -99,9 +99,10 @@ module _ (f : Format) where
           let y = of_bits f (p + 1) in
           let number = inner_finite x v y (pattern_finite f p p_in) (pattern_finite f (p + 1) h) a b in
           let sign = is_false (lt v f0) (not_T _ (λ l. lt-e x f0 (lt_trans x v f0 a l) (from_zero p p_in))) in
-          let q = to_bits f (plain v) in
+          let q = to_bits f (unsigned_zero v) in
           let few : q < patterns f = start_below f v t sign number in
-          let same : Same (of_bits f q) v = ap plain (of_bits-to_bits f (plain v) (plain_fits f v t)) ∙ plain-same v in
+          let same : Same (of_bits f q) v = ap unsigned_zero (of_bits-to_bits f (unsigned_zero v) (plain_fits f v t))
+          ∙ unsigned_zero-same v in
           elim (cases_lt p q) [
             | inl l ↦ lt-e v y b (rw (← le_same y y (of_bits f q) v refl same) (rising f (p + 1) q (omega arith) few))
             | inr l ↦ lt-e x v a (rw (← le_same (of_bits f q) v x x same refl) (rising f q p l p_in))
@@ -136,8 +137,11 @@ module _ (f : Format) where
       each : (i : ℕ) → i < n → Permitted f (way (i + 1)) × Beside f down (way i) (way (i + 1))
       each i l =
           let q = p - (i + 1) in
-          let e : q + 1 ≡ p - i = omega arith in
-          (permitted-at q (omega arith), subst (λ (r : ℕ). Next f (of_bits f q) (of_bits f r)) e (next-at q (omega arith)))
+          let e : q + 1 ≡ p - i = omega arith in (
+            permitted-at q (omega arith),
+            subst (λ (r : ℕ). Next f (of_bits f q) (of_bits f r)) e
+                (next-at q (omega arith)),
+          )
   moves-at up p n p_in h = record { way = way; from = ap (of_bits f) (omega arith); to = refl; each = each }
     where
       way : ℕ → Float
@@ -208,7 +212,8 @@ module _ (f : Format) where
     step_of down n h k = down-changes (arm_at f sigma) (patterns f) p n h k
     step_of up n h k = up-changes (arm_at f sigma) (patterns f) p n h k
 
-    moves-step : (d : Way) (n : ℕ) (y : Float) → Moves f d n (of_bits f p) y → Changed f sigma (of_bits f p) y → Step d n
+    moves-step : (d : Way) (n : ℕ) (y : Float) → Moves f d n (of_bits f p) y → Changed f sigma (of_bits f p) y →
+        Step d n
     unfolding arm_at
     moves-step d n y m c =
         let g = moves_lead d p n y p_in m in
@@ -247,16 +252,16 @@ module _ (f : Format) where
   -- ---- at the entry
   pub nearest-arm_theorem : NearestArmTheorem f
   nearest-arm_theorem sigma z t s k b =
-      let p = to_bits f (plain z) in
+      let p = to_bits f (unsigned_zero z) in
       let few : p < patterns f = start_below f z t b k in
-      let is : of_bits f p ≡ plain z = of_bits-to_bits f (plain z) (plain_fits f z t) in
-      let asked = nearest_theorem.asked (arm_at f sigma) (patterns f) first_told p few in
-      let near = nearest_from (arm_at f sigma) (patterns f) first_told p in
+      let is : of_bits f p ≡ unsigned_zero z = of_bits-to_bits f (unsigned_zero z) (plain_fits f z t) in
+      let asked = nearest_theorem.asked (arm_at f sigma) (patterns f) preferred p few in
+      let near = nearest_from (arm_at f sigma) (patterns f) preferred p in
       let both : is_finite sigma && is_finite z ≡ true = rw (s, k) refl in
-      let at : Near → Float → Type 0 = λ r x. IsNearest f first_told sigma x r in
+      let at : Near → Float → Type 0 = λ r x. IsNearest f preferred sigma x r in
       record {
         near = near;
-        answered = sym (accepted f first_told sigma z p b both refl);
-        is = subst (at near) is (to_values first_told sigma p few near asked.is);
-        only = λ r h. asked.only r (from_values first_told sigma p few r (subst (at r) (sym is) h));
+        answered = sym (accepted f preferred sigma z p b both refl);
+        is = subst (at near) is (to_values preferred sigma p few near asked.is);
+        only = λ r h. asked.only r (from_values preferred sigma p few r (subst (at r) (sym is) h));
       }

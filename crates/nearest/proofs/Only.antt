@@ -1,4 +1,5 @@
--- What is asked for is asked for once: the least count is one number, the direction is told by the tie rule, and a step to another arm excludes that there is one arm. Assumes nothing.
+-- What is asked for is asked for once: the least count is one number, the direction is told by the tie rule, and a step
+-- to another arm excludes that there is one arm. Assumes nothing.
 use mathlib.Core.Path.{◌≡◌, refl, sym, ◌∙◌, subst}
 use mathlib.Core.Logic.{◌⊎◌, inl, inr}
 use Prim.Native.Nat.{ℕ, ◌+◌, ◌-◌, ◌<◌}
@@ -18,7 +19,8 @@ one-first up down up = inr (inr refl)
 one-first up down down = inl refl
 
 module _ (arm : ℕ → ℕ) (end : ℕ) (first : Way) (p : ℕ) (inside : p < end) where
-  same_step : (n m : ℕ) (d e : Way) (a b : ℕ) → Least arm end first p n d a → Least arm end first p m e b → step n d a ≡ step m e b
+  same_step : (n m : ℕ) (d e : Way) (a b : ℕ) → Least arm end first p n d a → Least arm end first p m e b →
+      step n d a ≡ step m e b
   same_step n m d e a b x y = λ i. step (count i) (way i) (there i)
     where
       count : n ≡ m
@@ -28,8 +30,11 @@ module _ (arm : ℕ → ℕ) (end : ℕ) (first : Way) (p : ℕ) (inside : p < e
       way = elim (one-first first d e) [
         | inl s ↦ s
         | inr h ↦ elim h [
-          | inl s ↦ s ∙ sym (y.tie (subst (λ (k : ℕ). T (changes arm end p first k)) count (subst (λ (w : Way). T (changes arm end p w n)) s x.changing)))
-          | inr s ↦ x.tie (subst (λ (k : ℕ). T (changes arm end p first k)) (sym count) (subst (λ (w : Way). T (changes arm end p w m)) s y.changing)) ∙ sym s
+          | inl s ↦ s ∙ sym
+              (y.tie (subst (λ (k : ℕ). T (changes arm end p first k)) count
+              (subst (λ (w : Way). T (changes arm end p w n)) s x.changing)))
+          | inr s ↦ x.tie (subst (λ (k : ℕ). T (changes arm end p first k)) (sym count)
+              (subst (λ (w : Way). T (changes arm end p w m)) s y.changing)) ∙ sym s
         ]
       ]
 
@@ -37,7 +42,8 @@ module _ (arm : ℕ → ℕ) (end : ℕ) (first : Way) (p : ℕ) (inside : p < e
       there = x.there ∙ (λ i. arm (place (way i) p (count i))) ∙ sym y.there
 
   not_both : (d : Way) (n : ℕ) → T (changes arm end p d n) → OneArm arm end → ⊥
-  not_both down n t o = let h = down-permitted arm end p n t in another arm end p down n t (o (p - n) p (omega arith) inside)
+  not_both down n t o =
+      let h = down-permitted arm end p n t in another arm end p down n t (o (p - n) p (omega arith) inside)
   not_both up n t o = another arm end p up n t (o (p + n) p (up-permitted arm end p n t) inside)
 
   pub only_one : (r s : Near) → NearIs arm end first p r → NearIs arm end first p s → r ≡ s

@@ -1,5 +1,5 @@
--- The arm does not fall as z grows: z ↦ σ·σ + z keeps the order, rounded as it is, and a test Δ < limit that holds at a larger Δ holds at a smaller one. So where +0 has the last arm, every z
--- has it. Assumes nothing.
+-- The arm does not fall as z grows: z ↦ σ·σ + z keeps the order, rounded as it is, and a test Δ < limit that holds at a
+-- larger Δ holds at a smaller one. So where +0 has the last arm, every z has it. Assumes nothing.
 use mathlib.Core.Path.{◌≡◌, ap}
 use mathlib.Core.Logic.{inl, inr}
 use Prim.Native.Nat.{ℕ, ◌≤◌, ◌<◌}
@@ -14,17 +14,19 @@ use Rattle.ieee.specs.Patterns.{patterns}
 use Rattle.ieee.proofs.Order.{number, nan_or}
 use Rattle.ieee.proofs.Mono.{add_mono_r}
 use Rattle.ieee.proofs.Patterns.{rising, pattern_finite}
-use Rattle.closed.specs.Limits.{coeffs_delta, short_below, mid_below, upper_below, series_below}
-use Rattle.closed.specs.Arm.{coeffs_arm}
+use Rattle.arms.specs.Limits.{coeffs_delta, short_below, mid_below, upper_below, series_below}
+use Rattle.arms.specs.Arm.{coeffs_arm}
 use Rattle.nearest.specs.Nearest.{arm_at}
 use Rattle.nearest.specs.Theorem.{OneArm}
 use Rattle.nearest.proofs.Sums.{sum_number}
 
 -- ---- Δ, where σ·σ is a number, and where it is a NaN
-delta_mono : (f : Format) (sigma y y' : Float) → T (finite y) → T (finite y') → T (le y y') → T (number (mul f sigma sigma)) → T (le (coeffs_delta f sigma y) (coeffs_delta f sigma y'))
+delta_mono : (f : Format) (sigma y y' : Float) → T (finite y) → T (finite y') → T (le y y') →
+    T (number (mul f sigma sigma)) → T (le (coeffs_delta f sigma y) (coeffs_delta f sigma y'))
 unfolding coeffs_delta
 delta_mono f sigma y y' p q h n =
-    add_mono_r f (mul f sigma sigma) y y' h (sum_number f (mul f sigma sigma) y n p) (sum_number f (mul f sigma sigma) y' n q)
+    add_mono_r f (mul f sigma sigma) y y' h (sum_number f (mul f sigma sigma) y n p)
+    (sum_number f (mul f sigma sigma) y' n q)
 
 lost : (f : Format) (sigma y y' : Float) → mul f sigma sigma ≡ nan → coeffs_delta f sigma y ≡ coeffs_delta f sigma y'
 unfolding coeffs_delta add
@@ -59,13 +61,15 @@ ladder a b c d a' b' c' d' A B C D =
     let h2 = over_2 b' c' d' in
     let h3 = over_3 c' d' in
     let h4 = over_4 d' in
-    rung a a' 1 _ _ A (omega arith) (rung b b' 2 _ _ B (omega arith) (rung c c' 3 _ _ C (omega arith) (rung d d' 4 5 5 D (omega arith) (omega arith))))
+    rung a a' 1 _ _ A (omega arith) (rung b b' 2 _ _ B (omega arith)
+    (rung c c' 3 _ _ C (omega arith) (rung d d' 4 5 5 D (omega arith) (omega arith))))
 
 arm_mono : (f : Format) (d d' : Float) → T (le d d') → coeffs_arm f d ≤ coeffs_arm f d'
 unfolding coeffs_arm
 arm_mono f d d' h =
     let fall : (l : Float) → T (lt d' l) → T (lt d l) = λ l t. lt_of_le_of_lt d d' l h t in
-    ladder (lt d (short_below f)) (lt d (mid_below f)) (lt d (upper_below f)) (lt d (series_below f)) (lt d' (short_below f)) (lt d' (mid_below f)) (lt d' (upper_below f)) (lt d' (series_below f))
+    ladder (lt d (short_below f)) (lt d (mid_below f)) (lt d (upper_below f)) (lt d (series_below f))
+    (lt d' (short_below f)) (lt d' (mid_below f)) (lt d' (upper_below f)) (lt d' (series_below f))
     (fall (short_below f)) (fall (mid_below f)) (fall (upper_below f)) (fall (series_below f))
 
 pub arm_rising : (f : Format) (sigma : Float) (p q : ℕ) → p ≤ q → q < patterns f → arm_at f sigma p ≤ arm_at f sigma q
@@ -74,7 +78,8 @@ arm_rising f sigma p q k h = elim (nan_or (mul f sigma sigma)) [
   | inl e ↦ le_of_eq (ap (λ (d : Float). coeffs_arm f d) (lost f sigma (of_bits f p) (of_bits f q) e))
   | inr n ↦
       let p-in : p < patterns f = omega arith in
-      arm_mono f _ _ (delta_mono f sigma (of_bits f p) (of_bits f q) (pattern_finite f p p-in) (pattern_finite f q h) (rising f p q k h) n)
+      arm_mono f _ _ (delta_mono f sigma (of_bits f p) (of_bits f q) (pattern_finite f p p-in) (pattern_finite f q h)
+      (rising f p q k h) n)
 ]
 
 -- ---- the arms start at 1 and end at 5
@@ -93,7 +98,8 @@ unfolding arm_at coeffs_arm
 arm-to f sigma p =
     let d = coeffs_delta f sigma (of_bits f p) in
     under (lt d (short_below f)) 1 _ (omega arith)
-    (under (lt d (mid_below f)) 2 _ (omega arith) (under (lt d (upper_below f)) 3 _ (omega arith) (under (lt d (series_below f)) 4 5 (omega arith) (omega arith))))
+    (under (lt d (mid_below f)) 2 _ (omega arith) (under (lt d (upper_below f)) 3 _ (omega arith)
+    (under (lt d (series_below f)) 4 5 (omega arith) (omega arith))))
 
 pub all_closed : (f : Format) (sigma : Float) → arm_at f sigma 0 ≡ 5 → OneArm (arm_at f sigma) (patterns f)
 all_closed f sigma e p q h k =

@@ -1,4 +1,5 @@
--- From the two ends of p's arm to what is asked for: below `low` and from `high` on the arm is another, and between them it is p's. Assumes nothing.
+-- From the two ends of p's arm to what is asked for: below `low` and from `high` on the arm is another, and between
+-- them it is p's. Assumes nothing.
 use mathlib.Core.Path.{◌≡◌, refl, sym, ◌∙◌}
 use mathlib.Core.Logic.{inl, inr}
 use Prim.Native.Nat.{ℕ, ◌+◌, ◌-◌, ◌≤◌, ◌<◌}
@@ -90,9 +91,11 @@ module _ {arm : ℕ → ℕ} {end p a low high : ℕ} (s : Ends arm end p a low 
   low-changes n h e =
       let m = from_low in
       down-changes arm end p n (omega arith)
-      (λ t. let k = s.known in let o = s.some in let x : arm (p - n) ≤ a - 1 = s.lower.before (p - n) (omega arith) in absurd (omega arith))
+      (λ t. let k = s.known in let o = s.some in let x : arm (p - n) ≤ a - 1 = s.lower.before (p - n) (omega arith) in
+      absurd (omega arith))
 
-  least-down : (first : Way) (n : ℕ) → 0 < low → n ≡ p - low + 1 → (high < end → Ahead first down n (high - p)) → (b : ℕ) → b ≡ arm (p - n) → Least arm end first p n down b
+  least-down : (first : Way) (n : ℕ) → 0 < low → n ≡ p - low + 1 → (high < end → Ahead first down n (high - p)) →
+      (b : ℕ) → b ≡ arm (p - n) → Least arm end first p n down b
   least-down first n l e h b t = record { changing = low-changes n l e; least = least; tie = tie first h; there = t }
     where
       least : (d : Way) (m : ℕ) → T (changes arm end p d m) → n ≤ m
@@ -107,26 +110,36 @@ module _ {arm : ℕ → ℕ} {end p a low high : ℕ} (s : Ends arm end p a low 
   high-changes : (n : ℕ) → high < end → n ≡ high - p → T (changes arm end p up n)
   high-changes n h e =
       let m = to_high in
-      up-changes arm end p n (omega arith) (λ t. let k = s.known in let x : a < arm (p + n) = s.upper.after (p + n) (omega arith) (omega arith) in absurd (omega arith))
+      up-changes arm end p n (omega arith) (λ t. let k = s.known in let x : a < arm (p + n) =
+      s.upper.after (p + n) (omega arith) (omega arith) in absurd (omega arith))
 
-  least-up : (first : Way) (n : ℕ) → high < end → n ≡ high - p → (0 < low → Ahead first up n (p - low + 1)) → (b : ℕ) → b ≡ arm (p + n) → Least arm end first p n up b
+  least-up : (first : Way) (n : ℕ) → high < end → n ≡ high - p → (0 < low → Ahead first up n (p - low + 1)) → (b : ℕ) →
+      b ≡ arm (p + n) → Least arm end first p n up b
   least-up first n h e l b t = record { changing = high-changes n h e; least = least; tie = tie first l; there = t }
     where
       least : (d : Way) (m : ℕ) → T (changes arm end p d m) → n ≤ m
       least up m c = let x = up_least m c in omega arith
-      least down m c = let x = down-least m c in let y = weak first up n (p - low + 1) (l (down-only m c)) in omega arith
+      least down m c =
+          let x = down-least m c in let y = weak first up n (p - low + 1) (l (down-only m c)) in omega arith
 
       tie : (d : Way) → (0 < low → Ahead d up n (p - low + 1)) → T (changes arm end p d n) → up ≡ d
       tie up k c = refl
       tie down k c = let x = down-least n c in let y : n < p - low + 1 = k (down-only n c) in absurd (omega arith)
 
   -- ---- so that is what the definition finds
-  pub downward : (first : Way) (n : ℕ) → 0 < low → n ≡ p - low + 1 → (high < end → Ahead first down n (high - p)) → (b : ℕ) → b ≡ arm (p - n) → step n down b ≡ nearest_from arm end first p
-  downward first n l e h b t = only_one arm end first p s.inside (step n down b) _ (least-down first n l e h b t) (nearest-is arm end first p s.inside)
+  pub downward : (first : Way) (n : ℕ) → 0 < low → n ≡ p - low + 1 → (high < end → Ahead first down n (high - p)) →
+      (b : ℕ) → b ≡ arm (p - n) → step n down b ≡ nearest_from arm end first p
+  downward first n l e h b t =
+      only_one arm end first p s.inside (step n down b) _ (least-down first n l e h b t)
+      (nearest-is arm end first p s.inside)
 
-  pub upward : (first : Way) (n : ℕ) → high < end → n ≡ high - p → (0 < low → Ahead first up n (p - low + 1)) → (b : ℕ) → b ≡ arm (p + n) → step n up b ≡ nearest_from arm end first p
-  upward first n h e l b t = only_one arm end first p s.inside (step n up b) _ (least-up first n h e l b t) (nearest-is arm end first p s.inside)
+  pub upward : (first : Way) (n : ℕ) → high < end → n ≡ high - p → (0 < low → Ahead first up n (p - low + 1)) →
+      (b : ℕ) → b ≡ arm (p + n) → step n up b ≡ nearest_from arm end first p
+  upward first n h e l b t =
+      only_one arm end first p s.inside (step n up b) _ (least-up first n h e l b t)
+      (nearest-is arm end first p s.inside)
 
   pub nowhere : (first : Way) → low ≡ 0 → high ≡ end → none ≡ nearest_from arm end first p
   nowhere first l h =
-      only_one arm end first p s.inside none _ (λ q r Q R. between q (omega arith) (omega arith) ∙ sym (between r (omega arith) (omega arith))) (nearest-is arm end first p s.inside)
+      only_one arm end first p s.inside none _ (λ q r Q R. between q (omega arith) (omega arith)
+      ∙ sym (between r (omega arith) (omega arith))) (nearest-is arm end first p s.inside)

@@ -9,11 +9,15 @@ use Rattle.nearest.specs.Nearest.{Way, down, up, place, permitted, changes}
 module _ (arm : ℕ → ℕ) (end p : ℕ) where
   pub down-changes : (n : ℕ) → n ≤ p → (arm (p - n) ≡ arm p → ⊥) → T (changes arm end p down n)
   unfolding changes
-  down-changes n h k = and_i (leb n p) (not (eqb (arm (p - n)) (arm p))) (le→leb n p h) (not_T (eqb (arm (p - n)) (arm p)) (λ t. k (eqb→eq (arm (p - n)) (arm p) t)))
+  down-changes n h k =
+      and_i (leb n p) (not (eqb (arm (p - n)) (arm p))) (le→leb n p h)
+      (not_T (eqb (arm (p - n)) (arm p)) (λ t. k (eqb→eq (arm (p - n)) (arm p) t)))
 
   pub up-changes : (n : ℕ) → p + n < end → (arm (p + n) ≡ arm p → ⊥) → T (changes arm end p up n)
   unfolding changes
-  up-changes n h k = and_i (ltb (p + n) end) (not (eqb (arm (p + n)) (arm p))) (lt→ltb (p + n) end h) (not_T (eqb (arm (p + n)) (arm p)) (λ t. k (eqb→eq (arm (p + n)) (arm p) t)))
+  up-changes n h k =
+      and_i (ltb (p + n) end) (not (eqb (arm (p + n)) (arm p))) (lt→ltb (p + n) end h)
+      (not_T (eqb (arm (p + n)) (arm p)) (λ t. k (eqb→eq (arm (p + n)) (arm p) t)))
 
   pub down-permitted : (n : ℕ) → T (changes arm end p down n) → n ≤ p
   unfolding changes

@@ -1,4 +1,5 @@
--- The sum of a number and a finite value is a number: it is a rounded fraction, or the infinity that was added to. Assumes nothing.
+-- The sum of a number and a finite value is a number: it is a rounded fraction, or the infinity that was added to.
+-- Assumes nothing.
 use Prim.Native.Nat.{ℕ, zero, suc, ◌+◌, ◌-◌, ◌*◌, ◌^◌}
 use mathlib.Core.Bool.{Bool, true, false, ◌&&◌, beq, cond}
 use lib.Dec.{T, ltb}
@@ -18,7 +19,9 @@ odd_number d s (suc q) k l = tt
 
 units_number : (f : Format) (s : Bool) (q k : ℕ) → T (number (units f s q k))
 unfolding units
-units_number f s q k = cond-number (ltb (q * 2 ^ k) (2 ^ (low f + suc (emax f)))) (odd (suc (prec f)) s q k (low f)) (inf s) (odd_number (suc (prec f)) s q k (low f)) tt
+units_number f s q k =
+    cond-number (ltb (q * 2 ^ k) (2 ^ (low f + suc (emax f)))) (odd (suc (prec f)) s q k (low f)) (inf s)
+    (odd_number (suc (prec f)) s q k (low f)) tt
 
 round_number : (f : Format) (s : Bool) (a c : ℕ) → T (number (round f s a c))
 round_number f s a c = rw (round_is f s a c) (units_number f s _ _)
@@ -26,8 +29,10 @@ round_number f s a c = rw (round_is f s a c) (units_number f s _ _)
 fractions : (f : Format) (s : Bool) (a : ℕ) (t : Bool) (b c : ℕ) → T (number (sum f s a t b c))
 unfolding sum
 fractions f s a t b c =
-    cond-number (beq s t) (round f s (a + b) c) (cond (ltb a b) (round f t (b - a) c) (round f (s && ltb b a) (a - b) c)) (round_number f s (a + b) c)
-    (cond-number (ltb a b) (round f t (b - a) c) (round f (s && ltb b a) (a - b) c) (round_number f t (b - a) c) (round_number f (s && ltb b a) (a - b) c))
+    cond-number (beq s t) (round f s (a + b) c) (cond (ltb a b) (round f t (b - a) c)
+    (round f (s && ltb b a) (a - b) c)) (round_number f s (a + b) c)
+    (cond-number (ltb a b) (round f t (b - a) c) (round f (s && ltb b a) (a - b) c) (round_number f t (b - a) c)
+    (round_number f (s && ltb b a) (a - b) c))
 
 pub sum_number : (f : Format) (x y : Float) → T (number x) → T (finite y) → T (number (add f x y))
 unfolding add

@@ -1,4 +1,5 @@
--- The definition is what is asked for (`Tried`), nothing else is (`Only`), and it starts from a permitted pattern (`Starts`). Assumes nothing.
+-- The definition is what is asked for (`Tried`), nothing else is (`Only`), and it starts from a permitted pattern
+-- (`Starts`). Assumes nothing.
 use Rattle.nearest.specs.Theorem.{NearestTheorem}
 use Rattle.nearest.specs.Nearest.{nearest_from}
 use Rattle.nearest.proofs.Tried.{nearest-is}
@@ -8,6 +9,11 @@ use Rattle.nearest.proofs.Starts.{start_below}
 pub nearest_theorem : NearestTheorem
 nearest_theorem =
     record {
-      asked = λ arm end first p h. record { is = nearest-is arm end first p h; only = λ r x. only_one arm end first p h r (nearest_from arm end first p) x (nearest-is arm end first p h) };
+      asked =
+          λ arm end first p h. record {
+            is = nearest-is arm end first p h;
+            only =
+                λ r x. only_one arm end first p h r (nearest_from arm end first p) x (nearest-is arm end first p h);
+          };
       starts = start_below;
     }

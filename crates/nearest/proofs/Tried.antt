@@ -1,5 +1,5 @@
--- What is found by trying one count after the other is the least count, in the direction that is tried first where both do; and where none is found, every pattern has the arm of p. Assumes
--- nothing.
+-- What is found by trying one count after the other is the least count, in the direction that is tried first where both
+-- do; and where none is found, every pattern has the arm of p. Assumes nothing.
 use mathlib.Core.Path.{◌≡◌, refl, sym, ap, ◌∙◌, subst}
 use mathlib.Core.Logic.{◌⊎◌, inl, inr}
 use Prim.Native.Nat.{ℕ, zero, suc, ◌+◌, ◌-◌, ◌≤◌, ◌<◌}
@@ -40,7 +40,8 @@ module _ (arm : ℕ → ℕ) (end : ℕ) (first : Way) (p : ℕ) (inside : p < e
     | inr apart ↦ elim (cases_lt q p) [
       | inl l ↦
           let back : p - (p - q) ≡ q = omega arith in
-          absurd (never down (p - q) (down-changes arm end p (p - q) (omega arith) (λ e. apart (sym (ap arm back) ∙ e))))
+          absurd (never down (p - q) (down-changes arm end p (p - q) (omega arith)
+          (λ e. apart (sym (ap arm back) ∙ e))))
       | inr l ↦
           let back : p + (q - p) ≡ q = omega arith in
           absurd (never up (q - p) (up-changes arm end p (q - p) (rw back h) (λ e. apart (sym (ap arm back) ∙ e))))
@@ -48,7 +49,8 @@ module _ (arm : ℕ → ℕ) (end : ℕ) (first : Way) (p : ℕ) (inside : p < e
   ]
 
   -- ---- found: at the first count that changes the arm
-  further : (n : ℕ) → Above n → changes arm end p first n ≡ false → changes arm end p (other first) n ≡ false → Above (n + 1)
+  further : (n : ℕ) → Above n → changes arm end p first n ≡ false → changes arm end p (other first) n ≡ false →
+      Above (n + 1)
   further n h a b e m t = elim (cases_lt n m) [
     | inl l ↦ omega arith
     | inr l ↦
@@ -67,13 +69,17 @@ module _ (arm : ℕ → ℕ) (end : ℕ) (first : Way) (p : ℕ) (inside : p < e
       never : (e : Way) (m : ℕ) → T (changes arm end p e m) → ⊥
       never e m t = let a = h e m t in let b = below_end e m t in absurd (omega arith)
   tried (suc left) n h k =
-      go (changes arm end p first n) (changes arm end p (other first) n) refl refl (λ x y. tried left (n + 1) (further n h x y) (omega arith))
+      go (changes arm end p first n) (changes arm end p (other first) n) refl refl
+      (λ x y. tried left (n + 1) (further n h x y) (omega arith))
     where
       go : (a b : Bool) → changes arm end p first n ≡ a → changes arm end p (other first) n ≡ b
-          → (changes arm end p first n ≡ false → changes arm end p (other first) n ≡ false → NearIs arm end first p (least_from arm end first p left (n + 1)))
-          → NearIs arm end first p (cond a (step n first (arm (place first p n))) (cond b (step n (other first) (arm (place (other first) p n))) (least_from arm end first p left (n + 1))))
+          → (changes arm end p first n ≡ false → changes arm end p (other first) n ≡ false →
+          NearIs arm end first p (least_from arm end first p left (n + 1)))
+          → NearIs arm end first p (cond a (step n first (arm (place first p n)))
+          (cond b (step n (other first) (arm (place (other first) p n))) (least_from arm end first p left (n + 1))))
       go true b x y on = record { changing = subst T (sym x) tt; least = h; tie = λ t. refl; there = refl }
-      go false true x y on = record { changing = subst T (sym y) tt; least = h; tie = λ t. absurd (subst T x t); there = refl }
+      go false true x y on =
+          record { changing = subst T (sym y) tt; least = h; tie = λ t. absurd (subst T x t); there = refl }
       go false false x y on = on x y
 
   some : Above 1

@@ -1,6 +1,6 @@
--- What is asked for, over values and not over their patterns: neighbouring values by the order of IEEE 754, moves from each
--- to the next, and the least number of moves to another arm. `NeighboursTheorem` says that the next pattern is that of the
--- next value, and `NearestArmTheorem` what is answered at the entry; proved as `neighbours_theorem` and
+-- What is asked for, over values and not over their patterns: neighbouring values by the order of IEEE 754, moves from
+-- each to the next, and the least number of moves to another arm. `NeighboursTheorem` says that the next pattern is
+-- that of the next value, and `NearestArmTheorem` what is answered at the entry; proved as `neighbours_theorem` and
 -- `nearest-arm_theorem` in proofs/Neighbours.antt.
 use Rattle.std.specs.Prelude.{◌≡◌, true, false, ℕ, ◌+◌, ◌≤◌, ◌<◌, T, Float}
 use Rattle.std.specs.Float.{Format}
@@ -8,9 +8,9 @@ use Rattle.std.specs.Float.Ieee.{of_bits, to_bits, fits, lt}
 use Rattle.ieee.specs.Finite.{is_finite}
 use Rattle.ieee.specs.Numbers.{f0}
 use Rattle.ieee.specs.Patterns.{patterns}
-use Rattle.ieee.specs.Signs.{plain, not_minus_zero}
+use Rattle.ieee.specs.Signs.{unsigned_zero, not_minus_zero}
 use Rattle.linalg.specs.Answer.{answers}
-use Rattle.nearest.specs.Nearest.{Way, down, up, Near, step, none, arm_of, first_told, nearest_of}
+use Rattle.nearest.specs.Nearest.{Way, down, up, Near, step, none, arm_of, preferred, nearest_of}
 
 -- the values of the format to which z may move: finite and not below zero; -0 counts as +0, so +0 stands for both
 pub record Permitted (f : Format) (x : Float) : Type 0 where
@@ -24,7 +24,8 @@ pub record Next (f : Format) (x y : Float) : Type 0 where
   pub above : T (lt x y)
   pub between : (v : Float) → T (fits f v) → T (lt x v) → T (lt v y) → ⊥
 
--- ---- the patterns below `patterns f` are those of the permitted values, and the next pattern is that of the next value
+-- ---- the patterns below `patterns f` are those of the permitted values, and the next pattern is that of the next
+-- value
 pub record NeighboursTheorem (f : Format) : Type 0 where
   pub permitted : (p : ℕ) → p < patterns f → Permitted f (of_bits f p)
   pub all : (x : Float) → Permitted f x → (to_bits f x < patterns f) × (of_bits f (to_bits f x) ≡ x)
@@ -50,8 +51,8 @@ pub record Moves (f : Format) (d : Way) (n : ℕ) (x y : Float) : Type 0 where
 abbrev pub Changed : Format → Float → Float → Float → Type 0
 Changed f sigma z y = arm_of f sigma y ≡ arm_of f sigma z → ⊥
 
--- n moves in the direction d lead to another arm, and that is a; no fewer moves do, in either direction; and where n moves
--- in the direction `first` do as well, d is `first`
+-- n moves in the direction d lead to another arm, and that is a; no fewer moves do, in either direction; and where n
+-- moves in the direction `first` do as well, d is `first`
 pub record LeastMoves (f : Format) (first : Way) (sigma z : Float) (n : ℕ) (d : Way) (a : ℕ) : Type 0 where
   pub there : Float
   pub moves : Moves f d n z there
@@ -68,9 +69,9 @@ IsNearest f first sigma z none = (x y : Float) → Permitted f x → Permitted f
 -- what the entry answers is what is asked for, and nothing else is; so "none" is answered exactly where it is asked for
 pub record NearestAnswered (f : Format) (sigma z : Float) : Type 0 where
   pub near : Near
-  pub answered : nearest_of f first_told sigma z ≡ answers near
-  pub is : IsNearest f first_told sigma (plain z) near
-  pub only : (r : Near) → IsNearest f first_told sigma (plain z) r → r ≡ near
+  pub answered : nearest_of f preferred sigma z ≡ answers near
+  pub is : IsNearest f preferred sigma (unsigned_zero z) near
+  pub only : (r : Near) → IsNearest f preferred sigma (unsigned_zero z) r → r ≡ near
 
 -- of every finite σ and every finite z of the format that is not below zero
 abbrev pub NearestArmTheorem : Format → Type 0

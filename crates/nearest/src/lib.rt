@@ -1,6 +1,7 @@
-// How near another arm of the coefficients is: the fewest neighbouring values that z must move, down
-// or up, for the arm at (sigma, z) to change. Neighbouring values have neighbouring bit patterns, and
-// the arm does not fall as z grows; so the two ends of z's arm are found by halving the patterns.
+// How near another arm of the coefficients is: the fewest neighbouring values that z must move, down or up, for the arm
+// at (sigma, z) to change. Proved: the answer is the least such number, and there is no other (NearestTheorem).
+// Neighbouring values have neighbouring bit patterns, and the arm does not fall as z grows; so the two ends of z's arm
+// are found by halving the patterns. Rests on arms.
 #![tactic(auto)]
 
 ghost use Rattle.std.specs.Prelude.{◌≡◌, true, false, ◌&&◌, ◌<◌, ◌≤◌};
@@ -8,14 +9,15 @@ ghost use Rattle.std.specs.Float.Ieee.{to_bits, lt};
 ghost use Rattle.ieee.specs.Finite.{is_finite};
 ghost use Rattle.ieee.specs.Numbers.{f0};
 ghost use Rattle.ieee.specs.Patterns.{patterns};
-ghost use Rattle.ieee.specs.Signs.{plain};
-ghost use Rattle.linalg.specs.Answer.{told};
-ghost use Rattle.closed.specs.Arm.{arm_number};
-ghost use Rattle.nearest.specs.Nearest.{step, permitted, place, way_told, step_told, near_told, nearest_from, first_told, arm_at, nearest_of};
+ghost use Rattle.ieee.specs.Signs.{unsigned_zero};
+ghost use Rattle.linalg.specs.Answer.{view};
+ghost use Rattle.arms.specs.Arm.{arm_number};
+ghost use Rattle.nearest.specs.Nearest.{step, permitted, place, way_view, step_view, near_view, nearest_from};
+ghost use Rattle.nearest.specs.Nearest.{preferred, arm_at, nearest_of};
 ghost use Rattle.nearest.specs.Private.{Parts};
 
 use crate::width::Neighbours;
-use closed::limits::Arm;
+use arms::limits::Arm;
 use linalg::refusal::Refusal;
 
 pub mod width; // what the width of the numbers decides
@@ -37,7 +39,7 @@ pub struct Step {
 // The pattern of a finite z from zero up. -0 counts as +0: z + 0 is z without the sign of a zero.
 fn start<T: Neighbours>(z: T) -> u64
     requires { (lt (T.float z) f0 ≡ false) × (is_finite (T.float z) ≡ true) }
-    ensures { (result ≡ to_bits T.format (plain (T.float z))) × (result < patterns T.format) }
+    ensures { (result ≡ to_bits T.format (unsigned_zero (T.float z))) × (result < patterns T.format) }
 {
     (z + T::of(0.0)).place()
 }
@@ -69,11 +71,11 @@ fn edge<T: Neighbours>(sigma: T, a: u8) -> u64
 }
 
 // `count` steps from the pattern p in a direction, and the arm there.
-#[tactic(auto, unfolding(crate::specs::Nearest::step_told))]
+#[tactic(auto, unfolding(crate::specs::Nearest::step_view))]
 fn moved<T: Neighbours>(sigma: T, p: u64, direction: Direction, count: u64) -> Step
-    requires { (p < patterns T.format) × (permitted (patterns T.format) (way_told direction) p count ≡ true) }
-    ensures { step_told result
-        ≡ step count (way_told direction) (arm_at T.format (T.float sigma) (place (way_told direction) p count)) }
+    requires { (p < patterns T.format) × (permitted (patterns T.format) (way_view direction) p count ≡ true) }
+    ensures { step_view result
+        ≡ step count (way_view direction) (arm_at T.format (T.float sigma) (place (way_view direction) p count)) }
 {
     match direction {
         Direction::Down => Step {
@@ -92,7 +94,8 @@ fn moved<T: Neighbours>(sigma: T, p: u64, direction: Direction, count: u64) -> S
 // The nearest other arm from the pattern p, whose arm has the patterns from `low` up to `high`.
 fn nearest_from<T: Neighbours>(sigma: T, p: u64) -> Option<Step>
     requires { p < patterns T.format }
-    ensures { near_told step_told result ≡ nearest_from (arm_at T.format (T.float sigma)) (patterns T.format) first_told p }
+    ensures { near_view step_view result ≡ nearest_from (arm_at T.format (T.float sigma))
+        (patterns T.format) preferred p }
 {
     let a = arm_at(sigma, p).number();
     let low = edge(sigma, a - 1);
@@ -127,7 +130,7 @@ fn both_finite<T: Neighbours>(x: T, y: T) -> bool
 // need the same count, up is given. None where every permitted z has the same arm. Refusal 1 for z < 0,
 // then 8 where sigma or z is a NaN or an infinity.
 pub fn nearest_arm<T: Neighbours>(sigma: T, z: T) -> Result<Option<Step>, Refusal>
-    ensures { told (near_told step_told) result ≡ nearest_of T.format first_told (T.float sigma) (T.float z) }
+    ensures { view (near_view step_view) result ≡ nearest_of T.format preferred (T.float sigma) (T.float z) }
 {
     if z.is_below(T::of(0.0)) {
         return Err(Refusal::NegativeAngle);

@@ -4,7 +4,7 @@ ghost use Rattle.std.specs.Prelude.{◌≡◌, ◌<◌};
 ghost use Rattle.std.specs.Float.Ieee.{of_bits, to_bits};
 ghost use Rattle.ieee.specs.Patterns.{patterns};
 
-use closed::limits::Arms;
+use arms::limits::Arms;
 use ieee::Real;
 
 // Numbers whose neighbours are counted: their patterns as whole numbers of one width.

@@ -12,7 +12,8 @@ use Rattle.sim3.specs.Pose.{pose, pose_identity, pose_act}
 use Rattle.sim3.specs.Floats.{Sim3}
 use Rattle.point_lists.specs.Points.{mat_act, pose_act_many}
 
--- 1: q = (0.8, 0.6, 0, 0), no translation, up = 1, p = (1, 2, 3): the action's third number, and that of the list by the matrix
+-- 1: q = (0.8, 0.6, 0, 0), no translation, up = 1, p = (1, 2, 3): the action's third number, and that of the list by
+-- the matrix
 abbrev tilted : Sim3
 tilted = pose (quat (of_bits binary64 0x3fe999999999999a) (of_bits binary64 0x3fe3333333333333) f0 f0) (vec f0 f0 f0) f0
 

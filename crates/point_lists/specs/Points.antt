@@ -1,5 +1,6 @@
 -- Lists of points, three numbers each, and the two actions on them.
-use Rattle.std.specs.Prelude.{ℕ, zero, suc, ◌+◌, ◌*◌, ◌/◌, ◌%◌, Bool, cond, ◌&&◌, List, [], ◌++◌, eqb, leb, get_or, length, Float}
+use Rattle.std.specs.Prelude.{ℕ, zero, suc, ◌+◌, ◌*◌, ◌/◌, ◌%◌, Bool, cond, ◌&&◌, List, [], ◌++◌, eqb, leb, get_or}
+use Rattle.std.specs.Prelude.{length, Float}
 use Rattle.std.specs.Float.{nan, Format}
 use Rattle.linalg.specs.Answer.{Answer, answers, refuses}
 use Rattle.linalg.specs.Vector.{vec, vec_numbers, vec_add}
@@ -30,7 +31,8 @@ points_answer l out = cond (points_accepted (length l) (length out)) (answers tt
 unfoldable pub points_out : (Vec3 → Vec3) → List Float → List Float → List Float
 points_out g l out = cond (points_accepted (length l) (length out)) (points_moved g l (length l / 3)) out
 
--- ---- the two actions on a point: by the matrix s R formed once, as the Rust's `act_many`, and by `pose_act`, as the mark AC
+-- ---- the two actions on a point: by the matrix s R formed once, as the Rust's `act_many`, and by `pose_act`, as the
+-- mark AC
 unfoldable pub mat_act : Format → Mat3 → Vec3 → Vec3 → Vec3
 mat_act f m t p = vec_add f (mat_mul_vec f m p) t
 

@@ -14,12 +14,13 @@ abbrev pub Moves : {T : Type 0} → (T → Float) → (CodeVec3.Vec3 T → CodeV
 Moves {T} h post g = (p q : CodeVec3.Vec3 T) → post p q → as_vec3 h q ≡ g (as_vec3 h p)
 
 -- a matrix with its last two columns turned round
-unfoldable pub mat_turned : Mat3 → Mat3
-mat_turned m = mat m.c0 (vec_neg m.c1) (vec_neg m.c2)
+unfoldable pub mat_columns_negated : Mat3 → Mat3
+mat_columns_negated m = mat m.c0 (vec_neg m.c1) (vec_neg m.c2)
 
 -- two triples in their places, and the first four of a list, each moved by g, from a place on
 unfoldable pub put_two : List Float → ℕ → Vec3 → Vec3 → List Float
 put_two l at a b = put_point (put_point l at a) (at + 3) b
 
 unfoldable pub put_four : (Vec3 → Vec3) → List Float → List Float → ℕ → List Float
-put_four g l out at = put_two (put_two out at (g (point_at l 0)) (g (point_at l 1))) (at + 6) (g (point_at l 2)) (g (point_at l 3))
+put_four g l out at =
+    put_two (put_two out at (g (point_at l 0)) (g (point_at l 1))) (at + 6) (g (point_at l 2)) (g (point_at l 3))

@@ -1,12 +1,14 @@
-// The action of a pose on a list of points, three numbers each, into another list. Two entries:
-// act_many has the bits of the Rust's act_many, which forms the matrix s R once; act_each moves each
-// point as Sim3::act and the mark AC do. The two differ in the last bits.
+// The action of a pose on a list of points, three numbers each, into another list. Two entries: act_many has the bits
+// of the Rust's act_many, which forms the matrix s R once; act_each moves each point as Sim3::act and the mark AC do.
+// The two differ in the last bits. Proved: every number of the list is that of its point's definition, and a refused
+// call writes none (specs/Points). Rests on sim3.
 #![tactic(auto)]
 
 ghost use Rattle.std.specs.Prelude.{◌≡◌, ◌+◌, ◌*◌, ◌/◌, ◌≤◌, ◌++◌, length, drop};
 ghost use Rattle.linalg.specs.Answer.{answer};
 ghost use Rattle.linalg.specs.Floats.{Vec3 as Point, as_vec3, as_mat3};
-ghost use Rattle.point_lists.specs.Points.{point_at, points_moved, points_accepted, points_answer, points_out, mat_act, pose_act_many, pose_act_each};
+ghost use Rattle.point_lists.specs.Points.{point_at, points_moved, points_accepted, points_answer, points_out, mat_act};
+ghost use Rattle.point_lists.specs.Points.{pose_act_many, pose_act_each};
 ghost use Rattle.sim3.specs.Floats.{as_sim3};
 ghost use Rattle.point_lists.specs.Private.{put_point, Moves};
 
@@ -67,7 +69,9 @@ pub(crate) fn mat_act<T: Real>(m: Mat3<T>, t: Vec3<T>, p: Vec3<T>) -> Vec3<T>
 pub(crate) fn each<T: Real, F: Fn(Vec3<T>) -> Vec3<T>>(f: &F, pts: &[T], out: &mut [T])
     requires callable { F.IsAlwaysCallable f.now }
     requires room { length pts.now ≤ length out.old }
-    ensures moved { (g : Point → Point) → Moves T.float (F.post f.now) g → T.floats out.new ≡ points_moved g (T.floats pts.now) (length pts.now / 3) ++ drop (length pts.now / 3 * 3) (T.floats out.old) }
+    ensures moved { (g : Point → Point) → Moves T.float (F.post f.now) g →
+        T.floats out.new ≡ points_moved g (T.floats pts.now) (length pts.now / 3)
+        ++ drop (length pts.now / 3 * 3) (T.floats out.old) }
 {
     let (triples, _) = pts.as_chunks::<3>();
     for (i, p) in triples.iter().enumerate() {
@@ -87,7 +91,8 @@ fn accepted(n: usize, k: usize) -> bool
 #[tactic(auto, unfolding(crate::specs::Points::points_answer, crate::specs::Points::points_out))]
 pub fn act_many<T: PointWidth>(x: Sim3<T>, up: T, pts: &[T], out: &mut [T]) -> Result<(), Refusal>
     ensures result_value { answer result ≡ points_answer (T.floats pts.now) (T.floats out.old) }
-    ensures out_after { T.floats out.new ≡ points_out (pose_act_many T.format (as_sim3 T.float x) (T.float up)) (T.floats pts.now) (T.floats out.old) }
+    ensures out_after { T.floats out.new ≡ points_out (pose_act_many T.format (as_sim3 T.float x) (T.float up))
+        (T.floats pts.now) (T.floats out.old) }
 {
     if !accepted(pts.len(), out.len()) {
         return Err(Refusal::BadLength);
@@ -101,7 +106,8 @@ pub fn act_many<T: PointWidth>(x: Sim3<T>, up: T, pts: &[T], out: &mut [T]) -> R
 #[tactic(auto, unfolding(crate::specs::Points::points_answer, crate::specs::Points::points_out))]
 pub fn act_each<T: Real>(x: Sim3<T>, up: T, pts: &[T], out: &mut [T]) -> Result<(), Refusal>
     ensures result_value { answer result ≡ points_answer (T.floats pts.now) (T.floats out.old) }
-    ensures out_after { T.floats out.new ≡ points_out (pose_act_each T.format (as_sim3 T.float x) (T.float up)) (T.floats pts.now) (T.floats out.old) }
+    ensures out_after { T.floats out.new ≡ points_out (pose_act_each T.format (as_sim3 T.float x) (T.float up))
+        (T.floats pts.now) (T.floats out.old) }
 {
     if !accepted(pts.len(), out.len()) {
         return Err(Refusal::BadLength);

@@ -2,7 +2,7 @@
 ghost use Rattle.std.specs.Prelude.{◌≡◌, ◌+◌, ◌*◌, ◌/◌, ◌%◌, ◌≤◌, ◌++◌, length, drop};
 ghost use Rattle.linalg.specs.Floats.{as_vec3, as_mat3};
 ghost use Rattle.point_lists.specs.Points.{points_moved, mat_act};
-ghost use Rattle.point_lists.specs.Private.{mat_turned, put_two, put_four};
+ghost use Rattle.point_lists.specs.Private.{mat_columns_negated, put_two, put_four};
 
 use crate::{PointWidth, each, mat_act, point_at, put_point};
 use ieee::Real;
@@ -13,7 +13,9 @@ use linalg::vector::Vec3;
 fn last<T: Real>(m: Mat3<T>, t: Vec3<T>, pts: &[T], out: &mut [T], e: usize)
     requires lengths { (length pts.now % 3 ≡ 0) × (length out.old ≡ length pts.now) }
     requires count { (e ≤ length pts.now / 3) × (length pts.now / 3 ≤ e + 1) }
-    ensures { points_moved (mat_act T.format (as_mat3 T.float m) (as_vec3 T.float t)) (T.floats pts.now) e ++ drop (e * 3) (T.floats out.new) ≡ points_moved (mat_act T.format (as_mat3 T.float m) (as_vec3 T.float t)) (T.floats pts.now) (length pts.now / 3) }
+    ensures { points_moved (mat_act T.format (as_mat3 T.float m) (as_vec3 T.float t)) (T.floats pts.now) e
+        ++ drop (e * 3) (T.floats out.new) ≡ points_moved (mat_act T.format (as_mat3 T.float m) (as_vec3 T.float t))
+        (T.floats pts.now) (length pts.now / 3) }
 {
     let n = pts.len() / 3;
     if e == n {
@@ -27,7 +29,8 @@ fn last<T: Real>(m: Mat3<T>, t: Vec3<T>, pts: &[T], out: &mut [T], e: usize)
 // registers.
 fn short<T: Real>(m: Mat3<T>, t: Vec3<T>, pts: &[T], out: &mut [T])
     requires { (length pts.now % 3 ≡ 0) × (length out.old ≡ length pts.now) }
-    ensures { T.floats out.new ≡ points_moved (mat_act T.format (as_mat3 T.float m) (as_vec3 T.float t)) (T.floats pts.now) (length pts.now / 3) }
+    ensures { T.floats out.new ≡ points_moved (mat_act T.format (as_mat3 T.float m) (as_vec3 T.float t))
+        (T.floats pts.now) (length pts.now / 3) }
 {
     let n = pts.len() / 3;
     let e = n - n % 2;
@@ -38,9 +41,9 @@ fn short<T: Real>(m: Mat3<T>, t: Vec3<T>, pts: &[T], out: &mut [T])
 // ---- long lists: four points a turn.
 
 // m with its last two columns turned round.
-#[tactic(auto, unfolding(crate::specs::Private::mat_turned))]
-fn turned<T: Real>(m: Mat3<T>) -> Mat3<T>
-    ensures { as_mat3 T.float result ≡ mat_turned (as_mat3 T.float m) }
+#[tactic(auto, unfolding(crate::specs::Private::mat_columns_negated))]
+fn columns_negated<T: Real>(m: Mat3<T>) -> Mat3<T>
+    ensures { as_mat3 T.float result ≡ mat_columns_negated (as_mat3 T.float m) }
 {
     Mat3 {
         c0: m.c0,
@@ -53,7 +56,8 @@ fn turned<T: Real>(m: Mat3<T>) -> Mat3<T>
 // places, so the compiler puts x of four numbers of the output together, y and z, and stores them as
 // they are.
 fn less_act<T: Real>(m: Mat3<T>, t: Vec3<T>, p: Vec3<T>) -> Vec3<T>
-    ensures { as_vec3 T.float result ≡ mat_act T.format (mat_turned (as_mat3 T.float m)) (as_vec3 T.float t) (as_vec3 T.float p) }
+    ensures { as_vec3 T.float result ≡ mat_act T.format (mat_columns_negated (as_mat3 T.float m)) (as_vec3 T.float t)
+        (as_vec3 T.float p) }
 {
     let a = m.c0;
     let b = m.c1;
@@ -77,7 +81,8 @@ fn put_two<T: Real>(out: &mut [T], at: usize, a: Vec3<T>, b: Vec3<T>)
 
 fn put_four<T: Real>(out: &mut [T], at: usize, a: Vec3<T>, b: Vec3<T>, c: Vec3<T>, d: Vec3<T>)
     requires { at + 12 ≤ length out.old }
-    ensures { T.floats out.new ≡ put_two (put_two (T.floats out.old) at (as_vec3 T.float a) (as_vec3 T.float b)) (at + 6) (as_vec3 T.float c) (as_vec3 T.float d) }
+    ensures { T.floats out.new ≡ put_two (put_two (T.floats out.old) at (as_vec3 T.float a) (as_vec3 T.float b))
+        (at + 6) (as_vec3 T.float c) (as_vec3 T.float d) }
 {
     put_two(out, at, a, b);
     put_two(out, at + 6, c, d);
@@ -87,7 +92,9 @@ fn put_four<T: Real>(out: &mut [T], at: usize, a: Vec3<T>, b: Vec3<T>, c: Vec3<T
 #[tactic(auto, unfolding(crate::specs::Private::put_four))]
 fn four<T: Real>(m: Mat3<T>, t: Vec3<T>, p: &[T; 12], out: &mut [T], at: usize)
     requires { at + 12 ≤ length out.old }
-    ensures { T.floats out.new ≡ put_four (mat_act T.format (mat_turned (as_mat3 T.float m)) (as_vec3 T.float t)) (T.floats p.now) (T.floats out.old) at }
+    ensures { T.floats out.new
+        ≡ put_four (mat_act T.format (mat_columns_negated (as_mat3 T.float m)) (as_vec3 T.float t)) (T.floats p.now)
+        (T.floats out.old) at }
 {
     let a = less_act(m, t, point_at(p, 0));
     let b = less_act(m, t, point_at(p, 1));
@@ -100,7 +107,9 @@ fn four<T: Real>(m: Mat3<T>, t: Vec3<T>, p: &[T; 12], out: &mut [T], at: usize)
 // itself and reads the matrix from memory: what it is made from does not change the loop then.
 fn fours<T: Real>(m: Mat3<T>, t: Vec3<T>, pts: &[T], out: &mut [T])
     requires { (length pts.now % 12 ≡ 0) × (length pts.now ≤ length out.old) }
-    ensures { T.floats out.new ≡ points_moved (mat_act T.format (mat_turned (as_mat3 T.float m)) (as_vec3 T.float t)) (T.floats pts.now) (length pts.now / 3) ++ drop (length pts.now) (T.floats out.old) }
+    ensures { T.floats out.new
+        ≡ points_moved (mat_act T.format (mat_columns_negated (as_mat3 T.float m)) (as_vec3 T.float t))
+        (T.floats pts.now) (length pts.now / 3) ++ drop (length pts.now) (T.floats out.old) }
 {
     let (chunks, _) = pts.as_chunks::<12>();
     for (i, p) in chunks.iter().enumerate() {
@@ -112,9 +121,10 @@ fn fours<T: Real>(m: Mat3<T>, t: Vec3<T>, pts: &[T], out: &mut [T])
 fn long<T: Real>(m: Mat3<T>, t: Vec3<T>, pts: &[T], out: &mut [T])
     requires lens { (length pts.now % 3 ≡ 0) × (length out.old ≡ length pts.now) }
     requires twelve { 12 ≤ length pts.now }
-    ensures { T.floats out.new ≡ points_moved (mat_act T.format (as_mat3 T.float m) (as_vec3 T.float t)) (T.floats pts.now) (length pts.now / 3) }
+    ensures { T.floats out.new ≡ points_moved (mat_act T.format (as_mat3 T.float m) (as_vec3 T.float t))
+        (T.floats pts.now) (length pts.now / 3) }
 {
-    let k = turned(m);
+    let k = columns_negated(m);
     let n = pts.len();
     let e = n - n % 12;
     if e == n {
@@ -129,7 +139,8 @@ fn long<T: Real>(m: Mat3<T>, t: Vec3<T>, pts: &[T], out: &mut [T])
 // By fours from 64 points on, where the loop of fours is worth its two calls.
 pub(crate) fn many<T: PointWidth>(m: Mat3<T>, t: Vec3<T>, pts: &[T], out: &mut [T])
     requires { (length pts.now % 3 ≡ 0) × (length out.old ≡ length pts.now) }
-    ensures { T.floats out.new ≡ points_moved (mat_act T.format (as_mat3 T.float m) (as_vec3 T.float t)) (T.floats pts.now) (length pts.now / 3) }
+    ensures { T.floats out.new ≡ points_moved (mat_act T.format (as_mat3 T.float m) (as_vec3 T.float t))
+        (T.floats pts.now) (length pts.now / 3) }
 {
     if T::BY_FOURS && 64 * 3 <= pts.len() {
         long(m, t, pts, out);

@@ -17,21 +17,28 @@ arm-length : (f : Format) (a : Armed) → length (items_bytes f (arm_items a)) �
 unfolding arm_items items_bytes item_bytes word_bytes
 arm-length f a = refl
 
-abbrev told : Format → ArmedPair → List ℕ
-told f p = numbers_bytes f (scaled_pair_numbers (armed_scaled p))
+abbrev view : Format → ArmedPair → List ℕ
+view f p = numbers_bytes f (scaled_pair_numbers (armed_scaled p))
 
-told-length : (f : Format) (p : ArmedPair) → length (told f p) ≡ 20 * width f
-told-length f p = rw (numbers-length f (scaled_pair_numbers (armed_scaled p)), scaled-pair-count (armed_scaled p)) refl
+view-length : (f : Format) (p : ArmedPair) → length (view f p) ≡ 20 * width f
+view-length f p = rw (numbers-length f (scaled_pair_numbers (armed_scaled p)), scaled-pair-count (armed_scaled p)) refl
 
-armed-bytes : (f : Format) (p : ArmedPair) → items_bytes f (armed_items p) ≡ items_bytes f (arm_items p.pos) ++ (items_bytes f (arm_items p.neg) ++ told f p)
+armed-bytes : (f : Format) (p : ArmedPair) → items_bytes f (armed_items p)
+    ≡ items_bytes f (arm_items p.pos) ++ (items_bytes f (arm_items p.neg) ++ view f p)
 unfolding armed_items
 armed-bytes f p =
     let l = numbers (scaled_pair_numbers (armed_scaled p)) in
     items_append f (arm_items p.pos) (arm_items p.neg ++ l)
     ∙ ap (λ (x : List ℕ). items_bytes f (arm_items p.pos) ++ x)
-    (items_append f (arm_items p.neg) l ∙ ap (λ (x : List ℕ). items_bytes f (arm_items p.neg) ++ x) (items_numbers f (scaled_pair_numbers (armed_scaled p))))
+    (items_append f (arm_items p.neg) l ∙ ap (λ (x : List ℕ). items_bytes f (arm_items p.neg) ++ x)
+    (items_numbers f (scaled_pair_numbers (armed_scaled p))))
 
 pub armed-length : (f : Format) (p : ArmedPair) → length (items_bytes f (armed_items p)) ≡ 4 + 20 * width f
 armed-length f p =
-    rw (armed-bytes f p, length-append (items_bytes f (arm_items p.pos)) (items_bytes f (arm_items p.neg) ++ told f p), length-append (items_bytes f (arm_items p.neg)) (told f p))
-    (rw (arm-length f p.pos, arm-length f p.neg, told-length f p) (omega arith))
+    rw (
+      armed-bytes f p,
+      length-append (items_bytes f (arm_items p.pos))
+          (items_bytes f (arm_items p.neg) ++ view f p),
+      length-append (items_bytes f (arm_items p.neg)) (view f p),
+    )
+    (rw (arm-length f p.pos, arm-length f p.neg, view-length f p) (omega arith))

@@ -20,7 +20,8 @@ frame_length : (f : Format) (n : ℕ) → length (frame f n) ≡ 2
 unfolding item_bytes
 frame_length f n = word-length 2 n
 
-two_frames : (f : Format) (m n : ℕ) → items_bytes f (word frame_width m ∷ word frame_width n ∷ []) ≡ frame f m ++ frame f n
+two_frames : (f : Format) (m n : ℕ) → items_bytes f (word frame_width m ∷ word frame_width n ∷ [])
+    ≡ frame f m ++ frame f n
 unfolding items_bytes item_bytes word_bytes
 two_frames f m n = refl
 
@@ -33,11 +34,17 @@ posed_length f x = rw (numbers-length f (pose_numbers x.sim3), pose-count x.sim3
 framed-bytes : (f : Format) (x : Pose) → items_bytes f (framed_items x) ≡ posed f x ++ (frame f x.from ++ frame f x.to)
 unfolding framed_items
 framed-bytes f x =
-    items_append f (numbers (pose_numbers x.sim3)) _ ∙ rw (items_numbers f (pose_numbers x.sim3), two_frames f x.from x.to) refl
+    items_append f (numbers (pose_numbers x.sim3)) _
+    ∙ rw (items_numbers f (pose_numbers x.sim3), two_frames f x.from x.to) refl
 
 pub framed-length : (f : Format) (x : Pose) → length (items_bytes f (framed_items x)) ≡ framed_width f
 framed-length f x =
-    rw (framed-bytes f x, length-append (posed f x) (frame f x.from ++ frame f x.to), length-append (frame f x.from) (frame f x.to))
+    rw (
+      framed-bytes f x,
+      length-append (posed f x) (frame f x.from ++ frame f x.to),
+      length-append (frame f x.from)
+          (frame f x.to),
+    )
     (rw (posed_length f x, frame_length f x.from, frame_length f x.to) refl)
 
 -- the frames are finite by nature

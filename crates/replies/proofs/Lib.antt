@@ -1,9 +1,10 @@
 -- The laws of replies, and of calls on lists as answers.
+pub mod Unfolds
 pub mod Arms
 pub mod Calls
 pub mod Frames
 pub mod Replies
-pub mod Told
+pub mod Views
 mod ArAsCo
 mod ArAsPa
 mod Examples

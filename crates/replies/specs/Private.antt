@@ -4,8 +4,8 @@ use Rattle.linalg.specs.Answer.{Answer, answers, refuses}
 use Rattle.wire.specs.Wire.{Item, word, numbers}
 
 -- what a status and the items of the lists that were written say
-abbrev pub told_as : ℕ → List Item → Answer (List Item)
-told_as n l = cond (eqb n 0) (answers l) (refuses (n % 256))
+abbrev pub status_view : ℕ → List Item → Answer (List Item)
+status_view n l = cond (eqb n 0) (answers l) (refuses (n % 256))
 
 -- whole numbers of k bytes
 unfoldable pub words : ℕ → List ℕ → List Item

@@ -1,21 +1,24 @@
-// The entries of the engine behind the marks, on doubles and on singles: how many bytes a record has behind its mark,
-// and what it is answered.
+// The operations of the engine behind the marks, on doubles and on singles: how many bytes a record has behind its
+// mark, and what it is answered. Each reads numbers to lists, calls the function that C callers have, and encodes what
+// that wrote. Proved: the reply to every record is the one of the table (specs/Table), and AR says what CO and PA do
+// (ArAsCo, ArAsPa). Rests on sim3_c_entries, wire and record_result.
 #![tactic(auto)]
 
 ghost use Rattle.std.specs.Prelude.{◌≡◌, ◌+◌, ◌≤◌, length};
 ghost use Rattle.std.proofs.lemmas.List.Edits.{sets};
 ghost use Rattle.linalg.specs.Answer.{answer};
-ghost use Rattle.outcome.specs.Outcome.{longest, became_of, written_of, step_told, gave_of, gave_bytes};
-ghost use Rattle.replies.specs.Table.{framed_width, width_of, answer_of, entry_found};
+ghost use Rattle.record_result.specs.RecordResult.{longest, record_result, written_of, step_view, written_answer};
+ghost use Rattle.record_result.specs.RecordResult.{answer_bytes};
+ghost use Rattle.replies.specs.Table.{framed_width, width_of, answer_of, operation_head};
 
-use crate::entries::{ac, ar, co, ex, inv, ji, mu, pa};
+use crate::operations::{ac, ar, co, ex, inv, ji, mu, pa};
 use coeffs::width::Width;
 use layout::{BLOCK, MAT, POSE, TANGENT, VALUES, VEC};
 use linalg::refusal::Refusal;
-use outcome::{Entry, Kind, LONGEST, Step, Wrote};
+use record_result::{Disposition, LONGEST, Operation, Step, Wrote};
 use wire::Number;
 
-mod entries; // what each entry answers
+mod operations; // what each entry answers
 
 // How many bytes both frames of a pose have.
 const FRAMES: usize = 2 * 2;
@@ -28,47 +31,47 @@ fn framed<T: Number>() -> usize
 }
 
 // How many bytes a record has behind its mark.
-fn width<T: Number>(e: Entry) -> usize
+fn width<T: Number>(e: Operation) -> usize
     ensures { result ≡ width_of T.format e }
 {
     match e {
-        Entry::Ex => T::BYTES * (TANGENT + VALUES) + FRAMES,
-        Entry::Co => T::BYTES * (2 + VALUES),
-        Entry::Pa => T::BYTES * (TANGENT + VALUES + 2 * MAT),
-        Entry::Ac => framed::<T>() + T::BYTES * (1 + VEC),
-        Entry::Mu => 2 * framed::<T>() + T::BYTES,
-        Entry::In => framed::<T>() + T::BYTES,
-        Entry::Ji => T::BYTES * BLOCK,
-        Entry::Ar => T::BYTES * (2 + VALUES),
+        Operation::Ex => T::BYTES * (TANGENT + VALUES) + FRAMES,
+        Operation::Co => T::BYTES * (2 + VALUES),
+        Operation::Pa => T::BYTES * (TANGENT + VALUES + 2 * MAT),
+        Operation::Ac => framed::<T>() + T::BYTES * (1 + VEC),
+        Operation::Mu => 2 * framed::<T>() + T::BYTES,
+        Operation::In => framed::<T>() + T::BYTES,
+        Operation::Ji => T::BYTES * BLOCK,
+        Operation::Ar => T::BYTES * (2 + VALUES),
     }
 }
 
 // The answer to the bytes b behind a mark, written from the front of `out` on.
 #[tactic(auto, unfolding(crate::specs::Table::answer_of))]
-fn give<T: Width + Number>(e: Entry, b: &[u8], out: &mut [u8]) -> Result<Wrote, Refusal>
+fn give<T: Width + Number>(e: Operation, b: &[u8], out: &mut [u8]) -> Result<Wrote, Refusal>
     requires b_len { length b.now ≡ width_of T.format e }
     requires longest_bound { longest ≤ 2 + length out.old }
-    ensures value { answer result ≡ gave_of T.format (answer_of T.format e b.now) }
-    ensures out_after { out.new ≡ sets out.old 0 (gave_bytes T.format (answer_of T.format e b.now)) }
+    ensures value { answer result ≡ written_answer T.format (answer_of T.format e b.now) }
+    ensures out_after { out.new ≡ sets out.old 0 (answer_bytes T.format (answer_of T.format e b.now)) }
 {
     match e {
-        Entry::Ex => ex::<T>(b, out),
-        Entry::Co => co::<T>(b, out),
-        Entry::Pa => pa::<T>(b, out),
-        Entry::Ac => ac::<T>(b, out),
-        Entry::Mu => mu::<T>(b, out),
-        Entry::In => inv::<T>(b, out),
-        Entry::Ji => ji::<T>(b, out),
-        Entry::Ar => ar::<T>(b, out),
+        Operation::Ex => ex::<T>(b, out),
+        Operation::Co => co::<T>(b, out),
+        Operation::Pa => pa::<T>(b, out),
+        Operation::Ac => ac::<T>(b, out),
+        Operation::Mu => mu::<T>(b, out),
+        Operation::In => inv::<T>(b, out),
+        Operation::Ji => ji::<T>(b, out),
+        Operation::Ar => ar::<T>(b, out),
     }
 }
 
 // Answers the record at the head of s, whose mark asks for the entry e, at the front of `out`: the mark
 // again and the numbers, or NO and the refusal. Nothing is written where s is shorter than the record,
 // or `out` than the longest answer.
-pub fn reply<T: Width + Number>(e: Entry, s: &[u8], out: &mut [u8]) -> Step
-    ensures result_value { step_told result ≡ became_of (entry_found T.format e s.now) (length out.old) }
-    ensures out_after { out.new ≡ sets out.old 0 (written_of (entry_found T.format e s.now) (length out.old)) }
+pub fn reply<T: Width + Number>(e: Operation, s: &[u8], out: &mut [u8]) -> Step
+    ensures result_value { step_view result ≡ record_result (operation_head T.format e s.now) (length out.old) }
+    ensures out_after { out.new ≡ sets out.old 0 (written_of (operation_head T.format e s.now) (length out.old)) }
 {
     let end = 2 + width::<T>(e);
     if s.len() < end {
@@ -81,13 +84,13 @@ pub fn reply<T: Width + Number>(e: Entry, s: &[u8], out: &mut [u8]) -> Step
         Ok(wrote) => {
             out[0] = s[0];
             out[1] = s[1];
-            Step::Took(wrote.kind, end, 2 + wrote.length)
+            Step::Took(wrote.disposition, end, 2 + wrote.length)
         }
         Err(refusal) => {
             out[0] = b'N';
             out[1] = b'O';
             out[2] = refusal.number();
-            Step::Took(Kind::Refused, end, 3)
+            Step::Took(Disposition::Refused, end, 3)
         }
     }
 }

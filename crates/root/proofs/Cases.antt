@@ -1,4 +1,5 @@
--- The answer for each kind of double, by the tests that the code makes: below zero, equal to zero, and the pattern. Assumes nothing.
+-- The answer for each kind of double, by the tests that the code makes: below zero, equal to zero, and the pattern.
+-- Assumes nothing.
 use Rattle.std.proofs.lemmas.Bool.{true≢false, and_left}
 use mathlib.Core.Path.{◌≡◌, refl, sym, ap, ◌∙◌}
 use Prim.Native.Nat.{ℕ, zero, suc, ◌+◌, ◌*◌, ◌≤◌, ◌<◌}
@@ -38,7 +39,8 @@ unfolding eq root_from
 zeros nan h = absurd (true≢false (sym h))
 zeros (inf s) h = absurd (true≢false (sym h))
 zeros (fin s zero e) h = refl
-zeros (fin s (suc m) e) h = absurd (true≢false (sym h ∙ and_left _ _ (ne_eqb (suc m * up e * 1) (0 * 1 * down e) (not_zero m e))))
+zeros (fin s (suc m) e) h =
+    absurd (true≢false (sym h ∙ and_left _ _ (ne_eqb (suc m * up e * 1) (0 * 1 * down e) (not_zero m e))))
 
 -- ---- neither
 zero-eq : (s : Bool) (e : ℤ) → eq (fin s zero e) f0 ≡ true
@@ -51,7 +53,8 @@ unfolding lt
 minus-lt m e = lt-ltb 0 (suc m * up e * 1 + 0 * 1 * down e) (omega (arith, size_pos m e))
 
 -- a NaN and an infinity, by their patterns
-pub other : (z : Float) → T (fits binary64 z) → lt z f0 ≡ false → eq z f0 ≡ false → patterns binary64 ≤ to_bits binary64 z → refuses 8 ≡ root_from z
+pub other : (z : Float) → T (fits binary64 z) → lt z f0 ≡ false → eq z f0 ≡ false →
+    patterns binary64 ≤ to_bits binary64 z → refuses 8 ≡ root_from z
 unfolding root_from
 other nan t l q h = refl
 other (inf s) t l q h = refl
@@ -69,11 +72,13 @@ inf_bits true = lit≤ tt
 inf_bits false = lit≤ tt
 
 -- finite and above zero
-pub good : (z : Float) → T (fits binary64 z) → lt z f0 ≡ false → eq z f0 ≡ false → to_bits binary64 z < patterns binary64
+pub good : (z : Float) → T (fits binary64 z) → lt z f0 ≡ false → eq z f0 ≡ false →
+    to_bits binary64 z < patterns binary64
     → (0 < to_bits binary64 z) × (answers (root_parts (pattern_units binary64 (to_bits binary64 z))) ≡ root_from z)
 unfolding root_from
 good nan t l q h = absurd (not-le_of_lt h nan_bits)
 good (inf s) t l q h = absurd (not-le_of_lt h (inf_bits s))
 good (fin s zero e) t l q h = absurd (true≢false (sym (zero-eq s e) ∙ q))
 good (fin true (suc m) e) t l q h = absurd (true≢false (sym (minus-lt m e) ∙ l))
-good (fin false (suc m) e) t l q h = (pattern_pos binary64 m e t, ap (λ (x : ℕ). answers (root_parts x)) (sym (pattern_units_lem binary64 (suc m) e t)))
+good (fin false (suc m) e) t l q h =
+    (pattern_pos binary64 m e t, ap (λ (x : ℕ). answers (root_parts x)) (sym (pattern_units_lem binary64 (suc m) e t)))

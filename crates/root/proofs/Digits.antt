@@ -1,4 +1,5 @@
--- The digits and the power of a pattern: a subnormal's by its leading zeros, any other's as they stand; and the exponent, which an i64 holds. Assumes nothing.
+-- The digits and the power of a pattern: a subnormal's by its leading zeros, any other's as they stand; and the
+-- exponent, which an i64 holds. Assumes nothing.
 use mathlib.Core.Path.{◌≡◌, refl, sym, ap, ◌∙◌, subst}
 use mathlib.Core.Logic.{inl, inr}
 use Prim.Native.Nat.{ℕ, suc, ◌+◌, ◌-◌, ◌*◌, ◌/◌, ◌%◌, ◌^◌, ◌≤◌, ◌<◌}
@@ -20,7 +21,8 @@ use Rattle.root.specs.Private.{ScaledTo}
 
 moved : (b j k : ℕ) → j + k ≡ 52 → 2 ^ j ≤ b → b < 2 ^ suc j → ScaledTo b (b * 2 ^ k % 2 ^ 64) j
 moved b j k e lo hi =
-    let p : 2 ^ 52 ≤ b * 2 ^ k = subst (λ (x : ℕ). x ≤ b * 2 ^ k) (sym (pow-add 2 j k) ∙ ap (λ (x : ℕ). 2 ^ x) e) (mul-le-mul_right (2 ^ k) lo) in
+    let p : 2 ^ 52 ≤ b * 2 ^ k = subst (λ (x : ℕ). x ≤ b * 2 ^ k) (sym (pow-add 2 j k) ∙ ap (λ (x : ℕ). 2 ^ x) e)
+    (mul-le-mul_right (2 ^ k) lo) in
     let w : suc j + k ≡ 53 = omega arith in
     let q : b * 2 ^ k < 2 ^ 53 = subst (λ (x : ℕ). b * 2 ^ k < 2 ^ x) w (shl_lt (suc j) k hi) in
     let m : b * 2 ^ k % 2 ^ 64 ≡ b * 2 ^ k = mod-eq_of_lt (omega arith) in
@@ -35,21 +37,34 @@ moved b j k e lo hi =
     swap a x y = omega arith
 
 pub lead : (b : ℕ) → 0 < b → b < 2 ^ 52
-    → (11 ≤ count_leading_zeros 64 b) × (count_leading_zeros 64 b - 11 ≤ 52) × ScaledTo (pattern_units binary64 b) (b * 2 ^ (count_leading_zeros 64 b - 11) % 2 ^ 64) (52 - (count_leading_zeros 64 b - 11))
+    → (11 ≤ count_leading_zeros 64 b) × (count_leading_zeros 64 b - 11 ≤ 52)
+    × ScaledTo (pattern_units binary64 b) (b * 2 ^ (count_leading_zeros 64 b - 11) % 2 ^ 64)
+    (52 - (count_leading_zeros 64 b - 11))
 lead b p h =
     let t = leading_top 64 b p (omega arith) in
     let j = t.0 in
     let e : count_leading_zeros 64 b + suc j ≡ 64 = t.1 in
-    let few : j < 52 = elim (cases_lt j 52) [ inl l ↦ l | inr l ↦ absurd (not-le_of_lt h (le_trans (pow_mono l) t.2)) ] in
-    let i : 52 - (count_leading_zeros 64 b - 11) ≡ j = omega arith in
-    (omega arith, omega arith, rw (units_small binary64 b h, i) (moved b j (count_leading_zeros 64 b - 11) (omega arith) t.2 t.3))
+    let few : j < 52 = elim (cases_lt j 52) [
+      | inl l ↦ l
+      | inr l ↦
+          absurd (not-le_of_lt h (le_trans (pow_mono l) t.2))
+    ] in
+    let i : 52 - (count_leading_zeros 64 b - 11) ≡ j = omega arith in (
+      omega arith,
+      omega arith,
+      rw (units_small binary64 b h, i)
+          (moved b j (count_leading_zeros 64 b - 11) (omega arith) t.2 t.3),
+    )
 
-pub normal : (b : ℕ) → 2 ^ 52 ≤ b → b < patterns binary64 → ScaledTo (pattern_units binary64 b) (2 ^ 52 + b % 2 ^ 52) (b / 2 ^ 52 + 51)
+pub normal : (b : ℕ) → 2 ^ 52 ≤ b → b < patterns binary64 → ScaledTo (pattern_units binary64 b) (2 ^ 52 + b % 2 ^ 52)
+    (b / 2 ^ 52 + 51)
 normal b l h =
     let c = 2 ^ 52 + b % 2 ^ 52 in
     let k = b / 2 ^ 52 - 1 in
     rw (units_large binary64 b l) (record {
-      value = mul_assoc c (2 ^ k) (2 ^ 52) ∙ ap (λ (x : ℕ). c * x) (sym (pow-add 2 k 52) ∙ ap (λ (x : ℕ). 2 ^ x) (omega arith));
+      value =
+          mul_assoc c (2 ^ k) (2 ^ 52) ∙ ap (λ (x : ℕ). c * x)
+          (sym (pow-add 2 k 52) ∙ ap (λ (x : ℕ). 2 ^ x) (omega arith));
       low = omega arith;
       high = omega arith;
       few = omega arith;
@@ -66,7 +81,8 @@ scaled b p h =
 
 -- ---- the exponent
 sub_mag : (j : ℕ) → j ≤ 1048 → mag (sub_ℕ j 589) < 2 ^ 63
-sub_mag j h = elim (cases_lt j 589) [ inl l ↦ rw (lt-ltb j 589 l) (omega arith) | inr l ↦ rw (le-ltb j 589 l) (omega arith) ]
+sub_mag j h =
+    elim (cases_lt j 589) [ inl l ↦ rw (lt-ltb j 589 l) (omega arith) | inr l ↦ rw (le-ltb j 589 l) (omega arith) ]
 
 pub exponent_fits : (j : ℕ) → j ≤ 1048 → SFits w64 (to_z w64 j -ℤ pos 589)
 exponent_fits j h = rw (to_z_pos w64 {n = j} (omega arith)) (record { sfits = sub_mag j h })

@@ -1,4 +1,5 @@
--- Worked examples, computed from the definition: numbers, zeros and refusals. Patterns and whole numbers are hexadecimal. Assumes nothing.
+-- Worked examples, computed from the definition: numbers, zeros and refusals. Patterns and whole numbers are
+-- hexadecimal. Assumes nothing.
 use mathlib.Core.Path.{◌≡◌, refl}
 use mathlib.Core.Bool.{true, false}
 use Prim.Native.Nat.{ℕ}
@@ -8,9 +9,12 @@ use Rattle.ieee.specs.Patterns.{units_of}
 use Rattle.linalg.specs.Answer.{answers, refuses}
 use Rattle.root.specs.Root.{whole_root, quarters, root_parts, root_from, root_zero, root_of}
 
--- the double with the pattern b has the root r, the remainder left, the exponent s and the nearest double with the pattern near
+-- the double with the pattern b has the root r, the remainder left, the exponent s and the nearest double with the
+-- pattern near
 abbrev Gives : ℕ → ℕ → ℕ → ℤ → ℕ → Type 0
-Gives b r left s near = root_of (of_bits binary64 b) ≡ answers (record { root = r; remainder = left; exponent = s; nearest = of_bits binary64 near })
+Gives b r left s near =
+    root_of (of_bits binary64 b)
+    ≡ answers (record { root = r; remainder = left; exponent = s; nearest = of_bits binary64 near })
 
 abbrev Refuses : ℕ → ℕ → Type 0
 Refuses b n = root_of (of_bits binary64 b) ≡ refuses n

@@ -1,5 +1,5 @@
--- Where the remainder is the root: m = r × (r + 1), and m is a multiple of 2 ^ 52, so one of r and r + 1 is; there are two
--- such r. Assumes nothing.
+-- Where the remainder is the root: m = r × (r + 1), and m is a multiple of 2 ^ 52, so one of r and r + 1 is; there are
+-- two such r. Assumes nothing.
 use mathlib.Core.Path.{◌≡◌, sym, ap, ◌∙◌}
 use mathlib.Core.Logic.{inl, inr}
 use Prim.Native.Nat.{ℕ, zero, suc, ◌+◌, ◌-◌, ◌*◌, ◌/◌, ◌%◌, ◌^◌, ◌≤◌, ◌<◌}

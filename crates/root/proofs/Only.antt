@@ -1,8 +1,10 @@
--- What is asked for at z is asked for once: m and s are the only ones, so r, the remainder and the double are. Assumes nothing.
+-- What is asked for at z is asked for once: m and s are the only ones, so r, the remainder and the double are. Assumes
+-- nothing.
 use mathlib.Core.Path.{◌≡◌, refl, sym, ap, ◌∙◌, subst}
 use mathlib.Core.Logic.{inl, inr}
 use Prim.Native.Nat.{ℕ, suc, ◌+◌, ◌*◌, ◌^◌, ◌≤◌, ◌<◌}
-use native.Mathlib.Nat.{lt_irrefl, le_antisymm, mul-one, one-mul, mul-pos, mul-le-mul, mul-lt-mul_of_pos_right, eq_of_mul-eq-mul_right, pow-succ'}
+use native.Mathlib.Nat.{lt_irrefl, le_antisymm, mul-one, one-mul, mul-pos, mul-le-mul, mul-lt-mul_of_pos_right}
+use native.Mathlib.Nat.{eq_of_mul-eq-mul_right, pow-succ'}
 use native.Mathlib.Omega.{arith}
 use mathlib.Core.Bool.{false}
 use lib.IntN.{ℤ, pos, negsuc}
@@ -22,7 +24,11 @@ use Rattle.root.proofs.Largest.{largest_only}
 power_only : (a b : ℕ) → 2 ^ a ≡ 2 ^ b → a ≡ b
 power_only a b e = elim (cases_lt a b) [
   | inl l ↦ absurd (lt_irrefl (2 ^ b) (subst (λ (x : ℕ). x < 2 ^ b) e (pow-lt l)))
-  | inr l ↦ elim (cases_lt b a) [ inl g ↦ absurd (lt_irrefl (2 ^ b) (subst (λ (x : ℕ). 2 ^ b < x) e (pow-lt g))) | inr g ↦ le_antisymm g l ]
+  | inr l ↦ elim (cases_lt b a) [
+    | inl g ↦
+        absurd (lt_irrefl (2 ^ b) (subst (λ (x : ℕ). 2 ^ b < x) e (pow-lt g)))
+    | inr g ↦ le_antisymm g l
+  ]
 ]
 
 -- 2 ^ s / 2 ^ t over its denominators
@@ -42,7 +48,8 @@ exponent-only (negsuc k) (pos l) e = absurd (no (power_only (l + suc k) 0 (pow-a
   where
     no : l + suc k ≡ 0 → ⊥
     no h = omega arith
-exponent-only (negsuc k) (negsuc l) e = ap negsuc (one_less (power_only (suc l) (suc k) (sym (one-mul (2 ^ suc l)) ∙ e ∙ one-mul (2 ^ suc k))))
+exponent-only (negsuc k) (negsuc l) e =
+    ap negsuc (one_less (power_only (suc l) (suc k) (sym (one-mul (2 ^ suc l)) ∙ e ∙ one-mul (2 ^ suc k))))
   where
     one_less : suc l ≡ suc k → k ≡ l
     one_less h = omega arith
@@ -54,18 +61,23 @@ four-times m n L x y p q x_pos h k =
     omega (arith, mul-lt-mul_of_pos_right p (mul-pos x_pos x_pos))
 
 not_less : (m n a b : ℕ) → m < 2 ^ 106 → 2 ^ 104 ≤ n → m * (2 ^ a * 2 ^ a) ≡ n * (2 ^ b * 2 ^ b) → a < b → ⊥
-not_less m n a b p q e l = four-times m n (2 ^ 104) (2 ^ a) (2 ^ b) p q (pow_pos a) (subst (λ (x : ℕ). x ≤ 2 ^ b) (pow-succ' 2 a) (pow_mono l)) e
+not_less m n a b p q e l =
+    four-times m n (2 ^ 104) (2 ^ a) (2 ^ b) p q (pow_pos a)
+    (subst (λ (x : ℕ). x ≤ 2 ^ b) (pow-succ' 2 a) (pow_mono l)) e
 
-same_power : (m n a b : ℕ) → 2 ^ 104 ≤ m → m < 2 ^ 106 → 2 ^ 104 ≤ n → n < 2 ^ 106 → m * (2 ^ a * 2 ^ a) ≡ n * (2 ^ b * 2 ^ b) → a ≡ b
+same_power : (m n a b : ℕ) → 2 ^ 104 ≤ m → m < 2 ^ 106 → 2 ^ 104 ≤ n → n < 2 ^ 106 →
+    m * (2 ^ a * 2 ^ a) ≡ n * (2 ^ b * 2 ^ b) → a ≡ b
 same_power m n a b p q r s e = elim (cases_lt a b) [
   | inl l ↦ absurd (not_less m n a b q r e l)
   | inr l ↦ elim (cases_lt b a) [ inl g ↦ absurd (not_less n m b a s p (sym e) g) | inr g ↦ le_antisymm g l ]
 ]
 
 -- ---- m and s
-cross : (x d m U D n W E : ℕ) → 0 < x → 0 < d → x * (D * D) ≡ m * (U * U) * d → x * (E * E) ≡ n * (W * W) * d → m * (U * E * (U * E)) ≡ n * (W * D * (W * D))
+cross : (x d m U D n W E : ℕ) → 0 < x → 0 < d → x * (D * D) ≡ m * (U * U) * d → x * (E * E) ≡ n * (W * W) * d →
+    m * (U * E * (U * E)) ≡ n * (W * D * (W * D))
 cross x d m U D n W E X P p q =
-    eq_of_mul-eq-mul_right (x * d) (mul-pos X P) _ _ (omega (arith, ap (λ (y : ℕ). y * (E * E * x)) p, ap (λ (y : ℕ). y * (D * D * x)) q))
+    eq_of_mul-eq-mul_right (x * d) (mul-pos X P) _ _
+    (omega (arith, ap (λ (y : ℕ). y * (E * E * x)) p, ap (λ (y : ℕ). y * (D * D * x)) q))
 
 some : (x c a : ℕ) → 0 < a → x * c ≡ a → 0 < x
 some x c a h e = first_pos x c (subst (λ (y : ℕ). 0 < y) (sym e) h)
@@ -74,7 +86,8 @@ pub scaling-only : (z : Float) (m n : ℕ) (s t : ℤ) → Scaling z m s → Sca
 scaling-only nan m n s t p q = absurd p.value
 scaling-only (inf b) m n s t p q = absurd p.value
 scaling-only (fin b k e) m n s t p q =
-    let M : 0 < m * (up s * up s) * down e = mul-pos (mul-pos (omega (arith, p.least)) (mul-pos (up_pos s) (up_pos s))) (down_pos e) in
+    let M : 0 < m * (up s * up s) * down e = mul-pos (mul-pos (omega (arith, p.least)) (mul-pos (up_pos s) (up_pos s)))
+    (down_pos e) in
     let X : 0 < k * up e = some (k * up e) (down s * down s) (m * (up s * up s) * down e) M p.value.1 in
     let c = cross (k * up e) (down e) m (up s) (down s) n (up t) (down t) X (down_pos e) p.value.1 q.value.1 in
     let a = quotient s t in
@@ -82,8 +95,11 @@ scaling-only (fin b k e) m n s t p q =
     let i : a.0 ≡ b.0 = same_power m n a.0 b.0 p.least p.most q.least q.most (rw (← a.1, ← b.1) c) in
     let w : up s * down t ≡ up t * down s = a.1 ∙ ap (λ (x : ℕ). 2 ^ x) i ∙ sym b.1 in
     let U = up s * down t in
-    let U_pos : 0 < U = mul-pos (up_pos s) (down_pos t) in
-    (eq_of_mul-eq-mul_right (U * U) (mul-pos U_pos U_pos) m n (c ∙ ap (λ (x : ℕ). n * (x * x)) (sym w)), exponent-only s t w)
+    let U_pos : 0 < U = mul-pos (up_pos s) (down_pos t) in (
+      eq_of_mul-eq-mul_right (U * U) (mul-pos U_pos U_pos) m n
+          (c ∙ ap (λ (x : ℕ). n * (x * x)) (sym w)),
+      exponent-only s t w,
+    )
 
 -- ---- and all that is told
 pub root-only : (z : Float) (p q : RootParts) → RootIs z p → RootIs z q → p ≡ q
@@ -97,5 +113,6 @@ root-only z p q h k =
     subst (λ (x : ℕ). HasValue p.nearest false (nearer x q.remainder * up t) (down t)) r
     (subst (λ (x : ℕ). HasValue p.nearest false (nearer p.root x * up t) (down t)) l
     (subst (λ (s : ℤ). HasValue p.nearest false (nearer p.root p.remainder * up s) (down s)) o.1 h.nearest)) in
-    let x = value-only binary64 p.nearest q.nearest false (v * up t) (down t) h.double k.double (down_pos t) same k.nearest in
+    let x = value-only binary64 p.nearest q.nearest false (v * up t) (down t) h.double k.double
+    (down_pos t) same k.nearest in
     λ i. record { root = r i; remainder = l i; exponent = o.1 i; nearest = x i }

@@ -1,4 +1,5 @@
--- The format's rounding of a / q * 2 ^ j / 2 ^ 589, where a / q has 53 digits before the point: the whole number nearest to a / q, times 2 ^ j / 2 ^ 589. Assumes nothing.
+-- The format's rounding of a / q * 2 ^ j / 2 ^ 589, where a / q has 53 digits before the point: the whole number
+-- nearest to a / q, times 2 ^ j / 2 ^ 589. Assumes nothing.
 use mathlib.Core.Path.{◌≡◌, refl, sym, ap, ◌∙◌, subst}
 use Prim.Native.Nat.{ℕ, suc, ◌+◌, ◌-◌, ◌*◌, ◌/◌, ◌%◌, ◌^◌, ◌≤◌, ◌<◌, compare, Ordering}
 use native.Mathlib.Nat.{mul-pos, mul-le-mul_right, mul-lt-mul_of_pos_right, le-div_iff_mul-le, div-lt_iff_lt-mul}
@@ -19,9 +20,12 @@ Compared Ordering.eq a b = a ≡ b
 Compared Ordering.gt a b = b < a
 
 compared : (a b : ℕ) → Compared (compare a b) a b
-compared a b = go (compare a b) (leb→le a b) (nleb→lt a b) (eqb→eq a b) (λ (e : a ≡ b). subst (λ (x : ℕ). T (eqb a x)) e (eqb_refl a))
+compared a b =
+    go (compare a b) (leb→le a b) (nleb→lt a b) (eqb→eq a b)
+    (λ (e : a ≡ b). subst (λ (x : ℕ). T (eqb a x)) e (eqb_refl a))
   where
-    go : (o : Ordering) → (T (is_le o) → a ≤ b) → (T (not (is_le o)) → b < a) → (T (compare_is_eq o) → a ≡ b) → (a ≡ b → T (compare_is_eq o)) → Compared o a b
+    go : (o : Ordering) → (T (is_le o) → a ≤ b) → (T (not (is_le o)) → b < a) → (T (compare_is_eq o) → a ≡ b) →
+        (a ≡ b → T (compare_is_eq o)) → Compared o a b
     go Ordering.lt h k e n = lt_of_le-ne (h tt) n
     go Ordering.eq h k e n = e tt
     go Ordering.gt h k e n = k tt
@@ -47,10 +51,14 @@ module _ (a q r : ℕ) (lo : r * q ≤ a) (hi : a < (r + 1) * q) where
   left = ap (λ (x : ℕ). x % q) split ∙ digits_mod r (omega arith)
 
   pub closest_down : 2 * a < (2 * r + 1) * q → closest a q ≡ r
-  closest_down h = rw (whole, left) (stays r ((a - r * q) * 2) q (compare ((a - r * q) * 2) q) (compared ((a - r * q) * 2) q) (omega arith))
+  closest_down h =
+      rw (whole, left) (stays r ((a - r * q) * 2) q (compare ((a - r * q) * 2) q) (compared ((a - r * q) * 2) q)
+      (omega arith))
 
   pub closest_up : (2 * r + 1) * q < 2 * a → closest a q ≡ r + 1
-  closest_up h = rw (whole, left) (moves r ((a - r * q) * 2) q (compare ((a - r * q) * 2) q) (compared ((a - r * q) * 2) q) (omega arith) ∙ omega arith)
+  closest_up h =
+      rw (whole, left) (moves r ((a - r * q) * 2) q (compare ((a - r * q) * 2) q) (compared ((a - r * q) * 2) q)
+      (omega arith) ∙ omega arith)
 
 -- ---- the digits that are dropped are those behind the point
 scale-le : (a q h P A B : ℕ) → h * q ≤ a → h * (P * A) * (q * B) ≤ a * P * (A * B)
@@ -72,13 +80,15 @@ module _ (a q j : ℕ) (Q : 0 < q) (lo : 2 ^ 52 * q ≤ a) (hi : a < 2 ^ 53 * q)
   over : 2 ^ (52 + (j + 485)) ≤ a * 2 ^ j * 2 ^ 1074 / (q * 2 ^ 589)
   over =
       (le-div_iff_mul-le den_pos).1
-      (subst (λ (x : ℕ). x * (q * 2 ^ 589) ≤ a * 2 ^ j * 2 ^ 1074) (power 52) (scale-le a q (2 ^ 52) (2 ^ j) (2 ^ 485) (2 ^ 589) lo))
+      (subst (λ (x : ℕ). x * (q * 2 ^ 589) ≤ a * 2 ^ j * 2 ^ 1074) (power 52)
+      (scale-le a q (2 ^ 52) (2 ^ j) (2 ^ 485) (2 ^ 589) lo))
 
   under : a * 2 ^ j * 2 ^ 1074 / (q * 2 ^ 589) < 2 ^ (53 + (j + 485))
   under =
       let some : 0 < 2 ^ j * 2 ^ 485 * 2 ^ 589 = mul-pos (mul-pos (pow_pos j) (pow_pos 485)) (pow_pos 589) in
       (div-lt_iff_lt-mul den_pos).1
-      (subst (λ (x : ℕ). a * 2 ^ j * 2 ^ 1074 < x * (q * 2 ^ 589)) (power 53) (scale-lt a q (2 ^ 53) (2 ^ j) (2 ^ 485) (2 ^ 589) some hi))
+      (subst (λ (x : ℕ). a * 2 ^ j * 2 ^ 1074 < x * (q * 2 ^ 589)) (power 53)
+      (scale-lt a q (2 ^ 53) (2 ^ j) (2 ^ 485) (2 ^ 589) some hi))
 
   dropped : size (a * 2 ^ j * 2 ^ 1074 / (q * 2 ^ 589)) - 53 ≡ j + 485
   dropped =

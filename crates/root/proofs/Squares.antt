@@ -37,7 +37,12 @@ module _ (s r b a l : ℕ) (h : Step s r b a l) where
 
   module _ (q u : ℕ) (e : q * (2 * s) + u ≡ r * b + a) (k : u < 2 * s) where
     quotient_le : q ≤ b
-    quotient_le = elim (cases_lt b q) [ inl g ↦ absurd (omega (arith, mul-le-mul_right (2 * s) g, mul-le-mul_right b h.rest)) | inr g ↦ g ]
+    quotient_le =
+        elim (cases_lt b q) [
+          | inl g ↦
+              absurd (omega (arith, mul-le-mul_right (2 * s) g, mul-le-mul_right b h.rest))
+          | inr g ↦ g
+        ]
 
     quotient_small : q * q ≤ 2 ^ 52
     quotient_small = omega (arith, mul-le-mul quotient_le quotient_le, mul-le-mul h.base h.base)
@@ -51,7 +56,8 @@ module _ (s r b a l : ℕ) (h : Step s r b a l) where
     square-is : (s * b + q) * (s * b + q) + (u * b + l) ≡ (s * s + r) * (b * b) + a * b + l + q * q
     square-is = omega (arith, ap (λ (x : ℕ). x * b) e)
 
-    enough : q * q ≤ u * b + l → ((s * b + q) * (s * b + q) + (u * b + l - q * q) ≡ (s * s + r) * (b * b) + a * b + l) × (u * b + l - q * q ≤ 2 * (s * b + q))
+    enough : q * q ≤ u * b + l → ((s * b + q) * (s * b + q) + (u * b + l - q * q) ≡ (s * s + r) * (b * b) + a * b + l)
+        × (u * b + l - q * q ≤ 2 * (s * b + q))
     enough g = (omega (arith, square-is), omega (arith, left_small))
 
     some : u * b + l < q * q → 1 ≤ q
@@ -63,15 +69,19 @@ module _ (s r b a l : ℕ) (h : Step s r b a l) where
     back : (k' t w : ℕ) → w ≤ t + 2 * (k' + 1) - 1 → k' * k' + (t + 2 * (k' + 1) - 1 - w) + w ≡ (k' + 1) * (k' + 1) + t
     back k' t w g = omega arith
 
-    one_less : (x t w z : ℕ) → 1 ≤ x → w ≤ t + 2 * x - 1 → t < w → x * x + t ≡ z + w → ((x - 1) * (x - 1) + (t + 2 * x - 1 - w) ≡ z) × (t + 2 * x - 1 - w ≤ 2 * (x - 1))
+    one_less : (x t w z : ℕ) → 1 ≤ x → w ≤ t + 2 * x - 1 → t < w → x * x + t ≡ z + w →
+        ((x - 1) * (x - 1) + (t + 2 * x - 1 - w) ≡ z) × (t + 2 * x - 1 - w ≤ 2 * (x - 1))
     one_less zero t w z o g g2 f = absurd (omega arith)
     one_less (suc x) t w z o g g2 f =
         let y : suc x - 1 ≡ x = omega arith in
         (rw y (omega (arith, back x t w (omega arith))), omega arith)
 
     too_large : u * b + l < q * q →
-        ((s * b + q - 1) * (s * b + q - 1) + (u * b + l + 2 * (s * b + q) - 1 - q * q) ≡ (s * s + r) * (b * b) + a * b + l) × (u * b + l + 2 * (s * b + q) - 1 - q * q ≤ 2 * (s * b + q - 1))
-    too_large g = one_less (s * b + q) (u * b + l) (q * q) ((s * s + r) * (b * b) + a * b + l) (omega (arith, some g)) (short g) g square-is
+        ((s * b + q - 1) * (s * b + q - 1) + (u * b + l + 2 * (s * b + q) - 1 - q * q)
+        ≡ (s * s + r) * (b * b) + a * b + l) × (u * b + l + 2 * (s * b + q) - 1 - q * q ≤ 2 * (s * b + q - 1))
+    too_large g =
+        one_less (s * b + q) (u * b + l) (q * q) ((s * s + r) * (b * b) + a * b + l) (omega (arith, some g))
+        (short g) g square-is
 
 -- what follows, at the quotient q and the remainder u
 pub record Stepped (s r b a l q u : ℕ) : Type 0 where
@@ -79,11 +89,13 @@ pub record Stepped (s r b a l q u : ℕ) : Type 0 where
   pub left : u * b + l ≤ 2 ^ 54
   pub square : q * q ≤ 2 ^ 52
   pub root : s * b + q ≤ 2 ^ 54
-  pub enough : q * q ≤ u * b + l → ((s * b + q) * (s * b + q) + (u * b + l - q * q) ≡ (s * s + r) * (b * b) + a * b + l) × (u * b + l - q * q ≤ 2 * (s * b + q))
+  pub enough : q * q ≤ u * b + l → ((s * b + q) * (s * b + q) + (u * b + l - q * q) ≡ (s * s + r) * (b * b) + a * b + l)
+      × (u * b + l - q * q ≤ 2 * (s * b + q))
   pub some : u * b + l < q * q → 1 ≤ q
   pub short : u * b + l < q * q → q * q ≤ u * b + l + 2 * (s * b + q) - 1
   pub too_large : u * b + l < q * q →
-      ((s * b + q - 1) * (s * b + q - 1) + (u * b + l + 2 * (s * b + q) - 1 - q * q) ≡ (s * s + r) * (b * b) + a * b + l) × (u * b + l + 2 * (s * b + q) - 1 - q * q ≤ 2 * (s * b + q - 1))
+      ((s * b + q - 1) * (s * b + q - 1) + (u * b + l + 2 * (s * b + q) - 1 - q * q)
+      ≡ (s * s + r) * (b * b) + a * b + l) × (u * b + l + 2 * (s * b + q) - 1 - q * q ≤ 2 * (s * b + q - 1))
 
 pub stepped : (s r b a l : ℕ) → Step s r b a l → Stepped s r b a l ((r * b + a) / (2 * s)) ((r * b + a) % (2 * s))
 stepped s r b a l h =
@@ -109,7 +121,8 @@ bracket x y n lo hi e k p q =
     (omega arith, square-lt x hi (omega arith))
 
 -- the digits of c, two at a time after the first 14
-pub first_two : (c s : ℕ) → s * s ≤ c / 0x100_0000_0000 → (s * s + (c / 0x100_0000_0000 - s * s)) * (0x80 * 0x80) + c / 0x2_0000_0000 % 0x80 * 0x80 + c / 0x400_0000 % 0x80 ≡ c / 0x400_0000
+pub first_two : (c s : ℕ) → s * s ≤ c / 0x100_0000_0000 → (s * s + (c / 0x100_0000_0000 - s * s)) * (0x80 * 0x80)
+    + c / 0x2_0000_0000 % 0x80 * 0x80 + c / 0x400_0000 % 0x80 ≡ c / 0x400_0000
 first_two c s h = omega arith
 
 pub next_two : (c : ℕ) → c / 0x400_0000 * (0x2000 * 0x2000) + c / 0x2000 % 0x2000 * 0x2000 + c % 0x2000 ≡ c

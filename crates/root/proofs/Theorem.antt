@@ -1,6 +1,6 @@
 -- `root_theorem`: of every double above 0 the answer is what the request asks for, nothing else is, its double is the
--- correctly rounded square root, and its numbers lie in their ranges; a zero gives zeros, and what is refused is refused by
--- its number. Assumes nothing.
+-- correctly rounded square root, and its numbers lie in their ranges; a zero gives zeros, and what is refused is
+-- refused by its number. Assumes nothing.
 use mathlib.Core.Path.{◌≡◌, refl, sym, ap, ◌∙◌, subst}
 use mathlib.Core.Logic.{inl, inr}
 use Prim.Native.Nat.{ℕ, zero, suc, ◌+◌, ◌-◌, ◌*◌, ◌/◌, ◌%◌, ◌^◌, ◌≤◌, ◌<◌}
@@ -56,19 +56,25 @@ power_of j k = elim (cases_lt j k) [
     last x = omega arith
 
 -- a value of a / 2 ^ k times 2 ^ j is one of a times up s over down s
-to-exponent : (x : Float) (a j k : ℕ) → HasValue x false (a * 2 ^ j) (2 ^ k) → HasValue x false (a * up (sub_ℕ j k)) (down (sub_ℕ j k))
+to-exponent : (x : Float) (a j k : ℕ) → HasValue x false (a * 2 ^ j) (2 ^ k) →
+    HasValue x false (a * up (sub_ℕ j k)) (down (sub_ℕ j k))
 to-exponent nan a j k h = h
 to-exponent (inf s) a j k h = h
-to-exponent (fin s m e) a j k h =
-    (h.0, eq_of_mul-eq-mul_right (2 ^ k) (pow_pos k) _ _ (go (m * up e) (down e) (down (sub_ℕ j k)) (up (sub_ℕ j k)) (2 ^ k) (2 ^ j) h.1 (power_of j k)))
+to-exponent (fin s m e) a j k h = (
+  h.0,
+  eq_of_mul-eq-mul_right (2 ^ k) (pow_pos k) _ _ (go (m * up e) (down e) (down (sub_ℕ j k)) (up (sub_ℕ j k))
+      (2 ^ k) (2 ^ j) h.1 (power_of j k)),
+)
   where
     go : (x d D U K J : ℕ) → x * K ≡ a * J * d → U * K ≡ J * D → x * D * K ≡ a * U * d * K
     go x d D U K J p q = omega (arith, ap (λ (y : ℕ). y * D) p, ap (λ (y : ℕ). y * (a * d)) q)
 
 -- ---- z from its units: n × 2 ^ 104 = m × 4 ^ j
-scale-square : (x d m J K : ℕ) → 0 < K → x * (K * K) ≡ m * (J * J) * d → (U D : ℕ) → U * K ≡ J * D → x * (D * D) ≡ m * (U * U) * d
+scale-square : (x d m J K : ℕ) → 0 < K → x * (K * K) ≡ m * (J * J) * d → (U D : ℕ) → U * K ≡ J * D →
+    x * (D * D) ≡ m * (U * U) * d
 scale-square x d m J K K-pos p U D q =
-    eq_of_mul-eq-mul_right (K * K) (mul-pos K-pos K-pos) _ _ (omega (arith, ap (λ (y : ℕ). y * (D * D)) p, ap (λ (y : ℕ). y * y * (m * d)) q))
+    eq_of_mul-eq-mul_right (K * K) (mul-pos K-pos K-pos) _ _
+    (omega (arith, ap (λ (y : ℕ). y * (D * D)) p, ap (λ (y : ℕ). y * y * (m * d)) q))
 
 -- the j and the m of n units
 record Place (n j m : ℕ) : Type 0 where
@@ -82,7 +88,8 @@ record Place (n j m : ℕ) : Type 0 where
 place : (n c y : ℕ) → ScaledTo n c y → Place n (quarters n) (n * 2 ^ 104 / 4 ^ quarters n)
 place n c y h =
     let J : quarters n ≡ y / 2 = quarters-is n c y h in
-    let M : n * 2 ^ 104 / 4 ^ quarters n ≡ c * (1 + y % 2) * 2 ^ 52 = ap (λ (j : ℕ). n * 2 ^ 104 / 4 ^ j) J ∙ whole-m n c y h.value in
+    let M : n * 2 ^ 104 / 4 ^ quarters n ≡ c * (1 + y % 2) * 2 ^ 52 =
+    ap (λ (j : ℕ). n * 2 ^ 104 / 4 ^ j) J ∙ whole-m n c y h.value in
     let g = range n c y h in
     record {
       digits = c * (1 + y % 2);
@@ -131,7 +138,8 @@ module _ (n j m : ℕ) (p : Place n j m) where
   -- the units of the double, and the square of √z in units
   double_units : (a : ℕ) → HasValue x false a (2 ^ 1074) → a ≡ v * 2 ^ (j + 485)
   double_units a h =
-      rw (pow-add 2 j 485) (go a (2 ^ 589) (2 ^ j) (2 ^ 485) (pow_pos 589) (value_cross x false false a (2 ^ 1074) (v * 2 ^ j) (2 ^ 589) h value))
+      rw (pow-add 2 j 485) (go a (2 ^ 589) (2 ^ j) (2 ^ 485) (pow_pos 589)
+      (value_cross x false false a (2 ^ 1074) (v * 2 ^ j) (2 ^ 589) h value))
     where
       go : (a K J Q : ℕ) → 0 < K → a * K ≡ v * J * (Q * K) → a ≡ v * (J * Q)
       go a K J Q k e = eq_of_mul-eq-mul_right K k a (v * (J * Q)) (omega arith)
@@ -142,7 +150,8 @@ module _ (n j m : ℕ) (p : Place n j m) where
       go : (X Q J : ℕ) → n * X ≡ m * (J * J) → n * (X * (Q * Q)) ≡ m * (J * Q * (J * Q))
       go X Q J e = omega (arith, ap (λ (y : ℕ). y * (Q * Q)) e)
 
-  nearest : (y : Float) (t : Bool) (b : ℕ) → T (fits binary64 y) → HasValue y t b (2 ^ 1074) → Nearer n (v * 2 ^ (j + 485)) t b
+  nearest : (y : Float) (t : Bool) (b : ℕ) → T (fits binary64 y) → HasValue y t b (2 ^ 1074) →
+      Nearer n (v * 2 ^ (j + 485)) t b
   nearest y t b f h =
       let w = v - 1 in
       let e : w + 1 ≡ v = omega (arith, v-between.0) in
@@ -155,9 +164,11 @@ module _ (n j m : ℕ) (p : Place n j m) where
       subst (λ (z : ℕ). Nearer n (z * 2 ^ (j + 485)) t b) e (double-nearer n m (j + 485) w square i y t b f h)
 
   -- z is x' / d
-  exact : (x' d : ℕ) → x' * 2 ^ 1074 ≡ n * d → x' * (down (sub_ℕ j 589) * down (sub_ℕ j 589)) ≡ m * (up (sub_ℕ j 589) * up (sub_ℕ j 589)) * d
+  exact : (x' d : ℕ) → x' * 2 ^ 1074 ≡ n * d → x' * (down (sub_ℕ j 589) * down (sub_ℕ j 589))
+      ≡ m * (up (sub_ℕ j 589) * up (sub_ℕ j 589)) * d
   exact x' d h =
-      scale-square x' d m (2 ^ j) (2 ^ 589) (pow_pos 589) (go (2 ^ 1074) (2 ^ 104) h (p.whole ∙ ap (λ (y : ℕ). m * y) (mul-pow 2 2 j)))
+      scale-square x' d m (2 ^ j) (2 ^ 589) (pow_pos 589) (go (2 ^ 1074) (2 ^ 104) h
+      (p.whole ∙ ap (λ (y : ℕ). m * y) (mul-pow 2 2 j)))
       (up (sub_ℕ j 589)) (down (sub_ℕ j 589)) (power_of j 589)
     where
       go : (L S : ℕ) → x' * L ≡ n * d → n * S ≡ m * (2 ^ j * 2 ^ j) → x' * (L * S) ≡ m * (2 ^ j * 2 ^ j) * d
@@ -186,7 +197,8 @@ module _ (n j m : ℕ) (p : Place n j m) where
   normal : T (le (of_bits binary64 0x0010000000000000) x)
   normal =
       let b : ℕ = 0x0010000000000000 in
-      le_of_values (of_bits binary64 b) x (pattern_units binary64 b) (2 ^ 1074) (v * 2 ^ j) (2 ^ 589) (pow_pos 1074) (pow_pos 589)
+      le_of_values (of_bits binary64 b) x (pattern_units binary64 b) (2 ^ 1074) (v * 2 ^ j) (2 ^ 589) (pow_pos 1074)
+      (pow_pos 589)
       (pattern_value binary64 b (lit< tt)) value
       (rw least-normal (go (2 ^ 589) (2 ^ 485) (2 ^ j) (pow_pos 485) (pow_pos j)))
     where
@@ -217,12 +229,14 @@ module _ (n j m : ℕ) (p : Place n j m) where
   unfolding is-root
   ranges_of z h = ranges
 
-  rounded : (z : Float) → ((a : ℕ) → HasValue z false a (2 ^ 1074) → a ≡ n) → Rounded z (parts_at j m (whole_root 53 m)).nearest
+  rounded : (z : Float) → ((a : ℕ) → HasValue z false a (2 ^ 1074) → a ≡ n) →
+      Rounded z (parts_at j m (whole_root 53 m)).nearest
   unfolding r v x
   rounded z only = record {
     nearer =
         λ y f n' a t b h k l.
-        subst (λ (i : ℕ). Nearer i a t b) (sym (only n' h)) (subst (λ (i : ℕ). Nearer n i t b) (sym (double_units a k)) (nearest y t b f l));
+        subst (λ (i : ℕ). Nearer i a t b) (sym (only n' h)) (subst (λ (i : ℕ). Nearer n i t b) (sym (double_units a k))
+        (nearest y t b f l));
   }
 
   -- ---- the format's rounding
@@ -240,14 +254,17 @@ module _ (n j m : ℕ) (p : Place n j m) where
 
   rounding : (a q : ℕ) → Beside r (m - r * r) a q → round binary64 false (a * 2 ^ j) (q * 2 ^ 589) ≡ x
   rounding a q b =
-      round_whole a q j b.some (omega (arith, b.from, mul-le-mul_right q r_between.0)) (omega (arith, b.to, mul-le-mul_right q r_between.1))
+      round_whole a q j b.some (omega (arith, b.from, mul-le-mul_right q r_between.0))
+      (omega (arith, b.to, mul-le-mul_right q r_between.1))
       ∙ ap (λ (y : ℕ). units binary64 false y (j + 485)) (closest_is a q b)
       ∙ sym itself
 
-  rounds : (a q : ℕ) → Beside r (m - r * r) a q → round binary64 false (a * up (sub_ℕ j 589)) (q * down (sub_ℕ j 589)) ≡ x
+  rounds : (a q : ℕ) → Beside r (m - r * r) a q → round binary64 false (a * up (sub_ℕ j 589)) (q * down (sub_ℕ j 589))
+      ≡ x
   rounds a q b =
       round_same binary64 false (a * up (sub_ℕ j 589)) (q * down (sub_ℕ j 589)) (a * 2 ^ j) (q * 2 ^ 589)
-      (mul-pos b.some (down_pos (sub_ℕ j 589))) (mul-pos b.some (pow_pos 589)) (go (up (sub_ℕ j 589)) (down (sub_ℕ j 589)) (2 ^ j) (2 ^ 589) (power_of j 589))
+      (mul-pos b.some (down_pos (sub_ℕ j 589))) (mul-pos b.some (pow_pos 589))
+      (go (up (sub_ℕ j 589)) (down (sub_ℕ j 589)) (2 ^ j) (2 ^ 589) (power_of j 589))
       ∙ rounding a q b
     where
       go : (U D J K : ℕ) → U * K ≡ J * D → a * U * (q * K) ≡ a * J * (q * D)

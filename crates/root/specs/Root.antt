@@ -1,5 +1,7 @@
--- The square root of a double with what is left. For a finite z > 0, z = m × 4 ^ s with m whole, 2 ^ 104 ≤ m < 2 ^ 106: r, the largest whole number whose square is at most m, the remainder m − r × r,
--- the exponent s, and the double r × 2 ^ s where the remainder is at most r, else (r + 1) × 2 ^ s. Theorem.antt says that these are what is computed here, and that no others are.
+-- The square root of a double with what is left. For a finite z > 0, z = m × 4 ^ s with m whole, 2 ^ 104 ≤ m < 2 ^ 106:
+-- r, the largest whole number whose square is at most m, the remainder m − r × r, the exponent s, and the double r × 2
+-- ^ s where the remainder is at most r, else (r + 1) × 2 ^ s. Theorem.antt says that these are what is computed here,
+-- and that no others are.
 use Rattle.std.specs.Prelude.{false, cond, ℕ, zero, suc, ◌+◌, ◌-◌, ◌*◌, ◌/◌, ◌^◌, leb, pos, Float}
 use Rattle.std.proofs.Math.IntN.{sub_ℕ}
 use Rattle.std.specs.Float.{nan, inf, fin, binary64}
@@ -32,7 +34,8 @@ unfoldable pub quarters : ℕ → ℕ
 unfolding size
 quarters n = (size n - 1) / 2
 
--- z has n units of 2 ^ −1074. As 1074 + 104 = 2 × 589, z = n / 2 ^ 1074 is (n × 2 ^ 104 / 4 ^ j) × 4 ^ (j − 589), and the division leaves nothing over
+-- z has n units of 2 ^ −1074. As 1074 + 104 = 2 × 589, z = n / 2 ^ 1074 is (n × 2 ^ 104 / 4 ^ j) × 4 ^ (j − 589), and
+-- the division leaves nothing over
 unfoldable pub root_parts : ℕ → RootParts
 unfolding whole_root quarters
 root_parts n =

@@ -1,4 +1,5 @@
--- What the root's numbers are, in the request's words and without the way they are computed: `RootTheorem` below, proved as `root_theorem` in proofs/Theorem.antt.
+-- What the root's numbers are, in the request's words and without the way they are computed: `RootTheorem` below,
+-- proved as `root_theorem` in proofs/Theorem.antt.
 use Rattle.std.specs.Prelude.{◌≡◌, ◌⊎◌, Bool, true, false, ℕ, ◌+◌, ◌-◌, ◌*◌, ◌^◌, ◌≤◌, ◌<◌, ℤ, pos, T, Float}
 use Rattle.std.proofs.Math.IntN.{sub_ℕ}
 use Rattle.std.specs.Float.{nan, inf, fin, binary64}
@@ -30,8 +31,9 @@ pub record RootIs (z : Float) (p : RootParts) : Type 0 where
   pub double : T (fits binary64 p.nearest)
   pub nearest : HasValue p.nearest false (nearer p.root p.remainder * up p.exponent) (down p.exponent)
 
--- In units of 2 ^ −1074, where every double is a whole number, z is n, so √z is √(n × 2 ^ 1074). The double a is nearer to √z than the double b or −b, and not as near: √z lies on a's side of
--- their middle, (a + b) / 2 or (a − b) / 2. For −b that is above the middle, and a − b ends at 0.
+-- In units of 2 ^ −1074, where every double is a whole number, z is n, so √z is √(n × 2 ^ 1074). The double a is nearer
+-- to √z than the double b or −b, and not as near: √z lies on a's side of their middle, (a + b) / 2 or (a − b) / 2. For
+-- −b that is above the middle, and a − b ends at 0.
 abbrev pub Nearer : ℕ → ℕ → Bool → ℕ → Type 0
 Nearer n a true b = (a - b) * (a - b) < 4 * (n * 2 ^ 1074)
 Nearer n a false b = (a < b → 4 * (n * 2 ^ 1074) < (a + b) * (a + b)) × (b < a → (a + b) * (a + b) < 4 * (n * 2 ^ 1074))
@@ -41,7 +43,8 @@ pub record Rounded (z x : Float) : Type 0 where
   pub nearer : (y : Float) → T (fits binary64 y) → (n a : ℕ) (t : Bool) (b : ℕ)
       → HasValue z false n (2 ^ 1074) → HasValue x false a (2 ^ 1074) → HasValue y t b (2 ^ 1074) → Nearer n a t b
 
--- the fraction a / q lies with √m between r and r + 1, and on the same side of their middle: below it where the remainder is at most r, and else above it
+-- the fraction a / q lies with √m between r and r + 1, and on the same side of their middle: below it where the
+-- remainder is at most r, and else above it
 pub record Beside (r remainder a q : ℕ) : Type 0 where
   pub some : 0 < q
   pub from : r * q ≤ a
@@ -78,14 +81,16 @@ pub record Answered (z : Float) : Type 0 where
   pub ranges : Ranges is.m parts
   pub rounded : Rounded z parts.nearest
   -- and so does the format's rounding have it: it takes every fraction beside √m, times 2 ^ s, to this double
-  pub rounds : (a q : ℕ) → Beside parts.root parts.remainder a q → round binary64 false (a * up parts.exponent) (q * down parts.exponent) ≡ parts.nearest
+  pub rounds : (a q : ℕ) → Beside parts.root parts.remainder a q →
+      round binary64 false (a * up parts.exponent) (q * down parts.exponent) ≡ parts.nearest
 
 pub record RootTheorem : Type 0 where
   -- of every double that is finite and above 0
   pub above_zero : (z : Float) → T (fits binary64 z) → T (positive z) → Answered z
   -- a zero gives zeros, and the double keeps its sign
   pub zeros : (s : Bool) →
-      root_of (fin s 0 (pos 0)) ≡ answers (record { root = 0; remainder = 0; exponent = pos 0; nearest = fin s 0 (pos 0) })
+      root_of (fin s 0 (pos 0))
+      ≡ answers (record { root = 0; remainder = 0; exponent = pos 0; nearest = fin s 0 (pos 0) })
   -- 1 comes before 8: −∞ gets 1
   pub below_zero : (z : Float) → lt z f0 ≡ true → root_of z ≡ refuses 1
   pub minus_infinity : root_of (inf true) ≡ refuses 1

@@ -1,8 +1,8 @@
-// The square root of a double with what is left: for a finite z > 0, z = m * 4^s with m whole,
-// 2^104 <= m < 2^106; r, the largest whole number whose square is at most m; the remainder m - r*r;
-// s; and the double nearest to the root. The root of m is found by halves: the root of the upper
-// half of its digits, and one division for the lower half. m is a number c below 2^54 times 2^52, so
-// that c is all that is held of it.
+// The square root of a double with what is left: for a finite z > 0, z = m * 4^s with m whole, 2^104 <= m < 2^106; r,
+// the largest whole number whose square is at most m; the remainder m - r*r; s; and the double nearest to the root.
+// Proved: r is that number, and the double is the root rounded to nearest, ties to even (RootTheorem). The root of m is
+// found by halves: the root of the upper half of its digits, and one division for the lower half. m is a number c below
+// 2^54 times 2^52, so that c is all that is held of it. Rests on ieee and linalg.
 #![tactic(auto)]
 
 ghost use Rattle.std.specs.Prelude.{◌≡◌, ◌+◌, ◌*◌, ◌^◌, ◌<◌, ◌≤◌};
@@ -76,7 +76,8 @@ fn seed(h: u64) -> u64
 // and l, of the base b. The quotient is the root's next digit, or one too large.
 fn widen(s: u64, r: u64, b: u64, a: u64, l: u64) -> Whole
     requires { (s < 2 ^ 27) × (r ≤ 2 * s) × (b ≤ 2 ^ 26) × (b ≤ 2 * s) × (a < b) × (l < b) }
-    ensures { (result.root * result.root + result.remainder ≡ (s * s + r) * (b * b) + a * b + l) × (result.remainder ≤ 2 * result.root) }
+    ensures { (result.root * result.root + result.remainder ≡ (s * s + r) * (b * b) + a * b + l)
+        × (result.remainder ≤ 2 * result.root) }
 {
     let n = r * b + a;
     let d = 2 * s;

@@ -3,7 +3,8 @@ use mathlib.Core.Path.{◌≡◌, subst}
 use mathlib.Core.Bool.{Bool, true, false, not}
 use lib.Dec.{T, leb, leb→le, nleb→lt}
 use Prim.Native.Nat.{ℕ, ◌+◌, ◌-◌, ◌*◌, ◌≤◌, ◌<◌}
-use native.Mathlib.Nat.{mul-add, add-mul, mul_assoc, mul_comm, mul_left_comm, zero-mul, mul-zero, zero-add, add-zero, mul-le-mul_left, mul-le-mul_right}
+use native.Mathlib.Nat.{mul-add, add-mul, mul_assoc, mul_comm, mul_left_comm, zero-mul, mul-zero, zero-add, add-zero}
+use native.Mathlib.Nat.{mul-le-mul_left, mul-le-mul_right}
 use native.Mathlib.Omega.{arith}
 
 -- both sides of an order as sums of products, the factors in one order
@@ -37,7 +38,8 @@ product p n q m a b h k u v = go (leb n p) (leb→le n p) (nleb→lt n p)
         let e : p + (n - p) ≡ n = omega arith in
         subst (λ (x : ℕ). p * q + x * m ≤ p * m + x * q + a * b) e (down_case p (n - p) q m a b (omega arith) v)
 
--- ---- x y against x' y', with x = p - n, y = q - m: x is within e of x', y within g of y', x at most a and y' at most b in size
+-- ---- x y against x' y', with x = p - n, y = q - m: x is within e of x', y within g of y', x at most a and y' at most
+-- b in size
 pub products : (p n p' n' q m q' m' e g a b : ℕ)
     → p + n' ≤ n + p' + e → n + p' ≤ p + n' + e → q + m' ≤ m + q' + g → m + q' ≤ q + m' + g
     → p ≤ n + a → n ≤ p + a → q' ≤ m' + b → m' ≤ q' + b

@@ -22,16 +22,24 @@ pub most-signed : (w b : ℕ) (s : Bool) (a c : ℕ) → w * a ≤ b * c → AtM
 most-signed w b false a c h = record { above = omega arith; below = omega arith }
 most-signed w b true a c h = record { above = omega arith; below = omega arith }
 
-pub leaf_forward : (w : ℕ) (x : Float) (b : ℕ) → Bounded w x b → ForwardError w x (value_of x) (record { magnitude = b; error = 0 })
+pub leaf_forward : (w : ℕ) (x : Float) (b : ℕ) → Bounded w x b →
+    ForwardError w x (value_of x) (record { magnitude = b; error = 0 })
 unfolding value_of
 leaf_forward w nan b h = absurd h
 leaf_forward w (inf s) b h = absurd h
-leaf_forward w (fin s m e) b h = record { close = near_self w (signed s (m * up e) (down e)); size = most-signed w b s (m * up e) (down e) h; above = down_pos e }
+leaf_forward w (fin s m e) b h =
+    record {
+      close = near_self w (signed s (m * up e) (down e));
+      size = most-signed w b s (m * up e) (down e) h;
+      above =
+          down_pos e;
+    }
 
 zero_bounded : (w : ℕ) → Bounded w f0 0
 zero_bounded w = simp zeros (lit≤ tt)
 
-pub leaves_forward : (w : ℕ) (xs : List Float) (bs : List ℕ) → AllBounded w xs bs → (i : ℕ) → ForwardError w (at xs i) (value_of (at xs i)) (sizes bs i)
+pub leaves_forward : (w : ℕ) (xs : List Float) (bs : List ℕ) → AllBounded w xs bs → (i : ℕ) →
+    ForwardError w (at xs i) (value_of (at xs i)) (sizes bs i)
 leaves_forward w [] [] h i = leaf_forward w f0 0 (zero_bounded w)
 leaves_forward w [] (b ∷ bs) h i = absurd h
 leaves_forward w (x ∷ xs) [] h i = absurd h
@@ -39,14 +47,17 @@ leaves_forward w (x ∷ xs) (b ∷ bs) h zero = leaf_forward w x b h.0
 leaves_forward w (x ∷ xs) (b ∷ bs) h (suc i) = leaves_forward w xs bs h.1 i
 
 -- ---- a tree over leaves of bounded size, with the test of its bound
-pub tree-error : (f : Format) (w : ℕ) (xs : List Float) (bs : List ℕ) (t : Term) (y : Float) (v : Value) (e : ℕ) → 0 < w → AllBounded w xs bs → T (error_at_most f w bs t e)
+pub tree-error : (f : Format) (w : ℕ) (xs : List Float) (bs : List ℕ) (t : Term) (y : Float) (v : Value) (e : ℕ) →
+    0 < w → AllBounded w xs bs → T (error_at_most f w bs t e)
     → computed f (at xs) t ≡ y → exact (exact_at xs) t ≡ v → AbsoluteError w y v e
 tree-error f w xs bs t y v e z h k p q =
     let b = bound f w (sizes bs) t in
-    let c : AbsoluteError w (computed f (at xs) t) (exact (exact_at xs) t) b.error = (forward_error f w (at xs) (exact_at xs) (sizes bs) z
+    let c : AbsoluteError w (computed f (at xs) t) (exact (exact_at xs) t) b.error =
+    (forward_error f w (at xs) (exact_at xs) (sizes bs) z
     (leaves_forward w xs bs h) t (and_l (no_overflow f w (sizes bs) t) (leb b.error e) k)).close in
     subst (λ (a : Float). AbsoluteError w a v e) p (subst (λ (a : Value). AbsoluteError w (computed f (at xs) t) a e) q
-    (error_wider w (computed f (at xs) t) (exact (exact_at xs) t) b.error e (leb→le b.error e (and_r (no_overflow f w (sizes bs) t) (leb b.error e) k)) c))
+    (error_wider w (computed f (at xs) t) (exact (exact_at xs) t) b.error e
+    (leb→le b.error e (and_r (no_overflow f w (sizes bs) t) (leb b.error e) k)) c))
 
 pub two_bounded : (w : ℕ) → Bounded w f2 (2 * w)
 two_bounded w = omega arith
@@ -60,7 +71,8 @@ AllForwardError w (x ∷ xs) [] bs = ⊥
 AllForwardError w (x ∷ xs) (v ∷ vs) [] = ⊥
 AllForwardError w (x ∷ xs) (v ∷ vs) (b ∷ bs) = ForwardError w x v b × AllForwardError w xs vs bs
 
-pub nth_forward : (w : ℕ) (xs : List Float) (vs : List Value) (bs : List Bound) → AllForwardError w xs vs bs → (i : ℕ) → ForwardError w (nth f0 xs i) (nth (value_of f0) vs i) (nth no_bound bs i)
+pub nth_forward : (w : ℕ) (xs : List Float) (vs : List Value) (bs : List Bound) → AllForwardError w xs vs bs → (i : ℕ) →
+    ForwardError w (nth f0 xs i) (nth (value_of f0) vs i) (nth no_bound bs i)
 nth_forward w [] [] [] h i = leaf_forward w f0 0 (omega arith)
 nth_forward w [] [] (b ∷ bs) h i = absurd h
 nth_forward w [] (v ∷ vs) bs h i = absurd h

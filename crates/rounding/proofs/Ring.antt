@@ -1,4 +1,5 @@
--- Equations between polynomials over whole numbers written as differences, p - n, by a normal form that is computed. Assumes nothing.
+-- Equations between polynomials over whole numbers written as differences, p - n, by a normal form that is computed.
+-- Assumes nothing.
 use mathlib.Core.Path.{◌≡◌, refl, sym, ap, ap₂, ◌∙◌}
 use mathlib.Core.List.{List, [], ◌∷◌}
 use Prim.Native.Nat.{ℕ, ◌+◌, ◌*◌}
@@ -78,7 +79,8 @@ mul_left_comm : (a b c : Gap) → a ⊗ (b ⊗ c) ≡ b ⊗ (a ⊗ c)
 mul_left_comm a b c = sym (mul_assoc a b c) ∙ ap (λ (x : Gap). x ⊗ c) (mul_comm a b) ∙ mul_assoc b a c
 
 mul_mul_mul_comm : (a b c d : Gap) → a ⊗ b ⊗ (c ⊗ d) ≡ a ⊗ c ⊗ (b ⊗ d)
-mul_mul_mul_comm a b c d = mul_assoc a b (c ⊗ d) ∙ ap (λ (x : Gap). a ⊗ x) (mul_left_comm b c d) ∙ sym (mul_assoc a c (b ⊗ d))
+mul_mul_mul_comm a b c d =
+    mul_assoc a b (c ⊗ d) ∙ ap (λ (x : Gap). a ⊗ x) (mul_left_comm b c d) ∙ sym (mul_assoc a c (b ⊗ d))
 
 pub data Ex : Type 0 where
   var : ℕ → Ex
@@ -105,7 +107,8 @@ ins_m_ev : (r : ℕ → Gap) (i : ℕ) (m : List ℕ) → ev_m r (ins_m i m) ≡
 ins_m_ev r i [] = refl
 ins_m_ev r i (j ∷ m) = go (leb i j) (ins_m_ev r i m)
   where
-    go : (b : Bool) → ev_m r (ins_m i m) ≡ r i ⊗ ev_m r m → ev_m r (cond b (i ∷ j ∷ m) (j ∷ ins_m i m)) ≡ r i ⊗ (r j ⊗ ev_m r m)
+    go : (b : Bool) → ev_m r (ins_m i m) ≡ r i ⊗ ev_m r m → ev_m r (cond b (i ∷ j ∷ m) (j ∷ ins_m i m))
+        ≡ r i ⊗ (r j ⊗ ev_m r m)
     go true h = refl
     go false h = ap (λ (x : Gap). r j ⊗ x) h ∙ mul_left_comm (r j) (r i) (ev_m r m)
 
@@ -115,7 +118,8 @@ mul_m (i ∷ l) m = ins_m i (mul_m l m)
 
 mul_m_ev : (r : ℕ → Gap) (l m : List ℕ) → ev_m r (mul_m l m) ≡ ev_m r l ⊗ ev_m r m
 mul_m_ev r [] m = sym (one-mul (ev_m r m))
-mul_m_ev r (i ∷ l) m = ins_m_ev r i (mul_m l m) ∙ ap (λ (x : Gap). r i ⊗ x) (mul_m_ev r l m) ∙ sym (mul_assoc (r i) (ev_m r l) (ev_m r m))
+mul_m_ev r (i ∷ l) m =
+    ins_m_ev r i (mul_m l m) ∙ ap (λ (x : Gap). r i ⊗ x) (mul_m_ev r l m) ∙ sym (mul_assoc (r i) (ev_m r l) (ev_m r m))
 
 abbrev pub eq_m : List ℕ → List ℕ → Bool
 eq_m [] [] = true
@@ -127,7 +131,9 @@ eq_m_ev : (r : ℕ → Gap) (l m : List ℕ) → T (eq_m l m) → ev_m r l ≡ e
 eq_m_ev r [] [] t = refl
 eq_m_ev r [] (j ∷ m) t = absurd t
 eq_m_ev r (i ∷ l) [] t = absurd t
-eq_m_ev r (i ∷ l) (j ∷ m) t = ap₂ (λ (x y : Gap). x ⊗ y) (ap r (eqb→eq i j (and_l (eqb i j) (eq_m l m) t))) (eq_m_ev r l m (and_r (eqb i j) (eq_m l m) t))
+eq_m_ev r (i ∷ l) (j ∷ m) t =
+    ap₂ (λ (x y : Gap). x ⊗ y) (ap r (eqb→eq i j (and_l (eqb i j) (eq_m l m) t)))
+    (eq_m_ev r l m (and_r (eqb i j) (eq_m l m) t))
 
 -- the order in which the monomials stand: only for a normal form that is unique
 abbrev pub lt_m : List ℕ → List ℕ → Bool
@@ -157,13 +163,15 @@ ins_p_ev r c m [] = refl
 ins_p_ev r c m (x ∷ p) = go (eq_m m x.m) (eq_m_ev r m x.m) (lt_m m x.m) (ins_p_ev r c m p)
   where
     go : (b : Bool) → (T b → ev_m r m ≡ ev_m r x.m) → (d : Bool) → ev_p r (ins_p c m p) ≡ c ⊗ ev_m r m ⊕ ev_p r p
-        → ev_p r (cond b (item (c ⊕ x.c) x.m ∷ p) (cond d (item c m ∷ x ∷ p) (x ∷ ins_p c m p))) ≡ c ⊗ ev_m r m ⊕ (x.c ⊗ ev_m r x.m ⊕ ev_p r p)
+        → ev_p r (cond b (item (c ⊕ x.c) x.m ∷ p) (cond d (item c m ∷ x ∷ p) (x ∷ ins_p c m p)))
+        ≡ c ⊗ ev_m r m ⊕ (x.c ⊗ ev_m r x.m ⊕ ev_p r p)
     go true e d h =
         ap (λ (y : Gap). y ⊕ ev_p r p) (add-mul c x.c (ev_m r x.m))
         ∙ add_assoc (c ⊗ ev_m r x.m) (x.c ⊗ ev_m r x.m) (ev_p r p)
         ∙ ap (λ (y : Gap). c ⊗ y ⊕ (x.c ⊗ ev_m r x.m ⊕ ev_p r p)) (sym (e tt))
     go false e true h = refl
-    go false e false h = ap (λ (y : Gap). x.c ⊗ ev_m r x.m ⊕ y) h ∙ add_left_comm (x.c ⊗ ev_m r x.m) (c ⊗ ev_m r m) (ev_p r p)
+    go false e false h =
+        ap (λ (y : Gap). x.c ⊗ ev_m r x.m ⊕ y) h ∙ add_left_comm (x.c ⊗ ev_m r x.m) (c ⊗ ev_m r m) (ev_p r p)
 
 abbrev pub add_p : List Item → List Item → List Item
 add_p [] q = q
@@ -171,14 +179,17 @@ add_p (x ∷ p) q = ins_p x.c x.m (add_p p q)
 
 add_p_ev : (r : ℕ → Gap) (p q : List Item) → ev_p r (add_p p q) ≡ ev_p r p ⊕ ev_p r q
 add_p_ev r [] q = sym (zero-add (ev_p r q))
-add_p_ev r (x ∷ p) q = ins_p_ev r x.c x.m (add_p p q) ∙ ap (λ (y : Gap). x.c ⊗ ev_m r x.m ⊕ y) (add_p_ev r p q) ∙ sym (add_assoc (x.c ⊗ ev_m r x.m) (ev_p r p) (ev_p r q))
+add_p_ev r (x ∷ p) q =
+    ins_p_ev r x.c x.m (add_p p q) ∙ ap (λ (y : Gap). x.c ⊗ ev_m r x.m ⊕ y) (add_p_ev r p q)
+    ∙ sym (add_assoc (x.c ⊗ ev_m r x.m) (ev_p r p) (ev_p r q))
 
 -- an item times a sum, put into another sum
 abbrev pub mul_add : Gap → List ℕ → List Item → List Item → List Item
 mul_add c m [] q = q
 mul_add c m (x ∷ p) q = ins_p (c ⊗ x.c) (mul_m m x.m) (mul_add c m p q)
 
-mul_add_ev : (r : ℕ → Gap) (c : Gap) (m : List ℕ) (p q : List Item) → ev_p r (mul_add c m p q) ≡ c ⊗ ev_m r m ⊗ ev_p r p ⊕ ev_p r q
+mul_add_ev : (r : ℕ → Gap) (c : Gap) (m : List ℕ) (p q : List Item) →
+    ev_p r (mul_add c m p q) ≡ c ⊗ ev_m r m ⊗ ev_p r p ⊕ ev_p r q
 mul_add_ev r c m [] q = sym (ap (λ (y : Gap). y ⊕ ev_p r q) (mul-zero (c ⊗ ev_m r m)) ∙ zero-add (ev_p r q))
 mul_add_ev r c m (x ∷ p) q =
     ins_p_ev r (c ⊗ x.c) (mul_m m x.m) (mul_add c m p q)
@@ -193,7 +204,9 @@ mul_p (x ∷ p) q = mul_add x.c x.m q (mul_p p q)
 
 mul_p_ev : (r : ℕ → Gap) (p q : List Item) → ev_p r (mul_p p q) ≡ ev_p r p ⊗ ev_p r q
 mul_p_ev r [] q = sym (zero-mul (ev_p r q))
-mul_p_ev r (x ∷ p) q = mul_add_ev r x.c x.m q (mul_p p q) ∙ ap (λ (y : Gap). x.c ⊗ ev_m r x.m ⊗ ev_p r q ⊕ y) (mul_p_ev r p q) ∙ sym (add-mul (x.c ⊗ ev_m r x.m) (ev_p r p) (ev_p r q))
+mul_p_ev r (x ∷ p) q =
+    mul_add_ev r x.c x.m q (mul_p p q) ∙ ap (λ (y : Gap). x.c ⊗ ev_m r x.m ⊗ ev_p r q ⊕ y) (mul_p_ev r p q)
+    ∙ sym (add-mul (x.c ⊗ ev_m r x.m) (ev_p r p) (ev_p r q))
 
 -- ---- the normal form
 unfoldable pub normal : Ex → List Item
@@ -224,9 +237,11 @@ item_level a b x y h = rw h (omega arith)
 balanced_ev : (r : ℕ → Gap) (p : List Item) → T (balanced p) → (ev_p r p).p ≡ (ev_p r p).n
 balanced_ev r [] t = refl
 balanced_ev r (x ∷ p) t =
-    ap₂ (λ (a b : ℕ). a + b) (item_level x.c.p x.c.n (ev_m r x.m).p (ev_m r x.m).n (eqb→eq x.c.p x.c.n (and_l (eqb x.c.p x.c.n) (balanced p) t)))
+    ap₂ (λ (a b : ℕ). a + b) (item_level x.c.p x.c.n (ev_m r x.m).p (ev_m r x.m).n
+    (eqb→eq x.c.p x.c.n (and_l (eqb x.c.p x.c.n) (balanced p) t)))
     (balanced_ev r p (and_r (eqb x.c.p x.c.n) (balanced p) t))
 
 -- an expression whose normal form is 0 is 0 at every point
 pub ring : (a : Ex) → T (balanced (normal a)) → (r : ℕ → Gap) → (ev r a).p ≡ (ev r a).n
-ring a t r = ap (λ (x : Gap). x.p) (sym (normal_ev r a)) ∙ balanced_ev r (normal a) t ∙ ap (λ (x : Gap). x.n) (normal_ev r a)
+ring a t r =
+    ap (λ (x : Gap). x.p) (sym (normal_ev r a)) ∙ balanced_ev r (normal a) t ∙ ap (λ (x : Gap). x.n) (normal_ev r a)

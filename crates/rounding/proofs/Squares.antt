@@ -32,7 +32,8 @@ root a b r h = go (leb a b) (leb→le a b) (nleb→lt a b)
     go false l g =
         let k : b < a = g tt in
         let e : a ≡ b + (a - b) = omega arith in
-        let d : a - b ≤ r = square_le (a - b) r (root_case b (a - b) r (subst (λ (i : ℕ). i * i + b * b ≤ r * r + 2 * (i * b)) e h)) in
+        let d : a - b ≤ r =
+        square_le (a - b) r (root_case b (a - b) r (subst (λ (i : ℕ). i * i + b * b ≤ r * r + 2 * (i * b)) e h)) in
         omega arith
 
 pub twice-le : (x x' : ℕ) → 2 * (x * x') ≤ x * x + x' * x'
@@ -64,7 +65,11 @@ size-root a b r h = record { above = root a b r h; below = root b a r (omega (ar
 
 pub size-product : (p n q m a b : ℕ) → Size p n a → Size q m b → Size (p * q + n * m) (p * m + n * q) (a * b)
 size-product p n q m a b h k =
-    record { above = product p n q m a b h.above h.below k.above k.below; below = product p n m q a b h.above h.below k.below k.above }
+    record {
+      above = product p n q m a b h.above h.below k.above k.below;
+      below =
+          product p n m q a b h.above h.below k.below k.above;
+    }
 
 pub size-sum : (p n q m a b : ℕ) → Size p n a → Size q m b → Size (p + q) (n + m) (a + b)
 size-sum p n q m a b h k =

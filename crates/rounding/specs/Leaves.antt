@@ -49,5 +49,5 @@ abbrev pub no_bound : Bound
 no_bound = record { magnitude = 0; error = 0 }
 
 -- a number of at most b units, with no error
-abbrev pub plain : ℕ → Bound
-plain b = record { magnitude = b; error = 0 }
+abbrev pub errorless : ℕ → Bound
+errorless b = record { magnitude = b; error = 0 }

@@ -1,3 +1,4 @@
+-- To be read in this order.
 pub mod Value
 pub mod Roundoff
 pub mod Tree

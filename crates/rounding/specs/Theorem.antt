@@ -4,7 +4,8 @@ use Rattle.std.specs.Float.{Format, binary64}
 use Rattle.std.specs.Float.Ieee.{emax, round, div}
 use Rattle.rounding.specs.Value.{Value, signed, value_of, ratio, AtLeast, AbsoluteError}
 use Rattle.rounding.specs.Roundoff.{rounding_error}
-use Rattle.rounding.specs.Tree.{Term, computed, exact, Bound, bound, no_overflow, well_defined, DivisorsAtLeast, ForwardError}
+use Rattle.rounding.specs.Tree.{Term, computed, exact, Bound, bound, no_overflow, well_defined, DivisorsAtLeast}
+use Rattle.rounding.specs.Tree.{ForwardError}
 use Rattle.rounding.specs.Leaves.{Bounded}
 
 pub record ForwardErrorTheorem : Type 0 where
@@ -19,7 +20,8 @@ pub record ForwardErrorTheorem : Type 0 where
       ForwardError w (computed f x t) (exact v t) (bound f w b t)
   -- with quotients: the same, where each exact divisor is at least its lower bound
   pub divided : (f : Format) (w : ℕ) (x : ℕ → Float) (v : ℕ → Value) (b : ℕ → Bound) →
-      0 < w → ((i : ℕ) → ForwardError w (x i) (v i) (b i)) → (t : Term) → T (well_defined f w b t) → DivisorsAtLeast w v t →
+      0 < w → ((i : ℕ) → ForwardError w (x i) (v i) (b i)) → (t : Term) → T (well_defined f w b t) →
+      DivisorsAtLeast w v t →
       ForwardError w (computed f x t) (exact v t) (bound f w b t)
   -- a quotient of doubles up to 16 in size, the divisor at least 1 / 4: within 2^-46
   pub quotient_doubles : (x y : Float) →

@@ -54,17 +54,28 @@ abbrev pub prod_reach : ℕ → Bound → Bound → ℕ
 prod_reach w a b = upward w (reach a * reach b)
 
 abbrev pub sum_bound : Format → ℕ → Bound → Bound → Bound
-sum_bound f w a b = record { magnitude = a.magnitude + b.magnitude; error = a.error + b.error + rounding_error f w (sum_reach a b) }
+sum_bound f w a b =
+    record { magnitude = a.magnitude + b.magnitude; error = a.error + b.error + rounding_error f w (sum_reach a b) }
 
 abbrev pub prod_bound : Format → ℕ → Bound → Bound → Bound
-prod_bound f w a b = record { magnitude = upward w (a.magnitude * b.magnitude); error = upward w (reach a * b.error + a.error * b.magnitude) + rounding_error f w (prod_reach w a b) }
+prod_bound f w a b =
+    record {
+      magnitude = upward w (a.magnitude * b.magnitude);
+      error =
+          upward w (reach a * b.error + a.error * b.magnitude) + rounding_error f w (prod_reach w a b);
+    }
 
 -- 1 / y for a y of at least l, computed within e: its size and its error
 abbrev pub inverse_bound : ℕ → ℕ → ℕ → Bound
 inverse_bound w l e = record { magnitude = upward l (w * w); error = upward (l * (l - e)) (e * (w * w)) }
 
 abbrev pub quot_bound : Format → ℕ → Bound → Bound → Bound
-quot_bound f w a i = record { magnitude = upward w (a.magnitude * i.magnitude); error = upward w (reach a * i.error + a.error * i.magnitude) + rounding_error f w (prod_reach w a i) }
+quot_bound f w a i =
+    record {
+      magnitude = upward w (a.magnitude * i.magnitude);
+      error =
+          upward w (reach a * i.error + a.error * i.magnitude) + rounding_error f w (prod_reach w a i);
+    }
 
 unfoldable pub bound : Format → ℕ → (ℕ → Bound) → Term → Bound
 bound f w b (leaf i) = b i
@@ -82,8 +93,10 @@ unfoldable pub no_overflow : Format → ℕ → (ℕ → Bound) → Term → Boo
 unfolding bound
 no_overflow f w b (leaf i) = true
 no_overflow f w b (opp a) = no_overflow f w b a
-no_overflow f w b (sum a c) = no_overflow f w b a && (no_overflow f w b c && in_range f w (sum_reach (bound f w b a) (bound f w b c)))
-no_overflow f w b (prod a c) = no_overflow f w b a && (no_overflow f w b c && in_range f w (prod_reach w (bound f w b a) (bound f w b c)))
+no_overflow f w b (sum a c) =
+    no_overflow f w b a && (no_overflow f w b c && in_range f w (sum_reach (bound f w b a) (bound f w b c)))
+no_overflow f w b (prod a c) =
+    no_overflow f w b a && (no_overflow f w b c && in_range f w (prod_reach w (bound f w b a) (bound f w b c)))
 no_overflow f w b (quot l a c) = false
 
 -- no sum, product or quotient of the tree can overflow, and no computed divisor can be 0
@@ -91,9 +104,14 @@ unfoldable pub well_defined : Format → ℕ → (ℕ → Bound) → Term → Bo
 unfolding bound
 well_defined f w b (leaf i) = true
 well_defined f w b (opp a) = well_defined f w b a
-well_defined f w b (sum a c) = well_defined f w b a && (well_defined f w b c && in_range f w (sum_reach (bound f w b a) (bound f w b c)))
-well_defined f w b (prod a c) = well_defined f w b a && (well_defined f w b c && in_range f w (prod_reach w (bound f w b a) (bound f w b c)))
-well_defined f w b (quot l a c) = well_defined f w b a && (well_defined f w b c && (ltb (bound f w b c).error l && in_range f w (prod_reach w (bound f w b a) (inverse_bound w l (bound f w b c).error))))
+well_defined f w b (sum a c) =
+    well_defined f w b a && (well_defined f w b c && in_range f w (sum_reach (bound f w b a) (bound f w b c)))
+well_defined f w b (prod a c) =
+    well_defined f w b a && (well_defined f w b c && in_range f w (prod_reach w (bound f w b a) (bound f w b c)))
+well_defined f w b (quot l a c) =
+    well_defined f w b a
+    && (well_defined f w b c && (ltb (bound f w b c).error l
+    && in_range f w (prod_reach w (bound f w b a) (inverse_bound w l (bound f w b c).error))))
 
 -- each exact divisor is at least its lower bound
 unfoldable pub DivisorsAtLeast : ℕ → (ℕ → Value) → Term → Type 0

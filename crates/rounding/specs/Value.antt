@@ -1,4 +1,5 @@
--- Exact values: fractions of whole numbers, with a sign by a difference, their sums and products, and how far one is from another.
+-- Exact values: fractions of whole numbers, with a sign by a difference, their sums and products, and how far one is
+-- from another.
 use Rattle.std.specs.Prelude.{ℕ, ◌+◌, ◌-◌, ◌*◌, ◌≤◌, Bool, false, cond, ltb, Float}
 use Rattle.std.specs.Float.{nan, inf, fin}
 use Rattle.std.specs.Float.Ieee.{up, down}

@@ -1,4 +1,5 @@
--- A step on each element of a list, one after another: after i turns the first i are changed and the rest is as it was. Assumes nothing.
+-- A step on each element of a list, one after another: after i turns the first i are changed and the rest is as it was.
+-- Assumes nothing.
 use Prim.Native.Nat.{ℕ, zero, suc}
 use mathlib.Core.Path.{◌≡◌, refl, ap}
 use mathlib.Core.List.{List, [], ◌∷◌, map}

@@ -1,4 +1,5 @@
--- After any history the running pose is the products and renormalisations in its order: a count that stops at 65535 tells what the whole count would. Assumes nothing.
+-- After any history the running pose is the products and renormalisations in its order: a count that stops at 65535
+-- tells what the whole count would. Assumes nothing.
 use Prim.Native.Nat.{ℕ, ◌+◌, ◌<◌, ◌≤◌}
 use mathlib.Core.Path.{◌≡◌, refl}
 use mathlib.Core.Bool.{Bool, true, false, cond}
@@ -56,24 +57,30 @@ due_more n k h = rw (more_cap k) (due_by (ltb (k + 1) 65535) n (k + 1) refl h)
 
 -- ---- event by event, from any state on whose count is that of k products
 abbrev Follows : Format → List Event → Type 0
-Follows f h = (r : Running) (k : ℕ) → r.since ≡ cap k → r.every < 65536 → Small h → (after f r h).pose ≡ ran f r.pose r.every k h
+Follows f h =
+    (r : Running) (k : ℕ) → r.since ≡ cap k → r.every < 65536 → Small h → (after f r h).pose ≡ ran f r.pose r.every k h
 
 product_on_lem :
-    (f : Format) (p x : Pose) (up : Float) (h : List Event) → Follows f h → (r : Running) (k : ℕ) → r.pose ≡ Some p → r.since ≡ cap k → r.every < 65536 → Small h →
+    (f : Format) (p x : Pose) (up : Float) (h : List Event) → Follows f h → (r : Running) (k : ℕ) → r.pose ≡ Some p →
+    r.since ≡ cap k → r.every < 65536 → Small h →
     (t d : Bool) → eqb p.from x.to ≡ t → due r.every (k + 1) ≡ d →
     (after f (product_on f r (framed_mul f p x up)).running h).pose
-    ≡ cond t (cond d (ran f (Some (renormalized_product f p x up)) r.every 0 h) (ran f (Some (product f p x up)) r.every (k + 1) h)) (ran f (Some p) r.every k h)
+    ≡ cond t (cond d (ran f (Some (renormalized_product f p x up)) r.every 0 h)
+    (ran f (Some (product f p x up)) r.every (k + 1) h)) (ran f (Some p) r.every k h)
 unfolding framed_mul product_on produced_of framed_renormalized
 product_on_lem f p x up h go r k e c v m true true q d = rw (q, c, due_more r.every k v, d) (go _ 0 cap_none v m)
-product_on_lem f p x up h go r k e c v m true false q d = rw (q, c, due_more r.every k v, d) (go _ (k + 1) (more_cap k) v m)
+product_on_lem f p x up h go r k e c v m true false q d =
+    rw (q, c, due_more r.every k v, d) (go _ (k + 1) (more_cap k) v m)
 product_on_lem f p x up h go r k e c v m false d q u = rw (q, ← e) (go r k c v m)
 
 join_on_lem :
-    (f : Format) (s : Start) (x : Pose) (up : Float) (h : List Event) → Follows f h → (r : Running) (k : ℕ) → r.pose ≡ s → r.since ≡ cap k → r.every < 65536 → Small h →
+    (f : Format) (s : Start) (x : Pose) (up : Float) (h : List Event) → Follows f h → (r : Running) (k : ℕ) →
+    r.pose ≡ s → r.since ≡ cap k → r.every < 65536 → Small h →
     (after f (join_on f s r x up).running h).pose ≡ ran f s r.every k (join x up ∷ h)
 unfolding join_on ran
 join_on_lem f None x up h go r k e c v m = go _ k c v m
-join_on_lem f (Some p) x up h go r k e c v m = product_on_lem f p x up h go r k e c v m (eqb p.from x.to) (due r.every (k + 1)) refl refl
+join_on_lem f (Some p) x up h go r k e c v m =
+    product_on_lem f p x up h go r k e c v m (eqb p.from x.to) (due r.every (k + 1)) refl refl
 
 follows : (f : Format) (h : List Event) → Follows f h
 unfolding after ran Small

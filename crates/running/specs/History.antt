@@ -1,4 +1,5 @@
--- Any history of the running join, plainly: the products and renormalisations in its order, with a count that has no bound. Proved as `history` in proofs/Past.antt.
+-- Any history of the running join, plainly: the products and renormalisations in its order, with a count that has no
+-- bound. Proved as `history` in proofs/Past.antt.
 use Rattle.std.specs.Prelude.{Some, None, ℕ, ◌+◌, ◌<◌, ◌≡◌, cond, List, [], ◌∷◌, eqb, Float}
 use Rattle.std.specs.Float.{Format}
 use Rattle.sim3.specs.Pose.{pose_mul, pose_renormalized}
@@ -26,14 +27,16 @@ product f p x up = framed (pose_mul f p.sim3 x.sim3 up) x.from p.to
 abbrev pub renormalized_product : Format → Pose → Pose → Float → Pose
 renormalized_product f p x up = framed (pose_renormalized f (pose_mul f p.sim3 x.sim3 up)) x.from p.to
 
--- the running pose after them, from the pose s on, where n is set and there were k products since the last renormalisation; a product is accepted where the frames meet
+-- the running pose after them, from the pose s on, where n is set and there were k products since the last
+-- renormalisation; a product is accepted where the frames meet
 unfoldable pub ran : Format → Start → ℕ → ℕ → List Event → Start
 ran f s n k [] = s
 ran f s n k (renew m ∷ h) = ran f s m k h
 ran f None n k (join x up ∷ h) = ran f (Some x) n k h
 ran f (Some p) n k (join x up ∷ h) =
     cond (eqb p.from x.to)
-    (cond (due n (k + 1)) (ran f (Some (renormalized_product f p x up)) n 0 h) (ran f (Some (product f p x up)) n (k + 1) h))
+    (cond (due n (k + 1)) (ran f (Some (renormalized_product f p x up)) n 0 h)
+    (ran f (Some (product f p x up)) n (k + 1) h))
     (ran f (Some p) n k h)
 
 -- every n has 16 bits

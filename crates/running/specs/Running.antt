@@ -30,8 +30,8 @@ pub record Joint : Type 0 where
   pub running : Running
   pub answer : Answer Pose
 
-abbrev pub joint_told : Joined → Joint
-joint_told j = record { running = j.running; answer = answer j.answer }
+abbrev pub joint_view : Joined → Joint
+joint_view j = record { running = j.running; answer = answer j.answer }
 
 abbrev pub stands : Pose → ℕ → ℕ → Joint
 stands p n k = record { running = record { pose = Some p; every = n; since = k }; answer = answers p }

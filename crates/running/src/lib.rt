@@ -1,12 +1,13 @@
-// A running join: poses are joined as they come, each with the running pose as the left one, and the
-// running pose's quaternion is renormalised after every nth product. And the quaternions of a whole list
-// of poses renormalised.
+// A running join: poses are joined as they come, each with the running pose as the left one, and the running pose's
+// quaternion is renormalised after every nth product. And the quaternions of a whole list of poses renormalised.
+// Proved: after any history the pose is that of the plain history (HistoryTheorem). Rests on frames.
 #![tactic(auto)]
 
 ghost use Rattle.std.specs.Prelude.{◌≡◌};
 ghost use Rattle.std.specs.Float.{binary64};
 ghost use Rattle.linalg.specs.Answer.{answer};
-ghost use Rattle.running.specs.Running.{running_none, one_more, due, joint_told, stands, produced_of, join_of, every_of, all_renormalized};
+ghost use Rattle.running.specs.Running.{running_none, one_more, due, joint_view, stands, produced_of, join_of};
+ghost use Rattle.running.specs.Running.{every_of, all_renormalized};
 
 use frames::Pose;
 use linalg::refusal::Refusal;
@@ -57,7 +58,7 @@ impl Running {
 
     // p becomes the running pose, and is answered too.
     fn stand(self, p: Pose<f64>) -> Joined
-        ensures { joint_told result ≡ stands p self.every self.since }
+        ensures { joint_view result ≡ stands p self.every self.since }
     {
         Joined {
             running: Running {
@@ -71,7 +72,7 @@ impl Running {
     // The product p becomes the running pose, renormalised where it is due.
     #[tactic(auto, unfolding(crate::specs::Running::produced_of))]
     fn produced(self, p: Pose<f64>) -> Joined
-        ensures { joint_told result ≡ produced_of binary64 p self.every (one_more self.since) }
+        ensures { joint_view result ≡ produced_of binary64 p self.every (one_more self.since) }
     {
         let since = one_more(self.since);
         if due(self.every, since) {
@@ -84,7 +85,7 @@ impl Running {
     // left, up being e^sigma of the running pose. Where the frames do not meet (9) nothing changes.
     #[tactic(auto, unfolding(crate::specs::Running::join_on, crate::specs::Running::product_on))]
     pub fn join(self, x: Pose<f64>, up: f64) -> Joined
-        ensures { joint_told result ≡ join_of binary64 self x up }
+        ensures { joint_view result ≡ join_of binary64 self x up }
     {
         match self.pose {
             None => self.stand(x),

@@ -1,4 +1,5 @@
--- Quaternions of whole numbers written as differences: the size of a product is the product of the sizes. Assumes nothing.
+-- Quaternions of whole numbers written as differences: the size of a product is the product of the sizes. Assumes
+-- nothing.
 use mathlib.Core.Path.{◌≡◌}
 use Prim.Native.Nat.{ℕ, zero, suc, ◌+◌}
 use Rattle.rounding.proofs.Ring.{Gap, ◌⊕◌, ◌⊗◌, opp, Ex, var, normal, ring}
@@ -59,6 +60,7 @@ at p q (suc (suc (suc (suc (suc (suc zero)))))) = q.y
 at p q (suc (suc (suc (suc (suc (suc (suc i))))))) = q.z
 
 -- ---- Euler's identity: |p q|² = |p|² |q|²
-pub euler : (p q : Quad Gap) → (squared (hamilton p q)).p + (squared p ⊗ squared q).n ≡ (squared (hamilton p q)).n + (squared p ⊗ squared q).p
+pub euler : (p q : Quad Gap) → (squared (hamilton p q)).p + (squared p ⊗ squared q).n
+    ≡ (squared (hamilton p q)).n + (squared p ⊗ squared q).p
 unfolding normal
 euler p q = ring (sub (squared_x (hamilton_x one two)) (R.times (squared_x one) (squared_x two))) tt (at p q)

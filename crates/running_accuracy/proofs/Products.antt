@@ -2,7 +2,8 @@
 use mathlib.Core.Path.{◌≡◌, sym, ap, ap₂, subst}
 use mathlib.Core.List.{List, [], ◌∷◌}
 use Prim.Native.Nat.{ℕ, zero, suc, ◌+◌, ◌*◌, ◌≤◌, ◌<◌}
-use native.Mathlib.Nat.{le_refl, le_trans, le_of_eq, mul-add, add-mul, mul_comm, mul-pos, zero-mul, add-zero, add_comm, zero-lt-suc, mul-le-mul_right, le_of_mul-le-mul_right}
+use native.Mathlib.Nat.{le_refl, le_trans, le_of_eq, mul-add, add-mul, mul_comm, mul-pos, zero-mul, add-zero, add_comm}
+use native.Mathlib.Nat.{zero-lt-suc, mul-le-mul_right, le_of_mul-le-mul_right}
 use native.Mathlib.Omega.{arith}
 use mathlib.Core.Bool.{true, false, ◌&&◌}
 use lib.Dec.{T, leb, le→leb}
@@ -23,7 +24,8 @@ use Rattle.rounding.proofs.Denominators.{Is, is_shift, is-opposite, is-scaled, i
 use Rattle.rounding.proofs.Ring.{Gap, ◌⊕◌, ◌⊗◌, whole, Ex, var, normal, ring}
 use Rattle.rounding.proofs.Ring as R
 use Rattle.running_accuracy.proofs.Euler.{Quad, ◌⊖◌, hamilton, hamilton_x, squared}
-use Rattle.running_accuracy.proofs.Length.{Long, Tall, Level, long_product, long_shift, scaled, long_scaled, tall_long, long_w, long_x, long_y, long_z, sum4, long_sum}
+use Rattle.running_accuracy.proofs.Length.{Long, Tall, Level, long_product, long_shift, scaled, long_scaled, tall_long}
+use Rattle.running_accuracy.proofs.Length.{long_w, long_x, long_y, long_z, sum4, long_sum}
 use Rattle.rounding.proofs.Leaves.{value-above}
 use Rattle.accuracy.proofs.Quaternions.{product_accurate}
 
@@ -77,7 +79,8 @@ clear_is q =
     }
 
 -- ---- the Hamilton product of such
-pub is_mul : (x y : Value) (a b : Gap) (e g : ℕ) → Is x a.p a.n e → Is y b.p b.n g → Is (times x y) (a ⊗ b).p (a ⊗ b).n (e * g)
+pub is_mul : (x y : Value) (a b : Gap) (e g : ℕ) → Is x a.p a.n e → Is y b.p b.n g →
+    Is (times x y) (a ⊗ b).p (a ⊗ b).n (e * g)
 is_mul x y a b e g h k = is-times x y a.p a.n b.p b.n e g h k
 
 pub is-add : (x y : Value) (a b : Gap) (e : ℕ) → Is x a.p a.n e → Is y b.p b.n e → Is (plus x y) (a ⊕ b).p (a ⊕ b).n e
@@ -86,7 +89,8 @@ is-add x y a b e h k = is-plus x y a.p a.n b.p b.n e h k
 pub is-sub : (x y : Value) (a b : Gap) (e : ℕ) → Is x a.p a.n e → Is y b.p b.n e → Is (minus x y) (a ⊖ b).p (a ⊖ b).n e
 is-sub x y a b e h k = is-plus x (opposite y) a.p a.n b.n b.p e h (is-opposite y b.p b.n e k)
 
-pub hamilton-is : (p q : Four Value) (a b : Quad Gap) (e g : ℕ) → Is4 p a e → Is4 q b g → Is4 (exact_hamilton p q) (hamilton a b) (e * g)
+pub hamilton-is : (p q : Four Value) (a b : Quad Gap) (e g : ℕ) → Is4 p a e → Is4 q b g →
+    Is4 (exact_hamilton p q) (hamilton a b) (e * g)
 unfolding exact_hamilton
 hamilton-is p q a b e g h k =
     record {
@@ -106,63 +110,91 @@ hamilton-is p q a b e g h k =
 
 -- ---- over another denominator
 is_whole : (x : Value) (a : Gap) (e k : ℕ) → Is x a.p a.n e → Is x (whole k ⊗ a).p (whole k ⊗ a).n (k * e)
-is_whole x a e k h = is_shift x (k * a.p) (k * a.n) (whole k ⊗ a).p (whole k ⊗ a).n (k * e) (omega arith) (is-scaled x a.p a.n e k h)
+is_whole x a e k h =
+    is_shift x (k * a.p) (k * a.n) (whole k ⊗ a).p (whole k ⊗ a).n (k * e) (omega arith) (is-scaled x a.p a.n e k h)
 
 pub scaled-is : (q : Four Value) (a : Quad Gap) (e k : ℕ) → Is4 q a e → Is4 q (scaled k a) (k * e)
-scaled-is q a e k h = record { w = is_whole q.w a.w e k h.w; x = is_whole q.x a.x e k h.x; y = is_whole q.y a.y e k h.y; z = is_whole q.z a.z e k h.z }
+scaled-is q a e k h =
+    record {
+      w = is_whole q.w a.w e k h.w;
+      x = is_whole q.x a.x e k h.x;
+      y = is_whole q.y a.y e k h.y;
+      z =
+          is_whole q.z a.z e k h.z;
+    }
 
 -- ---- from the values to the numbers
-pub side_least : (u b xp xn xd p n e : ℕ) → 0 < xd → xp * e + n * xd ≡ xn * e + p * xd → u * xp ≤ u * xn + b * xd → u * p ≤ u * n + b * e
+pub side_least : (u b xp xn xd p n e : ℕ) → 0 < xd → xp * e + n * xd ≡ xn * e + p * xd → u * xp ≤ u * xn + b * xd →
+    u * p ≤ u * n + b * e
 side_least u b xp xn xd p n e z h k =
     let a = ap (λ (i : ℕ). u * i) h in
     let c = mul-le-mul_right e k in
     le_of_mul-le-mul_right {k = xd} (simp expand (omega (arith, simp expand at a, simp expand at c))) z
 
-short_long : (u v : ℕ) (q : Four Value) (a : Quad Gap) (e : ℕ) → 0 < (exact_squared q).d → Is4 q a e → AtMost (u * u) (exact_squared q) (v * v) → Long u a e v
+short_long : (u v : ℕ) (q : Four Value) (a : Quad Gap) (e : ℕ) → 0 < (exact_squared q).d → Is4 q a e →
+    AtMost (u * u) (exact_squared q) (v * v) → Long u a e v
 short_long u v q a e z h k =
     let i =
     is-add _ _ _ _ (e * e) (is-add _ _ _ _ (e * e) (is-add _ _ _ _ (e * e) (is_mul q.w q.w a.w a.w e e h.w h.w)
     (is_mul q.x q.x a.x a.x e e h.x h.x)) (is_mul q.y q.y a.y a.y e e h.y h.y))
     (is_mul q.z q.z a.z a.z e e h.z h.z) in
-    record { magnitude = side_least (u * u) (v * v) (exact_squared q).p (exact_squared q).n (exact_squared q).d (squared a).p (squared a).n (e * e) z i.equal k.above }
+    record {
+      magnitude = side_least (u * u) (v * v) (exact_squared q).p (exact_squared q).n (exact_squared q).d
+          (squared a).p (squared a).n (e * e) z i.equal k.above;
+    }
 
 -- a difference of two values over one denominator
-near-whole : (w c xp xn xd yp yn yd p n e q m g : ℕ) → 0 < xd → 0 < yd → xp * e + n * xd ≡ xn * e + p * xd → yp * g + m * yd ≡ yn * g + q * yd
-    → w * (xp * yd + yn * xd) ≤ w * (xn * yd + yp * xd) + c * (xd * yd) → w * (g * p + e * m) ≤ w * (g * n + e * q) + c * (g * e)
+near-whole : (w c xp xn xd yp yn yd p n e q m g : ℕ) → 0 < xd → 0 < yd → xp * e + n * xd ≡ xn * e + p * xd →
+    yp * g + m * yd ≡ yn * g + q * yd
+    → w * (xp * yd + yn * xd) ≤ w * (xn * yd + yp * xd) + c * (xd * yd) →
+    w * (g * p + e * m) ≤ w * (g * n + e * q) + c * (g * e)
 near-whole w c xp xn xd yp yn yd p n e q m g xz yz h k l =
-    le_of_mul-le-mul_right {k = xd * yd} (go w c xp xn xd yp yn yd p n e q m g (ap (λ (i : ℕ). w * (g * yd) * i) h) (ap (λ (i : ℕ). w * (e * xd) * i) k) (mul-le-mul_right (e * g) l)) (mul-pos xz yz)
+    le_of_mul-le-mul_right {k = xd * yd} (go w c xp xn xd yp yn yd p n e q m g (ap (λ (i : ℕ). w * (g * yd) * i) h)
+    (ap (λ (i : ℕ). w * (e * xd) * i) k) (mul-le-mul_right (e * g) l)) (mul-pos xz yz)
   where
-    go : (w c xp xn xd yp yn yd p n e q m g : ℕ) → w * (g * yd) * (xp * e + n * xd) ≡ w * (g * yd) * (xn * e + p * xd) → w * (e * xd) * (yp * g + m * yd) ≡ w * (e * xd) * (yn * g + q * yd)
-        → w * (xp * yd + yn * xd) * (e * g) ≤ (w * (xn * yd + yp * xd) + c * (xd * yd)) * (e * g) → w * (g * p + e * m) * (xd * yd) ≤ (w * (g * n + e * q) + c * (g * e)) * (xd * yd)
-    go w c xp xn xd yp yn yd p n e q m g h k l = simp expand (omega (arith, simp expand at h, simp expand at k, simp expand at l))
+    go : (w c xp xn xd yp yn yd p n e q m g : ℕ) → w * (g * yd) * (xp * e + n * xd) ≡ w * (g * yd) * (xn * e + p * xd) →
+        w * (e * xd) * (yp * g + m * yd) ≡ w * (e * xd) * (yn * g + q * yd)
+        → w * (xp * yd + yn * xd) * (e * g) ≤ (w * (xn * yd + yp * xd) + c * (xd * yd)) * (e * g) →
+        w * (g * p + e * m) * (xd * yd) ≤ (w * (g * n + e * q) + c * (g * e)) * (xd * yd)
+    go w c xp xn xd yp yn yd p n e q m g h k l =
+        simp expand (omega (arith, simp expand at h, simp expand at k, simp expand at l))
 
-wholes : (w p n e q m g c : ℕ) → w * (g * p + e * m) ≤ w * (g * n + e * q) + c → w * (g * p + 0 * n + (e * m + 0 * q)) ≤ w * (g * n + 0 * p + (e * q + 0 * m)) + c
+wholes : (w p n e q m g c : ℕ) → w * (g * p + e * m) ≤ w * (g * n + e * q) + c →
+    w * (g * p + 0 * n + (e * m + 0 * q)) ≤ w * (g * n + 0 * p + (e * q + 0 * m)) + c
 wholes w p n e q m g c h = simp (zero-mul, add-zero) h
 
-pub near_tall : (w c : ℕ) (x y : Value) (a b : Gap) (e g : ℕ) → 0 < x.d → 0 < y.d → Is x a.p a.n e → Is y b.p b.n g → Near w x y c → Tall w (whole g ⊗ a ⊖ whole e ⊗ b) (c * (g * e))
+pub near_tall : (w c : ℕ) (x y : Value) (a b : Gap) (e g : ℕ) → 0 < x.d → 0 < y.d → Is x a.p a.n e → Is y b.p b.n g →
+    Near w x y c → Tall w (whole g ⊗ a ⊖ whole e ⊗ b) (c * (g * e))
 near_tall w c x y a b e g xz yz h k l =
     let lb = l.below in
     record {
-      above = wholes w a.p a.n e b.p b.n g (c * (g * e)) (near-whole w c x.p x.n x.d y.p y.n y.d a.p a.n e b.p b.n g xz yz h.equal k.equal l.above);
+      above =
+          wholes w a.p a.n e b.p b.n g (c * (g * e))
+          (near-whole w c x.p x.n x.d y.p y.n y.d a.p a.n e b.p b.n g xz yz h.equal k.equal l.above);
       below = wholes w a.n a.p e b.n b.p g (c * (g * e)) (near-whole w c x.n x.p x.d y.n y.p y.d a.n a.p e b.n
           b.p g xz yz (sym h.equal) (sym k.equal) (rotation w y.p x.d x.n y.d y.n x.p c lb));
     }
   where
-    rotation : (u a b c d e f g : ℕ) → u * (a * b + c * d) ≤ u * (e * b + f * d) + g * (d * b) → u * (c * d + a * b) ≤ u * (f * d + e * b) + g * (b * d)
+    rotation : (u a b c d e f g : ℕ) → u * (a * b + c * d) ≤ u * (e * b + f * d) + g * (d * b) →
+        u * (c * d + a * b) ≤ u * (f * d + e * b) + g * (b * d)
     rotation u a b c d e f g h = simp expand (omega (arith, simp expand at h))
 
 -- ---- the test of one number serves all four
 pub le_leb : (n : ℕ) → T (leb n n)
 le_leb n = le→leb n n (le_refl n)
 
-pub one_test : (f : Format) (u v a : ℕ) → T (no_overflow f u (sizes (quat_mul_sizes a v)) tree_quat_mul.w) → T (all_four f u (quat_mul_sizes a v) tree_quat_mul (product_error f u v a))
+pub one_test : (f : Format) (u v a : ℕ) → T (no_overflow f u (sizes (quat_mul_sizes a v)) tree_quat_mul.w) →
+    T (all_four f u (quat_mul_sizes a v) tree_quat_mul (product_error f u v a))
 unfolding no_overflow bound tree_quat_mul product_error
 one_test f u v a t =
     let bs = quat_mul_sizes a v in
     let e = product_error f u v a in
-    let h : T (error_at_most f u bs tree_quat_mul.w e) = and_i (no_overflow f u (sizes bs) tree_quat_mul.w) (leb (bound f u (sizes bs) tree_quat_mul.w).error e) t (le_leb e) in
-    and_i (error_at_most f u bs tree_quat_mul.w e) (error_at_most f u bs tree_quat_mul.x e && (error_at_most f u bs tree_quat_mul.y e && error_at_most f u bs tree_quat_mul.z e)) h
-    (and_i (error_at_most f u bs tree_quat_mul.x e) (error_at_most f u bs tree_quat_mul.y e && error_at_most f u bs tree_quat_mul.z e) h
+    let h : T (error_at_most f u bs tree_quat_mul.w e) = and_i (no_overflow f u (sizes bs) tree_quat_mul.w)
+    (leb (bound f u (sizes bs) tree_quat_mul.w).error e) t (le_leb e) in
+    and_i (error_at_most f u bs tree_quat_mul.w e) (error_at_most f u bs tree_quat_mul.x e
+    && (error_at_most f u bs tree_quat_mul.y e && error_at_most f u bs tree_quat_mul.z e)) h
+    (and_i (error_at_most f u bs tree_quat_mul.x e) (error_at_most f u bs tree_quat_mul.y e
+    && error_at_most f u bs tree_quat_mul.z e) h
     (and_i (error_at_most f u bs tree_quat_mul.y e) (error_at_most f u bs tree_quat_mul.z e) h h))
 
 -- ---- the numbers of a float
@@ -172,21 +204,25 @@ error-near w nan y e h = absurd h
 error-near w (inf s) y e h = absurd h
 error-near w (fin s m k) y e h = h
 
-near-error : (w : ℕ) (x : Float) (b : ℕ) (y : Value) (e : ℕ) → Bounded w x b → Near w (value_of x) y e → AbsoluteError w x y e
+near-error : (w : ℕ) (x : Float) (b : ℕ) (y : Value) (e : ℕ) → Bounded w x b → Near w (value_of x) y e →
+    AbsoluteError w x y e
 unfolding value_of
 near-error w nan b y e s h = absurd s
 near-error w (inf t) b y e s h = absurd s
 near-error w (fin t m k) b y e s h = h
 
-bounded_from : (w : ℕ) (x : Float) (y : Value) (e b : ℕ) → AbsoluteError w x y e → AtMost w (value_of x) b → Bounded w x b
+bounded_from : (w : ℕ) (x : Float) (y : Value) (e b : ℕ) → AbsoluteError w x y e → AtMost w (value_of x) b →
+    Bounded w x b
 unfolding value_of
 bounded_from w nan y e b h k = absurd h
 bounded_from w (inf s) y e b h k = absurd h
 bounded_from w (fin true m j) y e b h k = let q = k.below in omega arith
 bounded_from w (fin false m j) y e b h k = let q = k.above in omega arith
 
-pub pos4 : (a a' b b' c c' d d' : ℕ) → 0 < a → 0 < a' → 0 < b → 0 < b' → 0 < c → 0 < c' → 0 < d → 0 < d' → 0 < a * a' * (b * b') * (c * c') * (d * d')
-pos4 a a' b b' c c' d d' ha ha' hb hb' hc hc' hd hd' = mul-pos (mul-pos (mul-pos (mul-pos ha ha') (mul-pos hb hb')) (mul-pos hc hc')) (mul-pos hd hd')
+pub pos4 : (a a' b b' c c' d d' : ℕ) → 0 < a → 0 < a' → 0 < b → 0 < b' → 0 < c → 0 < c' → 0 < d → 0 < d' →
+    0 < a * a' * (b * b') * (c * c') * (d * d')
+pos4 a a' b b' c c' d d' ha ha' hb hb' hc hc' hd hd' =
+    mul-pos (mul-pos (mul-pos (mul-pos ha ha') (mul-pos hb hb')) (mul-pos hc hc')) (mul-pos hd hd')
 
 -- ---- the difference of the products
 abbrev pub sub4 : Quad Gap → Quad Gap → Quad Gap
@@ -210,7 +246,8 @@ split_x g =
     let r = quad_x 6 in
     let s = quad_x 10 in
     let c = quad_x 14 in
-    sub_x (R.plus (sub_x (R.times k (g n)) (R.times l (g (hamilton_x r c)))) (R.times l (g (hamilton_x (sub_x4 r s) c)))) (sub_x (R.times k (g n)) (R.times l (g (hamilton_x s c))))
+    sub_x (R.plus (sub_x (R.times k (g n)) (R.times l (g (hamilton_x r c))))
+    (R.times l (g (hamilton_x (sub_x4 r s) c)))) (sub_x (R.times k (g n)) (R.times l (g (hamilton_x s c))))
 
 abbrev pub entries : Quad Gap → List Gap → List Gap
 entries a l = a.w ∷ a.x ∷ a.y ∷ a.z ∷ l
@@ -221,21 +258,29 @@ nth_gap (a ∷ l) zero = a
 nth_gap (a ∷ l) (suc i) = nth_gap l i
 
 module _ (k l : ℕ) (n r s c : Quad Gap) where
-  split_w : Level (sum4 (sub4 (scaled k n) (scaled l (hamilton r c))) (scaled l (hamilton (sub4 r s) c))).w (sub4 (scaled k n) (scaled l (hamilton s c))).w
+  split_w : Level (sum4 (sub4 (scaled k n) (scaled l (hamilton r c))) (scaled l (hamilton (sub4 r s) c))).w
+      (sub4 (scaled k n) (scaled l (hamilton s c))).w
   unfolding Level normal
-  split_w = ring (split_x (λ a. a.w)) tt (nth_gap (whole k ∷ whole l ∷ entries n (entries r (entries s (entries c [])))))
+  split_w =
+      ring (split_x (λ a. a.w)) tt (nth_gap (whole k ∷ whole l ∷ entries n (entries r (entries s (entries c [])))))
 
-  split_x_lem : Level (sum4 (sub4 (scaled k n) (scaled l (hamilton r c))) (scaled l (hamilton (sub4 r s) c))).x (sub4 (scaled k n) (scaled l (hamilton s c))).x
+  split_x_lem : Level (sum4 (sub4 (scaled k n) (scaled l (hamilton r c))) (scaled l (hamilton (sub4 r s) c))).x
+      (sub4 (scaled k n) (scaled l (hamilton s c))).x
   unfolding Level normal
-  split_x_lem = ring (split_x (λ a. a.x)) tt (nth_gap (whole k ∷ whole l ∷ entries n (entries r (entries s (entries c [])))))
+  split_x_lem =
+      ring (split_x (λ a. a.x)) tt (nth_gap (whole k ∷ whole l ∷ entries n (entries r (entries s (entries c [])))))
 
-  split_y : Level (sum4 (sub4 (scaled k n) (scaled l (hamilton r c))) (scaled l (hamilton (sub4 r s) c))).y (sub4 (scaled k n) (scaled l (hamilton s c))).y
+  split_y : Level (sum4 (sub4 (scaled k n) (scaled l (hamilton r c))) (scaled l (hamilton (sub4 r s) c))).y
+      (sub4 (scaled k n) (scaled l (hamilton s c))).y
   unfolding Level normal
-  split_y = ring (split_x (λ a. a.y)) tt (nth_gap (whole k ∷ whole l ∷ entries n (entries r (entries s (entries c [])))))
+  split_y =
+      ring (split_x (λ a. a.y)) tt (nth_gap (whole k ∷ whole l ∷ entries n (entries r (entries s (entries c [])))))
 
-  split_z : Level (sum4 (sub4 (scaled k n) (scaled l (hamilton r c))) (scaled l (hamilton (sub4 r s) c))).z (sub4 (scaled k n) (scaled l (hamilton s c))).z
+  split_z : Level (sum4 (sub4 (scaled k n) (scaled l (hamilton r c))) (scaled l (hamilton (sub4 r s) c))).z
+      (sub4 (scaled k n) (scaled l (hamilton s c))).z
   unfolding Level normal
-  split_z = ring (split_x (λ a. a.z)) tt (nth_gap (whole k ∷ whole l ∷ entries n (entries r (entries s (entries c [])))))
+  split_z =
+      ring (split_x (λ a. a.z)) tt (nth_gap (whole k ∷ whole l ∷ entries n (entries r (entries s (entries c [])))))
 
 -- ---- one product more
 pub record Run (u m d : ℕ) (R : Quat) (Q : Four Value) : Type 0 where
@@ -258,7 +303,8 @@ tall_both w a b c d e h k =
     let z : (c + d) * e ≡ c * e + d * e = add-mul c d e in
     record { above = omega (arith, simp mul-add at x); below = omega (arith, simp mul-add at y) }
 
-pub tall_bounded : (w : ℕ) (x : Float) (y : Value) (g b : ℕ) (a : Gap) (e : ℕ) → 0 < e → AbsoluteError w x y g → Is (value_of x) a.p a.n e → Tall w a (b * e) → Bounded w x b
+pub tall_bounded : (w : ℕ) (x : Float) (y : Value) (g b : ℕ) (a : Gap) (e : ℕ) → 0 < e → AbsoluteError w x y g →
+    Is (value_of x) a.p a.n e → Tall w a (b * e) → Bounded w x b
 tall_bounded w x y g b a e z h k t = bounded_from w x y g b h (is-most w b (value_of x) a.p a.n e z k t.above t.below)
 
 pub quat-above : (q : Quat) → 0 < den (exact_quat q)
@@ -266,26 +312,31 @@ quat-above q = mul-pos (value-above q.w) (mul-pos (value-above q.x) (mul-pos (va
 
 squared-above : (q : Quat) → 0 < (exact_squared (exact_quat q)).d
 squared-above q =
-    pos4 _ _ _ _ _ _ _ _ (value-above q.w) (value-above q.w) (value-above q.x) (value-above q.x) (value-above q.y) (value-above q.y) (value-above q.z) (value-above q.z)
+    pos4 _ _ _ _ _ _ _ _ (value-above q.w) (value-above q.w) (value-above q.x) (value-above q.x) (value-above q.y)
+    (value-above q.y) (value-above q.z) (value-above q.z)
 
 above-w : (p q : Quat) → 0 < (exact_hamilton (exact_quat p) (exact_quat q)).w.d
 unfolding exact_hamilton
-above-w p q = pos4 _ _ _ _ _ _ _ _ (value-above p.w) (value-above q.w) (value-above p.x) (value-above q.x) (value-above p.y)
+above-w p q =
+    pos4 _ _ _ _ _ _ _ _ (value-above p.w) (value-above q.w) (value-above p.x) (value-above q.x) (value-above p.y)
     (value-above q.y) (value-above p.z) (value-above q.z)
 
 above-x : (p q : Quat) → 0 < (exact_hamilton (exact_quat p) (exact_quat q)).x.d
 unfolding exact_hamilton
-above-x p q = pos4 _ _ _ _ _ _ _ _ (value-above p.w) (value-above q.x) (value-above p.x) (value-above q.w) (value-above p.y)
+above-x p q =
+    pos4 _ _ _ _ _ _ _ _ (value-above p.w) (value-above q.x) (value-above p.x) (value-above q.w) (value-above p.y)
     (value-above q.z) (value-above p.z) (value-above q.y)
 
 above-y : (p q : Quat) → 0 < (exact_hamilton (exact_quat p) (exact_quat q)).y.d
 unfolding exact_hamilton
-above-y p q = pos4 _ _ _ _ _ _ _ _ (value-above p.w) (value-above q.y) (value-above p.x) (value-above q.z) (value-above p.y)
+above-y p q =
+    pos4 _ _ _ _ _ _ _ _ (value-above p.w) (value-above q.y) (value-above p.x) (value-above q.z) (value-above p.y)
     (value-above q.w) (value-above p.z) (value-above q.x)
 
 above-z : (p q : Quat) → 0 < (exact_hamilton (exact_quat p) (exact_quat q)).z.d
 unfolding exact_hamilton
-above-z p q = pos4 _ _ _ _ _ _ _ _ (value-above p.w) (value-above q.z) (value-above p.x) (value-above q.y) (value-above p.y)
+above-z p q =
+    pos4 _ _ _ _ _ _ _ _ (value-above p.w) (value-above q.z) (value-above p.x) (value-above q.y) (value-above p.y)
     (value-above q.x) (value-above p.z) (value-above q.w)
 
 pub error-above : (f : Format) (u v a : ℕ) → 0 < 2 * product_error f u v a
@@ -299,8 +350,10 @@ error-above f u v a = twice (product_error f u v a) (later _ _ _)
     twice x h = omega arith
 
 module _ (f : Format) (u v : ℕ) (up : 0 < u) where
-  pub one_more : (m d : ℕ) (R q : Quat) (Q : Four Value) → T (no_overflow f u (sizes (quat_mul_sizes (m + d) v)) tree_quat_mul.w) → LengthAtMost u v q → Run u m d R Q
-      → Run u (upward u (m * v)) (2 * product_error f u v (m + d) + upward u (d * v)) (quat_mul f R q) (exact_hamilton Q (exact_quat q))
+  pub one_more : (m d : ℕ) (R q : Quat) (Q : Four Value) → T
+      (no_overflow f u (sizes (quat_mul_sizes (m + d) v)) tree_quat_mul.w) → LengthAtMost u v q → Run u m d R Q
+      → Run u (upward u (m * v)) (2 * product_error f u v (m + d) + upward u (d * v)) (quat_mul f R q)
+      (exact_hamilton Q (exact_quat q))
   one_more m d R q Q t h k =
       let g = den (exact_quat q) in
       let c = clear (exact_quat q) in
@@ -310,7 +363,8 @@ module _ (f : Format) (u v : ℕ) (up : 0 < u) where
       let err = product_error f u v (m + d) in
       let N = quat_mul f R q in
       let H = exact_hamilton (exact_quat R) (exact_quat q) in
-      let near : QuatError u N H err = product_accurate f R q u (m + d) v err up (one_test f u v (m + d) t) k.sizes h.sizes in
+      let near : QuatError u N H err = product_accurate f R q u (m + d) v err up
+      (one_test f u v (m + d) t) k.sizes h.sizes in
       let e' = den (exact_quat N) in
       let n = clear (exact_quat N) in
       let ni = clear_is (exact_quat N) in
@@ -322,26 +376,35 @@ module _ (f : Format) (u v : ℕ) (up : 0 < u) where
       let hs = hamilton-is Q (exact_quat q) k.s c k.e g k.exact ci in
       let n' = scaled eg n in
       let s' = scaled e' (hamilton k.s c) in
-      let si : Is4 (exact_hamilton Q (exact_quat q)) s' E = subst (λ (i : ℕ). Is4 (exact_hamilton Q (exact_quat q)) s' i) (mul_comm e' eg)
+      let si : Is4 (exact_hamilton Q (exact_quat q)) s' E = subst
+      (λ (i : ℕ). Is4 (exact_hamilton Q (exact_quat q)) s' i) (mul_comm e' eg)
       (scaled-is (exact_hamilton Q (exact_quat q)) (hamilton k.s c) eg e' hs) in
       let nn : Is4 (exact_quat N) n' E = scaled-is (exact_quat N) n e' eg ni in
       let one : Long u (sub4 n' (scaled e' (hamilton k.r c))) E (2 * err) =
       tall_long u (sub4 n' (scaled e' (hamilton k.r c))) E err
-      (near_tall u err (value_of N.w) H.w n.w (hamilton k.r c).w e' eg (value-above N.w) (above-w R q) ni.w hr.w (error-near u N.w H.w err near.w))
-      (near_tall u err (value_of N.x) H.x n.x (hamilton k.r c).x e' eg (value-above N.x) (above-x R q) ni.x hr.x (error-near u N.x H.x err near.x))
-      (near_tall u err (value_of N.y) H.y n.y (hamilton k.r c).y e' eg (value-above N.y) (above-y R q) ni.y hr.y (error-near u N.y H.y err near.y))
-      (near_tall u err (value_of N.z) H.z n.z (hamilton k.r c).z e' eg (value-above N.z) (above-z R q) ni.z hr.z (error-near u N.z H.z err near.z)) in
+      (near_tall u err (value_of N.w) H.w n.w (hamilton k.r c).w e' eg (value-above N.w) (above-w R q) ni.w hr.w
+      (error-near u N.w H.w err near.w))
+      (near_tall u err (value_of N.x) H.x n.x (hamilton k.r c).x e' eg (value-above N.x) (above-x R q) ni.x hr.x
+      (error-near u N.x H.x err near.x))
+      (near_tall u err (value_of N.y) H.y n.y (hamilton k.r c).y e' eg (value-above N.y) (above-y R q) ni.y hr.y
+      (error-near u N.y H.y err near.y))
+      (near_tall u err (value_of N.z) H.z n.z (hamilton k.r c).z e' eg (value-above N.z) (above-z R q) ni.z hr.z
+      (error-near u N.z H.z err near.z)) in
       let two : Long u (scaled e' (hamilton (sub4 k.r k.s) c)) E (upward u (d * v)) =
       subst (λ (i : ℕ). Long u (scaled e' (hamilton (sub4 k.r k.s) c)) i (upward u (d * v))) (mul_comm e' eg)
       (long_scaled u e' (hamilton (sub4 k.r k.s) c) eg (upward u (d * v))
       (long_product u (sub4 k.r k.s) c k.e g d v (upward u (d * v)) up k.error cl (upward_enough u (d * v) up))) in
       let error : Long u (sub4 n' s') E (2 * err + upward u (d * v)) =
-      long_shift u (sum4 (sub4 n' (scaled e' (hamilton k.r c))) (scaled e' (hamilton (sub4 k.r k.s) c))) (sub4 n' s') E (2 * err + upward u (d * v))
-      (split_w eg e' n k.r k.s c) (split_x_lem eg e' n k.r k.s c) (split_y eg e' n k.r k.s c) (split_z eg e' n k.r k.s c)
-      (long_sum u (sub4 n' (scaled e' (hamilton k.r c))) (scaled e' (hamilton (sub4 k.r k.s) c)) E (2 * err) (upward u (d * v)) (error-above f u v (m + d)) (zero-lt-suc _) one two) in
+      long_shift u (sum4 (sub4 n' (scaled e' (hamilton k.r c))) (scaled e' (hamilton (sub4 k.r k.s) c))) (sub4 n' s') E
+      (2 * err + upward u (d * v))
+      (split_w eg e' n k.r k.s c) (split_x_lem eg e' n k.r k.s c) (split_y eg e' n k.r k.s c)
+      (split_z eg e' n k.r k.s c)
+      (long_sum u (sub4 n' (scaled e' (hamilton k.r c))) (scaled e' (hamilton (sub4 k.r k.s) c)) E (2 * err)
+      (upward u (d * v)) (error-above f u v (m + d)) (zero-lt-suc _) one two) in
       let lng : Long u s' E (upward u (m * v)) =
       subst (λ (i : ℕ). Long u s' i (upward u (m * v))) (mul_comm e' eg)
-      (long_scaled u e' (hamilton k.s c) eg (upward u (m * v)) (long_product u k.s c k.e g m v (upward u (m * v)) up k.magnitude cl (upward_enough u (m * v) up))) in
+      (long_scaled u e' (hamilton k.s c) eg (upward u (m * v))
+      (long_product u k.s c k.e g m v (upward u (m * v)) up k.magnitude cl (upward_enough u (m * v) up))) in
       let M = upward u (m * v) in
       let D = 2 * err + upward u (d * v) in
       record {
@@ -354,32 +417,48 @@ module _ (f : Format) (u v : ℕ) (up : 0 < u) where
         error = error;
         magnitude = lng;
         sizes = record {
-          w = tall_bounded u N.w H.w err (M + D) n'.w E Ep near.w nn.w (tall_both u n'.w s'.w M D E (long_w u (sub4 n' s') E D error) (long_w u s' E M lng));
-          x = tall_bounded u N.x H.x err (M + D) n'.x E Ep near.x nn.x (tall_both u n'.x s'.x M D E (long_x u (sub4 n' s') E D error) (long_x u s' E M lng));
-          y = tall_bounded u N.y H.y err (M + D) n'.y E Ep near.y nn.y (tall_both u n'.y s'.y M D E (long_y u (sub4 n' s') E D error) (long_y u s' E M lng));
-          z = tall_bounded u N.z H.z err (M + D) n'.z E Ep near.z nn.z (tall_both u n'.z s'.z M D E (long_z u (sub4 n' s') E D error) (long_z u s' E M lng));
+          w =
+              tall_bounded u N.w H.w err (M + D) n'.w E Ep near.w nn.w
+              (tall_both u n'.w s'.w M D E (long_w u (sub4 n' s') E D error) (long_w u s' E M lng));
+          x =
+              tall_bounded u N.x H.x err (M + D) n'.x E Ep near.x nn.x
+              (tall_both u n'.x s'.x M D E (long_x u (sub4 n' s') E D error) (long_x u s' E M lng));
+          y =
+              tall_bounded u N.y H.y err (M + D) n'.y E Ep near.y nn.y
+              (tall_both u n'.y s'.y M D E (long_y u (sub4 n' s') E D error) (long_y u s' E M lng));
+          z =
+              tall_bounded u N.z H.z err (M + D) n'.z E Ep near.z nn.z
+              (tall_both u n'.z s'.z M D E (long_z u (sub4 n' s') E D error) (long_z u s' E M lng));
         };
       }
 
 -- ---- what it says of the numbers
-tall_near : (w c : ℕ) (x y : Value) (a b : Gap) (e : ℕ) → 0 < e → Is x a.p a.n e → Is y b.p b.n e → Tall w (a ⊖ b) (c * e) → Near w x y c
+tall_near : (w c : ℕ) (x y : Value) (a b : Gap) (e : ℕ) → 0 < e → Is x a.p a.n e → Is y b.p b.n e →
+    Tall w (a ⊖ b) (c * e) → Near w x y c
 tall_near w c x y a b e z h k t =
     record {
       above = go w c x.p x.n x.d y.p y.n y.d a.p a.n b.p b.n e z h.equal k.equal t.above;
-      below = rotation w x.n y.d y.p x.d x.p y.n c (go w c x.n x.p x.d y.n y.p y.d a.n a.p b.n b.p e z (sym h.equal) (sym k.equal) t.below);
+      below =
+          rotation w x.n y.d y.p x.d x.p y.n c (go w c x.n x.p x.d y.n y.p y.d a.n a.p b.n b.p e z (sym h.equal)
+          (sym k.equal) t.below);
     }
   where
-    go : (w c xp xn xd yp yn yd p n q m e : ℕ) → 0 < e → xp * e + n * xd ≡ xn * e + p * xd → yp * e + m * yd ≡ yn * e + q * yd → w * (p + m) ≤ w *
+    go : (w c xp xn xd yp yn yd p n q m e : ℕ) → 0 < e → xp * e + n * xd ≡ xn * e + p * xd →
+        yp * e + m * yd ≡ yn * e + q * yd → w * (p + m) ≤ w *
         (n + q) + c * e → w * (xp * yd + yn * xd) ≤ w * (xn * yd + yp * xd) + c * (xd * yd)
     go w c xp xn xd yp yn yd p n q m e z h k l =
-        le_of_mul-le-mul_right {k = e} (last w c xp xn xd yp yn yd p n q m e (ap (λ (i : ℕ). w * yd * i) h) (ap (λ (i : ℕ). w * xd * i) k) (mul-le-mul_right (xd * yd) l)) z
+        le_of_mul-le-mul_right {k = e} (last w c xp xn xd yp yn yd p n q m e (ap (λ (i : ℕ). w * yd * i) h)
+        (ap (λ (i : ℕ). w * xd * i) k) (mul-le-mul_right (xd * yd) l)) z
       where
-        last : (w c xp xn xd yp yn yd p n q m e : ℕ) → w * yd * (xp * e + n * xd) ≡ w * yd * (xn * e + p * xd) → w * xd * (yp * e + m * yd) ≡ w * xd *
+        last : (w c xp xn xd yp yn yd p n q m e : ℕ) → w * yd * (xp * e + n * xd) ≡ w * yd * (xn * e + p * xd) →
+            w * xd * (yp * e + m * yd) ≡ w * xd *
             (yn * e + q * yd) → w * (p + m) * (xd * yd) ≤ (w * (n + q) + c * e) * (xd * yd)
             → w * (xp * yd + yn * xd) * e ≤ (w * (xn * yd + yp * xd) + c * (xd * yd)) * e
-        last w c xp xn xd yp yn yd p n q m e h k l = simp expand (omega (arith, simp expand at h, simp expand at k, simp expand at l))
+        last w c xp xn xd yp yn yd p n q m e h k l =
+            simp expand (omega (arith, simp expand at h, simp expand at k, simp expand at l))
 
-    rotation : (u a b c d e f g : ℕ) → u * (a * b + c * d) ≤ u * (e * b + f * d) + g * (d * b) → u * (c * d + a * b) ≤ u * (f * d + e * b) + g * (b * d)
+    rotation : (u a b c d e f g : ℕ) → u * (a * b + c * d) ≤ u * (e * b + f * d) + g * (d * b) →
+        u * (c * d + a * b) ≤ u * (f * d + e * b) + g * (b * d)
     rotation u a b c d e f g h = simp expand (omega (arith, simp expand at h))
 
 pub run_close : (u m d : ℕ) (R : Quat) (Q : Four Value) → Run u m d R Q → QuatError u R Q d
@@ -415,7 +494,14 @@ first u v R h =
       above = quat-above R;
       computed = clear_is (exact_quat R);
       exact = clear_is (exact_quat R);
-      error = record { magnitude = le_trans (le_of_eq (ap (λ (x : ℕ). u * u * x) (four-level (self_level a.w) (self_level a.x) (self_level a.y) (self_level a.z)))) (omega arith) };
+      error =
+          record {
+            magnitude =
+                le_trans (le_of_eq
+                (ap (λ (x : ℕ). u * u * x) (four-level (self_level a.w) (self_level a.x) (self_level a.y)
+                (self_level a.z))))
+                (omega arith);
+          };
       magnitude = short_long u v (exact_quat R) a e (squared-above R) (clear_is (exact_quat R)) h.length;
       sizes = rw add-zero h.sizes;
     }

@@ -8,10 +8,12 @@ use Rattle.running.specs.declared.Running.{Running}
 use Rattle.rounding.specs.Value.{Value}
 use Rattle.running_accuracy.specs.Running.{Step, joins, history_of, RunningAccurate, PageAccurate}
 
--- r is the running join after the history of n, a first pose p and the steps l, and r' after the pose x more: its pose is
--- accurate for the longer history, and so is its action. The exact scale s of the running pose may be any value.
+-- r is the running join after the history of n, a first pose p and the steps l, and r' after the pose x more: its pose
+-- is accurate for the longer history, and so is its action. The exact scale s of the running pose may be any value.
 pub record JoinAccurate (r : Running) (x : Pose) (up : Float) (r' : Running) : Type 0 where
   pub pose : (n : ℕ) (p : Pose) (first : Float) (l : List Step) (s : Value) →
-      r ≡ after binary64 running_none (history_of n p first l) → RunningAccurate binary64 n p (l ++ (joins x up s ∷ [])) r'.pose
+      r ≡ after binary64 running_none (history_of n p first l) →
+      RunningAccurate binary64 n p (l ++ (joins x up s ∷ [])) r'.pose
   pub action : (n : ℕ) (p : Pose) (first : Float) (l : List Step) (s : Value) →
-      r ≡ after binary64 running_none (history_of n p first l) → PageAccurate binary64 n p (l ++ (joins x up s ∷ [])) r'.pose
+      r ≡ after binary64 running_none (history_of n p first l) →
+      PageAccurate binary64 n p (l ++ (joins x up s ∷ [])) r'.pose

@@ -1,4 +1,5 @@
--- Poses joined in a row from the right and never renormalised: computed, exactly, and a bound of the difference after each.
+-- Poses joined in a row from the right and never renormalised: computed, exactly, and a bound of the difference after
+-- each.
 use Rattle.std.specs.Prelude.{ℕ, zero, suc, ◌+◌, ◌*◌, ◌^◌, ◌≤◌, ◌<◌, Bool, ◌&&◌, List, [], ◌∷◌, length, T, leb, Float}
 use Rattle.std.specs.Float.{Format, binary32, binary64}
 use Rattle.sim3.specs.Pose.{pose_mul}
@@ -8,7 +9,7 @@ use Rattle.rounding.specs.Tree.{Bound, bound, no_overflow}
 use Rattle.accuracy.specs.Box.{VecIn, VecError, QuatError, Three, exact_vec, Four, exact_quat}
 use Rattle.accuracy.specs.Action.{exact_scaled_sum, exact_rotate, tree_act}
 use Rattle.accuracy.specs.Quaternions.{exact_hamilton, tree_quat_mul, quat_mul_sizes}
-use Rattle.rounding.specs.Leaves.{sizes, nth, no_bound, plain}
+use Rattle.rounding.specs.Leaves.{sizes, nth, no_bound, errorless}
 use Rattle.running_accuracy.specs.Products.{LengthAtMost, next_rotation}
 
 -- a pose to join, the scale of the running pose as it was handed in, and that scale exactly
@@ -63,12 +64,17 @@ pub record PoseBound : Type 0 where
 
 abbrev pub join_bounds : ℕ → ℕ → ℕ → ℕ → PoseBound → List Bound
 join_bounds u b s h p =
-    plain (2 * u) ∷ p.rotation ∷ p.rotation ∷ p.rotation ∷ p.rotation ∷ plain b ∷ plain b ∷ plain b
+    errorless (2 * u) ∷ p.rotation ∷ p.rotation ∷ p.rotation ∷ p.rotation ∷ errorless b ∷ errorless b ∷ errorless b
     ∷ record { magnitude = s; error = h } ∷ p.translation ∷ p.translation ∷ p.translation ∷ []
 
 unfoldable pub next_pose : Format → ℕ → ℕ → ℕ → ℕ → ℕ → PoseBound → PoseBound
 unfolding next_rotation bound tree_act
-next_pose f u v b s h p = record { rotation = next_rotation f u v p.rotation; translation = bound f u (nth no_bound (join_bounds u b s h p)) tree_act.x }
+next_pose f u v b s h p =
+    record {
+      rotation = next_rotation f u v p.rotation;
+      translation =
+          bound f u (nth no_bound (join_bounds u b s h p)) tree_act.x;
+    }
 
 unfoldable pub join_no_overflow : Format → ℕ → ℕ → ℕ → ℕ → ℕ → PoseBound → Bool
 unfolding no_overflow tree_act tree_quat_mul
@@ -76,7 +82,8 @@ join_no_overflow f u v b s h p =
     no_overflow f u (sizes (quat_mul_sizes (p.rotation.magnitude + p.rotation.error) v)) tree_quat_mul.w
     && no_overflow f u (nth no_bound (join_bounds u b s h p)) tree_act.x
 
--- the computed test: none of n joins more overflows, and the errors of rotation and translation are at most c and g after each
+-- the computed test: none of n joins more overflows, and the errors of rotation and translation are at most c and g
+-- after each
 unfoldable pub joins_hold : Format → ℕ → ℕ → ℕ → ℕ → ℕ → ℕ → ℕ → PoseBound → ℕ → Bool
 unfolding next_pose join_no_overflow
 joins_hold f u v b s h c g p zero = leb p.rotation.error c && leb p.translation.error g
@@ -86,10 +93,11 @@ joins_hold f u v b s h c g p (suc n) =
 
 -- ---- what is proved
 abbrev pub first_bound : ℕ → ℕ → PoseBound
-first_bound v b = record { rotation = record { magnitude = v; error = 0 }; translation = plain b }
+first_bound v b = record { rotation = record { magnitude = v; error = 0 }; translation = errorless b }
 
--- r is x joined with the poses of l: rotations of length up to v / u, translations up to b / u, scales up to s / u within h / u,
--- at most N poses; each number of the rotation is within c / u and of the translation within g / u of the exact one
+-- r is x joined with the poses of l: rotations of length up to v / u, translations up to b / u, scales up to s / u
+-- within h / u, at most N poses; each number of the rotation is within c / u and of the translation within g / u of the
+-- exact one
 abbrev pub JoinedIn : ℕ → ℕ → ℕ → ℕ → ℕ → ℕ → ℕ → ℕ → Sim3 → List Join → Sim3 → Type 0
 JoinedIn u v b s h c g N x l r =
     length l ≤ N → LengthAtMost u v x.q → VecIn u b x.t → AllJoinsIn u v b s h l →
@@ -98,9 +106,11 @@ JoinedIn u v b s h c g N x l r =
 pub record JoinedTheorem : Type 0 where
   pub joined_poses : (f : Format) (u v b s h c g N : ℕ) (x : Sim3) (l : List Join) →
       0 < u → T (joins_hold f u v b s h c g (first_bound v b) N) → JoinedIn u v b s h c g N x l (joined f x l)
-  -- up to 100 poses, lengths up to 1 + 2^-40, translations up to 2^10, scales up to 2 within 2^-52: within 2^-41 and 2^-20
+  -- up to 100 poses, lengths up to 1 + 2^-40, translations up to 2^10, scales up to 2 within 2^-52: within 2^-41 and
+  -- 2^-20
   pub doubles : (x : Sim3) (l : List Join) →
       JoinedIn (2 ^ 100) (2 ^ 100 + 2 ^ 60) (2 ^ 110) (2 ^ 101) (2 ^ 48) (2 ^ 59) (2 ^ 80) 100 x l (joined binary64 x l)
   -- lengths up to 1 + 2^-20, scales within 2^-23: within 2^-12 and 2^9
   pub singles : (x : Sim3) (l : List Join) →
-      JoinedIn (2 ^ 100) (2 ^ 100 + 2 ^ 80) (2 ^ 110) (2 ^ 101) (2 ^ 77) (2 ^ 88) (2 ^ 109) 100 x l (joined binary32 x l)
+      JoinedIn (2 ^ 100) (2 ^ 100 + 2 ^ 80) (2 ^ 110) (2 ^ 101) (2 ^ 77) (2 ^ 88) (2 ^ 109) 100 x l
+      (joined binary32 x l)

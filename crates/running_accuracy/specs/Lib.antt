@@ -1,3 +1,4 @@
+-- To be read in this order.
 pub mod Products
 pub mod Joins
 pub mod Running

@@ -1,4 +1,5 @@
--- Products of quaternions in a row, from the left: computed, exact, and a bound of the difference as a function of their number.
+-- Products of quaternions in a row, from the left: computed, exact, and a bound of the difference as a function of
+-- their number.
 use Rattle.std.specs.Prelude.{ℕ, ◌+◌, ◌*◌}
 use Rattle.std.specs.Float.{Format}
 use Rattle.so3.specs.Floats.{Quat}
@@ -24,4 +25,9 @@ product_error f u v a = (bound f u (sizes (quat_mul_sizes a v)) tree_quat_mul.w)
 
 unfoldable pub next_rotation : Format → ℕ → ℕ → Bound → Bound
 unfolding product_error
-next_rotation f u v r = record { magnitude = upward u (r.magnitude * v); error = 2 * product_error f u v (r.magnitude + r.error) + upward u (r.error * v) }
+next_rotation f u v r =
+    record {
+      magnitude = upward u (r.magnitude * v);
+      error =
+          2 * product_error f u v (r.magnitude + r.error) + upward u (r.error * v);
+    }

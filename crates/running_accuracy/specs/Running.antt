@@ -1,5 +1,6 @@
 -- The running join with its renormalisations: exactly, and a bound of the difference after each product.
-use Rattle.std.specs.Prelude.{Some, None, Bool, cond, ◌&&◌, List, [], ◌∷◌, ℕ, zero, suc, ◌+◌, ◌*◌, ◌^◌, ◌≤◌, ◌<◌, T, leb, ltb, eqb, Float}
+use Rattle.std.specs.Prelude.{Some, None, Bool, cond, ◌&&◌, List, [], ◌∷◌, ℕ, zero, suc, ◌+◌, ◌*◌, ◌^◌, ◌≤◌, ◌<◌, T}
+use Rattle.std.specs.Prelude.{leb, ltb, eqb, Float}
 use Rattle.std.specs.Float.{Format, binary32, binary64}
 use Rattle.linalg.specs.Floats.{Vec3}
 use Rattle.sim3.specs.Pose.{pose_act}
@@ -8,12 +9,13 @@ use Rattle.running.specs.Running.{Start, due, running_none}
 use Rattle.running.specs.History.{Event, join, renew, after}
 use Rattle.rounding.specs.Value.{Value, AtMost, AbsoluteError}
 use Rattle.rounding.specs.Tree.{Bound, upward, bound, no_overflow}
-use Rattle.rounding.specs.Leaves.{sizes, nth, no_bound, plain}
+use Rattle.rounding.specs.Leaves.{sizes, nth, no_bound, errorless}
 use Rattle.accuracy.specs.Box.{Three, VecError, exact_vec, Four, QuatError, exact_quat, VecIn}
 use Rattle.accuracy.specs.Action.{exact_scaled_sum, exact_rotate, tree_act}
 use Rattle.accuracy.specs.Quaternions.{exact_newton, tree_newton, newton_sizes}
 use Rattle.running_accuracy.specs.Products.{exact_squared, product_error, LengthAtMost}
-use Rattle.running_accuracy.specs.Joins.{Join, Exact, exact_pose, vector_part, exact_join, JoinIn, PoseBound, join_bounds, join_no_overflow}
+use Rattle.running_accuracy.specs.Joins.{Join, Exact, exact_pose, vector_part, exact_join, JoinIn, PoseBound}
+use Rattle.running_accuracy.specs.Joins.{join_bounds, join_no_overflow}
 
 -- |q|² is within c / u of 1
 pub record Normal (u c : ℕ) (q : Four Value) : Type 0 where
@@ -42,14 +44,15 @@ join_at x up s = record { pose = x.sim3; up = up; scale = s }
 abbrev pub exact_renormalized : Exact → Exact
 exact_renormalized x = record { q = exact_newton x.q; t = x.t }
 
--- the running pose in exact arithmetic, with the products accepted and renormalised where the running join does so: n is set,
--- there were k products since the last renormalisation, and the pose is from the frame i
+-- the running pose in exact arithmetic, with the products accepted and renormalised where the running join does so: n
+-- is set, there were k products since the last renormalisation, and the pose is from the frame i
 unfoldable pub exact_ran : ℕ → ℕ → ℕ → Exact → List Step → Exact
 exact_ran n k i X [] = X
 exact_ran n k i X (renews m ∷ l) = exact_ran m k i X l
 exact_ran n k i X (joins x up s ∷ l) =
     cond (eqb i x.to)
-    (cond (due n (k + 1)) (exact_ran n 0 x.from (exact_renormalized (exact_join X (join_at x up s))) l) (exact_ran n (k + 1) x.from (exact_join X (join_at x up s)) l))
+    (cond (due n (k + 1)) (exact_ran n 0 x.from (exact_renormalized (exact_join X (join_at x up s))) l)
+    (exact_ran n (k + 1) x.from (exact_join X (join_at x up s)) l))
     (exact_ran n k i X l)
 
 -- ---- what is known of the poses that are joined, in units of 1 / unit
@@ -102,7 +105,8 @@ cube u d = upward (u * u) (d * d * d)
 
 unfoldable pub newton_far : Format → JoinBox → ℕ → ℕ
 unfolding newton_error
-newton_far f L d = 2 * newton_error f L.unit (L.longest + d) + upward (2 * L.unit) ((2 * L.unit + away L) * (d + cube L.unit d))
+newton_far f L d =
+    2 * newton_error f L.unit (L.longest + d) + upward (2 * L.unit) ((2 * L.unit + away L) * (d + cube L.unit d))
 
 unfoldable pub product_far : Format → JoinBox → ℕ → ℕ
 unfolding product_error
@@ -126,7 +130,9 @@ newton_no_overflow f L d =
 
 unfoldable pub step_no_overflow : Format → JoinBox → PoseBound → Bool
 unfolding join_no_overflow newton_no_overflow product_far
-step_no_overflow f L p = join_no_overflow f L.unit L.length L.translation L.scale L.scale_error p && newton_no_overflow f L (product_far f L p.rotation.error)
+step_no_overflow f L p =
+    join_no_overflow f L.unit L.length L.translation L.scale L.scale_error p
+    && newton_no_overflow f L (product_far f L p.rotation.error)
 
 -- the test e stands after each of n products, and nothing overflows
 unfoldable pub run_holds : Format → JoinBox → (PoseBound → Bool) → PoseBound → ℕ → Bool
@@ -141,7 +147,9 @@ close_test c g p = leb p.rotation.error c && leb p.translation.error g
 -- the error of the action on a point of at most b, by a scale of at most s within h, is at most e
 unfoldable pub act_test : Format → ℕ → ℕ → ℕ → ℕ → ℕ → PoseBound → Bool
 unfolding no_overflow bound tree_act
-act_test f u b s h e p = no_overflow f u (nth no_bound (join_bounds u b s h p)) tree_act.x && leb (bound f u (nth no_bound (join_bounds u b s h p)) tree_act.x).error e
+act_test f u b s h e p =
+    no_overflow f u (nth no_bound (join_bounds u b s h p)) tree_act.x
+    && leb (bound f u (nth no_bound (join_bounds u b s h p)) tree_act.x).error e
 
 abbrev pub bound_at : JoinBox → ℕ → Bound → PoseBound
 bound_at L d w = record { rotation = record { magnitude = L.longest; error = d }; translation = w }
@@ -218,13 +226,13 @@ page_box =
     }
 
 -- ---- what is proved
--- After any history of poses and new n, with n set from the start, the running pose r is there, each number of its rotation
--- within c / unit and of its translation within g / unit of the same history in exact arithmetic: for every box and up to N
--- joins whose bound is computed to be at most c and g.
+-- After any history of poses and new n, with n set from the start, the running pose r is there, each number of its
+-- rotation within c / unit and of its translation within g / unit of the same history in exact arithmetic: for every
+-- box and up to N joins whose bound is computed to be at most c and g.
 abbrev pub RunningAccurate : Format → ℕ → Pose → List Step → Start → Type 0
 RunningAccurate f n p l r =
     (L : JoinBox) (c g N : ℕ) → T (box_holds L) → T (ltb L.every 65536) →
-    T (run_holds f L (close_test c g) (bound_at L 0 (plain L.translation)) N) →
+    T (run_holds f L (close_test c g) (bound_at L 0 (errorless L.translation)) N) →
     count l ≤ N → 0 < n → n ≤ L.every → FirstIn L p → AllStepsIn L l →
     RunningError L.unit c g r (exact_ran n 0 p.from (exact_pose p.sim3) l)
 
@@ -232,7 +240,7 @@ RunningAccurate f n p l r =
 abbrev pub PageAccurate : Format → ℕ → Pose → List Step → Start → Type 0
 PageAccurate f n p l r =
     (L : JoinBox) (b s h e N : ℕ) (up : Float) (z : Value) (pt : Vec3) → T (box_holds L) → T (ltb L.every 65536) →
-    T (run_holds f L (act_test f L.unit b s h e) (bound_at L 0 (plain L.translation)) N) →
+    T (run_holds f L (act_test f L.unit b s h e) (bound_at L 0 (errorless L.translation)) N) →
     count l ≤ N → 0 < n → n ≤ L.every → FirstIn L p → AllStepsIn L l →
     VecIn L.unit b pt → AbsoluteError L.unit up z h → AtMost L.unit z s → 0 < z.d →
     ActionError f L.unit e up z pt r (exact_ran n 0 p.from (exact_pose p.sim3) l)
@@ -257,11 +265,12 @@ PageIn f L N e =
 
 pub record RunningTheorem : Type 0 where
   -- any format, box and number of joins
-  pub running : (f : Format) (n : ℕ) (p : Pose) (up : Float) (l : List Step) → RunningAccurate f n p l (pose_after f n p up l)
+  pub running : (f : Format) (n : ℕ) (p : Pose) (up : Float) (l : List Step) →
+      RunningAccurate f n p l (pose_after f n p up l)
   pub page : (f : Format) (n : ℕ) (p : Pose) (up : Float) (l : List Step) → PageAccurate f n p l (pose_after f n p up l)
   -- the exact rotation's length stays near 1, within a bound that does not grow with the number of joins
   pub length : (f : Format) (L : JoinBox) (e : PoseBound → Bool) (N n : ℕ) (p : Pose) (up : Float) (l : List Step) →
-      T (box_holds L) → T (ltb L.every 65536) → T (run_holds f L e (bound_at L 0 (plain L.translation)) N) →
+      T (box_holds L) → T (ltb L.every 65536) → T (run_holds f L e (bound_at L 0 (errorless L.translation)) N) →
       count l ≤ N → 0 < n → n ≤ L.every → FirstIn L p → AllStepsIn L l →
       Normal L.unit (away L) (exact_ran n 0 p.from (exact_pose p.sim3) l).q
   -- up to 1000 joins at doubles: rotation within 2^-37, translation within 2^-12

@@ -1,4 +1,5 @@
--- Every reciprocal that a series asks for within its term counts is in the table, and the next term's is not. Assumes nothing.
+-- Every reciprocal that a series asks for within its term counts is in the table, and the next term's is not. Assumes
+-- nothing.
 use Prim.Native.Nat.{ℕ, ◌+◌, ◌≤◌}
 use native.Mathlib.Omega.{arith}
 use lib.Ieee.{Format}

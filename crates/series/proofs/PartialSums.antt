@@ -1,5 +1,6 @@
--- A pass over the reciprocals stopped after any number of entries holds the partial sums that each sign alone has then, and after the last entry Horner's sums. For
--- every sigma, NaN and infinities included, every term count and every format. Assumes nothing.
+-- A pass over the reciprocals stopped after any number of entries holds the partial sums that each sign alone has then,
+-- and after the last entry Horner's sums. For every sigma, NaN and infinities included, every term count and every
+-- format. Assumes nothing.
 use mathlib.Core.Path.{◌≡◌, refl, ap, ◌∙◌}
 use Prim.Native.Nat.{ℕ, zero, suc, ◌+◌, ◌-◌, ◌≤◌}
 use native.Mathlib.Omega.{arith}
@@ -30,12 +31,14 @@ pub both_more :
     (f : Format) (sigma : Float) (l terms n j : ℕ) → j ≡ terms - (n + 1) + l →
     g_term f sigma (neg sigma) (recip_fact f j) (both_stopped f sigma l terms n) ≡ both_stopped f sigma l terms (n + 1)
 unfolding g_term
-both_more f sigma l terms n j e = λ i. record { pos = stopped_more f sigma l terms n j e i; neg = stopped_more f (neg sigma) l terms n j e i }
+both_more f sigma l terms n j e =
+    λ i. record { pos = stopped_more f sigma l terms n j e i; neg = stopped_more f (neg sigma) l terms n j e i }
 
 -- v0 and w0 of k terms at a stop, from the entries read then
 pub stopped_at :
     (f : Format) (sigma : Float) (k n stop : ℕ) (h : Horner) →
-    n ≡ entries_read stop k → h ≡ record { v0 = both_stopped f sigma 1 k n; w0 = both_stopped f sigma 2 k n } → h ≡ horner_stopped f sigma k k stop
+    n ≡ entries_read stop k → h ≡ record { v0 = both_stopped f sigma 1 k n; w0 = both_stopped f sigma 2 k n } →
+    h ≡ horner_stopped f sigma k k stop
 unfolding horner_stopped
 stopped_at f sigma k n stop h e p = rw (← e) p
 
@@ -59,32 +62,45 @@ minus_or_zero f sigma s j g =
     let same = mul-same f _ _ g.neg g.neg (add-zero-same f (neg sigma) s) refl in
     let p = recip_fits f j in
     let c = recip_clear f j in
-    λ i. record { pos = add f r (mul f sigma g.pos); neg = add-is-same f r r _ _ p p (mul-fits f _ _) (mul-fits f _ _) c c refl same i }
+    λ i. record {
+      pos = add f r (mul f sigma g.pos);
+      neg = add-is-same f r r _ _ p p (mul-fits f _ _)
+          (mul-fits f _ _) c c refl same i;
+    }
 
 -- ---- the partial sum after n entries is Horner's sum of the last n terms, and the whole sum after all of them
-stopped_is : (f : Format) (sigma : Float) (l terms n : ℕ) → n ≤ terms → g_stopped f sigma l terms n ≡ g_series f sigma (terms - n + l) n
+stopped_is : (f : Format) (sigma : Float) (l terms n : ℕ) → n ≤ terms →
+    g_stopped f sigma l terms n ≡ g_series f sigma (terms - n + l) n
 unfolding g_stopped g_series
 stopped_is f sigma l terms zero h = refl
 stopped_is f sigma l terms (suc n) h =
     let e : suc (terms - suc n + l) ≡ terms - n + l = omega arith in
-    rw e (ap (λ (x : Float). add f (recip_fact f (terms - suc n + l)) (mul f sigma x)) (stopped_is f sigma l terms n (omega arith)))
+    rw e (ap (λ (x : Float). add f (recip_fact f (terms - suc n + l)) (mul f sigma x))
+    (stopped_is f sigma l terms n (omega arith)))
 
-pub stopped_last : (f : Format) (sigma : Float) (l terms : ℕ) → g_stopped f sigma l terms terms ≡ g_series f sigma l terms
+pub stopped_last : (f : Format) (sigma : Float) (l terms : ℕ) →
+    g_stopped f sigma l terms terms ≡ g_series f sigma l terms
 stopped_last f sigma l terms =
     let e : terms - terms + l ≡ l = omega arith in
     stopped_is f sigma l terms terms (omega arith) ∙ ap (λ (i : ℕ). g_series f sigma i terms) e
 
-pub both_last : (f : Format) (sigma : Float) (l terms : ℕ) → both_stopped f sigma l terms terms ≡ g_series_pair f sigma l terms
+pub both_last : (f : Format) (sigma : Float) (l terms : ℕ) →
+    both_stopped f sigma l terms terms ≡ g_series_pair f sigma l terms
 unfolding g_series_pair
-both_last f sigma l terms = λ i. record { pos = stopped_last f sigma l terms i; neg = stopped_last f (neg sigma) l terms i }
+both_last f sigma l terms =
+    λ i. record { pos = stopped_last f sigma l terms i; neg = stopped_last f (neg sigma) l terms i }
 
 -- ---- a sum of m + 1 terms from 1 / l! on reads what one of m terms from 1 / (l + 1)! on does, and one entry more
-stopped_shared : (f : Format) (sigma : Float) (l m n : ℕ) → n ≤ m → g_stopped f sigma l (m + 1) n ≡ g_stopped f sigma (l + 1) m n
+stopped_shared : (f : Format) (sigma : Float) (l m n : ℕ) → n ≤ m →
+    g_stopped f sigma l (m + 1) n ≡ g_stopped f sigma (l + 1) m n
 unfolding g_stopped
 stopped_shared f sigma l m zero h = refl
 stopped_shared f sigma l m (suc n) h =
     let e : m + 1 - suc n + l ≡ m - suc n + (l + 1) = omega arith in
-    rw e (ap (λ (x : Float). add f (recip_fact f (m - suc n + (l + 1))) (mul f sigma x)) (stopped_shared f sigma l m n (omega arith)))
+    rw e (ap (λ (x : Float). add f (recip_fact f (m - suc n + (l + 1))) (mul f sigma x))
+    (stopped_shared f sigma l m n (omega arith)))
 
-pub both_shared : (f : Format) (sigma : Float) (l m n : ℕ) → n ≤ m → both_stopped f sigma l (m + 1) n ≡ both_stopped f sigma (l + 1) m n
-both_shared f sigma l m n h = λ i. record { pos = stopped_shared f sigma l m n h i; neg = stopped_shared f (neg sigma) l m n h i }
+pub both_shared : (f : Format) (sigma : Float) (l m n : ℕ) → n ≤ m →
+    both_stopped f sigma l (m + 1) n ≡ both_stopped f sigma (l + 1) m n
+both_shared f sigma l m n h =
+    λ i. record { pos = stopped_shared f sigma l m n h i; neg = stopped_shared f (neg sigma) l m n h i }

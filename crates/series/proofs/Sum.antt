@@ -1,4 +1,5 @@
--- The series' sums start from +0, so they fit the format and are never -0; and one more level, or the terms after level k, carry them on. Assumes nothing.
+-- The series' sums start from +0, so they fit the format and are never -0; and one more level, or the terms after level
+-- k, carry them on. Assumes nothing.
 use mathlib.Core.Path.{◌≡◌, refl}
 use Prim.Native.Nat.{ℕ, zero, suc, ◌+◌}
 use native.Mathlib.Omega.{arith}
@@ -18,7 +19,8 @@ unfolding series_sum
 sum_fits f t zero = unfold fits in tt
 sum_fits f t (suc n) = add-fits f (series_sum f t n) (t n)
 
-pub sum_clear : (f : Format) (t : ℕ → Float) (n : ℕ) → ((j : ℕ) → T (fits f (t j))) → T (not_minus_zero (series_sum f t n))
+pub sum_clear : (f : Format) (t : ℕ → Float) (n : ℕ) → ((j : ℕ) → T (fits f (t j))) →
+    T (not_minus_zero (series_sum f t n))
 unfolding series_sum
 sum_clear f t zero h = tt
 sum_clear f t (suc n) h = add_clear f (series_sum f t n) (t n) (sum_fits f t n) (h n) (sum_clear f t n h)
@@ -42,14 +44,16 @@ unfolding series_sum
 sum_more f t n m e = rw (e, add-one n) refl
 
 -- one more level
-pub level-after : (f : Format) (sigma z : Float) (n m : ℕ) → n + 1 ≡ m → series_level f sigma z m ≡ series_next f sigma z (series_level f sigma z n)
+pub level-after : (f : Format) (sigma z : Float) (n m : ℕ) → n + 1 ≡ m →
+    series_level f sigma z m ≡ series_next f sigma z (series_level f sigma z n)
 unfolding series_level
 level-after f sigma z n m e = rw (← e, add-one n) refl
 
 -- the terms that `tail_terms` has from level k + 1 are those of the levels k + 1, k + 2 and k + 3
 pub tail-is :
     (f : Format) (sigma z : Float) (k : ℕ) →
-    tail_terms f sigma z (series_level f sigma z (k + 1)) (recip_fact f (k + 2)) (recip_fact f (k + 3)) (recip_fact f (k + 4))
+    tail_terms f sigma z (series_level f sigma z (k + 1)) (recip_fact f (k + 2)) (recip_fact f (k + 3))
+    (recip_fact f (k + 4))
     ≡ record {
       v2 = (series_terms f sigma z (k + 1)).v2;
       w2 = (series_terms f sigma z (k + 1)).w2;

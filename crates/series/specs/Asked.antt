@@ -1,4 +1,5 @@
--- Which reciprocals the series ask for. Within the accepted term counts each is in the table, and with one term more there is one that is not.
+-- Which reciprocals the series ask for. Within the accepted term counts each is in the table, and with one term more
+-- there is one that is not.
 use Rattle.std.specs.Prelude.{Some, None, ◌≡◌, ℕ, ◌+◌, ◌≤◌, ◌<◌}
 use Rattle.std.specs.Float.{Format}
 use Rattle.tables.specs.Tables.{recip_fact, recip_table}
@@ -14,7 +15,8 @@ pub record VAsks (f : Format) (k : ℕ) : Type 0 where
   pub v1 : (j : ℕ) → j < k + 1 → Has f (j + 1)
   pub v2 : (j : ℕ) → j < k + 2 → Has f (j + 1)
 
--- the full series: besides, w₀ over i < k, w₁ and w₂ over the levels of v₁ and v₂, dv₁ over those below k + 3, dv₂ over those below k + 4
+-- the full series: besides, w₀ over i < k, w₁ and w₂ over the levels of v₁ and v₂, dv₁ over those below k + 3, dv₂ over
+-- those below k + 4
 pub record FullAsks (f : Format) (k : ℕ) : Type 0 where
   pub v : VAsks f k
   pub w0 : (i : ℕ) → i < k → Has f (i + 2)

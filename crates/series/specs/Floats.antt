@@ -1,10 +1,11 @@
--- The structs over the floats that the definitions speak of, and each struct of the code as one of them: `h` gives the float of a number.
+-- The structs over the floats that the definitions speak of, and each struct of the code as one of them: `h` gives the
+-- float of a number.
 use Rattle.std.specs.Prelude.{Float}
 use Rattle.series.specs.declared.recurrence.Level as CodeLevel
 use Rattle.series.specs.declared.recurrence.Sums as CodeSums
 use Rattle.series.specs.declared.recurrence.Tail as CodeTail
-use Rattle.series.specs.declared.recurrence.Turns as CodeTurns
-use Rattle.series.specs.declared.recurrence.TurnsPair as CodeTurnsPair
+use Rattle.series.specs.declared.recurrence.SeriesState as CodeSeriesState
+use Rattle.series.specs.declared.recurrence.SeriesPairState as CodeSeriesPairState
 use Rattle.series.specs.declared.sim3.Sim3Coeffs as CodeSim3Coeffs
 use Rattle.series.specs.declared.sim3.Coeffs4 as CodeCoeffs4
 use Rattle.series.specs.declared.sim3.Signs as CodeSigns
@@ -27,25 +28,47 @@ abbrev pub Tail : Type 0
 Tail = CodeTail.Tail Float
 
 abbrev pub as_tail : {T : Type 0} → (T → Float) → CodeTail.Tail T → Tail
-as_tail h a = record { v2 = h a.v2; w2 = h a.w2; dv1 = h a.dv1; dv1_next = h a.dv1_next; dv2 = h a.dv2; dv2_next = h a.dv2_next; dv2_last = h a.dv2_last }
+as_tail h a =
+    record {
+      v2 = h a.v2;
+      w2 = h a.w2;
+      dv1 = h a.dv1;
+      dv1_next = h a.dv1_next;
+      dv2 = h a.dv2;
+      dv2_next =
+          h a.dv2_next;
+      dv2_last = h a.dv2_last;
+    }
 
-abbrev pub Turns : Type 0
-Turns = CodeTurns.Turns Float
+abbrev pub SeriesState : Type 0
+SeriesState = CodeSeriesState.SeriesState Float
 
-abbrev pub as_turns : {T : Type 0} → (T → Float) → CodeTurns.Turns T → Turns
-as_turns h a = record { level = as_level h a.level; sums = as_sums h a.sums }
+abbrev pub as_series_state : {T : Type 0} → (T → Float) → CodeSeriesState.SeriesState T → SeriesState
+as_series_state h a = record { level = as_level h a.level; sums = as_sums h a.sums }
 
-abbrev pub TurnsPair : Type 0
-TurnsPair = CodeTurnsPair.TurnsPair Float
+abbrev pub SeriesPairState : Type 0
+SeriesPairState = CodeSeriesPairState.SeriesPairState Float
 
-abbrev pub as_turns_pair : {T : Type 0} → (T → Float) → CodeTurnsPair.TurnsPair T → TurnsPair
-as_turns_pair h a = record { level = as_level h a.level; pos = as_sums h a.pos; neg = as_sums h a.neg }
+abbrev pub as_series_pair_state : {T : Type 0} → (T → Float) → CodeSeriesPairState.SeriesPairState T → SeriesPairState
+as_series_pair_state h a = record { level = as_level h a.level; pos = as_sums h a.pos; neg = as_sums h a.neg }
 
 abbrev pub Sim3Coeffs : Type 0
 Sim3Coeffs = CodeSim3Coeffs.Sim3Coeffs Float
 
 abbrev pub as_sim3_coeffs : {T : Type 0} → (T → Float) → CodeSim3Coeffs.Sim3Coeffs T → Sim3Coeffs
-as_sim3_coeffs h a = record { v0 = h a.v0; v1 = h a.v1; v2 = h a.v2; w0 = h a.w0; w1 = h a.w1; w2 = h a.w2; dv1 = h a.dv1; dv2 = h a.dv2; chi_delta = h a.chi_delta }
+as_sim3_coeffs h a =
+    record {
+      v0 = h a.v0;
+      v1 = h a.v1;
+      v2 = h a.v2;
+      w0 = h a.w0;
+      w1 = h a.w1;
+      w2 = h a.w2;
+      dv1 = h a.dv1;
+      dv2 =
+          h a.dv2;
+      chi_delta = h a.chi_delta;
+    }
 
 abbrev pub Coeffs4 : Type 0
 Coeffs4 = CodeCoeffs4.Coeffs4 Float
@@ -76,4 +99,11 @@ abbrev pub Stopped : Type 0
 Stopped = CodeStopped.Stopped Float
 
 abbrev pub as_stopped : {T : Type 0} → (T → Float) → CodeStopped.Stopped T → Stopped
-as_stopped h a = record { series = as_horner h a.series; series_alone = as_horner h a.series_alone; closed = as_horner h a.closed; closed_alone = as_horner h a.closed_alone }
+as_stopped h a =
+    record {
+      series = as_horner h a.series;
+      series_alone = as_horner h a.series_alone;
+      closed =
+          as_horner h a.closed;
+      closed_alone = as_horner h a.closed_alone;
+    }

@@ -1,6 +1,6 @@
--- One pass over the reciprocals for both signs, stopped after some of its entries (02, K4). Horner's sums read the table
--- from the highest entry down; what the pass then holds is what each sign alone has after as many entries, in every
--- format, for every σ, every term count that an entry takes and every stop.
+-- One pass over the reciprocals for both signs, stopped after some of its entries (02, K4). Horner's sums read the
+-- table from the highest entry down; what the pass then holds is what each sign alone has after as many entries, in
+-- every format, for every σ, every term count that an entry takes and every stop.
 use Rattle.std.specs.Prelude.{ℕ, zero, suc, ◌+◌, ◌-◌, cond, ltb, Float}
 use Rattle.std.specs.Float.{Format}
 use Rattle.std.specs.Float.Ieee.{neg}
@@ -35,7 +35,11 @@ entries_read stop terms = cond (ltb terms stop) terms stop
 -- v₀ and w₀ of so many terms, each at σ alone and at -σ alone, at a stop
 unfoldable pub horner_stopped : Format → Float → ℕ → ℕ → ℕ → Horner
 horner_stopped f sigma vTerms wTerms stop =
-    record { v0 = both_stopped f sigma 1 vTerms (entries_read stop vTerms); w0 = both_stopped f sigma 2 wTerms (entries_read stop wTerms) }
+    record {
+      v0 = both_stopped f sigma 1 vTerms (entries_read stop vTerms);
+      w0 =
+          both_stopped f sigma 2 wTerms (entries_read stop wTerms);
+    }
 
 -- the series arm at k terms and the closed arm at its own: the pass, and the sums of each sign alone, hold the same;
 -- refusal 4 for k above the most terms

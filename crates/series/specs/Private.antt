@@ -9,8 +9,8 @@ use Rattle.series.specs.Series.{series_first, series_next, level_terms, g_series
 use Rattle.series.specs.Floats.{Level}
 use Rattle.series.specs.Floats.{Sums}
 use Rattle.series.specs.Floats.{Tail}
-use Rattle.series.specs.Floats.{Turns}
-use Rattle.series.specs.Floats.{TurnsPair}
+use Rattle.series.specs.Floats.{SeriesState}
+use Rattle.series.specs.Floats.{SeriesPairState}
 use Rattle.series.specs.Floats.{CoeffsPair}
 use Rattle.series.specs.Floats.{Signs}
 
@@ -95,37 +95,39 @@ module _ (f : Format) where
   g_term sigma minus r g = record { pos = r ⊕ sigma ⊗ g.pos; neg = r ⊕ minus ⊗ g.neg }
 
 -- ---- one sign: a turn, and n turns
-unfoldable pub solo_turn : Format → Float → Float → Float → Float → Turns → Turns
-solo_turn f sigma z r1 r2 s =
+unfoldable pub solo_step : Format → Float → Float → Float → Float → SeriesState → SeriesState
+solo_step f sigma z r1 r2 s =
     record { level = series_next f sigma z s.level; sums = sums_gain f s.sums (level_terms f s.level r1 r2) }
 
-unfoldable pub solo_turns : Format → Float → Float → ℕ → Turns
-solo_turns f sigma z zero = record { level = series_first; sums = sums_none }
-solo_turns f sigma z (suc j) = solo_turn f sigma z (recip_fact f (j + 1)) (recip_fact f (j + 2)) (solo_turns f sigma z j)
+unfoldable pub solo_steps : Format → Float → Float → ℕ → SeriesState
+solo_steps f sigma z zero = record { level = series_first; sums = sums_none }
+solo_steps f sigma z (suc j) =
+    solo_step f sigma z (recip_fact f (j + 1)) (recip_fact f (j + 2)) (solo_steps f sigma z j)
 
 -- ---- both signs
-unfoldable pub pair_turn : Format → Float → Float → Float → Float → Bool → TurnsPair → TurnsPair
-pair_turn f sigma z r1 r2 odd s =
+unfoldable pub pair_step : Format → Float → Float → Float → Float → Bool → SeriesPairState → SeriesPairState
+pair_step f sigma z r1 r2 odd s =
     record {
       level = series_next f sigma z s.level;
       pos = sums_gain f s.pos (level_terms f s.level r1 r2);
       neg = sums_gain_mirrored f odd s.neg (level_terms f s.level r1 r2);
     }
 
-unfoldable pub pair_turns : Format → Float → Float → ℕ → TurnsPair
-pair_turns f sigma z zero = record { level = series_first; pos = sums_none; neg = sums_none }
-pair_turns f sigma z (suc j) = pair_turn f sigma z (recip_fact f (j + 1)) (recip_fact f (j + 2)) (odd j) (pair_turns f sigma z j)
+unfoldable pub pair_steps : Format → Float → Float → ℕ → SeriesPairState
+pair_steps f sigma z zero = record { level = series_first; pos = sums_none; neg = sums_none }
+pair_steps f sigma z (suc j) =
+    pair_step f sigma z (recip_fact f (j + 1)) (recip_fact f (j + 2)) (odd j) (pair_steps f sigma z j)
 
 -- a level, and the loop's numbers, with -p for p
 unfoldable pub level_minus : Level → Level
 level_minus l = record { xi = l.xi; dxi = l.dxi; zeta = l.zeta; dzeta = l.dzeta; p = neg l.p }
 
-unfoldable pub turns_minus : TurnsPair → TurnsPair
-turns_minus s = record { level = level_minus s.level; pos = s.pos; neg = s.neg }
+unfoldable pub state_minus : SeriesPairState → SeriesPairState
+state_minus s = record { level = level_minus s.level; pos = s.pos; neg = s.neg }
 
 unfoldable pub pair_sums : Format → Float → Float → ℕ → Signs Sums
 pair_sums f sigma z k =
-    let s = pair_turns f sigma z (k + 1) in
+    let s = pair_steps f sigma z (k + 1) in
     let t = tail_terms f sigma z s.level (recip_fact f (k + 2)) (recip_fact f (k + 3)) (recip_fact f (k + 4)) in
     record { pos = sums_last f s.pos t; neg = sums_last_mirrored f (odd (k + 1)) s.neg t }
 
@@ -134,5 +136,6 @@ unfoldable pub pair_full : Format → Float → Float → ℕ → CoeffsPair
 pair_full f sigma z k =
     record {
       pos = series_coeffs f sigma z (g_series f sigma 1 k) (g_series f sigma 2 k) (pair_sums f sigma z k).pos;
-      neg = series_coeffs f sigma z (g_series f (neg sigma) 1 k) (g_series f (neg sigma) 2 k) (pair_sums f sigma z k).neg;
+      neg =
+          series_coeffs f sigma z (g_series f (neg sigma) 1 k) (g_series f (neg sigma) 2 k) (pair_sums f sigma z k).neg;
     }

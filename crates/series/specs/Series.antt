@@ -55,7 +55,15 @@ module _ (f : Format) where
   -- ---- the sums: level j gives ξ and ζ over (j + 1)! to v, over (j + 2)! to w, and ξ' and ζ' over (j + 1)! to dv
   unfoldable pub level_terms : Level → Float → Float → Sums
   level_terms l r1 r2 =
-      record { v1 = l.xi ⊗ r1; v2 = l.zeta ⊗ r1; w1 = l.xi ⊗ r2; w2 = l.zeta ⊗ r2; dv1 = l.dxi ⊗ r1; dv2 = l.dzeta ⊗ r1 }
+      record {
+        v1 = l.xi ⊗ r1;
+        v2 = l.zeta ⊗ r1;
+        w1 = l.xi ⊗ r2;
+        w2 = l.zeta ⊗ r2;
+        dv1 = l.dxi ⊗ r1;
+        dv2 =
+            l.dzeta ⊗ r1;
+      }
 
   abbrev pub series_terms : Float → Float → ℕ → Sums
   series_terms sigma z j = level_terms (series_level sigma z j) (recip_fact f (j + 1)) (recip_fact f (j + 2))
@@ -77,7 +85,8 @@ module _ (f : Format) where
         dv2 = series_sum (λ j. (series_terms sigma z j).dv2) (k + 4);
       }
 
-  -- ---- Horner's sum of σⁱ / (i + l)! over i < terms, from the last term: 1 / l! + σ (the sum for l + 1), and +0 for none
+  -- ---- Horner's sum of σⁱ / (i + l)! over i < terms, from the last term: 1 / l! + σ (the sum for l + 1), and +0 for
+  -- none
   unfoldable pub g_series : Float → ℕ → ℕ → Float
   g_series sigma l zero = f0
   g_series sigma l (suc n) = recip_fact f l ⊕ sigma ⊗ g_series sigma (suc l) n
@@ -137,4 +146,5 @@ series_v_answer f sigma z k = series_guard series_v_most z k (series_v f sigma z
 -- the answers at sigma and at -sigma beside each other
 unfoldable pub series_pair_answer : Format → Float → Float → ℕ → Answer CoeffsPair
 series_pair_answer f sigma z k =
-    and_then (series_answer f sigma z k) (λ p. and_then (series_answer f (neg sigma) z k) (λ n. answers (record { pos = p; neg = n })))
+    and_then (series_answer f sigma z k) (λ p. and_then (series_answer f (neg sigma) z k)
+    (λ n. answers (record { pos = p; neg = n })))

@@ -1,5 +1,6 @@
-// The Sim(3) coefficients by their total-degree series, at up to 28 terms, and 30 for v alone: at one
-// sign of sigma, and at both from one recurrence.
+// The Sim(3) coefficients by their total-degree series, at up to 28 terms, and 30 for v alone: at one sign of sigma,
+// and at both from one recurrence. Proved: each is the series' definition (specs/Series), and both signs at once are
+// what each sign alone gives, for every input (series_pair_answer). Rests on the tables.
 #![tactic(auto)]
 
 pub mod sim3; // the coefficients and their series at one sign of sigma: coeffs/sim3.rs

@@ -4,18 +4,18 @@
 ghost use Rattle.std.specs.Prelude.{◌≡◌, true, false, ◌+◌, ◌%◌, ◌≤◌};
 ghost use Rattle.std.specs.Float.Ieee.{neg};
 ghost use Rattle.series.specs.Series.{g_series_pair, series_full, series_pair_answer};
-ghost use Rattle.series.specs.Private.{sums_gain, sums_last, sums_gain_mirrored, sums_last_mirrored, turns_minus};
-ghost use Rattle.series.specs.Private.{pair_turn, pair_turns, pair_sums};
-ghost use Rattle.linalg.specs.Answer.{told};
+ghost use Rattle.series.specs.Private.{sums_gain, sums_last, sums_gain_mirrored, sums_last_mirrored, state_minus};
+ghost use Rattle.series.specs.Private.{pair_step, pair_steps, pair_sums};
+ghost use Rattle.linalg.specs.Answer.{view};
 ghost use Rattle.series.specs.Floats.{as_coeffs_pair, as_horner, as_sums, as_signs, as_tail};
-ghost use Rattle.series.specs.Floats.{as_turns_pair};
+ghost use Rattle.series.specs.Floats.{as_series_pair_state};
 
 use crate::admitted::admitted;
 use crate::count::{Count, FULL};
 use crate::horner::horner_stopped;
 use crate::reciprocal::recip;
 use crate::recurrence;
-use crate::recurrence::{Level, Sums, Tail, TurnsPair};
+use crate::recurrence::{Level, SeriesPairState, Sums, Tail};
 use crate::sim3::{CoeffsPair, Horner, Signs};
 use linalg::refusal::Refusal;
 use tables::Tables;
@@ -23,7 +23,7 @@ use tables::Tables;
 // The series at k terms, at sigma and at -sigma; refusal 1 for z below zero, then 4 for k above 28.
 #[tactic(auto, unfolding(crate::specs::Series::series_pair_answer, crate::specs::Series::series_answer))]
 pub fn series_pair<T: Tables>(sigma: T, z: T, k: usize) -> Result<CoeffsPair<T>, Refusal>
-    ensures { told (as_coeffs_pair T.float) result ≡ series_pair_answer T.format (T.float sigma) (T.float z) k }
+    ensures { view (as_coeffs_pair T.float) result ≡ series_pair_answer T.format (T.float sigma) (T.float z) k }
 {
     let k = admitted::<T, FULL>(z, k)?;
     Ok(series_pair_at(sigma, z, k))
@@ -53,7 +53,7 @@ fn sums_pair_at<T: Tables>(sigma: T, z: T, k: Count<FULL>) -> Signs<Sums<T>>
     ensures { as_signs (as_sums T.float) result ≡ pair_sums T.format (T.float sigma) (T.float z) k.terms }
 {
     let k = k.terms;
-    let s = turns_at(sigma, z, k);
+    let s = levels_to(sigma, z, k);
     let t = recurrence::tail_terms(sigma, z, s.level, recip(k + 2), recip(k + 3), recip(k + 4));
     let neg = if (k + 1) % 2 == 1 {
         recurrence::last(s.neg, tail_mirrored::<T, true>(t))
@@ -68,43 +68,43 @@ fn sums_pair_at<T: Tables>(sigma: T, z: T, k: Count<FULL>) -> Signs<Sums<T>>
 
 // The levels to k, which give a term to every sum: an even one by itself where k is even.
 #[tactic(auto, using(crate::proofs::Pairs::even_more))]
-fn turns_at<T: Tables>(sigma: T, z: T, k: usize) -> TurnsPair<T>
+fn levels_to<T: Tables>(sigma: T, z: T, k: usize) -> SeriesPairState<T>
     requires { k ≤ 28 }
-    ensures { as_turns_pair T.float result ≡ pair_turns T.format (T.float sigma) (T.float z) (k + 1) }
+    ensures { as_series_pair_state T.float result ≡ pair_steps T.format (T.float sigma) (T.float z) (k + 1) }
 {
     if k % 2 == 0 {
-        let s = turns_below(sigma, z, k);
-        return turn::<T, false>(sigma, z, recip(k + 1), recip(k + 2), s);
+        let s = levels_below(sigma, z, k);
+        return step::<T, false>(sigma, z, recip(k + 1), recip(k + 2), s);
     }
-    turns_below(sigma, z, k + 1)
+    levels_below(sigma, z, k + 1)
 }
 
 // The levels below n, which is even: an even and an odd one at each turn. PERF (D122): this is called
 // from two places, so that it is compiled as a function of its own, which stores its answer: it is from
 // these stores that the compiler sees which numbers of a turn to compute in twos.
-#[tactic(auto, using(crate::proofs::Minus::turns_twice, crate::proofs::Pairs::two_more), unfolding(crate::specs::Private::pair_turns))]
-fn turns_below<T: Tables>(sigma: T, z: T, n: usize) -> TurnsPair<T>
+#[tactic(auto, using(crate::proofs::Pairs::two_levels), unfolding(crate::specs::Private::pair_steps))]
+fn levels_below<T: Tables>(sigma: T, z: T, n: usize) -> SeriesPairState<T>
     requires { (n ≤ 28) × (n % 2 ≡ 0) }
-    ensures { as_turns_pair T.float result ≡ pair_turns T.format (T.float sigma) (T.float z) n }
+    ensures { as_series_pair_state T.float result ≡ pair_steps T.format (T.float sigma) (T.float z) n }
 {
-    let mut s = turns_minus(TurnsPair {
+    let mut s = state_minus(SeriesPairState {
         level: recurrence::first(),
         pos: recurrence::none(),
         neg: recurrence::none(),
     });
     for j in (0..n).step_by(2) {
-        s = two_turns(sigma, z, recip(j + 1), recip(j + 2), recip(j + 3), s);
+        s = two_steps(sigma, z, recip(j + 1), recip(j + 2), recip(j + 3), s);
     }
-    turns_minus(s)
+    state_minus(s)
 }
 
 // The same with the level's -p for its p, or p for -p.
-#[tactic(auto, unfolding(crate::specs::Private::turns_minus, crate::specs::Private::level_minus))]
-fn turns_minus<T: Tables>(s: TurnsPair<T>) -> TurnsPair<T>
-    ensures { as_turns_pair T.float result ≡ turns_minus (as_turns_pair T.float s) }
+#[tactic(auto, unfolding(crate::specs::Private::state_minus, crate::specs::Private::level_minus))]
+fn state_minus<T: Tables>(s: SeriesPairState<T>) -> SeriesPairState<T>
+    ensures { as_series_pair_state T.float result ≡ state_minus (as_series_pair_state T.float s) }
 {
     let l = s.level;
-    TurnsPair {
+    SeriesPairState {
         level: Level { p: -l.p, ..l },
         ..s
     }
@@ -113,25 +113,39 @@ fn turns_minus<T: Tables>(s: TurnsPair<T>) -> TurnsPair<T>
 // An even level and the odd one after it, with r3 = 1/(j + 3)!. PERF (D70, D122): a function of its own, for
 // with both turns written into the loop the pair takes 7 % more; and s and the answer hold -p for p: x - (-p)
 // is x + p, and xi and dxi are formed alike.
-fn two_turns<T: Tables>(sigma: T, z: T, r1: T, r2: T, r3: T, s: TurnsPair<T>) -> TurnsPair<T>
-    ensures { as_turns_pair T.float result
-        ≡ turns_minus
-        (pair_turn T.format (T.float sigma) (T.float z) (T.float r2) (T.float r3) true
-        (pair_turn T.format (T.float sigma) (T.float z) (T.float r1) (T.float r2) false
-        (turns_minus (as_turns_pair T.float s)))) }
+fn two_steps<T: Tables>(
+    sigma: T,
+    z: T,
+    r1: T,
+    r2: T,
+    r3: T,
+    s: SeriesPairState<T>,
+) -> SeriesPairState<T>
+    ensures { as_series_pair_state T.float result
+        ≡ state_minus
+        (pair_step T.format (T.float sigma) (T.float z) (T.float r2) (T.float r3) true
+        (pair_step T.format (T.float sigma) (T.float z) (T.float r1) (T.float r2) false
+        (state_minus (as_series_pair_state T.float s)))) }
 {
-    let s = turn::<T, false>(sigma, z, r1, r2, turns_minus(s));
-    turns_minus(turn::<T, true>(sigma, z, r2, r3, s))
+    let s = step::<T, false>(sigma, z, r1, r2, state_minus(s));
+    state_minus(step::<T, true>(sigma, z, r2, r3, s))
 }
 
 // One level, even or `ODD`, with r1 = 1/(j + 1)! and r2 = 1/(j + 2)!.
-#[tactic(auto, unfolding(crate::specs::Private::pair_turn))]
-fn turn<T: Tables, const ODD: bool>(sigma: T, z: T, r1: T, r2: T, s: TurnsPair<T>) -> TurnsPair<T>
-    ensures { as_turns_pair T.float result
-        ≡ pair_turn T.format (T.float sigma) (T.float z) (T.float r1) (T.float r2) ODD (as_turns_pair T.float s) }
+#[tactic(auto, unfolding(crate::specs::Private::pair_step))]
+fn step<T: Tables, const ODD: bool>(
+    sigma: T,
+    z: T,
+    r1: T,
+    r2: T,
+    s: SeriesPairState<T>,
+) -> SeriesPairState<T>
+    ensures { as_series_pair_state T.float result
+        ≡ pair_step T.format (T.float sigma) (T.float z) (T.float r1) (T.float r2) ODD
+        (as_series_pair_state T.float s) }
 {
     let t = recurrence::terms(s.level, r1, r2);
-    TurnsPair {
+    SeriesPairState {
         level: recurrence::next(sigma, z, s.level),
         pos: recurrence::gain(s.pos, t),
         neg: recurrence::gain(s.neg, mirrored::<T, ODD>(t)),

@@ -43,14 +43,14 @@ pub struct Tail<T> {
 
 // A loop for one sign after some levels: the next level, and the sums so far.
 #[derive(Clone, Copy)]
-pub struct Turns<T> {
+pub struct SeriesState<T> {
     pub level: Level<T>,
     pub sums: Sums<T>,
 }
 
 // The loop for both signs: the next level at sigma, and the sums at sigma and at -sigma.
 #[derive(Clone, Copy)]
-pub struct TurnsPair<T> {
+pub struct SeriesPairState<T> {
     pub level: Level<T>,
     pub pos: Sums<T>,
     pub neg: Sums<T>,

@@ -3,16 +3,16 @@
 // other sums run to the level that gives every coefficient the same total degree.
 ghost use Rattle.std.specs.Prelude.{◌≡◌, ◌+◌, ◌≤◌};
 ghost use Rattle.series.specs.Series.{series_sums, series_full, series_v, series_answer, series_v_answer};
-ghost use Rattle.series.specs.Private.{solo_turn, solo_turns};
-ghost use Rattle.linalg.specs.Answer.{told};
-ghost use Rattle.series.specs.Floats.{as_coeffs4, as_sim3_coeffs, as_sums, as_turns};
+ghost use Rattle.series.specs.Private.{solo_step, solo_steps};
+ghost use Rattle.linalg.specs.Answer.{view};
+ghost use Rattle.series.specs.Floats.{as_coeffs4, as_sim3_coeffs, as_sums, as_series_state};
 
 use crate::admitted::admitted;
 use crate::count::{Count, FULL, V_ALONE};
 use crate::horner::g_series;
 use crate::reciprocal::recip;
 use crate::recurrence;
-use crate::recurrence::{Sums, Turns};
+use crate::recurrence::{SeriesState, Sums};
 use crate::terms::Terms;
 use linalg::refusal::Refusal;
 use tables::Tables;
@@ -61,7 +61,7 @@ pub struct Horner<T> {
 // The series at k terms; refusal 1 for z below zero, then 4 for k above 28.
 #[tactic(auto, unfolding(crate::specs::Series::series_answer))]
 pub fn series<T: Tables>(sigma: T, z: T, k: usize) -> Result<Sim3Coeffs<T>, Refusal>
-    ensures { told (as_sim3_coeffs T.float) result ≡ series_answer T.format (T.float sigma) (T.float z) k }
+    ensures { view (as_sim3_coeffs T.float) result ≡ series_answer T.format (T.float sigma) (T.float z) k }
 {
     let k = admitted::<T, FULL>(z, k)?;
     Ok(series_at(sigma, z, k))
@@ -70,7 +70,7 @@ pub fn series<T: Tables>(sigma: T, z: T, k: usize) -> Result<Sim3Coeffs<T>, Refu
 // The series for v alone; refusal 1 for z below zero, then 4 for k above 30.
 #[tactic(auto, unfolding(crate::specs::Series::series_v_answer))]
 pub fn series_v<T: Terms>(sigma: T, z: T, k: usize) -> Result<Coeffs4<T>, Refusal>
-    ensures { told (as_coeffs4 T.float) result ≡ series_v_answer T.format (T.float sigma) (T.float z) k }
+    ensures { view (as_coeffs4 T.float) result ≡ series_v_answer T.format (T.float sigma) (T.float z) k }
 {
     let k = admitted::<T, V_ALONE>(z, k)?;
     Ok(series_v_at(sigma, z, k))
@@ -93,7 +93,7 @@ fn sums_at<T: Tables>(sigma: T, z: T, k: Count<FULL>) -> Sums<T>
     ensures { as_sums T.float result ≡ series_sums T.format (T.float sigma) (T.float z) k.terms }
 {
     let k = k.terms;
-    let s = turns_at(sigma, z, k);
+    let s = levels_to(sigma, z, k);
     let t = recurrence::tail_terms(sigma, z, s.level, recip(k + 2), recip(k + 3), recip(k + 4));
     recurrence::last(s.sums, t)
 }
@@ -101,29 +101,29 @@ fn sums_at<T: Tables>(sigma: T, z: T, k: Count<FULL>) -> Sums<T>
 // The levels to k, which give a term to every sum. PERF (D122): written out where it is called, so that
 // the compiler leaves out what v alone does not read.
 #[inline(always)]
-#[tactic(auto, using(crate::proofs::Solo::solo_more), unfolding(crate::specs::Private::solo_turns))]
-fn turns_at<T: Tables>(sigma: T, z: T, k: usize) -> Turns<T>
+#[tactic(auto, using(crate::proofs::Solo::solo_more), unfolding(crate::specs::Private::solo_steps))]
+fn levels_to<T: Tables>(sigma: T, z: T, k: usize) -> SeriesState<T>
     requires { k ≤ 30 }
-    ensures { as_turns T.float result ≡ solo_turns T.format (T.float sigma) (T.float z) (k + 1) }
+    ensures { as_series_state T.float result ≡ solo_steps T.format (T.float sigma) (T.float z) (k + 1) }
 {
-    let mut s = Turns {
+    let mut s = SeriesState {
         level: recurrence::first(),
         sums: recurrence::none(),
     };
     for j in 0..k + 1 {
-        s = turn(sigma, z, recip(j + 1), recip(j + 2), s);
+        s = step(sigma, z, recip(j + 1), recip(j + 2), s);
     }
     s
 }
 
 // One level, with r1 = 1/(j + 1)! and r2 = 1/(j + 2)!.
-#[tactic(auto, unfolding(crate::specs::Private::solo_turn))]
-fn turn<T: Tables>(sigma: T, z: T, r1: T, r2: T, s: Turns<T>) -> Turns<T>
-    ensures { as_turns T.float result
-        ≡ solo_turn T.format (T.float sigma) (T.float z) (T.float r1) (T.float r2) (as_turns T.float s) }
+#[tactic(auto, unfolding(crate::specs::Private::solo_step))]
+fn step<T: Tables>(sigma: T, z: T, r1: T, r2: T, s: SeriesState<T>) -> SeriesState<T>
+    ensures { as_series_state T.float result
+        ≡ solo_step T.format (T.float sigma) (T.float z) (T.float r1) (T.float r2) (as_series_state T.float s) }
 {
     let t = recurrence::terms(s.level, r1, r2);
-    Turns {
+    SeriesState {
         level: recurrence::next(sigma, z, s.level),
         sums: recurrence::gain(s.sums, t),
     }
@@ -134,7 +134,7 @@ pub fn series_v_at<T: Terms>(sigma: T, z: T, k: Count<V_ALONE>) -> Coeffs4<T>
     ensures { as_coeffs4 T.float result ≡ series_v T.format (T.float sigma) (T.float z) k.terms }
 {
     let k = k.terms;
-    let Turns { level, sums } = turns_v_at(sigma, z, k);
+    let SeriesState { level, sums } = levels_v_to(sigma, z, k);
     let v0 = g_series(sigma, 1, k);
     let v2 = sums.v2 + level.zeta * recip(k + 2);
     Coeffs4 {
@@ -145,14 +145,14 @@ pub fn series_v_at<T: Terms>(sigma: T, z: T, k: Count<V_ALONE>) -> Coeffs4<T>
     }
 }
 
-// `turns_at` for v alone. PERF (D122): the fewest levels that an arm takes are a constant, so that the
+// `levels_to` for v alone. PERF (D122): the fewest levels that an arm takes are a constant, so that the
 // compiler writes their turns out: a loop costs them a fourth of their time.
-fn turns_v_at<T: Terms>(sigma: T, z: T, k: usize) -> Turns<T>
+fn levels_v_to<T: Terms>(sigma: T, z: T, k: usize) -> SeriesState<T>
     requires { k ≤ 30 }
-    ensures { as_turns T.float result ≡ solo_turns T.format (T.float sigma) (T.float z) (k + 1) }
+    ensures { as_series_state T.float result ≡ solo_steps T.format (T.float sigma) (T.float z) (k + 1) }
 {
     if k == T::fewest_terms() {
-        return turns_at(sigma, z, T::fewest_terms());
+        return levels_to(sigma, z, T::fewest_terms());
     }
-    turns_at(sigma, z, k)
+    levels_to(sigma, z, k)
 }

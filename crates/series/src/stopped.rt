@@ -2,7 +2,7 @@
 // of each sign alone hold then. No other function calls this: its contract says that they are the same.
 ghost use Rattle.std.specs.Prelude.{◌≡◌, ◌≤◌};
 ghost use Rattle.series.specs.Pass.{horner_stopped, pass_stopped};
-ghost use Rattle.linalg.specs.Answer.{told};
+ghost use Rattle.linalg.specs.Answer.{view};
 ghost use Rattle.series.specs.Floats.{as_horner, as_stopped};
 
 use crate::admitted::count;
@@ -26,7 +26,7 @@ pub struct Stopped<T> {
 // The passes at k terms, and at those of the closed arm, stopped after `stop` entries: a stop behind the
 // last entry is the last. Refusal 4 for k above 28.
 pub fn pass_stopped<T: Terms>(sigma: T, k: usize, stop: usize) -> Result<Stopped<T>, Refusal>
-    ensures { told (as_stopped T.float) result ≡ pass_stopped T.format (T.float sigma) k stop }
+    ensures { view (as_stopped T.float) result ≡ pass_stopped T.format (T.float sigma) k stop }
 {
     let k = count::<FULL>(k)?;
     let k = k.terms;

@@ -1,4 +1,5 @@
--- A shot that is kept is the one that is asked for; and a pose's bytes that are read and written are the same, but that every NaN is written as the one NaN. Assumes nothing.
+-- A shot that is kept is the one that is asked for; and a pose's bytes that are read and written are the same, but that
+-- every NaN is written as the one NaN. Assumes nothing.
 use Prim.Native.Nat.{ℕ, zero, suc, ◌+◌, ◌*◌, ◌^◌, ◌/◌, ◌%◌, ◌<◌, ◌≤◌}
 use mathlib.Core.Path.{◌≡◌, refl, sym, ap, ◌∙◌}
 use mathlib.Core.Bool.{Bool, true, false, not}
@@ -17,7 +18,8 @@ use Rattle.linalg.specs.Answer.{answers}
 use Rattle.linalg.specs.Vector.{vec_numbers}
 use Rattle.frames.specs.Floats.{Pose}
 use Rattle.layout.specs.Layout.{vec_in, quat_in, pose_in, quat_numbers, pose_numbers}
-use Rattle.wire.specs.Wire.{word, word_of, word_at, word_bytes, number_of, number_at, number_bytes, numbers_bytes, item_bytes, items_bytes, numbers}
+use Rattle.wire.specs.Wire.{word, word_of, word_at, word_bytes, number_of, number_at, number_bytes, numbers_bytes}
+use Rattle.wire.specs.Wire.{item_bytes, items_bytes, numbers}
 use Rattle.wire.proofs.Bytes.{items_append, items_numbers}
 use Rattle.replies.specs.Table.{framed_in, framed_items}
 use Rattle.sheets.specs.Back.{keeps, AskedTheorem, Bytes, one_nan, nans_one, SentBackTheorem}
@@ -80,14 +82,16 @@ pub word_of_lem : (k : ℕ) (b : List ℕ) → Bytes b → length b ≡ k → wo
 word_of_lem k b h e = ap (λ (n : ℕ). word_bytes n (word_of b)) (sym e) ∙ word_again b h
 
 -- ---- and so are those of a number that is not NaN
-same_bits : (b : List ℕ) → Bytes b → length b ≡ 8 → is_nan (number_of binary64 b) ≡ false → number_bytes binary64 (number_of binary64 b) ≡ b
+same_bits : (b : List ℕ) → Bytes b → length b ≡ 8 → is_nan (number_of binary64 b) ≡ false →
+    number_bytes binary64 (number_of binary64 b) ≡ b
 unfolding number_of number_bytes
 same_bits b h e t =
     let l : word_of b < 256 ^ 8 = rw e at (word_less b h) in
     let n : T (not (is_nan (of_bits binary64 (word_of b)))) = rw t tt in
     rw (to_bits-of_bits binary64 (word_of b) l n) (word_of_lem 8 b h e)
 
-again_by : (b : List ℕ) → Bytes b → length b ≡ 8 → (t : Bool) → is_nan (number_of binary64 b) ≡ t → number_bytes binary64 (number_of binary64 b) ≡ one_nan b
+again_by : (b : List ℕ) → Bytes b → length b ≡ 8 → (t : Bool) → is_nan (number_of binary64 b) ≡ t →
+    number_bytes binary64 (number_of binary64 b) ≡ one_nan b
 unfolding one_nan
 again_by b h e true t = rw t (ap (number_bytes binary64) (the_nan _ t))
 again_by b h e false t = rw t (same_bits b h e t)
@@ -100,14 +104,21 @@ numbers_in : ℕ → List ℕ → List Float
 numbers_in zero b = []
 numbers_in (suc k) b = number_of binary64 (take 8 b) ∷ numbers_in k (drop 8 b)
 
-numbers_again : (k : ℕ) (b : List ℕ) → Bytes b → k * 8 ≤ length b → numbers_bytes binary64 (numbers_in k b) ++ drop (k * 8) b ≡ nans_one k b
+numbers_again : (k : ℕ) (b : List ℕ) → Bytes b → k * 8 ≤ length b →
+    numbers_bytes binary64 (numbers_in k b) ++ drop (k * 8) b ≡ nans_one k b
 unfolding numbers_in numbers_bytes nans_one
 numbers_again zero b h l = refl
 numbers_again (suc k) b h l =
     let e : suc k * 8 ≡ 8 + k * 8 = omega arith in
     let d : drop (suc k * 8) b ≡ drop (k * 8) (drop 8 b) = ap (λ (n : ℕ). drop n b) e ∙ sym (drop-drop (k * 8) 8 b) in
-    append_assoc (number_bytes binary64 (number_of binary64 (take 8 b))) (numbers_bytes binary64 (numbers_in k (drop 8 b))) (drop (suc k * 8) b)
-    ∙ rw (d, numbers_again k (drop 8 b) (bytes_drop 8 b h) (simp length-drop (omega arith)), number_again (take 8 b) (bytes_take 8 b h) (length-take-le 8 b (omega arith))) refl
+    append_assoc (number_bytes binary64 (number_of binary64 (take 8 b)))
+    (numbers_bytes binary64 (numbers_in k (drop 8 b))) (drop (suc k * 8) b)
+    ∙ rw (
+      d,
+      numbers_again k (drop 8 b) (bytes_drop 8 b h) (simp length-drop (omega arith)),
+      number_again (take 8 b)
+          (bytes_take 8 b h) (length-take-le 8 b (omega arith)),
+    ) refl
 
 numbers_from : ℕ → ℕ → List ℕ → List Float
 numbers_from zero at b = []
@@ -116,7 +127,9 @@ numbers_from (suc k) at b = number_of binary64 (take 8 (drop at b)) ∷ numbers_
 from_is : (k at : ℕ) (b : List ℕ) → numbers_from k at b ≡ numbers_in k (drop at b)
 unfolding numbers_in numbers_from
 from_is zero at b = refl
-from_is (suc k) at b = ap (λ (l : List Float). number_of binary64 (take 8 (drop at b)) ∷ l) (from_is k (at + 8) b ∙ ap (numbers_in k) (sym (drop-drop 8 at b)))
+from_is (suc k) at b =
+    ap (λ (l : List Float). number_of binary64 (take 8 (drop at b)) ∷ l)
+    (from_is k (at + 8) b ∙ ap (numbers_in k) (sym (drop-drop 8 at b)))
 
 pose-from : (b : List ℕ) → pose_numbers (framed_in binary64 b).sim3 ≡ numbers_from 8 0 b
 unfolding framed_in pose_in quat_in vec_in number_at pose_numbers quat_numbers vec_numbers numbers_from
@@ -147,9 +160,13 @@ two_frames : (m n : ℕ) → items_bytes binary64 (word 2 m ∷ word 2 n ∷ [])
 unfolding items_bytes item_bytes
 two_frames m n = refl
 
-items_of : (x : Pose) → items_bytes binary64 (framed_items x) ≡ numbers_bytes binary64 (pose_numbers x.sim3) ++ (word_bytes 2 x.from ++ (word_bytes 2 x.to ++ []))
+items_of : (x : Pose) → items_bytes binary64 (framed_items x)
+    ≡ numbers_bytes binary64 (pose_numbers x.sim3) ++ (word_bytes 2 x.from ++ (word_bytes 2 x.to ++ []))
 unfolding framed_items
-items_of x = items_append binary64 (numbers (pose_numbers x.sim3)) _ ∙ (λ i. items_numbers binary64 (pose_numbers x.sim3) i ++ two_frames x.from x.to i)
+items_of x =
+    items_append binary64 (numbers (pose_numbers x.sim3)) _ ∙ (λ i. items_numbers binary64 (pose_numbers x.sim3) i
+    ++ two_frames x.from x.to i)
 
 pub sent_back : SentBackTheorem
-sent_back b h e = items_of (framed_in binary64 b) ∙ rw (pose_in_lem b, frames_in b h e) (numbers_again 8 b h (omega arith))
+sent_back b h e =
+    items_of (framed_in binary64 b) ∙ rw (pose_in_lem b, frames_in b h e) (numbers_again 8 b h (omega arith))

@@ -26,7 +26,8 @@ module _ (at : ℕ → Kept) (n : ℕ) (x : Shot) where
   below (suc k) h = rw (below k (omega arith), other k (λ e. absurd (omega arith))) refl
 
   above_by :
-      (k : ℕ) → n < suc k → (t : Bool) → eqb k n ≡ t → (n < k → kept_below (keeping n x at) k + one (at n) ≡ kept_below at k + 1) →
+      (k : ℕ) → n < suc k → (t : Bool) → eqb k n ≡ t → (n < k →
+      kept_below (keeping n x at) k + one (at n) ≡ kept_below at k + 1) →
       kept_below (keeping n x at) (suc k) + one (at n) ≡ kept_below at (suc k) + 1
   unfolding kept_below
   above_by k h true t go =
@@ -54,7 +55,8 @@ module _ (s : Sheets) (n : ℕ) (x : Shot) (h : n < 65536) (c : Counted s) where
       rw t (omega (arith, c.0, a, z), omega arith)
   new_by false t e = rw t c
 
-  old_by : (o : Shot) (q t : Bool) → eqb x.take o.take ≡ q → ltb o.take x.take ≡ t → s.at n ≡ kept o → Counted (shelve_on (kept o) s n x).sheets
+  old_by : (o : Shot) (q t : Bool) → eqb x.take o.take ≡ q → ltb o.take x.take ≡ t → s.at n ≡ kept o →
+      Counted (shelve_on (kept o) s n x).sheets
   unfolding shelve_on
   old_by o true t q u e = rw q c
   old_by o false true q t e =

@@ -10,7 +10,8 @@ use borrow.Author.Tests.{lt-ltb, le-ltb, eq-eqb, ne_eqb, ltb-true, ltb-false, eq
 use lib.Dec.{ltb, eqb}
 use Rattle.std.proofs.lemmas.Bool.{false≢true, and_parts}
 use Rattle.sheets.specs.Sheets.{Kept, none, kept, kept_below, sheet_numbers, most, keeping}
-use Rattle.sheets.specs.Store.{used_of, slot_of, slot_at, shot_in, held_at, kept_of, sheets_of, sheet_in, own_at, free_from, free_slot, own_below, OwnTheorem}
+use Rattle.sheets.specs.Store.{used_of, slot_of, slot_at, shot_in, held_at, kept_of, sheets_of, sheet_in, own_at}
+use Rattle.sheets.specs.Store.{free_from, free_slot, own_below, OwnTheorem}
 use Rattle.sheets.proofs.Counted.{above, empty}
 
 pub slot_few : (m : List ℕ) (n : ℕ) → slot_of m n < most
@@ -96,7 +97,8 @@ module _ (m : List ℕ) where
   unfolding kept_up_to
   all-below n = rw (lt-ltb _ _ (slot_few m n))
 
-  apart : (i n : ℕ) → (slot_of m n ≡ i → ⊥) → (t : Bool) → ltb (slot_of m n) i ≡ t → kept_up_to (suc i) n ≡ kept_up_to i n
+  apart : (i n : ℕ) → (slot_of m n ≡ i → ⊥) → (t : Bool) → ltb (slot_of m n) i ≡ t →
+      kept_up_to (suc i) n ≡ kept_up_to i n
   unfolding kept_up_to
   apart i n d true t = rw (t, lt-ltb (slot_of m n) (suc i) (let h : slot_of m n < i = ltb-true _ _ t in omega arith))
   apart i n d false t = rw (t, le-ltb (slot_of m n) (suc i) (let h : i ≤ slot_of m n = ltb-false _ _ t in omega arith))
@@ -106,7 +108,8 @@ module _ (m : List ℕ) where
   there i n e = (rw (lt-ltb (slot_of m n) (suc i) (omega arith)) refl, rw (le-ltb (slot_of m n) i (omega arith)) refl)
 
   free_same :
-      (i : ℕ) → own_at m i ≡ false → (n : ℕ) (t : Bool) → eqb (slot_of m n) i ≡ t → kept_up_to (suc i) n ≡ kept_up_to i n
+      (i : ℕ) → own_at m i ≡ false → (n : ℕ) (t : Bool) → eqb (slot_of m n) i ≡ t →
+      kept_up_to (suc i) n ≡ kept_up_to i n
   free_same i f n true t =
       let e : slot_of m n ≡ i = eqb-true _ _ t in
       let h = there i n e in
@@ -157,7 +160,8 @@ module _ (m : List ℕ) where
   abbrev Few : ℕ → ℕ → Type 0
   Few n i = (n ≤ i) × (n ≤ used_of m)
 
-  few_by : (i : ℕ) (t : Bool) → own_at m i ≡ t → Few (own_below m i) i → Few (own_below m i + cond (own_at m i) 1 0) (suc i)
+  few_by : (i : ℕ) (t : Bool) → own_at m i ≡ t → Few (own_below m i) i →
+      Few (own_below m i + cond (own_at m i) 1 0) (suc i)
   few_by i true t h = let u : i < used_of m = (owned i t).used in rw t (omega (arith, h.0), omega (arith, h.0))
   few_by i false t h = rw t (omega (arith, h.0), omega (arith, h.1))
 

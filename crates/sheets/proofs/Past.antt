@@ -6,7 +6,8 @@ use mathlib.Core.List.{List, [], ◌∷◌}
 use borrow.Author.Tests.{eqb-true}
 use lib.Dec.{ltb, eqb}
 use Rattle.linalg.specs.Answer.{Answer, answers, refuses}
-use Rattle.sheets.specs.Sheets.{Kept, none, kept, Sheets, no_sheets, most, keeping, Shelved, shelve_on, shelve, ask_on, ask}
+use Rattle.sheets.specs.Sheets.{Kept, none, kept, Sheets, no_sheets, most, keeping, Shelved, shelve_on, shelve, ask_on}
+use Rattle.sheets.specs.Sheets.{ask}
 use Rattle.sheets.specs.History.{Sent, after, unless_refused, accepted, higher, highest, HistoryTheorem}
 use Rattle.sheets.specs.declared.Shot.{Shot}
 
@@ -30,7 +31,8 @@ module _ (s : Sheets) (n : ℕ) (x : Shot) (k : ℕ) where
   new_by h false e t d = rw t
 
   old_by :
-      (o : Shot) → s.at n ≡ kept o → (q t e : Bool) → eqb x.take o.take ≡ q → ltb o.take x.take ≡ t → eqb k n ≡ e → Step (kept o)
+      (o : Shot) → s.at n ≡ kept o → (q t e : Bool) → eqb x.take o.take ≡ q → ltb o.take x.take ≡ t → eqb k n ≡ e →
+      Step (kept o)
   unfolding Step Moved shelve_on keeping higher
   old_by o h true t e q u d = rw q
   old_by o h false true true q t e = rw (q, t, e, own (kept o) h e, t)

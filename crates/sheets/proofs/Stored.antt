@@ -18,13 +18,17 @@ use Rattle.wire.specs.Wire.{word_at, word_bytes, item_bytes, items_bytes}
 use Rattle.wire.proofs.Bytes.{word-length}
 use Rattle.replies.specs.Table.{framed_in, framed_items}
 use Rattle.replies.proofs.Frames.{framed-length}
-use Rattle.sheets.specs.Sheets.{Kept, none, kept, one, kept_below, sheet_numbers, no_sheets, most, no_room, never_kept, keeping, Shelved, shelved, shelve_on, shelve, ask_on, ask}
-use Rattle.sheets.specs.Store.{slot_width, slots, tail, size, used_of, slot_of, slot_at, shot_in, held_at, kept_of, sheets_of, sheet_in, own_at, free_slot, slot_bytes, assign_of, add_of, lent, retake_told, retake_bytes}
+use Rattle.sheets.specs.Sheets.{Kept, none, kept, one, kept_below, sheet_numbers, no_sheets, most, no_room, never_kept}
+use Rattle.sheets.specs.Sheets.{keeping, Shelved, shelved, shelve_on, shelve, ask_on, ask}
+use Rattle.sheets.specs.Store.{slot_width, slots, tail, size, used_of, slot_of, slot_at, shot_in, held_at, kept_of}
+use Rattle.sheets.specs.Store.{sheets_of, sheet_in, own_at, free_slot, slot_bytes, assign_of, add_of}
+use Rattle.sheets.specs.Store.{retake_answer, retake_bytes}
 use Rattle.sheets.specs.declared.Shot.{Shot}
 use Rattle.sheets.proofs.Framed.{frame, Fit, short_back, framed_back}
 use Rattle.sheets.proofs.Counted.{above, empty}
 use Rattle.sheets.proofs.Own.{slot_few, unkept, unkept_other, unused, count-used, free_own, free_found, free_none}
-use Rattle.sheets.proofs.Parts.{short_in, short-before, short-after, short_on, short-word, slot_before, slot_after, slot_on}
+use Rattle.sheets.proofs.Parts.{short_in, short-before, short-after, short_on, short-word, slot_before, slot_after}
+use Rattle.sheets.proofs.Parts.{slot_on}
 
 -- ---- the bytes of a slot: how many they are, and that they read back
 pub slot_length : (n : ℕ) (x : Shot) → length (slot_bytes n x) ≡ slot_width
@@ -39,12 +43,14 @@ take-is : (n : ℕ) (x : Shot) → (shot_in (slot_bytes n x)).take ≡ word_at 2
 unfolding slot_bytes shot_in word_at word_bytes
 take-is n x = refl
 
-pose-is : (n : ℕ) (x : Shot) → (shot_in (slot_bytes n x)).pose ≡ framed_in binary64 (items_bytes binary64 (framed_items x.pose))
+pose-is : (n : ℕ) (x : Shot) → (shot_in (slot_bytes n x)).pose
+    ≡ framed_in binary64 (items_bytes binary64 (framed_items x.pose))
 unfolding slot_bytes shot_in word_bytes
 pose-is n x = refl
 
 pub shot_back : (n : ℕ) (x : Shot) → x.take < 65536 → Fit x.pose → shot_in (slot_bytes n x) ≡ x
-shot_back n x h f = λ i. record { take = (take-is n x ∙ short-word x.take h) i; pose = (pose-is n x ∙ framed_back x.pose f) i }
+shot_back n x h f =
+    λ i. record { take = (take-is n x ∙ short-word x.take h) i; pose = (pose-is n x ∙ framed_back x.pose f) i }
 
 -- m' has the bytes b, of the sheet n, in the slot i, and is else as m
 pub record Stored (m m' : List ℕ) (n i : ℕ) (b : List ℕ) : Type 0 where
@@ -107,7 +113,8 @@ module _ {m m' : List ℕ} {n i : ℕ} {b : List ℕ} (k : Stored m m' n i b) wh
   unfolding sheets_of
   stored_old o e =
       let z : one (kept_of m n) ≡ 1 = ap one e in
-      let c : kept_below (kept_of m') sheet_numbers ≡ kept_below (kept_of m) sheet_numbers = omega (arith, count_now, z) in
+      let c : kept_below (kept_of m') sheet_numbers ≡ kept_below (kept_of m) sheet_numbers =
+      omega (arith, count_now, z) in
       λ i. record { count = c i; at = stored i }
 
 -- ---- tests
@@ -135,7 +142,8 @@ module _ (m b : List ℕ) (i : ℕ) (h : i < most) (l : length m ≡ size) (e : 
 
   other_by :
       (s : ℕ) → s < most → (s ≡ i → ⊥) → (t : Bool) → ltb s i ≡ t →
-      (word_at 2 (sets m at b) (slots + slot_width * s) ≡ word_at 2 m (slots + slot_width * s)) × (slot_at (sets m at b) s ≡ slot_at m s)
+      (word_at 2 (sets m at b) (slots + slot_width * s) ≡ word_at 2 m (slots + slot_width * s))
+      × (slot_at (sets m at b) s ≡ slot_at m s)
   other_by s k n true t =
       let q : s < i = ltb-true s i t in
       (short-before b m at (slots + slot_width * s) (omega arith), slot_before b m at s (omega arith))
@@ -146,10 +154,12 @@ module _ (m b : List ℕ) (i : ℕ) (h : i < most) (l : length m ≡ size) (e : 
 
   other :
       (s : ℕ) → s < most → (s ≡ i → ⊥) →
-      (word_at 2 (sets m at b) (slots + slot_width * s) ≡ word_at 2 m (slots + slot_width * s)) × (slot_at (sets m at b) s ≡ slot_at m s)
+      (word_at 2 (sets m at b) (slots + slot_width * s) ≡ word_at 2 m (slots + slot_width * s))
+      × (slot_at (sets m at b) s ≡ slot_at m s)
   other s k n = other_by s k n (ltb s i) refl
 
-  replaced_stored : (n : ℕ) → word_at 2 b 0 ≡ n → n < 65536 → slot_of m n ≡ i → held_at m n i ≡ true → Stored m (sets m at b) n i b
+  replaced_stored : (n : ℕ) → word_at 2 b 0 ≡ n → n < 65536 → slot_of m n ≡ i → held_at m n i ≡ true →
+      Stored m (sets m at b) n i b
   unfolding held_at sheet_in
   replaced_stored n p q o u =
       let was : sheet_in m i ≡ n = eqb-true _ _ (and_parts (ltb i (used_of m)) _ u).1 in
@@ -208,7 +218,8 @@ module _
       ∙ mod-eq_of_lt h
 
   index_by : (y : ℕ) → y < 65536 → (y ≡ n → ⊥) → (t : Bool) → ltb y n ≡ t → word_at 2 m1 (2 * y) ≡ word_at 2 m (2 * y)
-  index_by y k d true t = let z : y < n = ltb-true y n t in short-before (word_bytes 2 i) m (2 * n) (2 * y) (omega arith)
+  index_by y k d true t =
+      let z : y < n = ltb-true y n t in short-before (word_bytes 2 i) m (2 * n) (2 * y) (omega arith)
   index_by y k d false t =
       let v : length (word_bytes 2 i) ≡ 2 = word-length 2 i in
       let z : n ≤ y = ltb-false y n t in
@@ -344,7 +355,8 @@ module _ (m : List ℕ) (n i : ℕ) (q : n < 65536) (o : i ≡ slot_of m n) (l :
           took_stored h (omega (arith, count-used m, v)) u _ s
 
       pub took_free :
-          held_at m n i ≡ false → most ≤ used_of m → free_slot m < most → Took (shelved 1 0) (assign_of m n (free_slot m) x)
+          held_at m n i ≡ false → most ≤ used_of m → free_slot m < most →
+          Took (shelved 1 0) (assign_of m n (free_slot m) x)
       unfolding assign_of
       took_free h v k =
           let s =
@@ -360,17 +372,20 @@ module _ (m : List ℕ) (n i : ℕ) (q : n < 65536) (o : i ≡ slot_of m n) (l :
       unfolding shot_in
       old_is = short_in m i
 
-      replaced_is : held_at m n i ≡ true → sheets_of (sets m (slots + slot_width * i) (slot_bytes n x)) ≡ record { count = (sheets_of m).count; at = keeping n x (sheets_of m).at }
+      replaced_is : held_at m n i ≡ true → sheets_of (sets m (slots + slot_width * i) (slot_bytes n x))
+          ≡ record { count = (sheets_of m).count; at = keeping n x (sheets_of m).at }
       replaced_is h =
           let few : i < most = rw o (slot_few m n) in
           let k = replaced_stored m (slot_bytes n x) i few l (slot_length n x) n (sheet_back n x q) q (sym o) h in
           rw (shot_back n x t f) at (stored_old k _ (kept-shot h))
 
       abbrev Again : Type 0
-      Again = (retake_told m i x ≡ lent (shelve (sheets_of m) n x).answer) × (sheets_of (retake_bytes m i n x) ≡ (shelve (sheets_of m) n x).sheets)
+      Again =
+          (retake_answer m i x ≡ (shelve (sheets_of m) n x).answer)
+          × (sheets_of (retake_bytes m i n x) ≡ (shelve (sheets_of m) n x).sheets)
 
       again_by : held_at m n i ≡ true → (a c : Bool) → eqb x.take old ≡ a → ltb old x.take ≡ c → Again
-      unfolding shelve shelve_on retake_told retake_bytes
+      unfolding shelve shelve_on retake_answer retake_bytes
       again_by h true c a d = rw (at-shot h, old_is, a) (refl, refl)
       again_by h false true a d = rw (at-shot h, old_is, a, d) (refl, replaced_is h)
       again_by h false false a d = rw (at-shot h, old_is, a, d) (refl, refl)
@@ -404,6 +419,7 @@ emptied m l =
 -- ---- three stores are a slot's bytes
 pub slot_stored :
     (n : ℕ) (x : Shot) (m : List ℕ) (at : ℕ) →
-    sets (sets (sets m at (frame n)) (at + 2) (frame x.take)) (at + 4) (items_bytes binary64 (framed_items x.pose)) ≡ sets m at (slot_bytes n x)
+    sets (sets (sets m at (frame n)) (at + 2) (frame x.take)) (at + 4) (items_bytes binary64 (framed_items x.pose))
+    ≡ sets m at (slot_bytes n x)
 unfolding slot_bytes item_bytes
 slot_stored n x m at = simp (sets_split, add_assoc, word-length)

@@ -1,5 +1,7 @@
--- What is sent is asked back: a shot that is kept, and of its pose the same bytes, but that every NaN comes back as the one NaN. Proved as `asked` and `sent_back` in proofs/Back.antt.
-use Rattle.std.specs.Prelude.{ℕ, zero, suc, ◌<◌, ◌≡◌, Bool, true, false, cond, List, [], ◌∷◌, ◌++◌, length, take, drop, ltb}
+-- What is sent is asked back: a shot that is kept, and of its pose the same bytes, but that every NaN comes back as the
+-- one NaN. Proved as `asked` and `sent_back` in proofs/Back.antt.
+use Rattle.std.specs.Prelude.{ℕ, zero, suc, ◌<◌, ◌≡◌, Bool, true, false, cond, List, [], ◌∷◌, ◌++◌, length, take, drop}
+use Rattle.std.specs.Prelude.{ltb}
 use Rattle.std.specs.Float.{nan, binary64}
 use Rattle.std.specs.Float.Ieee.{is_nan}
 use Rattle.linalg.specs.Answer.{Answer, answers, refuses}
@@ -15,7 +17,8 @@ keeps (answers a) = ltb a.how 3
 keeps (refuses k) = false
 
 abbrev pub AskedTheorem : Type 0
-AskedTheorem = (s : Sheets) (n : ℕ) (x : Shot) → keeps (shelve s n x).answer ≡ true → ask (shelve s n x).sheets n ≡ answers x
+AskedTheorem =
+    (s : Sheets) (n : ℕ) (x : Shot) → keeps (shelve s n x).answer ≡ true → ask (shelve s n x).sheets n ≡ answers x
 
 -- ---- bytes
 unfoldable pub Bytes : List ℕ → Type 0
@@ -32,4 +35,6 @@ nans_one zero b = b
 nans_one (suc k) b = one_nan (take (width binary64) b) ++ nans_one k (drop (width binary64) b)
 
 abbrev pub SentBackTheorem : Type 0
-SentBackTheorem = (b : List ℕ) → Bytes b → length b ≡ framed_width binary64 → items_bytes binary64 (framed_items (framed_in binary64 b)) ≡ nans_one pose_count b
+SentBackTheorem =
+    (b : List ℕ) → Bytes b → length b ≡ framed_width binary64 →
+    items_bytes binary64 (framed_items (framed_in binary64 b)) ≡ nans_one pose_count b

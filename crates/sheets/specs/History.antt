@@ -1,9 +1,10 @@
--- Any shots, one after the other: of each sheet the highest take among those accepted is kept, and answered; and the count is that of the sheets of which one is kept, which are
--- never more than 512. Proved as `history` in proofs/Past.antt, `highest-is` in proofs/Highest.antt and `counted` in
--- proofs/Counted.antt.
+-- Any shots, one after the other: of each sheet the highest take among those accepted is kept, and answered; and the
+-- count is that of the sheets of which one is kept, which are never more than 512. Proved as `history` in
+-- proofs/Past.antt, `highest-is` in proofs/Highest.antt and `counted` in proofs/Counted.antt.
 use Rattle.std.specs.Prelude.{ℕ, ◌<◌, ◌≤◌, ◌≡◌, ◌⊎◌, cond, List, [], ◌∷◌, ltb, eqb}
 use Rattle.linalg.specs.Answer.{Answer, answers, refuses}
-use Rattle.sheets.specs.Sheets.{Kept, none, kept, Sheets, kept_below, sheet_numbers, no_sheets, most, Shelved, shelve, ask_on, ask}
+use Rattle.sheets.specs.Sheets.{Kept, none, kept, Sheets, kept_below, sheet_numbers, no_sheets, most, Shelved, shelve}
+use Rattle.sheets.specs.Sheets.{ask_on, ask}
 use Rattle.sheets.specs.declared.Shot.{Shot}
 
 -- a shot, with the number of its sheet
@@ -64,4 +65,5 @@ Small (x ∷ h) = (x.sheet < sheet_numbers) × Small h
 
 abbrev pub CountTheorem : Type 0
 CountTheorem =
-    (h : List Sent) → Small h → let s = after no_sheets h in (s.count ≡ kept_below s.at sheet_numbers) × (s.count ≤ most)
+    (h : List Sent) → Small h → let s = after no_sheets h in
+    (s.count ≡ kept_below s.at sheet_numbers) × (s.count ≤ most)

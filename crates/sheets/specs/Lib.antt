@@ -1,3 +1,4 @@
+-- To be read in this order.
 pub mod Sheets
 pub mod Store
 pub mod History

@@ -43,7 +43,8 @@ no_room = 11
 abbrev pub never_kept : ℕ
 never_kept = 12
 
--- what a shot is answered: 1 where its sheet is new, 2 where it replaces, 3 where it is older and not kept; and the take that stood before, 0 with a new sheet
+-- what a shot is answered: 1 where its sheet is new, 2 where it replaces, 3 where it is older and not kept; and the
+-- take that stood before, 0 with a new sheet
 pub record Shelved : Type 0 where
   pub how : ℕ
   pub before : ℕ
@@ -55,7 +56,8 @@ shelved how before = answers (record { how = how; before = before })
 unfoldable pub keeping : ℕ → Shot → (ℕ → Kept) → ℕ → Kept
 keeping n x at k = cond (eqb k n) (kept x) (at k)
 
--- ---- a shot x of the sheet n: what it is answered, and what is kept then. A refused one and an older one change nothing.
+-- ---- a shot x of the sheet n: what it is answered, and what is kept then. A refused one and an older one change
+-- nothing.
 pub record Shelf : Type 0 where
   pub answer : Answer Shelved
   pub sheets : Sheets

@@ -1,20 +1,22 @@
--- The lent bytes in which the code keeps the sheets: for each sheet number two bytes that name a slot; 512 slots, each with a sheet number, a take and a pose with its frames; and
--- how many slots are in use. All bytes of that many are a store: a slot is a sheet's if it is in use, holds that
--- sheet's number and is named for it.
-use Rattle.std.specs.Prelude.{ℕ, zero, suc, ◌+◌, ◌*◌, ◌%◌, ◌≤◌, ◌≡◌, Bool, cond, ◌&&◌, List, ◌++◌, length, take, drop, ltb, eqb, Option, Some, None}
+-- The lent bytes in which the code keeps the sheets: for each sheet number two bytes that name a slot; 512 slots, each
+-- with a sheet number, a take and a pose with its frames; and how many slots are in use. All bytes of that many are a
+-- store: a slot is a sheet's if it is in use, holds that sheet's number and is named for it.
+use Rattle.std.specs.Prelude.{ℕ, zero, suc, ◌+◌, ◌*◌, ◌%◌, ◌≤◌, ◌≡◌, Bool, cond, ◌&&◌, List, ◌++◌, take, drop}
+use Rattle.std.specs.Prelude.{ltb, eqb, Option, Some, None}
 use Rattle.std.proofs.lemmas.List.Edits.{sets}
 use Rattle.std.specs.Float.{binary64}
-use Rattle.linalg.specs.Answer.{Answer, refuses, number}
-use Rattle.linalg.specs.declared.refusal.Refusal.TheVariants.{ListLength}
+use Rattle.linalg.specs.Answer.{Answer, refuses}
 use Rattle.wire.specs.Wire.{word_at, word_bytes, items_bytes}
 use Rattle.replies.specs.Table.{framed_width, framed_in, framed_items}
-use Rattle.sheets.specs.Sheets.{Kept, none, kept, Sheets, kept_below, sheet_numbers, most, same_take, no_room, Shelved, shelved, shelve, ask}
+use Rattle.sheets.specs.Sheets.{Kept, none, kept, Sheets, kept_below, sheet_numbers, most, same_take, no_room, Shelved}
+use Rattle.sheets.specs.Sheets.{shelved}
 use Rattle.sheets.specs.declared.Shot.{Shot}
 use Rattle.sheets.specs.declared.Shelved as code
-use Rattle.sheets.specs.declared.Shelved.TheVariants as became
+use Rattle.sheets.specs.declared.Shelved.TheVariants as variant
 use Rattle.sheets.specs.declared.slot.Slot.{Slot}
 
--- ---- the parts: how many bytes a slot has, where the slots begin, where their number stands, and how many bytes there are
+-- ---- the parts: how many bytes a slot has, where the slots begin, where their number stands, and how many bytes there
+-- are
 abbrev pub slot_width : ℕ
 slot_width = 2 + 2 + framed_width binary64
 
@@ -26,9 +28,6 @@ tail = slots + most * slot_width
 
 abbrev pub size : ℕ
 size = tail + 2
-
-unfoldable pub holds : List ℕ → Bool
-holds m = eqb (length m) size
 
 -- ---- read
 unfoldable pub used_of : List ℕ → ℕ
@@ -97,67 +96,44 @@ assign_of m n i x = sets (sets m (2 * n) (word_bytes 2 i)) (slots + slot_width *
 unfoldable pub add_of : List ℕ → ℕ → ℕ → Shot → List ℕ
 add_of m n u x = sets (assign_of m n u x) tail (word_bytes 2 (u + 1))
 
--- ---- what the functions tell: there is no answer where the lent bytes are no store
-pub data Lent (A : Type 0) : Type 0 where
-  lent : A → Lent A
-  storeless : Lent A
-
--- as a result tells it: bytes that are no store are a list of a wrong length
-unfoldable pub of_store : {A : Type 0} → Lent (Answer A) → Answer A
-of_store (lent a) = a
-of_store storeless = refuses (number ListLength)
-
--- what a shot that is not refused is answered
+-- ---- what a shot that is not refused is answered
 abbrev pub shelved_of : code.Shelved → Shelved
-shelved_of became.New = record { how = 1; before = 0 }
-shelved_of (became.Replaced t) = record { how = 2; before = t }
-shelved_of (became.Older t) = record { how = 3; before = t }
+shelved_of variant.New = record { how = 1; before = 0 }
+shelved_of (variant.Replaced t) = record { how = 2; before = t }
+shelved_of (variant.Older t) = record { how = 3; before = t }
 
 -- the slot that is found; their number where there is none
-abbrev pub slot_told : Option Slot → ℕ
-slot_told (Some s) = s.number
-slot_told None = most
+abbrev pub slot_view : Option Slot → ℕ
+slot_view (Some s) = s.number
+slot_view None = most
 
--- a shot x of the sheet n: what is told, and what is kept then
-unfoldable pub put_answer : List ℕ → ℕ → Shot → Lent (Answer Shelved)
-put_answer m n x = cond (holds m) (lent (shelve (sheets_of m) n x).answer) storeless
-
-unfoldable pub put_sheets : List ℕ → ℕ → Shot → Sheets
-put_sheets m n x = cond (holds m) (shelve (sheets_of m) n x).sheets (sheets_of m)
-
--- a question for the sheet n
-unfoldable pub get_answer : List ℕ → ℕ → Lent (Answer Shot)
-get_answer m n = cond (holds m) (lent (ask (sheets_of m) n)) storeless
-
--- where the slot i holds a shot of the sheet: what is told of another, and the bytes then
-unfoldable pub retake_told : List ℕ → ℕ → Shot → Lent (Answer Shelved)
-retake_told m i x =
+-- where the slot i holds a shot of the sheet: what another is answered, and the bytes then
+unfoldable pub retake_answer : List ℕ → ℕ → Shot → Answer Shelved
+retake_answer m i x =
     let t = word_at 2 m (slots + slot_width * i + 2) in
-    cond (eqb x.take t) (lent (refuses same_take)) (cond (ltb t x.take) (lent (shelved 2 t)) (lent (shelved 3 t)))
+    cond (eqb x.take t) (refuses same_take) (cond (ltb t x.take) (shelved 2 t) (shelved 3 t))
 
 unfoldable pub retake_bytes : List ℕ → ℕ → ℕ → Shot → List ℕ
 retake_bytes m i n x =
     let t = word_at 2 m (slots + slot_width * i + 2) in
     cond (eqb x.take t) m (cond (ltb t x.take) (sets m (slots + slot_width * i) (slot_bytes n x)) m)
 
--- where the sheet has no slot: what is told of a shot, and the bytes then
-unfoldable pub add_told : List ℕ → Lent (Answer Shelved)
-add_told m = cond (ltb (next_slot m) most) (lent (shelved 1 0)) (lent (refuses no_room))
+-- where the sheet has no slot: what a shot is answered, and the bytes then
+unfoldable pub add_answer : List ℕ → Answer Shelved
+add_answer m = cond (ltb (next_slot m) most) (shelved 1 0) (refuses no_room)
 
 unfoldable pub add_bytes : List ℕ → ℕ → Shot → List ℕ
 add_bytes m n x =
     cond (ltb (used_of m) most) (add_of m n (used_of m) x)
     (cond (ltb (free_slot m) most) (assign_of m n (free_slot m) x) m)
 
--- ---- all lent bytes behind a call; those that are no store are left as they were
+-- ---- all lent bytes behind a call
 -- a shot x of the sheet n: into its sheet's slot where that holds a lower take; where its sheet has none, into the next
 -- slot, or where all are in use into one that is no sheet's own; else nothing is written
 unfoldable pub put_bytes : List ℕ → ℕ → Shot → List ℕ
 put_bytes m n x =
-    cond (holds m)
-    (cond (held_at m n (slot_of m n)) (retake_bytes m (slot_of m n) n x) (add_bytes m n x))
-    m
+    cond (held_at m n (slot_of m n)) (retake_bytes m (slot_of m n) n x) (add_bytes m n x)
 
 -- made fresh: no slot is in use
 unfoldable pub fresh_bytes : List ℕ → List ℕ
-fresh_bytes m = cond (holds m) (sets m tail (word_bytes 2 0)) m
+fresh_bytes m = sets m tail (word_bytes 2 0)

@@ -1,19 +1,19 @@
-// Retaken sheets: the pose of the highest take for each of up to 512 sheets, in bytes that the caller
-// lends. They are an index that names a slot for each sheet number, the slots, and how many of these
-// are in use. A slot is a sheet's if it is in use, holds that sheet's number and is named for it: so
-// whatever bytes are lent are a store, and only the last two must be set before the first use. Nothing
-// is searched but where all slots are in use and a sheet without one comes: then for a slot that is no
-// sheet's own, which bytes that no store of ours left may have.
+// Retaken sheets: the pose of the highest take for each of up to 512 sheets, in bytes that the caller lends. Proved:
+// what is kept is the highest take among those accepted (HistoryTheorem, HighestTheorem), never of more than 512 sheets
+// (OwnTheorem), and comes back as it was sent, but with one NaN for all (SentBackTheorem). The bytes are an index that
+// names a slot for each sheet number, the slots, and how many of these are in use. A slot is a sheet's if it is in use,
+// holds that sheet's number and is named for it: so whatever bytes are lent are a store, and only the last two must be
+// set before the first use. Nothing is searched but where all slots are in use and a sheet without one comes: then for
+// a slot that is no sheet's own, which bytes that no store of ours left may have. Rests on frames, wire and replies.
 #![tactic(auto)]
 
-ghost use Rattle.std.specs.Prelude.{◌≡◌, cond, ◌+◌, ◌*◌, ◌≤◌, length};
+ghost use Rattle.std.specs.Prelude.{◌≡◌, ◌+◌, ◌*◌, ◌≤◌};
 ghost use Rattle.std.proofs.lemmas.List.Edits.{sets};
-ghost use Rattle.linalg.specs.Answer.{answer, told};
-ghost use Rattle.sheets.specs.Sheets.{no_sheets, most};
+ghost use Rattle.linalg.specs.Answer.{answer, view};
+ghost use Rattle.sheets.specs.Sheets.{no_sheets, most, shelve, ask};
 ghost use Rattle.sheets.specs.Store.{slot_width, slots, used_of, slot_of, shot_in, slot_bytes, held_at};
-ghost use Rattle.sheets.specs.Store.{free_slot, slot_told, next_slot, assign_of, add_told, add_bytes, sheets_of, holds};
-ghost use Rattle.sheets.specs.Store.{shelved_of, lent, of_store, put_answer, put_sheets, get_answer, retake_told, retake_bytes};
-ghost use Rattle.sheets.specs.Store.{put_bytes, fresh_bytes};
+ghost use Rattle.sheets.specs.Store.{free_slot, slot_view, next_slot, assign_of, add_answer, add_bytes, sheets_of};
+ghost use Rattle.sheets.specs.Store.{shelved_of, retake_answer, retake_bytes, put_bytes, fresh_bytes};
 
 use crate::bytes::{framed_at, put_framed, put_short, short_at};
 use crate::slot::{MOST, SLOT, Slot, TAIL};
@@ -26,8 +26,8 @@ mod slot; // one of the 512 slots
 // How many bytes are lent for a store.
 pub const STORE: usize = TAIL + 2;
 
-// The lent bytes, where they are that many.
-type Store = [u8; STORE];
+// The bytes of a store; any are one.
+pub type Store = [u8; STORE];
 
 // A sheet as it was photographed: the number of the take, and its pose.
 #[derive(Clone, Copy)]
@@ -124,7 +124,7 @@ fn assign(store: &mut Store, sheet: u16, slot: Slot, shot: Shot)
 // Where all slots are in use, the first that is no sheet's own.
 fn free_slot(store: &Store) -> Option<Slot>
     requires { most ≤ used_of store.now }
-    ensures { slot_told result ≡ free_slot store.now }
+    ensures { slot_view result ≡ free_slot store.now }
 {
     for number in 0..MOST {
         let slot = Slot { number };
@@ -139,7 +139,7 @@ fn free_slot(store: &Store) -> Option<Slot>
 // The slot for a sheet of which none is kept: the next, or where all are in use one that is no sheet's own.
 fn next_slot(store: &Store, used: u16) -> Option<Slot>
     requires { used ≡ used_of store.now }
-    ensures { slot_told result ≡ next_slot store.now }
+    ensures { slot_view result ≡ next_slot store.now }
 {
     if used < MOST {
         return Some(Slot { number: used });
@@ -151,7 +151,7 @@ fn next_slot(store: &Store, used: u16) -> Option<Slot>
 // PERF (D122): one place that writes a slot for a new sheet, whichever slot it is.
 #[tactic(auto, unfolding(crate::specs::Store::used_of))]
 fn add(store: &mut Store, sheet: u16, shot: Shot) -> Result<Shelved, Refusal>
-    ensures result_value { lent (told shelved_of result) ≡ add_told store.old }
+    ensures result_value { view shelved_of result ≡ add_answer store.old }
     ensures store_after { store.new ≡ add_bytes store.old sheet shot }
 {
     let used = short_at(store, TAIL);
@@ -164,9 +164,9 @@ fn add(store: &mut Store, sheet: u16, shot: Shot) -> Result<Shelved, Refusal>
 }
 
 // Of a sheet of which that slot holds one: the higher take stays.
-#[tactic(auto, unfolding(crate::specs::Store::retake_told, crate::specs::Store::retake_bytes))]
+#[tactic(auto, unfolding(crate::specs::Store::retake_answer, crate::specs::Store::retake_bytes))]
 fn retake(store: &mut Store, sheet: u16, slot: Slot, shot: Shot) -> Result<Shelved, Refusal>
-    ensures result_value { lent (told shelved_of result) ≡ retake_told store.old slot.number shot }
+    ensures result_value { view shelved_of result ≡ retake_answer store.old slot.number shot }
     ensures store_after { store.new ≡ retake_bytes store.old slot.number sheet shot }
 {
     let before = short_at(store, slot.start() + 2);
@@ -181,26 +181,21 @@ fn retake(store: &mut Store, sheet: u16, slot: Slot, shot: Shot) -> Result<Shelv
     Ok(Shelved::Older(before))
 }
 
-// Makes the lent bytes a store in which nothing is kept, if they are as many as a store has.
-pub fn fresh(store: &mut [u8])
+// Makes the lent bytes a store in which nothing is kept.
+pub fn fresh(store: &mut Store)
     ensures store_after { store.new ≡ fresh_bytes store.old }
-    ensures store_after_2 { sheets_of store.new ≡ cond (holds store.old) no_sheets (sheets_of store.old) }
+    ensures sheets_after { sheets_of store.new ≡ no_sheets }
 {
-    if store.len() == STORE {
-        put_short(store, TAIL, 0);
-    }
+    put_short(store, TAIL, 0);
 }
 
 // A shot of a sheet: it is kept if none of that sheet is, or one of a lower take. Refused with NoRoom where
-// none of that sheet is and 512 others are, whatever bytes are lent; with ListLength where these are no store.
-pub fn put(store: &mut [u8], sheet: u16, shot: Shot) -> Result<Shelved, Refusal>
-    ensures result_value { told shelved_of result ≡ of_store (put_answer store.old sheet shot) }
+// none of that sheet is and 512 others are, whatever bytes are lent.
+pub fn put(store: &mut Store, sheet: u16, shot: Shot) -> Result<Shelved, Refusal>
+    ensures result_value { view shelved_of result ≡ (shelve (sheets_of store.old) sheet shot).answer }
     ensures store_after { store.new ≡ put_bytes store.old sheet shot }
-    ensures store_after_2 { sheets_of store.new ≡ put_sheets store.old sheet shot }
+    ensures sheets_after { sheets_of store.new ≡ (shelve (sheets_of store.old) sheet shot).sheets }
 {
-    let Some(store) = store.as_mut_array() else {
-        return Err(Refusal::ListLength);
-    };
     let slot = slot_of(store, sheet);
     if held(store, sheet, slot) {
         return retake(store, sheet, slot, shot);
@@ -209,10 +204,9 @@ pub fn put(store: &mut [u8], sheet: u16, shot: Shot) -> Result<Shelved, Refusal>
 }
 
 // The shot that is kept of a sheet.
-pub fn get(store: &[u8], sheet: u16) -> Result<Shot, Refusal>
-    ensures { answer result ≡ of_store (get_answer store.now sheet) }
+pub fn get(store: &Store, sheet: u16) -> Result<Shot, Refusal>
+    ensures { answer result ≡ ask (sheets_of store.now) sheet }
 {
-    let store: &Store = store.as_array().ok_or(Refusal::ListLength)?;
     let slot = slot_of(store, sheet);
     if held(store, sheet, slot) {
         let at = slot.start();

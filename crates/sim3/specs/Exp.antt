@@ -9,9 +9,9 @@ use Rattle.so3.specs.So3.{so3_exp}
 use Rattle.tables.specs.Tables.{b_row}
 use Rattle.circle.specs.Limits.{row_limit}
 use Rattle.series.specs.Floats.{Coeffs4, Sim3Coeffs}
-use Rattle.closed.specs.Limits.{coeffs_delta}
+use Rattle.arms.specs.Limits.{coeffs_delta}
 use Rattle.coeffs.specs.Group.{coeffs_v}
-use Rattle.closed.specs.Floats.{Values}
+use Rattle.arms.specs.Floats.{Values}
 use Rattle.sim3.specs.Pose.{pose, pose_mul}
 use Rattle.sim3.specs.Floats.{Sim3}
 use Rattle.sim3.specs.Floats.{Sim3Tangent}

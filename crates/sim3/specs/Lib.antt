@@ -1,3 +1,4 @@
+-- To be read in this order.
 pub mod Floats
 pub mod Tangent
 pub mod Pose

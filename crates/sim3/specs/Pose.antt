@@ -1,4 +1,5 @@
--- Poses (q, t, σ), in the operations of a format f. The scale e^σ and its inverse are handed in, by the place that reads them.
+-- Poses (q, t, σ), in the operations of a format f. The scale e^σ and its inverse are handed in, by the place that
+-- reads them.
 use Rattle.std.specs.Prelude.{Float}
 use Rattle.std.specs.Float.{Format}
 use Rattle.std.specs.Float.Ieee.{neg}

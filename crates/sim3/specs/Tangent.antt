@@ -24,7 +24,8 @@ tangent_to_dense a = a.phi.x ∷ a.phi.y ∷ a.phi.z ∷ a.rho.x ∷ a.rho.y ∷
 
 unfoldable pub tangent_from_dense : List Float → Sim3Tangent
 tangent_from_dense l =
-    tangent (vec (get_or l 0 nan) (get_or l 1 nan) (get_or l 2 nan)) (vec (get_or l 3 nan) (get_or l 4 nan) (get_or l 5 nan))
+    tangent (vec (get_or l 0 nan) (get_or l 1 nan) (get_or l 2 nan))
+    (vec (get_or l 3 nan) (get_or l 4 nan) (get_or l 5 nan))
     (get_or l 6 nan)
 
 module _ (f : Format) where

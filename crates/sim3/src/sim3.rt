@@ -1,16 +1,17 @@
 // A pose of Sim(3), X p = e^sigma R p + t, by its numbers alone. Exponentials of log scales are handed
 // in.
 ghost use Rattle.std.specs.Prelude.{◌≡◌};
-ghost use Rattle.sim3.specs.Pose.{pose_identity, pose_inverse, pose_act, pose_mul, pose_mul_inv, pose_inv_mul, pose_renormalized};
+ghost use Rattle.sim3.specs.Pose.{pose_identity, pose_inverse, pose_act, pose_mul, pose_mul_inv, pose_inv_mul};
+ghost use Rattle.sim3.specs.Pose.{pose_renormalized};
 ghost use Rattle.sim3.specs.Exp.{combined, three_of, three_v, v_apply, pose_exp, pose_rplus, pose_lplus};
-ghost use Rattle.closed.specs.Floats.{as_values};
+ghost use Rattle.arms.specs.Floats.{as_values};
 ghost use Rattle.sim3.specs.Floats.{as_sim3, as_sim3_tangent, as_three};
 ghost use Rattle.series.specs.Floats.{as_coeffs4, as_sim3_coeffs};
 ghost use Rattle.so3.specs.Floats.{as_quat};
 ghost use Rattle.linalg.specs.Floats.{as_vec3};
 
 use crate::tangent::{Sim3Tangent, zero_vector};
-use closed::values::Values;
+use arms::values::Values;
 use coeffs::width::Width;
 use ieee::Real;
 use linalg::vector::Vec3;
@@ -29,7 +30,12 @@ pub struct Sim3<T> {
 impl<T: Real> Sim3<T> {
     // (R, t, sigma).
     pub fn from_parts(q: Quat<T>, t: Vec3<T>, sigma: T) -> Sim3<T>
-        ensures { as_sim3 T.float result ≡ record { q = (as_quat T.float q); t = (as_vec3 T.float t); sigma = (T.float sigma) } }
+        ensures { as_sim3 T.float result ≡ record {
+          q = (as_quat T.float q);
+          t = (as_vec3 T.float t);
+          sigma =
+              (T.float sigma);
+        } }
     {
         Sim3 { q, t, sigma }
     }
@@ -56,7 +62,8 @@ impl<T: Real> Sim3<T> {
     // self * other^-1; e is the exponential of the difference of the two log scales.
     #[tactic(auto, unfolding(crate::specs::Pose::pose_mul_inv))]
     pub fn mul_inv(self, other: Sim3<T>, e: T) -> Sim3<T>
-        ensures { as_sim3 T.float result ≡ pose_mul_inv T.format (as_sim3 T.float self) (as_sim3 T.float other) (T.float e) }
+        ensures { as_sim3 T.float result ≡ pose_mul_inv T.format (as_sim3 T.float self) (as_sim3 T.float other)
+            (T.float e) }
     {
         let p = self.q;
         let o = other.q;
@@ -72,7 +79,8 @@ impl<T: Real> Sim3<T> {
     // other^-1 * self; down is e^-sigma of other.
     #[tactic(auto, unfolding(crate::specs::Pose::pose_inv_mul))]
     pub fn inv_mul(self, other: Sim3<T>, down: T) -> Sim3<T>
-        ensures { as_sim3 T.float result ≡ pose_inv_mul T.format (as_sim3 T.float self) (as_sim3 T.float other) (T.float down) }
+        ensures { as_sim3 T.float result ≡ pose_inv_mul T.format (as_sim3 T.float self) (as_sim3 T.float other)
+            (T.float down) }
     {
         let p = self.q;
         let o = other.q;
@@ -96,8 +104,8 @@ impl<T: Real> Sim3<T> {
 
     // XY = (R_X R_Y, s_X R_X t_Y + t_X, sigma_X + sigma_Y); up is e^sigma of X. PERF (D111): the
     // operations of Quat::mul and of act are written out in an order in which the compiler keeps every
-    // number in a register: p.x and p.z times q, then t, then the sums of the quaternion. PERF: it is written into its
-    // callers, since a call would copy both poses.
+    // number in a register: p.x and p.z times q, then t, then the sums of the quaternion. PERF (D111): it is written
+    // into its callers, since a call would copy both poses.
     #[inline(always)]
     pub fn mul(self, o: Sim3<T>, up: T) -> Sim3<T>
         ensures { as_sim3 T.float result ≡ pose_mul T.format (as_sim3 T.float self) (as_sim3 T.float o) (T.float up) }
@@ -186,7 +194,8 @@ impl<T: Width> Sim3<T> {
     // X Exp(tau); up is e^sigma of X, v the values of tau.
     #[tactic(auto, unfolding(crate::specs::Exp::pose_rplus))]
     pub fn rplus(self, up: T, tau: Sim3Tangent<T>, v: Values<T>) -> Sim3<T>
-        ensures { as_sim3 T.float result ≡ pose_rplus T.format (as_sim3 T.float self) (T.float up) (as_sim3_tangent T.float tau) (as_values T.float v) }
+        ensures { as_sim3 T.float result ≡ pose_rplus T.format (as_sim3 T.float self) (T.float up)
+            (as_sim3_tangent T.float tau) (as_values T.float v) }
     {
         self.mul(Sim3::exp(tau, v), up)
     }
@@ -194,7 +203,8 @@ impl<T: Width> Sim3<T> {
     // Exp(tau) X, with the values of tau.
     #[tactic(auto, unfolding(crate::specs::Exp::pose_lplus))]
     pub fn lplus(self, tau: Sim3Tangent<T>, v: Values<T>) -> Sim3<T>
-        ensures { as_sim3 T.float result ≡ pose_lplus T.format (as_sim3 T.float self) (as_sim3_tangent T.float tau) (as_values T.float v) }
+        ensures { as_sim3 T.float result ≡ pose_lplus T.format (as_sim3 T.float self) (as_sim3_tangent T.float tau)
+            (as_values T.float v) }
     {
         Sim3::exp(tau, v).mul(self, v.up)
     }
@@ -245,7 +255,8 @@ pub fn combine<T: Real>(x: Three<T>, a: Vec3<T>, b: Vec3<T>, c: Vec3<T>) -> Vec3
 // V rho at z = |phi|^2: by chi_delta / delta where b is on its exact arm (z not below b's limit),
 // else by two cross products.
 pub fn v_apply<T: Width>(phi: Vec3<T>, sigma: T, c: Coeffs4<T>, rho: Vec3<T>) -> Vec3<T>
-    ensures { as_vec3 T.float result ≡ v_apply T.format (as_vec3 T.float phi) (T.float sigma) (as_coeffs4 T.float c) (as_vec3 T.float rho) }
+    ensures { as_vec3 T.float result ≡ v_apply T.format (as_vec3 T.float phi) (T.float sigma) (as_coeffs4 T.float c)
+        (as_vec3 T.float rho) }
 {
     let z = phi.norm_sq();
     if !circle::kernel::b_takes_exact_arm_of(phi) {

@@ -3,7 +3,8 @@ ghost use Rattle.std.specs.Prelude.{◌≡◌, map};
 ghost use Rattle.ieee.specs.Numbers.{f0};
 ghost use Rattle.linalg.specs.Vector.{vec};
 ghost use Rattle.linalg.specs.Floats.{as_vec3};
-ghost use Rattle.sim3.specs.Tangent.{tangent_zero, tangent_add, tangent_sub, tangent_neg, tangent_scale, tangent_dot_acc, tangent_to_dense, tangent_from_dense};
+ghost use Rattle.sim3.specs.Tangent.{tangent_zero, tangent_add, tangent_sub, tangent_neg, tangent_scale};
+ghost use Rattle.sim3.specs.Tangent.{tangent_dot_acc, tangent_to_dense, tangent_from_dense};
 ghost use Rattle.sim3.specs.Floats.{as_sim3_tangent};
 
 use ieee::Real;
@@ -31,8 +32,10 @@ impl<T: Real> Sim3Tangent<T> {
     // f of each of the seven numbers.
     fn map<F: Fn(T) -> T>(self, f: F) -> Sim3Tangent<T>
         requires { F.IsAlwaysCallable f }
-        ensures phi { F.post f self.phi.x result.phi.x × F.post f self.phi.y result.phi.y × F.post f self.phi.z result.phi.z }
-        ensures rho { F.post f self.rho.x result.rho.x × F.post f self.rho.y result.rho.y × F.post f self.rho.z result.rho.z }
+        ensures phi { F.post f self.phi.x result.phi.x × F.post f self.phi.y result.phi.y
+            × F.post f self.phi.z result.phi.z }
+        ensures rho { F.post f self.rho.x result.rho.x × F.post f self.rho.y result.rho.y
+            × F.post f self.rho.z result.rho.z }
         ensures sigma { F.post f self.sigma result.sigma }
     {
         let a = self.phi;
@@ -93,14 +96,16 @@ impl<T: Real> Sim3Tangent<T> {
 
     #[tactic(auto, unfolding(crate::specs::Tangent::tangent_add, linalg::specs::Vector::vec_add))]
     pub fn add(self, o: Sim3Tangent<T>) -> Sim3Tangent<T>
-        ensures { as_sim3_tangent T.float result ≡ tangent_add T.format (as_sim3_tangent T.float self) (as_sim3_tangent T.float o) }
+        ensures { as_sim3_tangent T.float result ≡ tangent_add T.format (as_sim3_tangent T.float self)
+            (as_sim3_tangent T.float o) }
     {
         self.zip_with(o, |a, b| a + b)
     }
 
     #[tactic(auto, unfolding(crate::specs::Tangent::tangent_sub, linalg::specs::Vector::vec_sub))]
     pub fn sub(self, o: Sim3Tangent<T>) -> Sim3Tangent<T>
-        ensures { as_sim3_tangent T.float result ≡ tangent_sub T.format (as_sim3_tangent T.float self) (as_sim3_tangent T.float o) }
+        ensures { as_sim3_tangent T.float result ≡ tangent_sub T.format (as_sim3_tangent T.float self)
+            (as_sim3_tangent T.float o) }
     {
         self.zip_with(o, |a, b| a - b)
     }
@@ -124,7 +129,8 @@ impl<T: Real> Sim3Tangent<T> {
     // acc plus the seven products, one after another from the left.
     #[tactic(auto, unfolding(crate::specs::Tangent::tangent_dot_acc))]
     pub fn dot_acc(self, o: Sim3Tangent<T>, acc: T) -> T
-        ensures { T.float result ≡ tangent_dot_acc T.format (as_sim3_tangent T.float self) (as_sim3_tangent T.float o) (T.float acc) }
+        ensures { T.float result ≡ tangent_dot_acc T.format (as_sim3_tangent T.float self) (as_sim3_tangent T.float o)
+            (T.float acc) }
     {
         let a = self.phi;
         let b = o.phi;

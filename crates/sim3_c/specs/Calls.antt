@@ -1,5 +1,6 @@
--- What each function for C callers answers, but for those that records of the job have too (crate `sim3_c_entries`): 0 and the numbers in `out`, or the number of a refusal and `out` as it was (Written.antt of crate `to_lists`).
--- A list whose length is not the one that is due is refused by the lists' own number; lists of points by the scope's 5.
+-- What each function for C callers answers, but for those that records of the job have too (crate `sim3_c_entries`): 0
+-- and the numbers in `out`, or the number of a refusal and `out` as it was (Written.antt of crate `to_lists`). A list
+-- whose length is not the one that is due is refused by the lists' own number; lists of points by the scope's 5.
 use Rattle.std.specs.Prelude.{List, Float}
 use Rattle.std.specs.Float.{Format}
 use Rattle.linalg.specs.Answer.{Answer, answers, and_then}
@@ -7,17 +8,20 @@ use Rattle.linalg.specs.Floats.{Vec3}
 use Rattle.coeffs.specs.Entries.{armed_answer, armed_pair_answer}
 use Rattle.point_lists.specs.Points.{points_answer, points_out, pose_act_many, pose_act_each}
 use Rattle.frames.specs.Joins.{framed_mul_inv, framed_inv_mul}
-use Rattle.sides.specs.Side.{pose_adjoint, act_jacobians_right, act_jacobians_left, compose_jacobians_right, compose_jacobians_left, inverse_jacobian_right, inverse_jacobian_left}
+use Rattle.side_jacobians.specs.Side.{pose_adjoint, act_jacobians_right, act_jacobians_left, compose_jacobians_right}
+use Rattle.side_jacobians.specs.Side.{compose_jacobians_left, inverse_jacobian_right, inverse_jacobian_left}
 use Rattle.layout.specs.Layout.{block_numbers, two_numbers, act_numbers}
 use Rattle.from_lists.specs.Lists.{vec_from, pose_from, values_from, PoseLists, framed_from}
 use Rattle.to_lists.specs.Written.{fitting, joined_fitting, armed_numbers, armed_pair_numbers}
 
 -- ---- poses with their frames
 unfoldable pub mul_inv_call : Format → PoseLists → PoseLists → Float → PoseLists → Answer PoseLists
-mul_inv_call f x y ds out = and_then (framed_from x) (λ a. and_then (framed_from y) (λ b. joined_fitting out (framed_mul_inv f a b ds)))
+mul_inv_call f x y ds out =
+    and_then (framed_from x) (λ a. and_then (framed_from y) (λ b. joined_fitting out (framed_mul_inv f a b ds)))
 
 unfoldable pub inv_mul_call : Format → PoseLists → PoseLists → Float → PoseLists → Answer PoseLists
-inv_mul_call f x y down out = and_then (framed_from x) (λ a. and_then (framed_from y) (λ b. joined_fitting out (framed_inv_mul f a b down)))
+inv_mul_call f x y down out =
+    and_then (framed_from x) (λ a. and_then (framed_from y) (λ b. joined_fitting out (framed_inv_mul f a b down)))
 
 -- ---- lists of points: every point moved
 unfoldable pub act_call : (Vec3 → Vec3) → List Float → List Float → Answer (List Float)
@@ -31,29 +35,38 @@ act_each_call f x up pts out = and_then (pose_from x) (λ a. act_call (pose_act_
 
 -- ---- the coefficients with their arms
 unfoldable pub armed_call : Format → Float → Float → List Float → List Float → Answer (List Float)
-armed_call f sigma z values out = and_then (values_from values) (λ v. and_then (armed_answer f sigma z v) (λ a. fitting out (armed_numbers f a)))
+armed_call f sigma z values out =
+    and_then (values_from values) (λ v. and_then (armed_answer f sigma z v) (λ a. fitting out (armed_numbers f a)))
 
 unfoldable pub armed_pair_call : Format → Float → Float → List Float → List Float → Answer (List Float)
-armed_pair_call f sigma z values out = and_then (values_from values) (λ v. and_then (armed_pair_answer f sigma z v) (λ p. fitting out (armed_pair_numbers f p)))
+armed_pair_call f sigma z values out =
+    and_then (values_from values) (λ v. and_then (armed_pair_answer f sigma z v)
+    (λ p. fitting out (armed_pair_numbers f p)))
 
 -- ---- blocks
 unfoldable pub adjoint_call : Format → List Float → Float → List Float → Answer (List Float)
 adjoint_call f x up out = and_then (pose_from x) (λ a. fitting out (block_numbers (pose_adjoint f a up)))
 
 unfoldable pub act_jacobians_right_call : Format → List Float → Float → List Float → List Float → Answer (List Float)
-act_jacobians_right_call f x up p out = and_then (pose_from x) (λ a. and_then (vec_from p) (λ b. fitting out (act_numbers (act_jacobians_right f a up b))))
+act_jacobians_right_call f x up p out =
+    and_then (pose_from x) (λ a. and_then (vec_from p) (λ b. fitting out (act_numbers (act_jacobians_right f a up b))))
 
 unfoldable pub act_jacobians_left_call : Format → List Float → Float → List Float → List Float → Answer (List Float)
-act_jacobians_left_call f x up p out = and_then (pose_from x) (λ a. and_then (vec_from p) (λ b. fitting out (act_numbers (act_jacobians_left f a up b))))
+act_jacobians_left_call f x up p out =
+    and_then (pose_from x) (λ a. and_then (vec_from p) (λ b. fitting out (act_numbers (act_jacobians_left f a up b))))
 
 unfoldable pub compose_jacobians_right_call : Format → List Float → Float → List Float → Answer (List Float)
-compose_jacobians_right_call f y down out = and_then (pose_from y) (λ b. fitting out (two_numbers (compose_jacobians_right f b down)))
+compose_jacobians_right_call f y down out =
+    and_then (pose_from y) (λ b. fitting out (two_numbers (compose_jacobians_right f b down)))
 
 unfoldable pub compose_jacobians_left_call : Format → List Float → Float → List Float → Answer (List Float)
-compose_jacobians_left_call f x up out = and_then (pose_from x) (λ a. fitting out (two_numbers (compose_jacobians_left f a up)))
+compose_jacobians_left_call f x up out =
+    and_then (pose_from x) (λ a. fitting out (two_numbers (compose_jacobians_left f a up)))
 
 unfoldable pub inverse_jacobian_right_call : Format → List Float → Float → List Float → Answer (List Float)
-inverse_jacobian_right_call f x up out = and_then (pose_from x) (λ a. fitting out (block_numbers (inverse_jacobian_right f a up)))
+inverse_jacobian_right_call f x up out =
+    and_then (pose_from x) (λ a. fitting out (block_numbers (inverse_jacobian_right f a up)))
 
 unfoldable pub inverse_jacobian_left_call : Format → List Float → Float → List Float → Answer (List Float)
-inverse_jacobian_left_call f x down out = and_then (pose_from x) (λ a. fitting out (block_numbers (inverse_jacobian_left f a down)))
+inverse_jacobian_left_call f x down out =
+    and_then (pose_from x) (λ a. fitting out (block_numbers (inverse_jacobian_left f a down)))

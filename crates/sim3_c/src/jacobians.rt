@@ -4,19 +4,20 @@ ghost use Rattle.std.specs.Prelude.{◌≡◌};
 ghost use Rattle.linalg.specs.Answer.{answer};
 ghost use Rattle.to_lists.specs.Written.{status, written};
 ghost use Rattle.sim3_c.specs.Calls.{adjoint_call, act_jacobians_right_call, act_jacobians_left_call};
-ghost use Rattle.sim3_c.specs.Calls.{compose_jacobians_right_call, compose_jacobians_left_call, inverse_jacobian_right_call, inverse_jacobian_left_call};
+ghost use Rattle.sim3_c.specs.Calls.{compose_jacobians_right_call, compose_jacobians_left_call};
+ghost use Rattle.sim3_c.specs.Calls.{inverse_jacobian_right_call, inverse_jacobian_left_call};
 
 use from_lists::{pose_from, vec_from};
 use ieee::Real;
 use linalg::refusal::Refusal;
-use sides::side::{
+use side_jacobians::side::{
     act_jacobians_left, act_jacobians_right, adjoint, compose_jacobians_left,
     compose_jacobians_right, inverse_jacobian_left, inverse_jacobian_right,
 };
 use to_lists::put;
 
 // Ad_X; up is e^sigma of X.
-#[tactic(auto, unfolding(crate::specs::Calls::adjoint_call, to_lists::specs::Written::status, to_lists::specs::Written::written))]
+#[tactic(auto, unfolding(crate::specs::Calls::adjoint_call, to_lists::proofs::OnLists::on_lists))]
 pub fn sim3_adjoint<T: Real>(x: &[T], up: T, out: &mut [T]) -> Result<(), Refusal>
     ensures value { status (answer result)
         ≡ status (adjoint_call T.format (T.floats x.now) (T.float up) (T.floats out.old)) }
@@ -29,7 +30,7 @@ pub fn sim3_adjoint<T: Real>(x: &[T], up: T, out: &mut [T]) -> Result<(), Refusa
 }
 
 // Of X p, right: by phi, rho, sigma and by p; up is e^sigma of X.
-#[tactic(auto, unfolding(crate::specs::Calls::act_jacobians_right_call, to_lists::specs::Written::status, to_lists::specs::Written::written))]
+#[tactic(auto, unfolding(crate::specs::Calls::act_jacobians_right_call, to_lists::proofs::OnLists::on_lists))]
 pub fn sim3_act_jacobians_right<T: Real>(
     x: &[T],
     up: T,
@@ -48,7 +49,7 @@ pub fn sim3_act_jacobians_right<T: Real>(
 }
 
 // Of X p, left: by phi, rho, sigma and by p; up is e^sigma of X.
-#[tactic(auto, unfolding(crate::specs::Calls::act_jacobians_left_call, to_lists::specs::Written::status, to_lists::specs::Written::written))]
+#[tactic(auto, unfolding(crate::specs::Calls::act_jacobians_left_call, to_lists::proofs::OnLists::on_lists))]
 pub fn sim3_act_jacobians_left<T: Real>(
     x: &[T],
     up: T,
@@ -67,7 +68,7 @@ pub fn sim3_act_jacobians_left<T: Real>(
 }
 
 // Of X Y, right: by X and by Y, which read Y alone; down is e^-sigma of Y.
-#[tactic(auto, unfolding(crate::specs::Calls::compose_jacobians_right_call, to_lists::specs::Written::status, to_lists::specs::Written::written))]
+#[tactic(auto, unfolding(crate::specs::Calls::compose_jacobians_right_call, to_lists::proofs::OnLists::on_lists))]
 pub fn sim3_compose_jacobians_right<T: Real>(y: &[T], down: T, out: &mut [T]) -> Result<(), Refusal>
     ensures value { status (answer result)
         ≡ status (compose_jacobians_right_call T.format (T.floats y.now) (T.float down) (T.floats out.old)) }
@@ -80,7 +81,7 @@ pub fn sim3_compose_jacobians_right<T: Real>(y: &[T], down: T, out: &mut [T]) ->
 }
 
 // Of X Y, left: by X and by Y, which read X alone; up is e^sigma of X.
-#[tactic(auto, unfolding(crate::specs::Calls::compose_jacobians_left_call, to_lists::specs::Written::status, to_lists::specs::Written::written))]
+#[tactic(auto, unfolding(crate::specs::Calls::compose_jacobians_left_call, to_lists::proofs::OnLists::on_lists))]
 pub fn sim3_compose_jacobians_left<T: Real>(x: &[T], up: T, out: &mut [T]) -> Result<(), Refusal>
     ensures value { status (answer result)
         ≡ status (compose_jacobians_left_call T.format (T.floats x.now) (T.float up) (T.floats out.old)) }
@@ -93,7 +94,7 @@ pub fn sim3_compose_jacobians_left<T: Real>(x: &[T], up: T, out: &mut [T]) -> Re
 }
 
 // Of X^-1, right; up is e^sigma of X.
-#[tactic(auto, unfolding(crate::specs::Calls::inverse_jacobian_right_call, to_lists::specs::Written::status, to_lists::specs::Written::written))]
+#[tactic(auto, unfolding(crate::specs::Calls::inverse_jacobian_right_call, to_lists::proofs::OnLists::on_lists))]
 pub fn sim3_inverse_jacobian_right<T: Real>(x: &[T], up: T, out: &mut [T]) -> Result<(), Refusal>
     ensures value { status (answer result)
         ≡ status (inverse_jacobian_right_call T.format (T.floats x.now) (T.float up) (T.floats out.old)) }
@@ -106,7 +107,7 @@ pub fn sim3_inverse_jacobian_right<T: Real>(x: &[T], up: T, out: &mut [T]) -> Re
 }
 
 // Of X^-1, left; down is e^-sigma of X.
-#[tactic(auto, unfolding(crate::specs::Calls::inverse_jacobian_left_call, to_lists::specs::Written::status, to_lists::specs::Written::written))]
+#[tactic(auto, unfolding(crate::specs::Calls::inverse_jacobian_left_call, to_lists::proofs::OnLists::on_lists))]
 pub fn sim3_inverse_jacobian_left<T: Real>(x: &[T], down: T, out: &mut [T]) -> Result<(), Refusal>
     ensures value { status (answer result)
         ≡ status (inverse_jacobian_left_call T.format (T.floats x.now) (T.float down) (T.floats out.old)) }

@@ -2,7 +2,7 @@
 // and so no double, the direction, and the arm there.
 ghost use Rattle.std.specs.Prelude.{◌≡◌};
 ghost use Rattle.linalg.specs.Answer.{answer};
-ghost use Rattle.nearest.specs.Nearest.{near_told, step_told};
+ghost use Rattle.nearest.specs.Nearest.{near_view, step_view};
 ghost use Rattle.to_lists.specs.Written.{status, written};
 ghost use Rattle.sim3_c.specs.Near.{near_numbers, near_call};
 
@@ -13,9 +13,9 @@ use nearest::{Direction, Step};
 const NUMBERS: usize = 3;
 
 // The count, the direction, which is 0 for down and 1 for up, and the arm; three zeros for none.
-#[tactic(auto, unfolding(crate::specs::Near::near_numbers, nearest::specs::Nearest::step_told))]
+#[tactic(auto, unfolding(crate::specs::Near::near_numbers, nearest::specs::Nearest::step_view))]
 fn numbers(near: Option<Step>) -> [u64; NUMBERS]
-    ensures { result ≡ near_numbers (near_told step_told near) }
+    ensures { result ≡ near_numbers (near_view step_view near) }
 {
     match near {
         Some(
@@ -38,7 +38,7 @@ fn numbers(near: Option<Step>) -> [u64; NUMBERS]
 
 // The least number of neighbouring values that z must move for the arm at (sigma, z) to change, the
 // direction, and the arm there; three zeros where every permitted z has the same arm.
-#[tactic(auto, unfolding(crate::specs::Near::near_call, to_lists::specs::Written::status, to_lists::specs::Written::written))]
+#[tactic(auto, unfolding(crate::specs::Near::near_call, to_lists::proofs::OnLists::on_lists))]
 pub fn sim3_nearest_arm<T: Neighbours>(sigma: T, z: T, out: &mut [u64]) -> Result<(), Refusal>
     ensures value { status (answer result) ≡ status (near_call T.format (T.float sigma) (T.float z) out.old) }
     ensures out_after { out.new ≡ written (near_call T.format (T.float sigma) (T.float z) out.old) out.old }

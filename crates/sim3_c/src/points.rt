@@ -11,7 +11,7 @@ use linalg::refusal::Refusal;
 use point_lists::{PointWidth, act_each, act_many};
 
 // Every point by the matrix s R; up is e^sigma of X.
-#[tactic(auto, unfolding(crate::specs::Calls::act_many_call, crate::specs::Calls::act_call, point_lists::specs::Points::points_answer, point_lists::specs::Points::points_out, to_lists::specs::Written::status, to_lists::specs::Written::written))]
+#[tactic(auto, unfolding(crate::proofs::Unfolds::sim3_act_many_unfolds))]
 pub fn sim3_act_many<T: PointWidth>(x: &[T], up: T, pts: &[T], out: &mut [T]) -> Result<(), Refusal>
     ensures value { status (answer result)
         ≡ status (act_many_call T.format (T.floats x.now) (T.float up) (T.floats pts.now) (T.floats out.old)) }
@@ -24,7 +24,7 @@ pub fn sim3_act_many<T: PointWidth>(x: &[T], up: T, pts: &[T], out: &mut [T]) ->
 }
 
 // Every point by itself; up is e^sigma of X.
-#[tactic(auto, unfolding(crate::specs::Calls::act_each_call, crate::specs::Calls::act_call, point_lists::specs::Points::points_answer, point_lists::specs::Points::points_out, to_lists::specs::Written::status, to_lists::specs::Written::written))]
+#[tactic(auto, unfolding(crate::proofs::Unfolds::sim3_act_each_unfolds))]
 pub fn sim3_act_each<T: Real>(x: &[T], up: T, pts: &[T], out: &mut [T]) -> Result<(), Refusal>
     ensures value { status (answer result)
         ≡ status (act_each_call T.format (T.floats x.now) (T.float up) (T.floats pts.now) (T.floats out.old)) }

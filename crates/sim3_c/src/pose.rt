@@ -12,7 +12,7 @@ use linalg::refusal::Refusal;
 use to_lists::{put_framed, renormalize_pose};
 
 // X Y^-1, where both start from one frame; ds is e^(sigma of X - sigma of Y).
-#[tactic(auto, unfolding(crate::specs::Calls::mul_inv_call, to_lists::specs::Written::joined_fitting, to_lists::specs::Written::status, to_lists::specs::Written::written))]
+#[tactic(auto, unfolding(crate::proofs::Unfolds::sim3_mul_inv_unfolds))]
 pub fn sim3_mul_inv<T: Real>(
     x: &[T],
     x_frames: &[u16],
@@ -35,7 +35,7 @@ pub fn sim3_mul_inv<T: Real>(
 }
 
 // Y^-1 X, where both go to one frame; down is e^-sigma of Y.
-#[tactic(auto, unfolding(crate::specs::Calls::inv_mul_call, to_lists::specs::Written::joined_fitting, to_lists::specs::Written::status, to_lists::specs::Written::written))]
+#[tactic(auto, unfolding(crate::proofs::Unfolds::sim3_inv_mul_unfolds))]
 pub fn sim3_inv_mul<T: Real>(
     x: &[T],
     x_frames: &[u16],

@@ -4,6 +4,6 @@
 
 pub mod pose; // compositions with an inverse, with the frames; renormalising
 pub mod points; // the action on lists of points
-pub mod arms; // the coefficients with their arms
+pub mod armed; // the coefficients with their arms
 pub mod jacobians; // inverse, adjoint, and the Jacobians of the group's operations
 pub mod near; // how near another arm is

@@ -1,11 +1,13 @@
--- Renormalising the poses of a list one after another: after i turns the first i are renormalised and the rest is as it was. Assumes nothing.
+-- Renormalising the poses of a list one after another: after i turns the first i are renormalised and the rest is as it
+-- was. Assumes nothing.
 use Prim.Native.Nat.{ℕ, zero, suc, ◌+◌, ◌*◌, ◌-◌, ◌≤◌, ◌<◌}
 use mathlib.Core.Path.{◌≡◌, refl, sym, ap, ◌∙◌}
 use mathlib.Core.List.{List, ◌++◌, append-nil, append_assoc}
 use native.Mathlib.Numerals.{add-one}
 use native.Mathlib.Omega.{arith}
 use lib.ListN.{get_or, length, take, drop, length-append, length-drop}
-use lib.Seq.{sets, sets-eq, take_at, drop_at, drop-length, drop-drop, get_or-take, get_or-drop, get_or-append-add, length-take-le}
+use lib.Seq.{sets, sets-eq, take_at, drop_at, drop-length, drop-drop, get_or-take, get_or-drop, get_or-append-add}
+use lib.Seq.{length-take-le}
 use lib.Ieee.{Float, Format, nan}
 use Rattle.sim3.specs.Pose.{pose_renormalized}
 use Rattle.sim3.specs.Floats.{Sim3}
@@ -28,13 +30,15 @@ run_length f l (suc n) =
     simp (length-append, pose-count) (omega arith)
 
 -- eight stores at the seam
-seam : (p l b : List Float) (k : ℕ) → length p ≡ k → length b ≡ 8 → k + 8 ≤ length l → sets (p ++ drop k l) k b ≡ (p ++ b) ++ drop (k + 8) l
+seam : (p l b : List Float) (k : ℕ) → length p ≡ k → length b ≡ 8 → k + 8 ≤ length l →
+    sets (p ++ drop k l) k b ≡ (p ++ b) ++ drop (k + 8) l
 seam p l b k e n h =
     let d : length (drop k l) ≡ length l - k = length-drop k l in
     let whole : k + length b ≤ length (p ++ drop k l) = simp length-append (omega arith) in
     let front : take k (p ++ drop k l) ≡ p = take_at p (drop k l) k e in
     let back : drop (k + length b) (p ++ drop k l) ≡ drop (k + 8) l =
-    sym (drop-drop (length b) k (p ++ drop k l)) ∙ ap (drop (length b)) (drop_at p (drop k l) k e) ∙ drop-drop (length b) k l ∙ ap (λ (m : ℕ). drop (k + m) l) n in
+    sym (drop-drop (length b) k (p ++ drop k l)) ∙ ap (drop (length b)) (drop_at p (drop k l) k e)
+    ∙ drop-drop (length b) k l ∙ ap (λ (m : ℕ). drop (k + m) l) n in
     sets-eq b (p ++ drop k l) k whole ∙ (λ i. (front i ++ b) ++ back i)
 
 -- what is not yet written is read as it was
@@ -42,9 +46,11 @@ left : (p l : List Float) (k i : ℕ) → length p ≡ k → k ≤ i → get_or 
 left p l k i e h =
     let n : length p + (i - k) ≡ i = omega arith in
     let m : k + (i - k) ≡ i = omega arith in
-    ap (λ (j : ℕ). get_or (p ++ drop k l) j nan) (sym n) ∙ get_or-append-add p (drop k l) (i - k) nan ∙ get_or-drop k l (i - k) nan ∙ ap (λ (j : ℕ). get_or l j nan) m
+    ap (λ (j : ℕ). get_or (p ++ drop k l) j nan) (sym n) ∙ get_or-append-add p (drop k l) (i - k) nan
+    ∙ get_or-drop k l (i - k) nan ∙ ap (λ (j : ℕ). get_or l j nan) m
 
-left-pose : (f : Format) (l : List Float) (i : ℕ) → pose_in (number_in (poses_renormalized f l i ++ drop (i * 8) l)) (i * 8) ≡ pose_in (number_in l) (i * 8)
+left-pose : (f : Format) (l : List Float) (i : ℕ) → pose_in (number_in (poses_renormalized f l i ++ drop (i * 8) l))
+    (i * 8) ≡ pose_in (number_in l) (i * 8)
 unfolding pose_in quat_in vec_in
 left-pose f l i =
     let p = poses_renormalized f l i in
@@ -64,7 +70,9 @@ left-pose f l i =
 -- one pose more
 run_more :
     (f : Format) (l : List Float) (i : ℕ) → i * 8 + 8 ≤ length l →
-    sets (poses_renormalized f l i ++ drop (i * 8) l) (i * 8) (pose_numbers (pose_renormalized f (pose_in (number_in l) (i * 8)))) ≡ poses_renormalized f l (i + 1) ++ drop ((i + 1) * 8) l
+    sets (poses_renormalized f l i ++ drop (i * 8) l) (i * 8)
+    (pose_numbers (pose_renormalized f (pose_in (number_in l) (i * 8))))
+    ≡ poses_renormalized f l (i + 1) ++ drop ((i + 1) * 8) l
 unfolding poses_renormalized
 run_more f l i h =
     let x = pose_renormalized f (pose_in (number_in l) (i * 8)) in
@@ -92,7 +100,8 @@ part-pose l k =
 -- renormalised, it has the numbers of the pose that stood there
 part_step :
     (f : Format) (l : List Float) (k : ℕ) → k + 8 ≤ length l →
-    written (renormalize_call f (take 8 (drop k l))) (take 8 (drop k l)) ≡ pose_numbers (pose_renormalized f (pose_in (number_in l) k))
+    written (renormalize_call f (take 8 (drop k l))) (take 8 (drop k l))
+    ≡ pose_numbers (pose_renormalized f (pose_in (number_in l) k))
 unfolding renormalize_call pose_from
 part_step f l k h =
     let p = take 8 (drop k l) in
@@ -102,25 +111,30 @@ part_step f l k h =
     rw (sized-right p 8 (pose_in (number_in p) 0) n, part-pose l k) (fitted p (pose_numbers x) 8 n (pose-count x)).1
 
 -- put back, it is a run of stores
-part_back : (l b : List Float) (k : ℕ) → length b ≡ 8 → k + 8 ≤ length l → take k l ++ (b ++ drop 8 (drop k l)) ≡ sets l k b
+part_back : (l b : List Float) (k : ℕ) → length b ≡ 8 → k + 8 ≤ length l →
+    take k l ++ (b ++ drop 8 (drop k l)) ≡ sets l k b
 part_back l b k n h =
     let e : k + 8 ≡ k + length b = omega arith in
     let rest : drop 8 (drop k l) ≡ drop (k + length b) l = drop-drop 8 k l ∙ ap (λ (m : ℕ). drop m l) e in
-    sym (sets-eq b l k (omega arith) ∙ append_assoc (take k l) b _ ∙ ap (λ (r : List Float). take k l ++ (b ++ r)) (sym rest))
+    sym (sets-eq b l k (omega arith) ∙ append_assoc (take k l) b _
+    ∙ ap (λ (r : List Float). take k l ++ (b ++ r)) (sym rest))
 
 -- so the pose at the seam, renormalised in its part, is one pose more
 pub part_more :
-    (f : Format) (l m b : List Float) (i : ℕ) → i * 8 + 8 ≤ length l → length m ≡ length l → m ≡ poses_renormalized f l i ++ drop (i * 8) l →
+    (f : Format) (l m b : List Float) (i : ℕ) → i * 8 + 8 ≤ length l → length m ≡ length l →
+    m ≡ poses_renormalized f l i ++ drop (i * 8) l →
     b ≡ written (renormalize_call f (take 8 (drop (i * 8) m))) (take 8 (drop (i * 8) m)) →
     take (i * 8) m ++ (b ++ drop 8 (drop (i * 8) m)) ≡ poses_renormalized f l (i + 1) ++ drop ((i + 1) * 8) l
 part_more f l m b i h w e s =
     let k = i * 8 in
-    let y : pose_in (number_in m) k ≡ pose_in (number_in l) k = ap (λ (r : List Float). pose_in (number_in r) k) e ∙ left-pose f l i in
+    let y : pose_in (number_in m) k ≡ pose_in (number_in l) k =
+    ap (λ (r : List Float). pose_in (number_in r) k) e ∙ left-pose f l i in
     let g : b ≡ pose_numbers (pose_renormalized f (pose_in (number_in l) k)) =
     s ∙ part_step f m k (omega arith) ∙ ap (λ (x : Sim3). pose_numbers (pose_renormalized f x)) y in
     let n : length b ≡ 8 = ap (λ (r : List Float). length r) g ∙ pose-count _ in
     part_back m b k n (omega arith) ∙ (λ j. sets (e j) k (g j)) ∙ run_more f l i h
 
 -- after the last pose nothing is left
-pub run_all : (f : Format) (l : List Float) (i : ℕ) → i * 8 ≡ length l → poses_renormalized f l i ++ drop (i * 8) l ≡ poses_renormalized f l i
+pub run_all : (f : Format) (l : List Float) (i : ℕ) → i * 8 ≡ length l →
+    poses_renormalized f l i ++ drop (i * 8) l ≡ poses_renormalized f l i
 run_all f l i e = rw (e, drop-length) (append-nil (poses_renormalized f l i))

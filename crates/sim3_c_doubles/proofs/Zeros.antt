@@ -8,7 +8,8 @@ use Rattle.linalg.specs.Vector.{vec_numbers}
 use Rattle.layout.specs.Layout.{quat_numbers, pose_numbers}
 use Rattle.sim3_c_doubles.specs.Join.{zero_pose}
 
-pub zero_numbers : (l m : List Float) → length l ≡ 8 → m ≡ replicate (length l) zero_pose.sim3.sigma → m ≡ pose_numbers zero_pose.sim3
+pub zero_numbers : (l m : List Float) → length l ≡ 8 → m ≡ replicate (length l) zero_pose.sim3.sigma →
+    m ≡ pose_numbers zero_pose.sim3
 unfolding pose_numbers quat_numbers vec_numbers
 zero_numbers l m h e = e ∙ ap (λ (n : ℕ). replicate n zero_pose.sim3.sigma) h
 

@@ -1,6 +1,9 @@
--- The running join between calls, and the Newton step on a list of poses. What a call answers and what the lists then hold is told as in Written.antt of crate `to_lists`.
--- A running join stands in two lists: the eight numbers of the running pose; and its frames, from and to, n, how many products there were since the last renormalisation, and 1 where there is a pose.
-use Rattle.std.specs.Prelude.{ℕ, zero, suc, ◌*◌, ◌/◌, ◌%◌, ◌≡◌, cond, ◌&&◌, List, [], ◌∷◌, ◌++◌, eqb, get_or, set, length, Float, Some, None}
+-- The running join between calls, and the Newton step on a list of poses. What a call answers and what the lists then
+-- hold is told as in Written.antt of crate `to_lists`. A running join stands in two lists: the eight numbers of the
+-- running pose; and its frames, from and to, n, how many products there were since the last renormalisation, and 1
+-- where there is a pose.
+use Rattle.std.specs.Prelude.{ℕ, zero, suc, ◌*◌, ◌/◌, ◌%◌, ◌≡◌, cond, ◌&&◌, List, [], ◌∷◌, ◌++◌, eqb, get_or, set}
+use Rattle.std.specs.Prelude.{length, Float, Some, None}
 use Rattle.std.specs.Float.{Format}
 use Rattle.ieee.specs.Numbers.{f0}
 use Rattle.linalg.specs.Answer.{Answer, answers, refuses, and_then}
@@ -42,7 +45,9 @@ abbrev pub held_lists : Pose → ℕ → ℕ → ℕ → RunLists
 held_lists x n k s = run_lists (pose_numbers x.sim3) (x.from ∷ x.to ∷ n ∷ k ∷ s ∷ [])
 
 unfoldable pub run_fitting : RunLists → Pose → ℕ → ℕ → ℕ → Answer RunLists
-run_fitting out x n k s = cond (eqb (length out.numbers) pose_count && eqb (length out.state) state_count) (answers (held_lists x n k s)) (refuses wrong_length)
+run_fitting out x n k s =
+    cond (eqb (length out.numbers) pose_count && eqb (length out.state) state_count) (answers (held_lists x n k s))
+    (refuses wrong_length)
 
 -- the running pose that is answered, with n and the count; a refusal leaves the lists as they were
 unfoldable pub joint_fitting : RunLists → Joint → Answer RunLists
@@ -57,7 +62,8 @@ unfoldable pub start_call : RunLists → Answer RunLists
 start_call out = run_fitting out zero_pose 0 0 0
 
 unfoldable pub push_call : Format → PoseLists → Float → RunLists → Answer RunLists
-push_call f x up out = and_then (running_from out) (λ r. and_then (framed_from x) (λ a. joint_fitting out (join_of f r a up)))
+push_call f x up out =
+    and_then (running_from out) (λ r. and_then (framed_from x) (λ a. joint_fitting out (join_of f r a up)))
 
 unfoldable pub every_call : List ℕ → ℕ → Answer (List ℕ)
 every_call state n = sized state state_count (set state 2 n)
@@ -69,17 +75,22 @@ run_written call out = written (call out) out
 -- ---- a list of poses, eight numbers each: the first n with their quaternions renormalised
 unfoldable pub poses_renormalized : Format → List Float → ℕ → List Float
 poses_renormalized f l zero = []
-poses_renormalized f l (suc n) = poses_renormalized f l n ++ pose_numbers (pose_renormalized f (pose_in (number_in l) (n * 8)))
+poses_renormalized f l (suc n) =
+    poses_renormalized f l n ++ pose_numbers (pose_renormalized f (pose_in (number_in l) (n * 8)))
 
 unfoldable pub renormalize_all_call : Format → List Float → Answer (List Float)
-renormalize_all_call f l = cond (eqb (length l % 8) 0) (answers (poses_renormalized f l (length l / 8))) (refuses wrong_length)
+renormalize_all_call f l =
+    cond (eqb (length l % 8) 0) (answers (poses_renormalized f l (length l / 8))) (refuses wrong_length)
 
--- ---- the lists hold what the running join of crate `running` comes to, call by call. Proved as `held` in proofs/Held.antt
+-- ---- the lists hold what the running join of crate `running` comes to, call by call. Proved as `held` in
+-- proofs/Held.antt
 pub record HeldTheorem : Type 0 where
   pub started : (out l : RunLists) → start_call out ≡ answers l → running_from l ≡ answers running_none
   pub pushed :
-      (f : Format) (out l : RunLists) (x : PoseLists) (up : Float) (r : Running) (a : Pose) → running_from out ≡ answers r → framed_from x ≡ answers a
+      (f : Format) (out l : RunLists) (x : PoseLists) (up : Float) (r : Running) (a : Pose) →
+      running_from out ≡ answers r → framed_from x ≡ answers a
       → push_call f x up out ≡ answers l → running_from l ≡ answers (join_of f r a up).running
   pub renewed :
-      (numbers : List Float) (state k : List ℕ) (n : ℕ) (r : Running) → running_from (run_lists numbers state) ≡ answers r → every_call state n ≡ answers k
+      (numbers : List Float) (state k : List ℕ) (n : ℕ) (r : Running) →
+      running_from (run_lists numbers state) ≡ answers r → every_call state n ≡ answers k
       → running_from (run_lists numbers k) ≡ answers (every_of r n)

@@ -1,3 +1,4 @@
+-- To be read in this order.
 pub mod Root
 pub mod Order
 pub mod Join

@@ -1,4 +1,5 @@
--- What the calls on tangents by their bit patterns answer: the order of two, and a list of them put in order in its place. Numbers are patterns here, so that no NaN loses its bits.
+-- What the calls on tangents by their bit patterns answer: the order of two, and a list of them put in order in its
+-- place. Numbers are patterns here, so that no NaN loses its bits.
 use Rattle.std.specs.Prelude.{ℕ, cond, List, [], ◌∷◌, eqb, ℤ, pos, negsuc, length}
 use Rattle.std.specs.Float.{binary64}
 use Rattle.linalg.specs.Answer.{Answer, answers, refuses, and_then}
@@ -19,7 +20,9 @@ patterns_from l = sized l tangent_count l
 
 unfoldable pub compare_call : List ℕ → List ℕ → List ℤ → Answer (List ℤ)
 compare_call a b out =
-    and_then (patterns_from a) (λ t. and_then (patterns_from b) (λ u. cond (eqb (length out) 1) (answers (order_number (tangent_order binary64 t u) ∷ [])) (refuses wrong_length)))
+    and_then (patterns_from a) (λ t. and_then (patterns_from b)
+    (λ u. cond (eqb (length out) 1) (answers (order_number (tangent_order binary64 t u) ∷ []))
+    (refuses wrong_length)))
 
 -- in place: the list is read and then written
 unfoldable pub sort_call : List ℕ → Answer (List ℕ)

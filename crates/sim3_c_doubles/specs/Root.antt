@@ -1,4 +1,5 @@
--- The square root with what is left, to three lists, since not every remainder is a double. What a call answers and what the lists then hold is told as in Written.antt of crate `to_lists`.
+-- The square root with what is left, to three lists, since not every remainder is a double. What a call answers and
+-- what the lists then hold is told as in Written.antt of crate `to_lists`.
 use Rattle.std.specs.Prelude.{ℕ, Bool, cond, ◌&&◌, List, [], ◌∷◌, eqb, ℤ, length, Float}
 use Rattle.linalg.specs.Answer.{Answer, answers, refuses, and_then}
 use Rattle.root.specs.declared.RootParts.{RootParts}

@@ -1,9 +1,10 @@
--- The sheets between calls: bytes that the caller lends, as crate `sheets` has them. What a call answers and what the lists then hold is told as in Written.antt of crate `to_lists`.
-use Rattle.std.specs.Prelude.{ℕ, cond, ◌&&◌, List, [], ◌∷◌, eqb, length, Float}
+-- The sheets between calls: bytes that the caller lends, as crate `sheets` has them. What a call answers and what the
+-- lists then hold is told as in Written.antt of crate `to_lists`.
+use Rattle.std.specs.Prelude.{ℕ, cond, ◌&&◌, List, [], ◌∷◌, Bool, eqb, length, Float}
 use Rattle.linalg.specs.Answer.{Answer, answers, refuses, and_then}
 use Rattle.frames.specs.Floats.{Pose}
-use Rattle.sheets.specs.Sheets.{Sheets, Shelved}
-use Rattle.sheets.specs.Store.{holds, sheets_of, of_store, put_answer, put_sheets, put_bytes, fresh_bytes, get_answer}
+use Rattle.sheets.specs.Sheets.{Sheets, Shelved, shelve, ask}
+use Rattle.sheets.specs.Store.{size, sheets_of, put_bytes, fresh_bytes}
 use Rattle.sheets.specs.declared.Shot.{Shot}
 use Rattle.layout.specs.Layout.{pose_count}
 use Rattle.from_lists.specs.Lists.{wrong_length, PoseLists, pose_lists, frames_count, framed_from}
@@ -12,11 +13,28 @@ use Rattle.to_lists.specs.Written.{written, framed_numbers}
 abbrev pub shot : ℕ → Pose → Shot
 shot t x = record { take = t; pose = x }
 
+-- whether the bytes are as many as a store has
+unfoldable pub holds : List ℕ → Bool
+holds m = eqb (length m) size
+
 -- ---- a new store
 unfoldable pub fresh_call : List ℕ → Answer (List ℕ)
 fresh_call m = cond (holds m) (answers (fresh_bytes m)) (refuses wrong_length)
 
--- ---- a shot: 1, 2 or 3 and the take that stood before; and what is kept then
+-- ---- a shot x of the sheet n, and a question for it: what is answered, and the store and the sheets then
+unfoldable pub put_answer : List ℕ → ℕ → Shot → Answer Shelved
+put_answer m n x = cond (holds m) (shelve (sheets_of m) n x).answer (refuses wrong_length)
+
+unfoldable pub put_store : List ℕ → ℕ → Shot → List ℕ
+put_store m n x = cond (holds m) (put_bytes m n x) m
+
+unfoldable pub put_sheets : List ℕ → ℕ → Shot → Sheets
+put_sheets m n x = cond (holds m) (shelve (sheets_of m) n x).sheets (sheets_of m)
+
+unfoldable pub get_answer : List ℕ → ℕ → Answer Shot
+get_answer m n = cond (holds m) (ask (sheets_of m) n) (refuses wrong_length)
+
+-- ---- on lists: 1, 2 or 3 and the take that stood before; and what is kept then
 unfoldable pub two_fitting : List ℕ → ℕ → ℕ → Answer (List ℕ)
 two_fitting out how before = cond (eqb (length out) 2) (answers (how ∷ before ∷ [])) (refuses wrong_length)
 
@@ -24,11 +42,13 @@ unfoldable pub shelved_fitting : List ℕ → Answer Shelved → Answer (List �
 shelved_fitting out a = and_then a (λ s. two_fitting out s.how s.before)
 
 unfoldable pub put_call : List ℕ → ℕ → ℕ → PoseLists → List ℕ → Answer (List ℕ)
-put_call m n t x out = and_then (framed_from x) (λ a. cond (eqb (length out) 2) (shelved_fitting out (of_store (put_answer m n (shot t a)))) (refuses wrong_length))
+put_call m n t x out =
+    and_then (framed_from x) (λ a. cond (eqb (length out) 2)
+    (shelved_fitting out (put_answer m n (shot t a))) (refuses wrong_length))
 
--- the store's bytes then: as they were where a list has a wrong length
+-- the store's bytes then: as they were where a list has a wrong length, or they are no store
 unfoldable pub store_after : List ℕ → ℕ → ℕ → Answer Pose → List ℕ → List ℕ
-store_after m n t (answers a) out = cond (eqb (length out) 2) (put_bytes m n (shot t a)) m
+store_after m n t (answers a) out = cond (eqb (length out) 2) (put_store m n (shot t a)) m
 store_after m n t (refuses k) out = m
 
 unfoldable pub kept_after : List ℕ → ℕ → ℕ → Answer Pose → List ℕ → Sheets
@@ -45,12 +65,13 @@ shot_lists take numbers frames = record { take = take; pose = pose_lists numbers
 
 unfoldable pub shot_fitting : ShotLists → Shot → Answer ShotLists
 shot_fitting out s =
-    cond (eqb (length out.take) 1 && eqb (length out.pose.numbers) pose_count && eqb (length out.pose.frames) frames_count)
+    cond (eqb (length out.take) 1 && eqb (length out.pose.numbers) pose_count
+    && eqb (length out.pose.frames) frames_count)
     (answers (record { take = s.take ∷ []; pose = framed_numbers s.pose }))
     (refuses wrong_length)
 
 unfoldable pub get_call : List ℕ → ℕ → ShotLists → Answer ShotLists
-get_call m n out = and_then (of_store (get_answer m n)) (shot_fitting out)
+get_call m n out = and_then (get_answer m n) (shot_fitting out)
 
 abbrev pub shot_written : (ShotLists → Answer ShotLists) → ShotLists → ShotLists
 shot_written call out = written (call out) out

@@ -4,11 +4,12 @@
 ghost use Rattle.std.specs.Prelude.{◌≡◌, ◌*◌, length};
 ghost use Rattle.std.specs.Float.{binary64};
 ghost use Rattle.linalg.specs.Answer.{answer};
-ghost use Rattle.running.specs.Running.{joint_told};
+ghost use Rattle.running.specs.Running.{joint_view};
 ghost use Rattle.from_lists.specs.Lists.{pose_lists};
 ghost use Rattle.to_lists.specs.Written.{status, written};
 ghost use Rattle.sim3_c_doubles.specs.Join.{run_lists, running_from, run_fitting, joint_fitting, run_written};
-ghost use Rattle.sim3_c_doubles.specs.Join.{start_call, push_call, every_call, poses_renormalized, renormalize_all_call};
+ghost use Rattle.sim3_c_doubles.specs.Join.{start_call, push_call, every_call, poses_renormalized};
+ghost use Rattle.sim3_c_doubles.specs.Join.{renormalize_all_call};
 
 use frames::Pose;
 use from_lists::{framed_from, pose_from};
@@ -19,7 +20,7 @@ use to_lists::{put_pose, renormalize_pose};
 
 const STATE: usize = 5;
 
-#[tactic(auto, unfolding(crate::specs::Join::running_from, crate::specs::Join::start_in, from_lists::specs::Lists::sized))]
+#[tactic(auto, unfolding(crate::proofs::Unfolds::running_from_unfolds))]
 fn running_from(pose: &[f64], state: &[u16]) -> Result<Running, Refusal>
     ensures { answer result ≡ running_from (run_lists pose.now state.now) }
 {
@@ -40,7 +41,7 @@ fn running_from(pose: &[f64], state: &[u16]) -> Result<Running, Refusal>
 }
 
 // The running pose x, n and the count k; nothing is written where a list has another length.
-#[tactic(auto, using(crate::proofs::PoseRuns::sizes), unfolding(crate::specs::Join::run_fitting, to_lists::specs::Written::fitting, to_lists::specs::Written::status, to_lists::specs::Written::written))]
+#[tactic(auto, using(crate::proofs::PoseRuns::sizes), unfolding(crate::proofs::Unfolds::put_posed_unfolds))]
 fn put_posed(
     pose: &mut [f64],
     state: &mut [u16],
@@ -63,11 +64,11 @@ fn put_posed(
 }
 
 // What a pose left, or the refusal and nothing written.
-#[tactic(auto, unfolding(crate::specs::Join::joint_fitting, to_lists::specs::Written::status, to_lists::specs::Written::written))]
+#[tactic(auto, unfolding(crate::specs::Join::joint_fitting, to_lists::proofs::OnLists::on_lists))]
 fn put_joint(pose: &mut [f64], state: &mut [u16], j: Joined) -> Result<(), Refusal>
-    ensures value { status (answer result) ≡ status (joint_fitting (run_lists pose.old state.old) (joint_told j)) }
+    ensures value { status (answer result) ≡ status (joint_fitting (run_lists pose.old state.old) (joint_view j)) }
     ensures state_after { run_lists pose.new state.new
-        ≡ run_written (λ o. joint_fitting o (joint_told j)) (run_lists pose.old state.old) }
+        ≡ run_written (λ o. joint_fitting o (joint_view j)) (run_lists pose.old state.old) }
 {
     let p = j.answer?;
     let r = j.running;
@@ -75,7 +76,7 @@ fn put_joint(pose: &mut [f64], state: &mut [u16], j: Joined) -> Result<(), Refus
 }
 
 // No pose yet, and none will be renormalised: all numbers 0.
-#[tactic(auto, unfolding(crate::specs::Join::start_call, crate::specs::Join::run_fitting, to_lists::specs::Written::status, to_lists::specs::Written::written))]
+#[tactic(auto, unfolding(crate::proofs::Unfolds::sim3_running_start_unfolds))]
 pub fn sim3_running_start(pose: &mut [f64], state: &mut [u16]) -> Result<(), Refusal>
     ensures value { status (answer result) ≡ status (start_call (run_lists pose.old state.old)) }
     ensures state_after { run_lists pose.new state.new ≡ run_written start_call (run_lists pose.old state.old) }
@@ -93,7 +94,7 @@ pub fn sim3_running_start(pose: &mut [f64], state: &mut [u16]) -> Result<(), Ref
 
 // The first pose is the running pose, its up unused; a further one is multiplied by it from the left, up
 // being e^sigma of the running pose. Where the frames do not meet (9) nothing changes.
-#[tactic(auto, unfolding(crate::specs::Join::push_call, to_lists::specs::Written::status, to_lists::specs::Written::written))]
+#[tactic(auto, unfolding(crate::specs::Join::push_call, to_lists::proofs::OnLists::on_lists))]
 pub fn sim3_running_push(
     pose: &mut [f64],
     state: &mut [u16],
@@ -112,7 +113,7 @@ pub fn sim3_running_push(
 }
 
 // From here on the running quaternion is renormalised after every nth product, 0 for never.
-#[tactic(auto, unfolding(crate::specs::Join::every_call, from_lists::specs::Lists::sized, to_lists::specs::Written::status, to_lists::specs::Written::written))]
+#[tactic(auto, unfolding(crate::proofs::Unfolds::sim3_running_every_unfolds))]
 pub fn sim3_running_every(state: &mut [u16], n: u16) -> Result<(), Refusal>
     ensures value { status (answer result) ≡ status (every_call state.old n) }
     ensures state_after { state.new ≡ written (every_call state.old n) state.old }
@@ -125,7 +126,7 @@ pub fn sim3_running_every(state: &mut [u16], n: u16) -> Result<(), Refusal>
 }
 
 // A Newton step towards a unit quaternion, in place, for every pose of the list, eight numbers each.
-#[tactic(auto, using(crate::proofs::PoseRuns::run_all), unfolding(crate::specs::Join::renormalize_all_call, crate::specs::Join::poses_renormalized, to_lists::specs::Written::status, to_lists::specs::Written::written))]
+#[tactic(auto, using(crate::proofs::PoseRuns::run_all), unfolding(crate::proofs::Unfolds::all_unfolds))]
 pub fn sim3_renormalize_all(poses: &mut [f64]) -> Result<(), Refusal>
     ensures value { status (answer result) ≡ status (renormalize_all_call binary64 poses.old) }
     ensures poses_after { poses.new ≡ written (renormalize_all_call binary64 poses.old) poses.old }

@@ -1,7 +1,7 @@
 // Whether the machine computes as the proofs say, by numbers that the caller hands in, so that no compiler
 // works their product out beforehand.
 ghost use Rattle.std.specs.Prelude.{◌≡◌};
-ghost use Rattle.sim3_c_doubles.specs.Probe.{probe_call, probe_told};
+ghost use Rattle.sim3_c_doubles.specs.Probe.{probe_call, probe_view};
 
 use linalg::refusal::Refusal;
 
@@ -11,7 +11,7 @@ const NUMBERS: usize = 3;
 // and 0x1.0000000000001p+1023 have it (proofs/Documented.antt).
 #[tactic(auto, unfolding(crate::specs::Probe::probe_call))]
 pub fn sim3_environment(probe: &[f64]) -> Result<bool, Refusal>
-    ensures { probe_told result ≡ probe_call probe.now }
+    ensures { probe_view result ≡ probe_call probe.now }
 {
     if probe.len() != NUMBERS {
         return Err(Refusal::ListLength);

@@ -1,18 +1,19 @@
 // The sheets between calls: the pose of the highest take for each of up to 512 sheets, kept in bytes that
 // the caller lends.
 ghost use Rattle.std.specs.Prelude.{cond, ◌≡◌};
-ghost use Rattle.linalg.specs.Answer.{answer, told};
+ghost use Rattle.linalg.specs.Answer.{answer, view};
 ghost use Rattle.sheets.specs.Sheets.{no_sheets};
-ghost use Rattle.sheets.specs.Store.{holds, sheets_of, shelved_of};
+ghost use Rattle.sheets.specs.Store.{sheets_of, shelved_of};
 ghost use Rattle.from_lists.specs.Lists.{pose_lists, framed_from};
 ghost use Rattle.to_lists.specs.Written.{status, written};
-ghost use Rattle.sim3_c_doubles.specs.Shelf.{fresh_call, shelved_fitting, put_call, store_after, kept_after};
+ghost use Rattle.sim3_c_doubles.specs.Shelf.{holds, put_answer, put_store, put_sheets, get_answer, fresh_call};
+ghost use Rattle.sim3_c_doubles.specs.Shelf.{shelved_fitting, put_call, store_after, kept_after};
 ghost use Rattle.sim3_c_doubles.specs.Shelf.{shot_lists, shot_fitting, get_call, shot_written};
 
 use from_lists::{FRAMES, framed_from};
 use layout::POSE;
 use linalg::refusal::Refusal;
-use sheets::{STORE, Shelved, Shot};
+use sheets::{Shelved, Shot, Store};
 use to_lists::put_framed;
 
 // What a shot was answered: 1, 2 or 3, and the take that stood before.
@@ -21,23 +22,23 @@ const SHELVED: usize = 2;
 const TAKE: usize = 1;
 
 // Nothing is kept yet.
-#[tactic(auto, unfolding(crate::specs::Shelf::fresh_call, sheets::specs::Store::holds, to_lists::specs::Written::status, to_lists::specs::Written::written))]
+#[tactic(auto, unfolding(crate::proofs::Unfolds::sim3_sheets_start_unfolds))]
 pub fn sim3_sheets_start(store: &mut [u8]) -> Result<(), Refusal>
     ensures value { status (answer result) ≡ status (fresh_call store.old) }
     ensures store_after { store.new ≡ written (fresh_call store.old) store.old }
-    ensures store_after_2 { sheets_of store.new ≡ cond (holds store.old) no_sheets (sheets_of store.old) }
+    ensures sheets_after { sheets_of store.new ≡ cond (holds store.old) no_sheets (sheets_of store.old) }
 {
-    if store.len() != STORE {
+    let Some(store) = store.as_mut_array() else {
         return Err(Refusal::ListLength);
-    }
+    };
     sheets::fresh(store);
     Ok(())
 }
 
-#[tactic(auto, unfolding(crate::specs::Shelf::shelved_fitting, crate::specs::Shelf::two_fitting, to_lists::specs::Written::status, to_lists::specs::Written::written))]
+#[tactic(auto, unfolding(crate::proofs::Unfolds::put_shelved_unfolds))]
 fn put_shelved(out: &mut [u16], a: Result<Shelved, Refusal>) -> Result<(), Refusal>
-    ensures value { status (answer result) ≡ status (shelved_fitting out.old (told shelved_of a)) }
-    ensures out_after { out.new ≡ written (shelved_fitting out.old (told shelved_of a)) out.old }
+    ensures value { status (answer result) ≡ status (shelved_fitting out.old (view shelved_of a)) }
+    ensures out_after { out.new ≡ written (shelved_fitting out.old (view shelved_of a)) out.old }
 {
     let shelved = a?;
     if out.len() != SHELVED {
@@ -49,8 +50,27 @@ fn put_shelved(out: &mut [u16], a: Result<Shelved, Refusal>) -> Result<(), Refus
     Ok(())
 }
 
+// `sheets::put` and `sheets::get` on lent bytes; refused where these are not as many as a store has.
+fn put(store: &mut [u8], sheet: u16, shot: Shot) -> Result<Shelved, Refusal>
+    ensures result_value { view shelved_of result ≡ put_answer store.old sheet shot }
+    ensures store_after { store.new ≡ put_store store.old sheet shot }
+    ensures sheets_after { sheets_of store.new ≡ put_sheets store.old sheet shot }
+{
+    let Some(store) = store.as_mut_array() else {
+        return Err(Refusal::ListLength);
+    };
+    sheets::put(store, sheet, shot)
+}
+
+fn get(store: &[u8], sheet: u16) -> Result<Shot, Refusal>
+    ensures { answer result ≡ get_answer store.now sheet }
+{
+    let store: &Store = store.as_array().ok_or(Refusal::ListLength)?;
+    sheets::get(store, sheet)
+}
+
 // A shot of a sheet: it is kept if none of that sheet is, or one of a lower take.
-#[tactic(auto, unfolding(crate::specs::Shelf::put_call, crate::specs::Shelf::store_after, crate::specs::Shelf::kept_after, to_lists::specs::Written::status, to_lists::specs::Written::written))]
+#[tactic(auto, unfolding(crate::proofs::Unfolds::sim3_sheets_put_unfolds))]
 pub fn sim3_sheets_put(
     store: &mut [u8],
     sheet: u16,
@@ -59,20 +79,23 @@ pub fn sim3_sheets_put(
     x_frames: &[u16],
     out: &mut [u16],
 ) -> Result<(), Refusal>
-    ensures value { status (answer result) ≡ status (put_call store.old sheet take (pose_lists x.now x_frames.now) out.old) }
+    ensures value { status (answer result)
+        ≡ status (put_call store.old sheet take (pose_lists x.now x_frames.now) out.old) }
     ensures out_after { out.new
         ≡ written (put_call store.old sheet take (pose_lists x.now x_frames.now) out.old) out.old }
-    ensures store_after { store.new ≡ store_after store.old sheet take (framed_from (pose_lists x.now x_frames.now)) out.old }
-    ensures store_after_2 { sheets_of store.new ≡ kept_after store.old sheet take (framed_from (pose_lists x.now x_frames.now)) out.old }
+    ensures store_after { store.new ≡ store_after store.old sheet take
+        (framed_from (pose_lists x.now x_frames.now)) out.old }
+    ensures sheets_after { sheets_of store.new ≡ kept_after store.old sheet take
+        (framed_from (pose_lists x.now x_frames.now)) out.old }
 {
     let pose = framed_from(x, x_frames)?;
     if out.len() != SHELVED {
         return Err(Refusal::ListLength);
     }
-    put_shelved(out, sheets::put(store, sheet, Shot { take, pose }))
+    put_shelved(out, put(store, sheet, Shot { take, pose }))
 }
 
-#[tactic(auto, unfolding(crate::specs::Shelf::shot_fitting, to_lists::specs::Written::framed_fitting, to_lists::specs::Written::status, to_lists::specs::Written::written))]
+#[tactic(auto, unfolding(crate::proofs::Unfolds::put_shot_unfolds))]
 fn put_shot(
     take: &mut [u16],
     out: &mut [f64],
@@ -97,7 +120,7 @@ fn put_shot(
 }
 
 // The take and the pose that are kept of a sheet.
-#[tactic(auto, unfolding(crate::specs::Shelf::get_call, to_lists::specs::Written::status, to_lists::specs::Written::written))]
+#[tactic(auto, unfolding(crate::specs::Shelf::get_call, to_lists::proofs::OnLists::on_lists))]
 pub fn sim3_sheets_get(
     store: &[u8],
     sheet: u16,
@@ -105,9 +128,10 @@ pub fn sim3_sheets_get(
     out: &mut [f64],
     out_frames: &mut [u16],
 ) -> Result<(), Refusal>
-    ensures value { status (answer result) ≡ status (get_call store.now sheet (shot_lists take.old out.old out_frames.old)) }
+    ensures value { status (answer result)
+        ≡ status (get_call store.now sheet (shot_lists take.old out.old out_frames.old)) }
     ensures out_frames_after { shot_lists take.new out.new out_frames.new
         ≡ shot_written (get_call store.now sheet) (shot_lists take.old out.old out_frames.old) }
 {
-    put_shot(take, out, out_frames, sheets::get(store, sheet)?)
+    put_shot(take, out, out_frames, get(store, sheet)?)
 }

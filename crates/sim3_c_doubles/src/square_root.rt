@@ -15,7 +15,7 @@ const NEAREST: usize = 1;
 
 // For a finite z > 0, z = m * 4^s with m whole, 2^104 <= m < 2^106: r, the largest whole number whose
 // square is at most m, and m - r*r; s; r * 2^s or (r + 1) * 2^s, whichever is nearer to the root.
-#[tactic(auto, unfolding(crate::specs::Root::root_call, crate::specs::Root::root_fits, to_lists::specs::Written::status, to_lists::specs::Written::written))]
+#[tactic(auto, unfolding(crate::proofs::Unfolds::sim3_root_unfolds))]
 pub fn sim3_root(
     z: f64,
     whole: &mut [u64],
@@ -23,7 +23,8 @@ pub fn sim3_root(
     nearest: &mut [f64],
 ) -> Result<(), Refusal>
     ensures value { status (answer result) ≡ status (root_call z (root_lists whole.old exponent.old nearest.old)) }
-    ensures nearest_after { root_lists whole.new exponent.new nearest.new ≡ root_written z (root_lists whole.old exponent.old nearest.old) }
+    ensures nearest_after { root_lists whole.new exponent.new nearest.new
+        ≡ root_written z (root_lists whole.old exponent.old nearest.old) }
 {
     let p = root::root(z)?;
     if whole.len() != WHOLE {

@@ -24,7 +24,7 @@ fn order_number(o: Ordering) -> i64
 
 // The tangent a against the tangent b: -1 where it stands before, 0 where the bits are the same, 1
 // where it stands after.
-#[tactic(auto, unfolding(crate::specs::Order::compare_call, crate::specs::Order::patterns_from, from_lists::specs::Lists::sized, to_lists::specs::Written::status, to_lists::specs::Written::written))]
+#[tactic(auto, unfolding(crate::proofs::Unfolds::sim3_compare_tangents_unfolds))]
 pub fn sim3_compare_tangents(a: &[u64], b: &[u64], out: &mut [i64]) -> Result<(), Refusal>
     ensures value { status (answer result) ≡ status (compare_call a.now b.now out.old) }
     ensures out_after { out.new ≡ written (compare_call a.now b.now out.old) out.old }
@@ -40,7 +40,7 @@ pub fn sim3_compare_tangents(a: &[u64], b: &[u64], out: &mut [i64]) -> Result<()
 
 // The tangents of the list, seven numbers each, in order, smallest first. Refusal 5 for a list longer
 // than 7,168 numbers or not a multiple of seven.
-#[tactic(auto, unfolding(crate::specs::Order::sort_call, order::specs::Order::sort_answer, order::specs::Order::sort_out, to_lists::specs::Written::status, to_lists::specs::Written::written))]
+#[tactic(auto, unfolding(crate::proofs::Unfolds::sim3_sort_tangents_unfolds))]
 pub fn sim3_sort_tangents(list: &mut [u64]) -> Result<(), Refusal>
     ensures value { status (answer result) ≡ status (sort_call list.old) }
     ensures list_after { list.new ≡ written (sort_call list.old) list.old }

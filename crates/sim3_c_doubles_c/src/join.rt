@@ -26,7 +26,8 @@ pub extern "C" fn sim3_running_push(
     x_frames: &[u16],
     up: f64,
 ) -> u32
-    ensures value { result ≡ status (push_call binary64 (pose_lists x.now x_frames.now) up (run_lists pose.old state.old)) }
+    ensures value { result
+        ≡ status (push_call binary64 (pose_lists x.now x_frames.now) up (run_lists pose.old state.old)) }
     ensures state_after { run_lists pose.new state.new
         ≡ run_written (push_call binary64 (pose_lists x.now x_frames.now) up) (run_lists pose.old state.old) }
 {

@@ -1,10 +1,12 @@
 // The sheets between calls.
 ghost use Rattle.std.specs.Prelude.{cond, ◌≡◌};
 ghost use Rattle.sheets.specs.Sheets.{no_sheets};
-ghost use Rattle.sheets.specs.Store.{holds, sheets_of};
+ghost use Rattle.sheets.specs.Store.{sheets_of};
 ghost use Rattle.from_lists.specs.Lists.{pose_lists, framed_from};
 ghost use Rattle.to_lists.specs.Written.{status, written};
-ghost use Rattle.sim3_c_doubles.specs.Shelf.{fresh_call, put_call, store_after, kept_after, shot_lists, get_call, shot_written};
+ghost use Rattle.sim3_c_doubles.specs.Shelf.{holds, fresh_call, put_call, store_after, kept_after, shot_lists};
+ghost use Rattle.sim3_c_doubles.specs.Shelf.{get_call};
+ghost use Rattle.sim3_c_doubles.specs.Shelf.{shot_written};
 
 use to_lists::status;
 
@@ -13,7 +15,7 @@ use to_lists::status;
 pub extern "C" fn sim3_sheets_start(store: &mut [u8]) -> u32
     ensures value { result ≡ status (fresh_call store.old) }
     ensures store_after { store.new ≡ written (fresh_call store.old) store.old }
-    ensures store_after_2 { sheets_of store.new ≡ cond (holds store.old) no_sheets (sheets_of store.old) }
+    ensures sheets_after { sheets_of store.new ≡ cond (holds store.old) no_sheets (sheets_of store.old) }
 {
     status(sim3_c_doubles::shelf::sim3_sheets_start(store))
 }
@@ -31,8 +33,10 @@ pub extern "C" fn sim3_sheets_put(
     ensures value { result ≡ status (put_call store.old sheet take (pose_lists x.now x_frames.now) out.old) }
     ensures out_after { out.new
         ≡ written (put_call store.old sheet take (pose_lists x.now x_frames.now) out.old) out.old }
-    ensures store_after { store.new ≡ store_after store.old sheet take (framed_from (pose_lists x.now x_frames.now)) out.old }
-    ensures store_after_2 { sheets_of store.new ≡ kept_after store.old sheet take (framed_from (pose_lists x.now x_frames.now)) out.old }
+    ensures store_after { store.new ≡ store_after store.old sheet take
+        (framed_from (pose_lists x.now x_frames.now)) out.old }
+    ensures sheets_after { sheets_of store.new ≡ kept_after store.old sheet take
+        (framed_from (pose_lists x.now x_frames.now)) out.old }
 {
     status(sim3_c_doubles::shelf::sim3_sheets_put(store, sheet, take, x, x_frames, out))
 }

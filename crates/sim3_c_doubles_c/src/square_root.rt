@@ -14,7 +14,8 @@ pub extern "C" fn sim3_root(
     nearest: &mut [f64],
 ) -> u32
     ensures value { result ≡ status (root_call z (root_lists whole.old exponent.old nearest.old)) }
-    ensures nearest_after { root_lists whole.new exponent.new nearest.new ≡ root_written z (root_lists whole.old exponent.old nearest.old) }
+    ensures nearest_after { root_lists whole.new exponent.new nearest.new
+        ≡ root_written z (root_lists whole.old exponent.old nearest.old) }
 {
     status(sim3_c_doubles::square_root::sim3_root(z, whole, exponent, nearest))
 }

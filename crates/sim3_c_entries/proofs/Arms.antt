@@ -3,7 +3,9 @@ use Rattle.std.proofs.Common.{◌≡◌, ◌<◌, ℕ, List, refl, subst, length
 use Rattle.std.specs.Prelude.{Bool, true, false, cond, eqb, Float}
 use Rattle.linalg.specs.Answer.{answers, refuses, number}
 use Rattle.linalg.specs.declared.refusal.Refusal.{Refusal}
-use Rattle.linalg.specs.declared.refusal.Refusal.TheVariants.{NegativeAngle, ZeroScale, NoSuchEntry, TooManyTerms, BadLength, UnknownMark, CutInput, NotFinite, FramesDiffer, SameTake, NoRoom, NeverKept, ListLength}
+use Rattle.linalg.specs.declared.refusal.Refusal.TheVariants.{NegativeAngle, ZeroScale, NoSuchEntry, TooManyTerms}
+use Rattle.linalg.specs.declared.refusal.Refusal.TheVariants.{BadLength, UnknownMark, CutInput, NotFinite, FramesDiffer}
+use Rattle.linalg.specs.declared.refusal.Refusal.TheVariants.{SameTake, NoRoom, NeverKept, ListLength}
 use Rattle.layout.proofs.Numbers.{scaled-pair-count}
 use Rattle.to_lists.specs.Written.{status, written, fitting}
 
@@ -25,11 +27,14 @@ above_zero NoRoom = omega arith
 above_zero NeverKept = omega arith
 above_zero ListLength = omega arith
 
-by : (b : Bool) (o l : List Float) (e : Refusal) → number e ≡ status (cond b (answers l) (refuses 100)) → (b ≡ false) × (written (cond b (answers l) (refuses 100)) o ≡ o)
+by : (b : Bool) (o l : List Float) (e : Refusal) → number e ≡ status (cond b (answers l) (refuses 100)) →
+    (b ≡ false) × (written (cond b (answers l) (refuses 100)) o ≡ o)
 unfolding status written
 by true o l e h = absurd (omega (arith, h, above_zero e))
 by false o l e h = (refl, refl)
 
-pub fits-not : (o l : List Float) (n : ℕ) (e : Refusal) → length l ≡ n → number e ≡ status (fitting o l) → (eqb (length o) n ≡ false) × (written (fitting o l) o ≡ o)
+pub fits-not : (o l : List Float) (n : ℕ) (e : Refusal) → length l ≡ n → number e ≡ status (fitting o l) →
+    (eqb (length o) n ≡ false) × (written (fitting o l) o ≡ o)
 unfolding fitting
-fits-not o l n e k h = subst (λ m. (eqb (length o) m ≡ false) × (written (fitting o l) o ≡ o)) k (by (eqb (length o) (length l)) o l e h)
+fits-not o l n e k h =
+    subst (λ m. (eqb (length o) m ≡ false) × (written (fitting o l) o ≡ o)) k (by (eqb (length o) (length l)) o l e h)

@@ -1,2 +1,3 @@
 -- The laws of the arms.
+pub mod Unfolds
 pub mod Arms

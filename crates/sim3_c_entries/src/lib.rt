@@ -8,7 +8,8 @@ ghost use Rattle.linalg.specs.Answer.{answer};
 ghost use Rattle.coeffs.specs.Floats.{as_armed_pair};
 ghost use Rattle.from_lists.specs.Lists.{pose_lists};
 ghost use Rattle.to_lists.specs.Written.{status, written, framed_written};
-ghost use Rattle.sim3_c_entries.specs.Calls.{exp_call, mul_call, inverse_call, scaled_pair_call, block_pair_call, block_inverse_call, act_call, arm_lists, arms_fitting, arms_call};
+ghost use Rattle.sim3_c_entries.specs.Calls.{exp_call, mul_call, inverse_call, scaled_pair_call, block_pair_call};
+ghost use Rattle.sim3_c_entries.specs.Calls.{block_inverse_call, act_call, arm_lists, arms_fitting, arms_call};
 
 use coeffs::sim3::{ArmedPair, sim3_coeffs_armed_pair, sim3_coeffs_scaled_pair};
 use coeffs::width::Width;
@@ -19,14 +20,14 @@ use from_lists::{
 use ieee::Real;
 use linalg::refusal::Refusal;
 use series::sim3::Signs;
-use sides::pair::block_pair;
+use side_jacobians::pair::block_pair;
 use to_lists::{put, put_framed};
 
 // How many bytes the arms of both signs have.
 pub const ARMS: usize = 4;
 
 // Exp of the tangent, with its ten function values and the frames that it is given.
-#[tactic(auto, unfolding(crate::specs::Calls::exp_call, to_lists::specs::Written::status, to_lists::specs::Written::written))]
+#[tactic(auto, unfolding(crate::specs::Calls::exp_call, to_lists::proofs::OnLists::on_lists))]
 pub fn sim3_exp<T: Width>(
     tau: &[T],
     values: &[T],
@@ -48,7 +49,7 @@ pub fn sim3_exp<T: Width>(
 }
 
 // X Y, where X starts from the frame to which Y goes; up is e^sigma of X.
-#[tactic(auto, unfolding(crate::specs::Calls::mul_call, to_lists::specs::Written::joined_fitting, to_lists::specs::Written::status, to_lists::specs::Written::written))]
+#[tactic(auto, unfolding(crate::proofs::Unfolds::sim3_mul_unfolds))]
 pub fn sim3_mul<T: Real>(
     x: &[T],
     x_frames: &[u16],
@@ -71,7 +72,7 @@ pub fn sim3_mul<T: Real>(
 }
 
 // X^-1, with the frames exchanged; down is e^-sigma of X.
-#[tactic(auto, unfolding(crate::specs::Calls::inverse_call, to_lists::specs::Written::status, to_lists::specs::Written::written))]
+#[tactic(auto, unfolding(crate::specs::Calls::inverse_call, to_lists::proofs::OnLists::on_lists))]
 pub fn sim3_inverse<T: Real>(
     x: &[T],
     x_frames: &[u16],
@@ -91,7 +92,7 @@ pub fn sim3_inverse<T: Real>(
 }
 
 // The scaled-form coefficients at sigma and at -sigma; z is the squared angle.
-#[tactic(auto, unfolding(crate::specs::Calls::scaled_pair_call, to_lists::specs::Written::status, to_lists::specs::Written::written))]
+#[tactic(auto, unfolding(crate::specs::Calls::scaled_pair_call, to_lists::proofs::OnLists::on_lists))]
 pub fn sim3_scaled_pair<T: Width>(
     sigma: T,
     z: T,
@@ -109,7 +110,7 @@ pub fn sim3_scaled_pair<T: Width>(
 }
 
 // J_l, its inverse, J_r and its inverse, with the values of the tangent, J_l(phi) and its inverse.
-#[tactic(auto, unfolding(crate::specs::Calls::block_pair_call, to_lists::specs::Written::status, to_lists::specs::Written::written))]
+#[tactic(auto, unfolding(crate::specs::Calls::block_pair_call, to_lists::proofs::OnLists::on_lists))]
 pub fn sim3_block_pair<T: Width>(
     tau: &[T],
     values: &[T],
@@ -132,7 +133,7 @@ pub fn sim3_block_pair<T: Width>(
 }
 
 // The inverse of a block; refusal 2 where e is a zero.
-#[tactic(auto, unfolding(crate::specs::Calls::block_inverse_call, to_lists::specs::Written::status, to_lists::specs::Written::written))]
+#[tactic(auto, unfolding(crate::specs::Calls::block_inverse_call, to_lists::proofs::OnLists::on_lists))]
 pub fn sim3_block_inverse<T: Real>(j: &[T], out: &mut [T]) -> Result<(), Refusal>
     ensures value { status (answer result)
         ≡ status (block_inverse_call T.format (T.floats j.now) (T.floats out.old)) }
@@ -145,7 +146,7 @@ pub fn sim3_block_inverse<T: Real>(j: &[T], out: &mut [T]) -> Result<(), Refusal
 }
 
 // A pose's action on one point; up is e^sigma of X.
-#[tactic(auto, unfolding(crate::specs::Calls::act_call, to_lists::specs::Written::status, to_lists::specs::Written::written))]
+#[tactic(auto, unfolding(crate::specs::Calls::act_call, to_lists::proofs::OnLists::on_lists))]
 pub fn act_point<T: Real>(x: &[T], up: T, p: &[T], out: &mut [T]) -> Result<(), Refusal>
     ensures value { status (answer result)
         ≡ status (act_call T.format (T.floats x.now) (T.float up) (T.floats p.now) (T.floats out.old)) }
@@ -160,7 +161,7 @@ pub fn act_point<T: Real>(x: &[T], up: T, p: &[T], out: &mut [T]) -> Result<(), 
 
 // The arms of both signs as bytes, each with 1 or 0 for whether v0 and w0 of the closed arm come from series of their
 // own, and the scaled pair to a list; both or none.
-#[tactic(auto, using(crate::proofs::Arms::sizes), unfolding(crate::specs::Calls::arms_fitting, to_lists::specs::Written::fitting, to_lists::specs::Written::status, to_lists::specs::Written::written))]
+#[tactic(auto, using(crate::proofs::Arms::sizes), unfolding(crate::proofs::Unfolds::put_arms_unfolds))]
 fn put_arms<T: Real>(arms: &mut [u8], out: &mut [T], p: ArmedPair<T>) -> Result<(), Refusal>
     ensures value { status (answer result)
         ≡ status (arms_fitting (arm_lists arms.old (T.floats out.old)) (as_armed_pair T.float p)) }
@@ -187,7 +188,7 @@ fn put_arms<T: Real>(arms: &mut [u8], out: &mut [T], p: ArmedPair<T>) -> Result<
 }
 
 // The scaled pair with the arms that formed it, the arms as bytes; z is the squared angle.
-#[tactic(auto, unfolding(crate::specs::Calls::arms_call, to_lists::specs::Written::status, to_lists::specs::Written::written))]
+#[tactic(auto, unfolding(crate::specs::Calls::arms_call, to_lists::proofs::OnLists::on_lists))]
 pub fn armed_pair<T: Width>(
     sigma: T,
     z: T,

@@ -6,7 +6,8 @@ ghost use Rattle.std.specs.Prelude.{◌≡◌};
 ghost use Rattle.std.specs.Float.{binary32};
 ghost use Rattle.from_lists.specs.Lists.{pose_lists};
 ghost use Rattle.to_lists.specs.Written.{status, written, framed_written};
-ghost use Rattle.sim3_c_entries.specs.Calls.{exp_call, mul_call, inverse_call, scaled_pair_call, block_pair_call, block_inverse_call};
+ghost use Rattle.sim3_c_entries.specs.Calls.{exp_call, mul_call, inverse_call, scaled_pair_call, block_pair_call};
+ghost use Rattle.sim3_c_entries.specs.Calls.{block_inverse_call};
 
 use to_lists::status;
 
@@ -39,7 +40,8 @@ pub extern "C" fn sim3_mul_f32(
     out: &mut [f32],
     out_frames: &mut [u16],
 ) -> u32
-    ensures value { result ≡ status (mul_call binary32 (pose_lists x.now x_frames.now) (pose_lists y.now y_frames.now) up
+    ensures value { result
+        ≡ status (mul_call binary32 (pose_lists x.now x_frames.now) (pose_lists y.now y_frames.now) up
         (pose_lists out.old out_frames.old)) }
     ensures out_frames_after { pose_lists out.new out_frames.new
         ≡ framed_written (mul_call binary32 (pose_lists x.now x_frames.now) (pose_lists y.now y_frames.now) up)

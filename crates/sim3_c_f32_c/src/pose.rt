@@ -18,7 +18,8 @@ pub extern "C" fn sim3_mul_inv_f32(
     out: &mut [f32],
     out_frames: &mut [u16],
 ) -> u32
-    ensures value { result ≡ status (mul_inv_call binary32 (pose_lists x.now x_frames.now) (pose_lists y.now y_frames.now) ds
+    ensures value { result
+        ≡ status (mul_inv_call binary32 (pose_lists x.now x_frames.now) (pose_lists y.now y_frames.now) ds
         (pose_lists out.old out_frames.old)) }
     ensures out_frames_after { pose_lists out.new out_frames.new
         ≡ framed_written (mul_inv_call binary32 (pose_lists x.now x_frames.now) (pose_lists y.now y_frames.now) ds)
@@ -38,7 +39,8 @@ pub extern "C" fn sim3_inv_mul_f32(
     out: &mut [f32],
     out_frames: &mut [u16],
 ) -> u32
-    ensures value { result ≡ status (inv_mul_call binary32 (pose_lists x.now x_frames.now) (pose_lists y.now y_frames.now) down
+    ensures value { result
+        ≡ status (inv_mul_call binary32 (pose_lists x.now x_frames.now) (pose_lists y.now y_frames.now) down
         (pose_lists out.old out_frames.old)) }
     ensures out_frames_after { pose_lists out.new out_frames.new
         ≡ framed_written (inv_mul_call binary32 (pose_lists x.now x_frames.now) (pose_lists y.now y_frames.now) down)

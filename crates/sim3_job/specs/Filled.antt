@@ -1,5 +1,6 @@
 -- What a read gives, from any place, and from the tape.
-use Rattle.std.specs.Prelude.{ℕ, ◌+◌, ◌≤◌, min, ◌≡◌, Bool, true, false, not, List, ◌++◌, eqb, Option, Result, Ok, Err, length, take, drop}
+use Rattle.std.specs.Prelude.{ℕ, ◌+◌, ◌≤◌, min, ◌≡◌, Bool, true, false, not, List, ◌++◌, eqb, Option, Result, Ok, Err}
+use Rattle.std.specs.Prelude.{length, take, drop}
 use Rattle.std.specs.Bool.{then_some}
 use Rattle.std.specs.Option.{is_none, unwrap_or}
 use Rattle.sim3_job.specs.declared.Filled.{Filled}
@@ -30,12 +31,15 @@ ended f = is_none f.count
 abbrev pub given_of : ℕ → Option ℕ
 given_of k = then_some (not (eqb k 0)) k
 
--- the bytes lie within the buffer, the place on the tape, and where bytes were asked for none come at the end and only there
+-- the bytes lie within the buffer, the place on the tape, and where bytes were asked for none come at the end and only
+-- there
 abbrev pub Within : Result Filled RunError → ℕ → ℕ → Bool → ℕ → Type 0
-Within (Ok f) have most asked end = (have + count_of f ≤ most) × (f.at ≤ end) × (asked ≡ true → ended f ≡ eqb (count_of f) 0)
+Within (Ok f) have most asked end =
+    (have + count_of f ≤ most) × (f.at ≤ end) × (asked ≡ true → ended f ≡ eqb (count_of f) 0)
 Within (Err e) have most asked end = Unit {0}
 
--- from the tape: behind the bytes at hand stand the next ones of the tape, which goes on behind them; they are the last only where nothing follows
+-- from the tape: behind the bytes at hand stand the next ones of the tape, which goes on behind them; they are the last
+-- only where nothing follows
 abbrev pub FromTape : Result Filled RunError → List ℕ → ℕ → ℕ → List ℕ → List ℕ → Bool → Type 0
 FromTape (Ok f) tape at have buf buf₁ last =
     (f.at ≡ at + count_of f) × (take (have + count_of f) buf₁ ≡ take have buf ++ take (count_of f) (drop at tape))

@@ -1,3 +1,4 @@
+-- To be read in this order.
 pub mod Filled
 pub mod Sent
 pub mod Ran

@@ -12,7 +12,7 @@ ghost use Rattle.std.specs.Prelude.{◌≡◌, true, false, ◌++◌, ◌+◌, �
 ghost use Rattle.job.specs.Counts.{counts_sound};
 ghost use Rattle.job.specs.Job.{job_limit, job_of};
 ghost use Rattle.job.specs.Input.{InputTheorem};
-ghost use Rattle.kept.specs.State.{state_of, memory};
+ghost use Rattle.job_state.specs.State.{state_of};
 ghost use Rattle.job.specs.Feed.{fed_of, asks_for, record_room};
 ghost use Rattle.job.specs.Private.{part_fed};
 ghost use Rattle.job.specs.declared.Reason.{Reason};
@@ -21,6 +21,7 @@ ghost use Rattle.sim3_job.specs.Sent.{WithinSink, ToSink};
 ghost use Rattle.sim3_job.specs.Ran.{Performed};
 
 use job::{Counts, Fed, Reason};
+use job_state::JobState;
 use std::io::Read;
 use std::{fmt, io};
 
@@ -66,19 +67,27 @@ pub struct Filled {
 
 // Feeds the first `have` bytes of buf, and moves those that it is not done with to the front. Where
 // it waits for more they are fewer than the longest record has. The counts are never found bad.
-fn turn(buf: &mut [u8], have: usize, c: Counts, mem: &mut [u8], last: bool, out: &mut [u8]) -> Fed
+fn feed_once(
+    buf: &mut [u8],
+    have: usize,
+    c: Counts,
+    state: &mut JobState,
+    last: bool,
+    out: &mut [u8],
+) -> Fed
     requires have_in_bounds { have ≤ length buf.old }
     requires c_value { counts_sound job_limit c ≡ true }
-    requires mem_len { length mem.old ≡ memory }
-    ensures value { result ≡ part_fed (fed_of c mem.old (take have buf.old) last (length out.old)) }
-    ensures out_after { out.new ≡ (fed_of c mem.old (take have buf.old) last (length out.old)).bytes ++ drop result.written out.old }
-    ensures mem_after { state_of mem.new ≡ (fed_of c mem.old (take have buf.old) last (length out.old)).standing.state }
+    ensures value { result ≡ part_fed (fed_of c state.old (take have buf.old) last (length out.old)) }
+    ensures out_after { out.new ≡ (fed_of c state.old (take have buf.old) last (length out.old)).bytes
+        ++ drop result.written out.old }
+    ensures state_after { state_of state.new
+        ≡ (fed_of c state.old (take have buf.old) last (length out.old)).standing.state }
     ensures used_le_have { (result.used ≤ have) × (result.written ≤ length out.old) }
     ensures used_bound { result.reason ≡ Reason.More → have - result.used < record_room }
     ensures fact { result.reason ≡ Reason.Bad → ⊥ }
     ensures buf_after { take (have - result.used) buf.new ≡ drop result.used (take have buf.old) }
 {
-    let f = job::feed(c, mem, &buf[..have], last, out);
+    let f = job::feed(c, state, &buf[..have], last, out);
     buf.copy_within(f.used..have, 0);
     f
 }
@@ -102,7 +111,8 @@ fn next_after(reason: Reason, ended: bool) -> Next
 fn piece(cuts: &[usize], at: usize, most: usize) -> usize
     ensures upper_bound { result ≤ most }
     ensures most_value { result ≡ 0 → most ≡ 0 }
-    ensures value { at < length cuts.now → 0 < get_or cuts.now at 0 → get_or cuts.now at 0 ≤ most → result ≡ get_or cuts.now at 0 }
+    ensures value { at < length cuts.now → 0 < get_or cuts.now at 0 → get_or cuts.now at 0 ≤ most →
+        result ≡ get_or cuts.now at 0 }
 {
     match cuts.get(at) {
         Some(&cut) if 0 < cut && cut <= most => cut,
@@ -241,16 +251,15 @@ fn run(
     sent: &mut usize,
 ) -> Result<(), RunError>
     ensures sent_in_bounds { sent.new ≤ length sink.old }
-    ensures performed { live ≡ false → Performed result (take sent.new sink.new) (length sink.old) (job_of job_limit tape.now) }
+    ensures performed { live ≡ false → Performed result (take sent.new sink.new) (length sink.old)
+        (job_of job_limit tape.now) }
     ensures input_theorem { InputTheorem job_limit tape.now }
 {
     let mut space = large_buffer();
     let buf: &mut [u8] = &mut space;
     let mut room = large_buffer();
     let out: &mut [u8] = &mut room;
-    let mut place = [0; kept::MEMORY];
-    let mem: &mut [u8] = &mut place;
-    job::fresh(mem);
+    let mut state = job_state::fresh();
     let mut c = job::no_counts();
     let mut have = 0;
     let mut next = Next::Read;
@@ -261,7 +270,7 @@ fn run(
         let last = read.count.is_none();
         have += read.count.unwrap_or(0);
         at = read.at;
-        let fed = turn(buf, have, c, mem, last, out);
+        let fed = feed_once(buf, have, c, &mut state, last, out);
         let end = put(rt, live, &out[..fed.written], sink, *sent)?;
         *sent = end;
         if !fed.reason.goes_on() {

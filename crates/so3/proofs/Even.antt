@@ -1,4 +1,5 @@
--- The exponential of the negative of a rotation vector, in any format, is the conjugate: its squared angle is the same, and k(-x) is -(kx). Assumes nothing.
+-- The exponential of the negative of a rotation vector, in any format, is the conjugate: its squared angle is the same,
+-- and k(-x) is -(kx). Assumes nothing.
 use mathlib.Core.Path.{◌≡◌, ◌∙◌}
 use lib.Ieee.{Float, Format, neg, mul}
 use Rattle.ieee.proofs.Sign.{mul-neg_r}
@@ -10,7 +11,8 @@ use Rattle.so3.specs.Quat.{quat, quat_conjugate}
 use Rattle.so3.specs.So3.{so3_exp}
 
 -- on the same root, sine and cosine
-pub exp_conjugate : (f : Format) (φ : Vec3) (root sh ch : Float) → so3_exp f (vec_neg φ) root sh ch ≡ quat_conjugate (so3_exp f φ root sh ch)
+pub exp_conjugate : (f : Format) (φ : Vec3) (root sh ch : Float) →
+    so3_exp f (vec_neg φ) root sh ch ≡ quat_conjugate (so3_exp f φ root sh ch)
 unfolding so3_exp quat_conjugate vec_neg
 exp_conjugate f φ root sh ch =
     let c = circle_exp f (vec_norm_sq f φ) root sh ch in

@@ -1,4 +1,5 @@
-// Rotations of three dimensions by quaternions of doubles.
+// Rotations of three dimensions by quaternions, helicoid's quat.rs and so3.rs, at either width. Proved: each function
+// is its formula in the Rust's order (specs/Quat, specs/So3). Rests on linalg and circle.
 #![tactic(auto)]
 
 pub mod quat; // Quat: helicoid's quat.rs

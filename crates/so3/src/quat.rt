@@ -1,7 +1,8 @@
 // A quaternion w + x i + y j + z k of doubles (Hamilton: i² = j² = k² = ijk = -1), w first. A unit q
 // rotates v to q v q*. It is a value with no invariant: nothing below asks that q is unit.
 ghost use Rattle.std.specs.Prelude.{◌≡◌, map};
-ghost use Rattle.so3.specs.Quat.{quat, quat_identity, quat_normalized, quat_of_xyzw, quat_to_xyzw, quat_of_jpl, quat_conjugate, quat_norm_sq, quat_to_matrix, quat_renormalized, quat_mul};
+ghost use Rattle.so3.specs.Quat.{quat, quat_identity, quat_normalized, quat_of_xyzw, quat_to_xyzw, quat_of_jpl};
+ghost use Rattle.so3.specs.Quat.{quat_conjugate, quat_norm_sq, quat_to_matrix, quat_renormalized, quat_mul};
 ghost use Rattle.linalg.specs.Floats.{as_mat3};
 ghost use Rattle.so3.specs.Floats.{as_quat};
 
@@ -28,7 +29,8 @@ impl<T: Real> Quat<T> {
     // (w, x, y, z) / n, where n is the root of |q|² as the caller hands it in.
     #[tactic(auto, unfolding(crate::specs::Quat::quat_normalized))]
     pub fn from_wxyz_normalized(w: T, x: T, y: T, z: T, n: T) -> Quat<T>
-        ensures { as_quat T.float result ≡ quat_normalized T.format (T.float w) (T.float x) (T.float y) (T.float z) (T.float n) }
+        ensures { as_quat T.float result ≡ quat_normalized T.format (T.float w) (T.float x) (T.float y) (T.float z)
+            (T.float n) }
     {
         Quat {
             w: w / n,

@@ -8,8 +8,8 @@ ghost use Rattle.linalg.specs.Floats.{as_vec3};
 ghost use Rattle.so3.specs.Floats.{as_quat};
 
 use crate::quat::Quat;
-use circle::generated::Limits;
 use circle::kernel::exp_coeffs_of;
+use circle::row_limits::Limits;
 use ieee::Real;
 use linalg::vector::Vec3;
 
@@ -53,7 +53,8 @@ pub fn inverse<T: Real>(q: Quat<T>) -> Quat<T>
 // sine and cosine of its half as the caller hands them in.
 #[tactic(auto, unfolding(crate::specs::So3::so3_exp))]
 pub fn exp<T: Limits>(phi: Vec3<T>, root: T, sin_half: T, cos_half: T) -> Quat<T>
-    ensures { as_quat T.float result ≡ so3_exp T.format (as_vec3 T.float phi) (T.float root) (T.float sin_half) (T.float cos_half) }
+    ensures { as_quat T.float result ≡ so3_exp T.format (as_vec3 T.float phi) (T.float root) (T.float sin_half)
+        (T.float cos_half) }
 {
     let c = exp_coeffs_of(phi, root, sin_half, cos_half);
     Quat {

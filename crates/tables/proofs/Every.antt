@@ -1,4 +1,5 @@
--- One computed test: at each width, in each row, every entry is the exact rational of the row's rule, rounded once. What follows for the constants of the code. Assumes nothing.
+-- One computed test: at each width, in each row, every entry is the exact rational of the row's rule, rounded once.
+-- What follows for the constants of the code. Assumes nothing.
 use mathlib.Core.Path.{◌≡◌, refl, sym, ap, ◌∙◌, subst}
 use mathlib.Core.Logic.{inl, inr}
 use mathlib.Core.Bool.{Bool, true, ◌&&◌}
@@ -21,7 +22,8 @@ use Rattle.ieee.specs.Signs.{not_minus_zero}
 use Rattle.ieee.specs.Table.{factorial, Rational, rounded, entries}
 use Rattle.ieee.proofs.Table.{floats, right, floats_are}
 use Rattle.ieee.proofs.Clear.{round_clear_false}
-use Rattle.tables.specs.Tables.{Row, cos_half_row, k_row, a_row, b_row, d_row, row_rule, row_table, recip_rule, Table, circle_table, recip_row, table_rule, table_length, recip_fact, recip_table}
+use Rattle.tables.specs.Tables.{Row, cos_half_row, k_row, a_row, b_row, d_row, row_rule, row_table, recip_rule, Table}
+use Rattle.tables.specs.Tables.{circle_table, recip_row, table_rule, table_length, recip_fact, recip_table}
 use Rattle.tables.specs.Patterns.{patterns}
 use Rattle.tables.specs.Every.{EveryEntry}
 
@@ -31,7 +33,8 @@ each_width p = p binary32 && p binary64
 
 each_table : (Table → Bool) → Bool
 each_table p =
-    p (circle_table cos_half_row) && (p (circle_table k_row) && (p (circle_table a_row) && (p (circle_table b_row) && (p (circle_table d_row) && p recip_row))))
+    p (circle_table cos_half_row) && (p (circle_table k_row)
+    && (p (circle_table a_row) && (p (circle_table b_row) && (p (circle_table d_row) && p recip_row))))
 
 -- each table has its length, and each of its entries is its rule's
 holds : Format → Table → Bool
@@ -65,28 +68,36 @@ table-holds f t = at_table (holds f) (at_width (λ f. each_table (holds f)) (sub
 
 table-right : (f : Format) (t : Table) → T (right f (table_rule t) 0 (patterns f t))
 unfolding holds
-table-right f t = and_r (eqb (length (patterns f t)) (table_length t)) (right f (table_rule t) 0 (patterns f t)) (table-holds f t)
+table-right f t =
+    and_r (eqb (length (patterns f t)) (table_length t)) (right f (table_rule t) 0 (patterns f t)) (table-holds f t)
 
 table-length : (f : Format) (t : Table) → length (patterns f t) ≡ table_length t
 unfolding holds
-table-length f t = eqb→eq _ _ (and_l (eqb (length (patterns f t)) (table_length t)) (right f (table_rule t) 0 (patterns f t)) (table-holds f t))
+table-length f t =
+    eqb→eq _ _ (and_l (eqb (length (patterns f t)) (table_length t)) (right f (table_rule t) 0 (patterns f t))
+    (table-holds f t))
 
 -- ---- which is the statement of the definitions
 pattern_at :
-    (f : Format) (rule : ℕ → Rational) (i : ℕ) (bs : List ℕ) → T (right f rule i bs) → (n k : ℕ) → k < length bs → n ≡ i + k →
+    (f : Format) (rule : ℕ → Rational) (i : ℕ) (bs : List ℕ) → T (right f rule i bs) → (n k : ℕ) → k < length bs →
+    n ≡ i + k →
     get_or bs k 0 ≡ to_bits f (rounded f (rule n))
 unfolding right
 pattern_at f rule i [] t n k h e = absurd (omega arith)
 pattern_at f rule i (b ∷ bs) t n zero h e =
     let q : i ≡ n = omega arith in
-    sym (eqb→eq _ b (and_l (eqb (to_bits f (rounded f (rule i))) b) (right f rule (suc i) bs) t)) ∙ ap (λ (j : ℕ). to_bits f (rounded f (rule j))) q
+    sym (eqb→eq _ b (and_l (eqb (to_bits f (rounded f (rule i))) b) (right f rule (suc i) bs) t))
+    ∙ ap (λ (j : ℕ). to_bits f (rounded f (rule j))) q
 pattern_at f rule i (b ∷ bs) t n (suc k) h e =
-    pattern_at f rule (suc i) bs (and_r (eqb (to_bits f (rounded f (rule i))) b) (right f rule (suc i) bs) t) n k (omega arith) (omega arith)
+    pattern_at f rule (suc i) bs (and_r (eqb (to_bits f (rounded f (rule i))) b) (right f rule (suc i) bs) t) n k
+    (omega arith) (omega arith)
 
 pub every-entry : EveryEntry
 every-entry =
     record {
-      entry = λ f t i h. pattern_at f (table_rule t) 0 (patterns f t) (table-right f t) i i (rw (table-length f t) h) (omega arith);
+      entry =
+          λ f t i h. pattern_at f (table_rule t) 0 (patterns f t) (table-right f t) i i (rw (table-length f t) h)
+          (omega arith);
       whole = table-length;
       count = unfold patterns in refl;
     }
@@ -94,10 +105,13 @@ every-entry =
 -- ---- the constants of a row are its table
 pub table_is : (f : Format) (row : Row) → floats f (patterns f (circle_table row)) ≡ row_table f row
 unfolding row_table
-table_is f row = floats_are f (row_rule row) 0 (patterns f (circle_table row)) (table-right f (circle_table row)) ∙ ap (entries f (row_rule row) 0) (table-length f (circle_table row))
+table_is f row =
+    floats_are f (row_rule row) 0 (patterns f (circle_table row)) (table-right f (circle_table row))
+    ∙ ap (entries f (row_rule row) 0) (table-length f (circle_table row))
 
 -- what a list lends at an index is what is there
-pub item_is : {X : Type 0} (xs : List X) (i : ℕ) (r : Option (Bor X)) → IsItemAt xs i r → option_copied r ≡ slice_get xs i
+pub item_is : {X : Type 0} (xs : List X) (i : ℕ) (r : Option (Bor X)) → IsItemAt xs i r →
+    option_copied r ≡ slice_get xs i
 item_is xs i None h = sym (slice_get_past xs i (h.3))
 item_is xs i (Some x) h = sym (slice_get-get_or xs i x.now h.3.0 ∙ ap Some (sym h.1))
 
@@ -111,11 +125,14 @@ unfolding recip_table
 recip_past f n h = rw (le-ltb n 33 h) refl
 
 -- ---- what the list of the reciprocals has at an index
-entry_got : (f : Format) (rule : ℕ → Rational) (i m n : ℕ) → n < m → slice_get (entries f rule i m) n ≡ Some (rounded f (rule (i + n)))
+entry_got : (f : Format) (rule : ℕ → Rational) (i m n : ℕ) → n < m →
+    slice_get (entries f rule i m) n ≡ Some (rounded f (rule (i + n)))
 unfolding entries
 entry_got f rule i zero n h = absurd (omega arith)
 entry_got f rule i (suc m) zero h = let e : i ≡ i + 0 = omega arith in ap (λ (k : ℕ). Some (rounded f (rule k))) e
-entry_got f rule i (suc m) (suc n) h = let e : suc i + n ≡ i + suc n = omega arith in entry_got f rule (suc i) m n (omega arith) ∙ ap (λ (k : ℕ). Some (rounded f (rule k))) e
+entry_got f rule i (suc m) (suc n) h =
+    let e : suc i + n ≡ i + suc n = omega arith in entry_got f rule (suc i) m n (omega arith)
+    ∙ ap (λ (k : ℕ). Some (rounded f (rule k))) e
 
 length-entries : (f : Format) (rule : ℕ → Rational) (i m : ℕ) → length (entries f rule i m) ≡ m
 unfolding entries
@@ -125,10 +142,13 @@ length-entries f rule i (suc m) = ap suc (length-entries f rule (suc i) m)
 pub recip_got : (f : Format) (n : ℕ) → slice_get (floats f (patterns f recip_row)) n ≡ recip_table f n
 unfolding recip_fact
 recip_got f n =
-    ap (λ (l : List Float). slice_get l n) (floats_are f recip_rule 0 (patterns f recip_row) (table-right f recip_row) ∙ ap (entries f recip_rule 0) (table-length f recip_row))
+    ap (λ (l : List Float). slice_get l n) (floats_are f recip_rule 0 (patterns f recip_row) (table-right f recip_row)
+    ∙ ap (entries f recip_rule 0) (table-length f recip_row))
     ∙ elim (cases_lt n 33) [
-      | inl h ↦ (let e : 0 + n ≡ n = omega arith in entry_got f recip_rule 0 33 n h ∙ ap (λ (k : ℕ). Some (rounded f (recip_rule k))) e ∙ sym (recip_exists f n (omega arith)))
-      | inr h ↦ slice_get_past (entries f recip_rule 0 33) n (rw (length-entries f recip_rule 0 33) h) ∙ sym (recip_past f n h)
+      | inl h ↦ (let e : 0 + n ≡ n = omega arith in entry_got f recip_rule 0 33 n h
+          ∙ ap (λ (k : ℕ). Some (rounded f (recip_rule k))) e ∙ sym (recip_exists f n (omega arith)))
+      | inr h ↦ slice_get_past (entries f recip_rule 0 33) n (rw (length-entries f recip_rule 0 33) h)
+          ∙ sym (recip_past f n h)
     ]
 
 pub recip_fits : (f : Format) (n : ℕ) → T (fits f (recip_fact f n))

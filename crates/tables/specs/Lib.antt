@@ -1,3 +1,4 @@
+-- To be read in this order.
 pub mod Tables
 pub mod Patterns
 pub mod Every

@@ -1,6 +1,6 @@
-// The tables: five rows of the circle functions and the factorial reciprocals, at both widths. Every
-// entry is an exact rational rounded once at its width: helicoid's generated.rs and
-// generated_sim3.rs.
+// The tables, at both widths: five rows of the circle functions and the factorial reciprocals, helicoid's generated.rs
+// and generated_sim3.rs. Proved: every entry is an exact rational, 1/n! or one formed from it, rounded once at its
+// width (EveryEntry). Rests on ieee.
 #![tactic(auto)]
 
 ghost use Rattle.std.specs.Prelude.{◌≡◌, map};

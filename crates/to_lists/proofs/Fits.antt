@@ -19,7 +19,8 @@ pub sets-all : {A : Type 0} (out l : List A) → length out ≡ length l → set
 sets-all out l h = rw (sets_front l out (omega arith), drop_all (length l) out (omega arith)) (append-nil l)
 
 -- ---- where the length is due: 0, and the numbers
-pub fitted : (out l : List Float) (n : ℕ) → length out ≡ n → length l ≡ n → (status (fitting out l) ≡ 0) × (written (fitting out l) out ≡ l)
+pub fitted : (out l : List Float) (n : ℕ) → length out ≡ n → length l ≡ n →
+    (status (fitting out l) ≡ 0) × (written (fitting out l) out ≡ l)
 unfolding status written fitting
 fitted out l n h k = let e = eq-eqb (length out) (length l) (h ∙ sym k) in (simp e, simp e)
 

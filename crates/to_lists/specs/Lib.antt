@@ -1,2 +1,3 @@
+-- To be read in this order.
 pub mod Counts
 pub mod Written

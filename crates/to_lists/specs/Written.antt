@@ -1,5 +1,5 @@
--- What is returned where numbers are written to lists, and what the lists then hold: 0 and the numbers, or the number of a refusal and the lists as they were.
--- A list whose length is not the one that is due is refused.
+-- What is returned where numbers are written to lists, and what the lists then hold: 0 and the numbers, or the number
+-- of a refusal and the lists as they were. A list whose length is not the one that is due is refused.
 use Rattle.std.specs.Prelude.{ℕ, cond, ◌&&◌, List, [], ◌∷◌, ◌++◌, eqb, length, pos, Float}
 use Rattle.std.specs.Float.{Format}
 use Rattle.std.specs.Float.Ieee.{of_int}
@@ -35,7 +35,9 @@ framed_written call out = written (call out) out
 
 -- a pose for lists that have just the lengths of its numbers and of its frames
 unfoldable pub framed_fitting : PoseLists → Pose → Answer PoseLists
-framed_fitting out x = cond (eqb (length out.numbers) pose_count && eqb (length out.frames) frames_count) (answers (framed_numbers x)) (refuses wrong_length)
+framed_fitting out x =
+    cond (eqb (length out.numbers) pose_count && eqb (length out.frames) frames_count) (answers (framed_numbers x))
+    (refuses wrong_length)
 
 -- where the frames do not meet that is refused, whatever lengths the lists have
 unfoldable pub joined_fitting : PoseLists → Answer Pose → Answer PoseLists

@@ -1,5 +1,6 @@
-// The numbers of a thing, written to a list that a C function is lent and that has just their length;
-// a list of another length is refused, and nothing written.
+// The numbers of a thing, written to a list that a C function is lent and that has just their length; a list of another
+// length is refused, and nothing written. Proved: every number that the list then holds (specs/Written). Rests on
+// layout.
 #![tactic(auto)]
 
 ghost use Rattle.std.specs.Prelude.{◌≡◌, ℕ, List, Float, cond, length};
@@ -12,12 +13,16 @@ ghost use Rattle.so3.specs.Floats.{as_quat};
 ghost use Rattle.sim3.specs.Floats.{as_sim3};
 ghost use Rattle.frames.specs.Floats.{as_pose};
 ghost use Rattle.jacobian.specs.Floats.{as_sim3_jac};
-ghost use Rattle.sides.specs.Floats.{as_act_jacobians, as_block_pair, as_two_jacobians};
-ghost use Rattle.layout.specs.Layout.{vec_count, mat_count, pose_count, block_count, block_pair_count, scaled_pair_count, two_count, act_count};
-ghost use Rattle.layout.specs.Layout.{mat_numbers, quat_numbers, pose_numbers, block_numbers, block_pair_numbers, scaled_numbers, scaled_pair_numbers, two_numbers, act_numbers};
-ghost use Rattle.layout.proofs.Numbers.{vec-count, mat-count, quat-count, pose-count, block-count, block-pair-count, scaled-count, scaled-pair-count, two_count_lem, act_count_lem};
+ghost use Rattle.side_jacobians.specs.Floats.{as_act_jacobians, as_block_pair, as_two_jacobians};
+ghost use Rattle.layout.specs.Layout.{vec_count, mat_count, pose_count, block_count, block_pair_count};
+ghost use Rattle.layout.specs.Layout.{scaled_pair_count, two_count, act_count};
+ghost use Rattle.layout.specs.Layout.{mat_numbers, quat_numbers, pose_numbers, block_numbers, block_pair_numbers};
+ghost use Rattle.layout.specs.Layout.{scaled_numbers, scaled_pair_numbers, two_numbers, act_numbers};
+ghost use Rattle.layout.proofs.Numbers.{vec-count, mat-count, quat-count, pose-count, block-count, block-pair-count};
+ghost use Rattle.layout.proofs.Numbers.{scaled-count, scaled-pair-count, two_count_lem, act_count_lem};
 ghost use Rattle.from_lists.specs.Lists.{pose_lists};
-ghost use Rattle.to_lists.specs.Written.{status, written, fitting, framed_written, framed_fitting, arm_numbers, armed_numbers, armed_pair_numbers, renormalize_call};
+ghost use Rattle.to_lists.specs.Written.{status, written, fitting, framed_written, framed_fitting, arm_numbers};
+ghost use Rattle.to_lists.specs.Written.{armed_numbers, armed_pair_numbers, renormalize_call};
 ghost use Rattle.to_lists.specs.Counts.{arm-count, armed-count, armed-pair-count};
 
 use crate::numbers::ToNumbers;
@@ -32,8 +37,8 @@ use linalg::matrix::Mat3;
 use linalg::refusal::Refusal;
 use linalg::vector::Vec3;
 use series::sim3::{Signs, Sim3Coeffs};
-use sides::pair::BlockPair;
-use sides::side::{ActJacobians, TwoJacobians};
+use side_jacobians::pair::BlockPair;
+use side_jacobians::side::{ActJacobians, TwoJacobians};
 use sim3::sim3::Sim3;
 use so3::quat::{Quat, Renormalize};
 
@@ -54,7 +59,7 @@ const ARMED: usize = ARM + SCALED;
 const ARMED_PAIR: usize = 2 * ARMED;
 
 // The numbers of x to a list that has just their length.
-#[tactic(auto, unfolding(crate::specs::Written::status, crate::specs::Written::written, crate::specs::Written::fitting))]
+#[tactic(auto, unfolding(crate::proofs::OnLists::on_lists, crate::specs::Written::fitting))]
 pub fn put<T: Real, X: ToNumbers<T>>(out: &mut [T], x: X) -> Result<(), Refusal>
     ensures value { status (answer result) ≡ status (fitting (T.floats out.old) (X.numbers x)) }
     ensures out_after { T.floats out.new ≡ written (fitting (T.floats out.old) (X.numbers x)) (T.floats out.old) }
@@ -342,7 +347,7 @@ pub fn put_pose<T: Real>(out: &mut [T], x: Sim3<T>) -> Result<(), Refusal>
 }
 
 // A Newton step towards a unit quaternion, in place: the pose is read, and then written.
-#[tactic(auto, unfolding(crate::specs::Written::status, crate::specs::Written::written, crate::specs::Written::renormalize_call))]
+#[tactic(auto, unfolding(crate::proofs::OnLists::on_lists, crate::specs::Written::renormalize_call))]
 pub fn renormalize_pose<T: Real>(x: &mut [T]) -> Result<(), Refusal>
     ensures value { status (answer result) ≡ status (renormalize_call T.format (T.floats x.old)) }
     ensures x_after { T.floats x.new ≡ written (renormalize_call T.format (T.floats x.old)) (T.floats x.old) }
@@ -352,7 +357,7 @@ pub fn renormalize_pose<T: Real>(x: &mut [T]) -> Result<(), Refusal>
 }
 
 // The numbers to one list and the frames, from and to, to another; both or none.
-#[tactic(auto, unfolding(crate::specs::Written::status, crate::specs::Written::written, crate::specs::Written::framed_fitting))]
+#[tactic(auto, unfolding(crate::proofs::OnLists::on_lists, crate::specs::Written::framed_fitting))]
 pub fn put_framed<T: Real>(out: &mut [T], out_frames: &mut [u16], x: Pose<T>) -> Result<(), Refusal>
     ensures value { status (answer result)
         ≡ status (framed_fitting (pose_lists (T.floats out.old) out_frames.old) (as_pose T.float x)) }

@@ -12,7 +12,8 @@ use lib.Ieee.{Float, Format, nan, binary32, binary64, fits, to_bits}
 use lib.Ieee.Bits.{of_bits-to_bits, to_bits-lt}
 use Rattle.std.specs.Int.{w16, w32, w64, from_le_bytes, to_le_bytes}
 use Rattle.ieee.specs.Finite.{is_finite}
-use Rattle.wire.specs.Wire.{word_of, word_bytes, width, number_of, number_bytes, numbers_bytes, Item, item_bytes, items_bytes, all_finite, numbers, count_bytes}
+use Rattle.wire.specs.Wire.{word_of, word_bytes, width, number_of, number_bytes, numbers_bytes, Item, item_bytes}
+use Rattle.wire.specs.Wire.{items_bytes, all_finite, numbers, count_bytes}
 
 -- ---- lengths
 pub word-length : (k n : ℕ) → length (word_bytes k n) ≡ k
@@ -39,28 +40,34 @@ mul-width-div binary64 n = omega arith
 pub numbers-length : (f : Format) (l : List Float) → length (numbers_bytes f l) ≡ length l * width f
 unfolding numbers_bytes
 numbers-length f [] = omega arith
-numbers-length f (x ∷ l) = length-append (number_bytes f x) (numbers_bytes f l) ∙ rw (number-length f x, numbers-length f l) (one_more f (length l))
+numbers-length f (x ∷ l) =
+    length-append (number_bytes f x) (numbers_bytes f l) ∙ rw (number-length f x, numbers-length f l)
+    (one_more f (length l))
 
 pub numbers-append : (f : Format) (l m : List Float) → numbers_bytes f (l ++ m) ≡ numbers_bytes f l ++ numbers_bytes f m
 unfolding numbers_bytes
 numbers-append f [] m = refl
-numbers-append f (x ∷ l) m = rw (numbers-append f l m) (sym (append_assoc (number_bytes f x) (numbers_bytes f l) (numbers_bytes f m)))
+numbers-append f (x ∷ l) m =
+    rw (numbers-append f l m) (sym (append_assoc (number_bytes f x) (numbers_bytes f l) (numbers_bytes f m)))
 
 -- ---- items, and those that are numbers alone
 pub items_append : (f : Format) (l m : List Item) → items_bytes f (l ++ m) ≡ items_bytes f l ++ items_bytes f m
 unfolding items_bytes
 items_append f [] m = refl
-items_append f (x ∷ l) m = rw (items_append f l m) (sym (append_assoc (item_bytes f x) (items_bytes f l) (items_bytes f m)))
+items_append f (x ∷ l) m =
+    rw (items_append f l m) (sym (append_assoc (item_bytes f x) (items_bytes f l) (items_bytes f m)))
 
 pub items_numbers : (f : Format) (l : List Float) → items_bytes f (numbers l) ≡ numbers_bytes f l
 unfolding item_bytes items_bytes numbers numbers_bytes
 items_numbers f [] = refl
 items_numbers f (x ∷ l) = ap (λ (b : List ℕ). number_bytes f x ++ b) (items_numbers f l)
 
-pub finite-append : (l m : List Float) → all_finite (numbers (l ++ m)) ≡ all_finite (numbers l) && all_finite (numbers m)
+pub finite-append : (l m : List Float) → all_finite (numbers (l ++ m))
+    ≡ all_finite (numbers l) && all_finite (numbers m)
 unfolding all_finite numbers
 finite-append [] m = refl
-finite-append (x ∷ l) m = rw (finite-append l m) (sym (and_assoc (is_finite x) (all_finite (numbers l)) (all_finite (numbers m))))
+finite-append (x ∷ l) m =
+    rw (finite-append l m) (sym (and_assoc (is_finite x) (all_finite (numbers l)) (all_finite (numbers m))))
 
 -- ---- the bytes of a list one by one, as code reads them
 abbrev pub bytes_at : List ℕ → ℕ → ℕ → List ℕ
@@ -69,13 +76,15 @@ bytes_at b at (suc k) = get_or b at 0 ∷ bytes_at b (suc at) k
 
 pub bytes-at : (b : List ℕ) (at k : ℕ) → at + k ≤ length b → take k (drop at b) ≡ bytes_at b at k
 bytes-at b at zero h = refl
-bytes-at b at (suc k) h = rw (drop-cons b at 0 (omega arith)) (ap (λ (l : List ℕ). get_or b at 0 ∷ l) (bytes-at b (suc at) k (omega arith)))
+bytes-at b at (suc k) h =
+    rw (drop-cons b at 0 (omega arith)) (ap (λ (l : List ℕ). get_or b at 0 ∷ l) (bytes-at b (suc at) k (omega arith)))
 
 pub bytes-all : (b : List ℕ) (k : ℕ) → length b ≡ k → b ≡ bytes_at b 0 k
 bytes-all b k h = sym (take_all k b (omega arith)) ∙ bytes-at b 0 k (omega arith)
 
 -- ---- what the bytes of a word are
-pub word-four : (b : List ℕ) → length b ≡ 4 → word_of b ≡ get_or b 0 0 + 0x100 * get_or b 1 0 + 0x1_0000 * get_or b 2 0 + 0x100_0000 * get_or b 3 0
+pub word-four : (b : List ℕ) → length b ≡ 4 → word_of b ≡ get_or b 0 0 + 0x100 * get_or b 1 0 + 0x1_0000 * get_or b 2 0
+    + 0x100_0000 * get_or b 3 0
 unfolding word_of
 word-four b h = ap word_of (bytes-all b 4 h) ∙ omega arith
 
@@ -98,14 +107,16 @@ pub read_two : (a b : ℕ) → from_le_bytes w16 (a ∷ b ∷ []) ≡ word_of (a
 unfolding word_of
 read_two a b = omega arith
 
-pub read_four : (b : List ℕ) → length b ≡ 4 → from_le_bytes w32 (get_or b 0 0 ∷ get_or b 1 0 ∷ get_or b 2 0 ∷ get_or b 3 0 ∷ []) ≡ word_of b
+pub read_four : (b : List ℕ) → length b ≡ 4 → from_le_bytes w32
+    (get_or b 0 0 ∷ get_or b 1 0 ∷ get_or b 2 0 ∷ get_or b 3 0 ∷ []) ≡ word_of b
 read_four b h = omega (arith, word-four b h)
 
 pub read_eight :
     (b : List ℕ) → length b ≡ 8 →
     from_le_bytes
     w64
-    (get_or b 0 0 ∷ get_or b 1 0 ∷ get_or b 2 0 ∷ get_or b 3 0 ∷ get_or b 4 0 ∷ get_or b 5 0 ∷ get_or b 6 0 ∷ get_or b 7 0 ∷ [])
+    (get_or b 0 0 ∷ get_or b 1 0 ∷ get_or b 2 0 ∷ get_or b 3 0 ∷ get_or b 4 0 ∷ get_or b 5 0 ∷ get_or b 6 0
+    ∷ get_or b 7 0 ∷ [])
     ≡ word_of b
 read_eight b h = omega (arith, word-eight b h)
 

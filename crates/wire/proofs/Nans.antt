@@ -63,13 +63,16 @@ put_in false true n e = ne_eqb _ _ (marked n)
 put_in false false n e = rw (or_zero_r n) e
 
 pub one_seen :
-    (f : Format) (n w : ℕ) → high_bit_zero f (bit_or n (w % sign_bit f + fraction f)) ≡ high_bit_zero f n && not (is_nan (of_bits f w))
+    (f : Format) (n w : ℕ) → high_bit_zero f (bit_or n (w % sign_bit f + fraction f))
+    ≡ high_bit_zero f n && not (is_nan (of_bits f w))
 one_seen f n w =
     let t = w % sign_bit f + fraction f in
-    rw (halved f (bit_or n t), or_halved f n t, nan_adds f w) (put_in (high_bit_zero f n) (is_nan (of_bits f w)) (n / sign_bit f) (sym (halved f n)))
+    rw (halved f (bit_or n t), or_halved f n t, nan_adds f w)
+    (put_in (high_bit_zero f n) (is_nan (of_bits f w)) (n / sign_bit f) (sym (halved f n)))
 
 pub one_more :
-    (f : Format) (b : List ℕ) (i w : ℕ) (t s : Bool) → w ≡ word_at (width f) b (i * width f) → t ≡ none_nan f b i → s ≡ t && not (is_nan (of_bits f w)) →
+    (f : Format) (b : List ℕ) (i w : ℕ) (t s : Bool) → w ≡ word_at (width f) b (i * width f) → t ≡ none_nan f b i →
+    s ≡ t && not (is_nan (of_bits f w)) →
     s ≡ none_nan f b (i + 1)
 unfolding none_nan number_at number_of word_at
 one_more f b i w t s e h g = rw (add-one i, ← h, ← e) g
@@ -80,12 +83,14 @@ unfolding none_nan
 none_nan_lem f b zero k e h = absurd (omega arith)
 none_nan_lem f b (suc n) k e h =
     let p = and_parts (none_nan f b n) (not (is_nan (number_at f b n))) e in
-    below_more (λ i. is_nan (number_at f b i) ≡ false) n (λ i. none_nan_lem f b n i p.0) (not-true _ p.1) k (omega arith)
+    below_more (λ i. is_nan (number_at f b i) ≡ false) n (λ i. none_nan_lem f b n i p.0) (not-true _ p.1) k
+    (omega arith)
 
 -- of the numbers of a part from the front, of which none is a NaN, each is its bits
-pub plain : (f : Format) (b : List ℕ) (n w i : ℕ) → length b ≡ n * width f → no_nan f b ≡ true → i < n → w ≡ word_at (width f) b (i * width f) → is_nan (of_bits f w) ≡ false
+pub not_nan : (f : Format) (b : List ℕ) (n w i : ℕ) → length b ≡ n * width f → no_nan f b ≡ true → i < n →
+    w ≡ word_at (width f) b (i * width f) → is_nan (of_bits f w) ≡ false
 unfolding no_nan number_at number_of word_at
-plain f b n w i h e g q =
+not_nan f b n w i h e g q =
     let counted : length b / width f ≡ n = ap (λ (k : ℕ). k / width f) h ∙ mul-width-div f n in
     rw q (none_nan_lem f b n i (rw counted at e) g)
 

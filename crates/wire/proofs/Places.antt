@@ -11,13 +11,16 @@ use lib.Ieee.{Format, binary32, binary64}
 use Rattle.wire.specs.Wire.{width, word_of, word_at, word_bytes, number_of, number_at}
 use Rattle.wire.proofs.Bytes.{bytes-at, word-length}
 
-pub short_read : (b : List ℕ) (at : ℕ) → at + 2 ≤ length b → word_of (get_or b at 0 ∷ get_or b (at + 1) 0 ∷ []) ≡ word_at 2 b at
+pub short_read : (b : List ℕ) (at : ℕ) → at + 2 ≤ length b →
+    word_of (get_or b at 0 ∷ get_or b (at + 1) 0 ∷ []) ≡ word_at 2 b at
 unfolding word_at
 short_read b at h = rw (bytes-at b at 2 h) (simp towards_suc)
 
 -- ---- n numbers of a list, from the i-th on, as a list
-pub within : (b : List ℕ) (a m s t q : ℕ) → q ≡ m + t → s ≤ t → take s (drop m (take q (drop a b))) ≡ take s (drop (a + m) b)
-within b a m s t q e g = rw (e, drop-take m t (drop a b)) (take-take s t (drop m (drop a b)) g ∙ ap (take s) (drop-drop m a b))
+pub within : (b : List ℕ) (a m s t q : ℕ) → q ≡ m + t → s ≤ t →
+    take s (drop m (take q (drop a b))) ≡ take s (drop (a + m) b)
+within b a m s t q e g =
+    rw (e, drop-take m t (drop a b)) (take-take s t (drop m (drop a b)) g ∙ ap (take s) (drop-drop m a b))
 
 pub part_read :
     (f : Format) (b : List ℕ) (i n k : ℕ) → (i + n) * width f ≤ length b → k < n →
@@ -31,14 +34,18 @@ part_read binary64 b i n k h g =
     ap (number_of binary64) (within b (i * 8) (k * 8) 8 ((n - k) * 8) (n * 8) (omega arith) (omega arith) ∙ rw at)
 
 -- ---- written: a part of k bytes that is lent and comes back as d
-pub part_stored : (l d v : List ℕ) (a k : ℕ) → d ≡ v → length v ≡ k → a + k ≤ length l → take a l ++ (d ++ drop k (drop a l)) ≡ sets l a v
+pub part_stored : (l d v : List ℕ) (a k : ℕ) → d ≡ v → length v ≡ k → a + k ≤ length l →
+    take a l ++ (d ++ drop k (drop a l)) ≡ sets l a v
 part_stored l d v a k h e g =
     let n : a + length v ≡ a + k = omega (arith, e) in
-    rw (h, drop-drop k a l) (sym (sets-eq v l a (omega (arith, e)) ∙ (append_assoc (take a l) v (drop (a + length v) l) ∙ ap (λ (j : ℕ). take a l ++ (v ++ drop j l)) n)))
+    rw (h, drop-drop k a l) (sym (sets-eq v l a (omega (arith, e))
+    ∙ (append_assoc (take a l) v (drop (a + length v) l) ∙ ap (λ (j : ℕ). take a l ++ (v ++ drop j l)) n)))
 
 -- that part by its ends
-pub lent_stored : (l d v : List ℕ) (a n : ℕ) → d ≡ v → length v ≡ n → a + n ≤ length l → take a l ++ (d ++ drop (a + n - a) (drop a l)) ≡ sets l a v
+pub lent_stored : (l d v : List ℕ) (a n : ℕ) → d ≡ v → length v ≡ n → a + n ≤ length l →
+    take a l ++ (d ++ drop (a + n - a) (drop a l)) ≡ sets l a v
 lent_stored l d v a n h e g = let k : a + n - a ≡ n = omega arith in rw k (part_stored l d v a n h e g)
 
-pub short_stored : (l d : List ℕ) (a n : ℕ) → d ≡ word_bytes 2 n → a + 2 ≤ length l → take a l ++ (d ++ drop (a + 2 - a) (drop a l)) ≡ sets l a (word_bytes 2 n)
+pub short_stored : (l d : List ℕ) (a n : ℕ) → d ≡ word_bytes 2 n → a + 2 ≤ length l →
+    take a l ++ (d ++ drop (a + 2 - a) (drop a l)) ≡ sets l a (word_bytes 2 n)
 short_stored l d a n h g = lent_stored l d (word_bytes 2 n) a 2 h (word-length 2 n) g

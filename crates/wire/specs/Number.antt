@@ -1,4 +1,5 @@
--- How a NaN is told of many bit patterns at once: what was put together of them has a 0 as its highest bit where none is one.
+-- How a NaN is told of many bit patterns at once: what was put together of them has a 0 as its highest bit where none
+-- is one.
 use Rattle.std.specs.Prelude.{ℕ, Bool, ltb}
 use Rattle.std.specs.Float.{Format, binary32, binary64}
 

@@ -1,5 +1,7 @@
 // Numbers of either width, counts and whole numbers of 16 bits as little-endian bytes: one value at a place of a list,
 // and whole lists, `decode` and `encode`. Those on lists are total: they go as far as the bytes and the list both do.
+// Proved: each is specs/Wire's, with one NaN for all patterns of NaN, and tells whether all numbers are finite. Rests
+// on ieee.
 #![tactic(auto)]
 
 ghost use Rattle.std.specs.Prelude.{◌≡◌, ◌+◌, ◌*◌, ◌/◌, ◌≤◌, ◌&&◌, ℕ, true, false, not, refl, length, take, drop};
@@ -179,7 +181,8 @@ fn decode_by<T: Number, F: Fn(T::Bits) -> T>(b: &[u8], out: &mut [T], read: F)
 // taken as they are.
 pub fn decode<T: Number>(b: &[u8], out: &mut [T])
     ensures { T.floats out.new
-        ≡ sets (T.floats out.old) 0 (numbers_at T.format b.now (fewer (length b.now / width T.format) (length out.old))) }
+        ≡ sets (T.floats out.old) 0
+        (numbers_at T.format b.now (fewer (length b.now / width T.format) (length out.old))) }
 {
     let n = (b.len() / T::BYTES).min(out.len());
     let bytes = &b[..n * T::BYTES];

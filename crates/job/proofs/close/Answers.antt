@@ -14,16 +14,26 @@ returns-in-Full c =
 
 pub returns-in-Unknown : goal.returns-in-Unknown
 unfolding closing_of
-returns-in-Unknown c = rw c.in-Unknown.is (record { value = c.put_refused.ensures.value; out_after = c.put_refused.ensures.out_after })
+returns-in-Unknown c =
+    rw c.in-Unknown.is (record { value = c.put_refused.ensures.value; out_after = c.put_refused.ensures.out_after })
 
 pub returns-in-Cut : goal.returns-in-Cut
 unfolding closing_of
-returns-in-Cut c = rw c.in-Cut.is (record { value = c.put_refused-in-Cut.ensures.value; out_after = c.put_refused-in-Cut.ensures.out_after })
+returns-in-Cut c =
+    rw c.in-Cut.is (record {
+      value = c.put_refused-in-Cut.ensures.value;
+      out_after =
+          c.put_refused-in-Cut.ensures.out_after;
+    })
 
 pub returns-in-More : goal.returns-in-More
 unfolding closing_of
 returns-in-More c =
     elim c.in-More.is [
       | inl e ↦ rw e (record { value = refl; out_after = refl })
-      | inr s ↦ elim s [ inl e ↦ rw e (record { value = refl; out_after = refl }) | inr e ↦ rw e (record { value = refl; out_after = refl }) ]
+      | inr s ↦ elim s [
+        | inl e ↦ rw e (record { value = refl; out_after = refl })
+        | inr e ↦
+            rw e (record { value = refl; out_after = refl })
+      ]
     ]

@@ -11,13 +11,13 @@ use Rattle.job.proofs.put_refused.Goals as goal
 
 pub overflow_add-result : goal.overflow_add-result
 overflow_add-result c =
-    let w : length c.args.c.rows ≡ row_count = search rules in
+    let w : length c.args.c.by_mark ≡ row_count = search rules in
     omega (arith, c.put_trailer.ensures.value, trailer-length c.args.c w)
 
 pub returns : goal.returns
 returns c =
     let a = c.args in
-    let w : length c.args.c.rows ≡ row_count = search rules in
+    let w : length c.args.c.by_mark ≡ row_count = search rules in
     let n = ap (λ (n : ℕ). 3 + n) (c.put_trailer.ensures.value ∙ trailer-length a.c w) in
     record {
       value = n ∙ sym (refused-length (number a.refusal) a.c w);

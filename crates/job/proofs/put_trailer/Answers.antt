@@ -10,7 +10,7 @@ pub returns : goal.returns
 returns c =
     let a = c.args in
     -- as many counts by mark as the array has
-    let w : length c.args.c.rows ≡ row_count = search rules in
+    let w : length c.args.c.by_mark ≡ row_count = search rules in
     record {
       value = sym (trailer-length a.c w);
       out_after = cc (trailer_run a.c a.out.now a.at);

@@ -11,13 +11,27 @@ pub returns-then-c-left-2 : goal.returns-then-c-left-2
 unfolding counts_sound
 returns-then-c-left-2 c =
     -- as many counts by mark as the array has
-    let w : length c.args.c.rows ≡ row_count = search rules in
-    simp (le-leb _ _ c.if-c-le-LIMIT.true, le-leb _ _ c.if-c.true, le-leb _ _ c.if-c-left.true, eq-eqb _ _ c.if-c-left-2.true, eq-eqb _ _ w, c.add_up.ensures)
+    let w : length c.args.c.by_mark ≡ row_count = search rules in
+    simp (
+      le-leb _ _ c.if-c-le-LIMIT.true,
+      le-leb _ _ c.if-c.true,
+      le-leb _ _ c.if-c-left.true,
+      eq-eqb _ _
+          c.if-c-left-2.true,
+      eq-eqb _ _ w,
+      c.add_up.ensures,
+    )
 
 pub returns-else-c-left-2 : goal.returns-else-c-left-2
 unfolding counts_sound
 returns-else-c-left-2 c =
-    simp (le-leb _ _ c.if-c-le-LIMIT.true, le-leb _ _ c.if-c.true, le-leb _ _ c.if-c-left.true, ne_eqb _ _ c.if-c-left-2.false)
+    simp (
+      le-leb _ _ c.if-c-le-LIMIT.true,
+      le-leb _ _ c.if-c.true,
+      le-leb _ _ c.if-c-left.true,
+      ne_eqb _ _
+          c.if-c-left-2.false,
+    )
 
 pub returns-else-c-left : goal.returns-else-c-left
 unfolding counts_sound

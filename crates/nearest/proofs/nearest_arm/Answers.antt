@@ -4,7 +4,7 @@ use lib.Ieee.{of_bits}
 use Rattle.std.proofs.lemmas.Bool.{and_parts}
 use Rattle.linalg.specs.Answer.{answers}
 use Rattle.ieee.specs.Finite.{is_finite}
-use Rattle.nearest.specs.Nearest.{first_told}
+use Rattle.nearest.specs.Nearest.{preferred}
 use Rattle.nearest.proofs.Answers.{below-zero, not_finite, accepted}
 use Rattle.nearest.proofs.nearest_arm.Goals as goal
 
@@ -13,21 +13,25 @@ unfolding of_bits
 returns-then-is_below g c =
     let r = g.T.Real in
     let b = simp (c.is_below.ensures, c.of.ensures) at c.if-is_below.true in
-    below-zero r.format first_told (r.float c.args.sigma) (r.float c.args.z) b
+    below-zero r.format preferred (r.float c.args.sigma) (r.float c.args.z) b
 
 pub returns-then-not-both_finite : goal.returns-then-not-both_finite
 unfolding of_bits
 returns-then-not-both_finite g c =
     let r = g.T.Real in
     let b = simp (c.is_below.ensures, c.of.ensures) at c.if-is_below.false in
-    not_finite r.format first_told (r.float c.args.sigma) (r.float c.args.z) b (sym c.both_finite.ensures ∙ c.if-not-both_finite.true)
+    not_finite r.format preferred (r.float c.args.sigma) (r.float c.args.z) b
+    (sym c.both_finite.ensures ∙ c.if-not-both_finite.true)
 
 pub start-requires : goal.start-requires
 unfolding of_bits
 start-requires g c =
     let r = g.T.Real in
-    let b = simp (c.is_below.ensures, c.of.ensures) at c.if-is_below.false in
-    (b, (and_parts (is_finite (r.float c.args.sigma)) (is_finite (r.float c.args.z)) (sym c.both_finite.ensures ∙ c.if-not-both_finite.false)).1)
+    let b = simp (c.is_below.ensures, c.of.ensures) at c.if-is_below.false in (
+      b,
+      (and_parts (is_finite (r.float c.args.sigma)) (is_finite (r.float c.args.z))
+          (sym c.both_finite.ensures ∙ c.if-not-both_finite.false)).1,
+    )
 
 pub returns : goal.returns
 unfolding of_bits
@@ -35,5 +39,5 @@ returns g c =
     let r = g.T.Real in
     let b = simp (c.is_below.ensures, c.of.ensures) at c.if-is_below.false in
     ap answers c.nearest_from.ensures
-    ∙ accepted r.format first_told (r.float c.args.sigma) (r.float c.args.z) c.start.result b
+    ∙ accepted r.format preferred (r.float c.args.sigma) (r.float c.args.z) c.start.result b
     (sym c.both_finite.ensures ∙ c.if-not-both_finite.false) c.start.ensures.0

@@ -1,4 +1,5 @@
--- `point_lists::each` meets its contract: after i turns the first i triples are moved and the rest is as it was. Assumes nothing.
+-- `point_lists::each` meets its contract: after i turns the first i triples are moved and the rest is as it was.
+-- Assumes nothing.
 use Rattle.std.proofs.Common.{◌≡◌, ◌+◌, ◌*◌, ◌/◌, ◌<◌, ◌≤◌, ◌++◌, List, length, drop, arith, ap, refl, ◌∙◌}
 use Rattle.std.specs.Prelude.{Float}
 use Rattle.linalg.specs.Floats.{as_vec3}
@@ -23,11 +24,13 @@ loop-i-preserved g c =
     let p : point_at (fl c.index-triples-i.result) 0 ≡ point_at (fl a.pts.now) i =
     rw z at (piece h fl law a.pts.now c.index-triples-i.result c.as_chunks.result.0.now 3 (length a.pts.now / 3) i i 0
     c.as_chunks.ensures.front n c.index-triples-i.is (omega arith) (omega arith)) in
-    let room : i * 3 + 3 ≤ length (fl a.out.now) = rw (floats_length h fl law a.out.now) (omega (arith, n, c.requires.room)) in (
+    let room : i * 3 + 3 ≤ length (fl a.out.now) = rw (floats_length h fl law a.out.now)
+    (omega (arith, n, c.requires.room)) in (
       λ m moves.
           c.put_point.ensures
           ∙ ap (λ (l : List Float). put_point l (i * 3) (as_vec3 h c.f.result)) (c.loop-i.invariant.0 m moves)
-          ∙ ap (put_point (points_moved m (fl a.pts.now) i ++ drop (i * 3) (fl a.out.now)) (i * 3)) (moves _ _ c.f.ensures ∙ ap m (c.point_at.ensures ∙ p))
+          ∙ ap (put_point (points_moved m (fl a.pts.now) i ++ drop (i * 3) (fl a.out.now)) (i * 3))
+          (moves _ _ c.f.ensures ∙ ap m (c.point_at.ensures ∙ p))
           ∙ moved_more m (fl a.pts.now) (fl a.out.now) i room,
       c.put_point.auto.out ∙ c.loop-i.invariant.1,
     )

@@ -11,4 +11,5 @@ returns g c =
     let a = c.args in
     let law = g.met.T.Real.floats_law in
     let h = g.T.Real.float in
-    law _ ∙ put_map h a.out.now a.at a.p.x a.p.y a.p.z ∙ ap (λ (l : List Float). put_point l a.at (as_vec3 h a.p)) (sym (law a.out.now))
+    law _ ∙ put_map h a.out.now a.at a.p.x a.p.y a.p.z ∙ ap (λ (l : List Float). put_point l a.at (as_vec3 h a.p))
+    (sym (law a.out.now))

@@ -10,7 +10,8 @@ abbrev new : Pose → Pose
 new = framed_renormalized binary64
 
 -- one turn, where the poses are p and the renormalised pose is r
-turn : (i : ℕ) (l p : List Pose) (r d : Pose) → p ≡ up_to new i l → r ≡ new (get_or p i d) → set p i r ≡ up_to new (i + 1) l
+turn : (i : ℕ) (l p : List Pose) (r d : Pose) → p ≡ up_to new i l → r ≡ new (get_or p i d) →
+    set p i r ≡ up_to new (i + 1) l
 turn i l p r d e g = rw (g, e, add-one) (up_to_more new i l d)
 
 pub loop-p-preserved : goal.loop-p-preserved

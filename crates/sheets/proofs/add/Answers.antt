@@ -7,7 +7,7 @@ use Rattle.linalg.specs.declared.refusal.Refusal.TheVariants.{NoRoom}
 use Rattle.wire.specs.Wire.{item_bytes}
 use Rattle.sheets.specs.Sheets.{most}
 use Rattle.sheets.specs.Store.{used_of, next_slot}
-use Rattle.sheets.proofs.Told.{add-full, add-next, add_free}
+use Rattle.sheets.proofs.Views.{add-full, add-next, add_free}
 use Rattle.sheets.proofs.add.Goals as goal
 
 pub returns-in_err-slot : goal.returns-in_err-slot

@@ -1,37 +1,31 @@
--- `sheets::get` meets its contract: by the length of the bytes, and by whether the slot is the sheet's. Assumes nothing.
+-- `sheets::get` meets its contract: by whether the slot is the sheet's. Assumes nothing.
 use borrow.Author.Rules.{rules}
 use mathlib.Core.Path.{◌≡◌, sym, ap, ◌∙◌}
 use Prim.Native.Nat.{◌+◌, ◌-◌, ◌*◌}
 use lib.ListN.{length, take, drop}
 use Rattle.std.proofs.lemmas.List.{take_rest}
-use Rattle.std.specs.Prelude.{Err}
-use Rattle.linalg.specs.declared.refusal.Refusal.TheVariants.{ListLength}
 use Rattle.sheets.specs.Store.{slots, slot_width, size, slot_at, shot_in}
-use Rattle.sheets.proofs.Told.{get_storeless, get_kept, get_none}
+use Rattle.sheets.proofs.Views.{get_kept, get_none}
 use Rattle.sheets.proofs.get.Goals as goal
-
-pub returns-in_err-store : goal.returns-in_err-store
-returns-in_err-store c =
-    let is : c.from_residual.result ≡ Err ListLength = search rules in
-    rw is (get_storeless c.args.store.now c.args.sheet (search rules))
 
 pub returns-then-held : goal.returns-then-held
 unfolding slot_at
 returns-then-held c =
     let a = c.args in
-    let same : c.in_ok-store.store.now ≡ a.store.now = search rules in
     let long : length a.store.now ≡ size = search rules in
-    let part : c.unwrap.result.now ≡ take slot_width (take (size - c.start-at.result) (drop c.start-at.result c.in_ok-store.store.now)) = search rules in
+    let part : c.unwrap.result.now
+    ≡ take slot_width (take (size - c.start-at.result) (drop c.start-at.result a.store.now)) =
+    search rules in
     get_kept a.store.now a.sheet c.slot_of-slot.result.number (search rules)
-    (rw same at c.slot_of-slot.ensures) long
-    (rw same at (sym c.held.ensures ∙ c.if-held.true))
+    c.slot_of-slot.ensures long
+    (sym c.held.ensures ∙ c.if-held.true)
     c.shot_in.result (c.shot_in.ensures
-    ∙ ap shot_in ((rw (c.start-at.ensures, same, ← long) at part) ∙ ap (take slot_width) (take_rest a.store.now (slots + slot_width * c.slot_of-slot.result.number))))
+    ∙ ap shot_in ((rw (c.start-at.ensures, ← long) at part)
+    ∙ ap (take slot_width) (take_rest a.store.now (slots + slot_width * c.slot_of-slot.result.number))))
 
 pub returns : goal.returns
 returns c =
     let a = c.args in
-    let same : c.in_ok-store.store.now ≡ a.store.now = search rules in
     let long : length a.store.now ≡ size = search rules in
     get_none a.store.now a.sheet c.slot_of-slot.result.number (search rules)
-    (rw same at c.slot_of-slot.ensures) long (rw same at (sym c.held.ensures ∙ c.if-held.false))
+    c.slot_of-slot.ensures long (sym c.held.ensures ∙ c.if-held.false)

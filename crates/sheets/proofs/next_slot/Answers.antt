@@ -1,6 +1,6 @@
 -- `sheets::next_slot` meets its contract: by whether all slots are in use. Assumes nothing.
 use mathlib.Core.Path.{◌∙◌}
-use Rattle.sheets.proofs.Told.{next-used, next_free}
+use Rattle.sheets.proofs.Views.{next-used, next_free}
 use Rattle.sheets.proofs.next_slot.Goals as goal
 
 pub returns-then-used-lt-MOST : goal.returns-then-used-lt-MOST

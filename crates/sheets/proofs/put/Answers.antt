@@ -1,19 +1,15 @@
--- `sheets::put` meets its contract: by the length of the bytes, and by whether the slot is the sheet's. Assumes nothing.
+-- `sheets::put` meets its contract: by whether the slot is the sheet's. Assumes nothing.
 use borrow.Author.Rules.{rules}
 use mathlib.Core.Path.{◌≡◌, sym, ◌∙◌}
 use lib.ListN.{length}
 use Rattle.sheets.specs.Store.{size}
 use Rattle.sheets.proofs.Framed.{Fit}
-use Rattle.sheets.proofs.Told.{put_storeless, put_added, put_again}
+use Rattle.sheets.proofs.Views.{put_added, put_again}
 use Rattle.sheets.proofs.put.Goals as goal
-
-pub returns-in_default : goal.returns-in_default
-returns-in_default c = put_storeless c.args.store.now c.args.sheet c.args.shot (search rules)
 
 pub returns-then-held : goal.returns-then-held
 returns-then-held c =
     let a = c.args in
-    let same : c.in-Some.store.now ≡ a.store.now = search rules in
     let long : length a.store.now ≡ size = search rules in
     -- the numbers are doubles, and the frames have 16 bits
     let fit : Fit c.args.shot.pose = record {
@@ -28,13 +24,14 @@ returns-then-held c =
       from = search rules;
       to = search rules;
     } in
-    put_again a.store.now a.sheet a.shot c.slot_of-slot.result.number (search rules) (rw same at c.slot_of-slot.ensures) long (search rules) fit
-    (rw same at (sym c.held.ensures ∙ c.if-held.true)) c.retake.result _ (rw same at c.retake.ensures.result_value) (rw same at c.retake.ensures.store_after)
+    put_again a.store.now a.sheet a.shot c.slot_of-slot.result.number (search rules)
+    c.slot_of-slot.ensures long (search rules) fit
+    (sym c.held.ensures ∙ c.if-held.true) c.retake.result _ c.retake.ensures.result_value
+    c.retake.ensures.store_after
 
 pub returns : goal.returns
 returns c =
     let a = c.args in
-    let same : c.in-Some.store.now ≡ a.store.now = search rules in
     let long : length a.store.now ≡ size = search rules in
     -- the numbers are doubles, and the frames have 16 bits
     let fit : Fit c.args.shot.pose = record {
@@ -49,5 +46,7 @@ returns c =
       from = search rules;
       to = search rules;
     } in
-    put_added a.store.now a.sheet a.shot c.slot_of-slot.result.number (search rules) (rw same at c.slot_of-slot.ensures) long (search rules) fit
-    (rw same at (sym c.held.ensures ∙ c.if-held.false)) c.add.result _ (rw same at c.add.ensures.result_value) (rw same at c.add.ensures.store_after)
+    put_added a.store.now a.sheet a.shot c.slot_of-slot.result.number (search rules)
+    c.slot_of-slot.ensures long (search rules) fit
+    (sym c.held.ensures ∙ c.if-held.false) c.add.result _ c.add.ensures.result_value
+    c.add.ensures.store_after

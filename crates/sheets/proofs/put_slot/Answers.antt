@@ -8,4 +8,5 @@ use Rattle.sheets.proofs.put_slot.Goals as goal
 pub returns : goal.returns
 returns c =
     let a = c.args in
-    (rw (c.put_short-2.ensures, c.put_short.ensures, c.start-at.ensures) at c.put_framed.ensures) ∙ slot_stored a.sheet a.shot a.store.now (slots + slot_width * a.slot.number)
+    (rw (c.put_short-2.ensures, c.put_short.ensures, c.start-at.ensures) at c.put_framed.ensures)
+    ∙ slot_stored a.sheet a.shot a.store.now (slots + slot_width * a.slot.number)

@@ -11,6 +11,8 @@ returns-else-live c =
     rw c.in-Read.is
     (record {
       within = c.read_tape.ensures.within;
-      buf_unchanged = tape_kept (Ok c.read_tape.result) a.tape.now a.at a.have a.buf.now c.read_tape.new.buf false c.requires.have_in_bounds p;
+      buf_unchanged =
+          tape_kept (Ok c.read_tape.result) a.tape.now a.at a.have a.buf.now c.read_tape.new.buf false
+          c.requires.have_in_bounds p;
       from_tape = λ e. p;
     })

@@ -7,4 +7,5 @@ use Rattle.sim3_job.proofs.read_input.Goals as goal
 pub returns-clause-within : goal.returns-clause-within
 returns-clause-within c =
     let a = c.args in
-    filled_within c.from_read.result _ _ a.at c.from_read.ensures a.have (length a.buf.now) (length a.tape.now) (search rules) c.requires.at_in_bounds
+    filled_within c.from_read.result _ _ a.at c.from_read.ensures a.have (length a.buf.now) (length a.tape.now)
+    (search rules) c.requires.at_in_bounds

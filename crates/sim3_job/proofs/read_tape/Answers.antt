@@ -22,7 +22,8 @@ returns c =
       from_tape = (
         refl,
         rw (c.copy_from_slice.ensures.after, s)
-            (filled_front a.buf.now (take n (drop a.at a.tape.now)) _ a.have n (omega (arith, c.requires.have_in_bounds))
+            (filled_front a.buf.now (take n (drop a.at a.tape.now)) _ a.have n
+            (omega (arith, c.requires.have_in_bounds))
             (length-take-le n (drop a.at a.tape.now) (omega (arith, length-drop a.at a.tape.now, p.upper_bound, m)))),
         λ u v. let z : n ≡ 0 = eqb-true _ _ u in omega (arith, p.most_value z, z, m),
       );

@@ -4,7 +4,7 @@ use Prim.Native.Nat.{◌≤◌, ◌<◌}
 use mathlib.Core.Bool.{true, false}
 use mathlib.Core.Path.{◌≡◌}
 use lib.ListN.{length, take}
-use Rattle.kept.specs.State.{state_of, memory}
+use Rattle.job_state.specs.State.{state_of}
 use Rattle.job.specs.Counts.{counts_sound}
 use Rattle.job.specs.Job.{standing, job_limit}
 use Rattle.job.specs.Feed.{record_room}
@@ -23,8 +23,8 @@ invariant-loop-read l = record {
   at_in_bounds : l.at ≤ length l.tape;
   sent_in_bounds : l.sent ≤ length l.sink;
   sink_length : length l.sink ≡ length l.initial.sink;
-  underway : l.live ≡ false → Underway job_limit l.tape l.sink (standing l.c (state_of l.mem)) (take l.have l.buf) (over l.next) l.at l.sent;
-  mem_length : length l.mem ≡ memory;
+  underway : l.live ≡ false → Underway job_limit l.tape l.sink (standing l.c (state_of l.state)) (take l.have l.buf)
+      (over l.next) l.at l.sent;
 }
 
 abbrev pub decreases-loop-read : goal.decreases-loop-read

@@ -9,9 +9,15 @@ use Rattle.to_lists.proofs.put_framed.Goals as goal
 pub returns : goal.returns
 unfolding status written framed_fitting
 returns g c =
-    let k : length (g.T.Real.floats c.args.out.now) ≡ length c.args.out.now = rw (g.met.T.Real.floats_law, length-map) in
+    let k : length (g.T.Real.floats c.args.out.now) ≡ length c.args.out.now =
+    rw (g.met.T.Real.floats_law, length-map) in
     rw (k, eq-eqb _ _ c.if-out-ne-POSE.false, eq-eqb _ _ c.if-out_frames-ne-FRAMES.false)
     (record {
       value = refl;
-      out_frames_after = rw (c.to_numbers.ensures, two_stored c.args.out_frames.now c.args.x.from c.args.x.to c.if-out_frames-ne-FRAMES.false) refl;
+      out_frames_after =
+          rw (
+            c.to_numbers.ensures,
+            two_stored c.args.out_frames.now c.args.x.from c.args.x.to
+                c.if-out_frames-ne-FRAMES.false,
+          ) refl;
     })

@@ -9,12 +9,22 @@ use Rattle.wire.proofs.Lists.{decoded_more, firsts-length, min_fewer, front_stor
 use Rattle.wire.proofs.decode_shorts.Goals as goal
 
 pub loop-i-preserved : goal.loop-i-preserved
-loop-i-preserved c = rw (c.loop-i.invariant, c.short_at.ensures) (decoded_more (λ (i : ℕ). word_at 2 c.args.b.now (i * 2)) _ c.loop-i.i)
+loop-i-preserved c =
+    rw (c.loop-i.invariant, c.short_at.ensures) (decoded_more (λ (i : ℕ). word_at 2 c.args.b.now (i * 2)) _ c.loop-i.i)
 
 pub returns : goal.returns
 returns c =
     let n = c.min-n.result in
-    let m : n ≡ fewer (length c.args.b.now / 2) (length c.args.out.now) = c.min-n.ensures ∙ min_fewer (length c.args.b.now / 2) (length c.args.out.now) in
-    let e : c.loop-i.i ≡ n = omega (arith, c.loop-i-test.false, c.loop-i.auto.i-end, length-take-le n c.args.out.now (omega (arith, c.min-n.ensures))) in
+    let m : n ≡ fewer (length c.args.b.now / 2) (length c.args.out.now) =
+    c.min-n.ensures ∙ min_fewer (length c.args.b.now / 2) (length c.args.out.now) in
+    let e : c.loop-i.i ≡ n =
+    omega (
+      arith,
+      c.loop-i-test.false,
+      c.loop-i.auto.i-end,
+      length-take-le n c.args.out.now
+          (omega (arith, c.min-n.ensures)),
+    ) in
     rw (c.loop-i.invariant, e, ← m)
-    (front_stored c.args.out.now (words_at 2 c.args.b.now n) n (firsts-length (λ (i : ℕ). word_at 2 c.args.b.now (i * 2)) n) (omega (arith, c.min-n.ensures)))
+    (front_stored c.args.out.now (words_at 2 c.args.b.now n) n
+    (firsts-length (λ (i : ℕ). word_at 2 c.args.b.now (i * 2)) n) (omega (arith, c.min-n.ensures)))

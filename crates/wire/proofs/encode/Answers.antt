@@ -17,7 +17,9 @@ encode_by-requires-clause-writes g c =
     let r = g.met.T.Real in
     let all = rw r.floats_law at (sym c.all_finite-finite.ensures ∙ c.if-finite.true) in
     record {
-      may = λ y i h e. let p : is_finite (g.T.Real.float y) ≡ true = one-finite g.T.Real.float (take c.min-n.result c.args.x.now) y i all h e in search rules;
+      may =
+          λ y i h e. let p : is_finite (g.T.Real.float y) ≡ true =
+          one-finite g.T.Real.float (take c.min-n.result c.args.x.now) y i all h e in search rules;
       gives = λ y w i h e q. search rules;
     }
 
@@ -29,7 +31,9 @@ returns-then-finite g c =
     let m = length c.args.out.now in
     let n = c.min-n.result in
     let e : g.T.Real.floats (take n x) ≡ take (fewer (length x) (m / width f)) (g.T.Real.floats x) =
-    r.floats_law (take n x) ∙ rw (r.floats_law x) (taken_whole f g.T.Real.float x m n _ (c.BYTES.ensures ∙ g.met.T.Number.bytes_law) c.min-n.ensures) in
+    r.floats_law (take n x)
+    ∙ rw (r.floats_law x) (taken_whole f g.T.Real.float x m n _
+    (c.BYTES.ensures ∙ g.met.T.Number.bytes_law) c.min-n.ensures) in
     record {
       value = c.all_finite-finite.ensures ∙ ap (λ (l : List Float). all_finite (numbers l)) e;
       out_after = c.encode_by.ensures ∙ ap (λ (l : List Float). sets c.args.out.now 0 (numbers_bytes f l)) e;
@@ -43,8 +47,11 @@ returns-else-finite g c =
     let m = length c.args.out.now in
     let n = c.min-n.result in
     let e : g.T.Real.floats (take n x) ≡ take (fewer (length x) (m / width f)) (g.T.Real.floats x) =
-    r.floats_law (take n x) ∙ rw (r.floats_law x) (taken_whole f g.T.Real.float x m n _ (c.BYTES.ensures ∙ g.met.T.Number.bytes_law) c.min-n.ensures) in
+    r.floats_law (take n x)
+    ∙ rw (r.floats_law x) (taken_whole f g.T.Real.float x m n _
+    (c.BYTES.ensures ∙ g.met.T.Number.bytes_law) c.min-n.ensures) in
     record {
       value = c.all_finite-finite.ensures ∙ ap (λ (l : List Float). all_finite (numbers l)) e;
-      out_after = c.encode_by-else-finite.ensures ∙ ap (λ (l : List Float). sets c.args.out.now 0 (numbers_bytes f l)) e;
+      out_after =
+          c.encode_by-else-finite.ensures ∙ ap (λ (l : List Float). sets c.args.out.now 0 (numbers_bytes f l)) e;
     }

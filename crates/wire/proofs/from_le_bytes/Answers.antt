@@ -10,5 +10,6 @@ pub returns : goal.returns
 unfolding number_of
 returns c =
     let n : length c.args.b ≡ 8 = omega (arith, c.well_formed) in
-    let read : from_le_bytes w64 c.args.b ≡ word_of c.args.b = ap (from_le_bytes w64) (bytes-all c.args.b 8 n) ∙ read_eight c.args.b n in
+    let read : from_le_bytes w64 c.args.b ≡ word_of c.args.b =
+    ap (from_le_bytes w64) (bytes-all c.args.b 8 n) ∙ read_eight c.args.b n in
     c.from_pattern.ensures ∙ rw (c.from_le_bytes.ensures, read) refl

@@ -8,5 +8,6 @@ use Rattle.wire.proofs.word_at.Goals as goal
 pub returns : goal.returns
 unfolding word_at
 returns g c =
-    let k : c.args.at + c.BYTES.result - c.args.at ≡ width g.T.Real.format = omega (arith, c.BYTES.ensures, g.met.T.Number.bytes_law) in
+    let k : c.args.at + c.BYTES.result - c.args.at ≡ width g.T.Real.format =
+    omega (arith, c.BYTES.ensures, g.met.T.Number.bytes_law) in
     rw k at c.word.ensures

@@ -1,4 +1,5 @@
--- `circle::kernel::horner` meets its contract: the terms that are left, and p after them, sum to what all terms sum to. Assumes nothing.
+-- `circle::kernel::horner` meets its contract: the terms that are left, and p after them, sum to what all terms sum to.
+-- Assumes nothing.
 use Rattle.std.proofs.Common.{append_assoc}
 use Rattle.std.proofs.lemmas.List.{map-append, nil_from_length}
 use lib.Ieee.{of_bits}
@@ -13,7 +14,8 @@ returns-in_default g c = rw (nil_from_length c.args.t.now c.in_default.ensures.c
 pub loop-c-preserved : goal.loop-c-preserved
 loop-c-preserved g c =
     let real = g.met.T.Real in
-    simp (real.add_law _ _ _ c.add-p.ensures, real.mul_law _ _ _ c.mul.ensures, ← horner_join) (simp (c.in-Some-c.ensures.steps, map-append, append_assoc) at c.loop-c.invariant)
+    simp (real.add_law _ _ _ c.add-p.ensures, real.mul_law _ _ _ c.mul.ensures, ← horner_join)
+    (simp (c.in-Some-c.ensures.steps, map-append, append_assoc) at c.loop-c.invariant)
 
 pub returns : goal.returns
 unfolding horner_sum

@@ -1,4 +1,5 @@
--- `circle::kernel::horner` meets its contract: the terms that are left, and p after them, sum to what all terms sum to. Assumes nothing.
+-- `circle::kernel::horner` meets its contract: the terms that are left, and p after them, sum to what all terms sum to.
+-- Assumes nothing.
 use Rattle.std.proofs.Common.{◌≡◌, map, [], ◌∷◌, ◌++◌}
 use Rattle.circle.specs.Kernel.{horner_sum}
 use Rattle.circle.proofs.kernel.horner.Given as goal
@@ -6,4 +7,5 @@ use Rattle.circle.proofs.kernel.horner.Given as goal
 abbrev pub invariant-loop-c : goal.invariant-loop-c
 invariant-loop-c g l =
     let r = g.T.Real in
-    horner_sum r.format (r.float l.z) (map r.float l.c-iterator.iter.rest.now ++ (r.float l.p ∷ [])) ≡ horner_sum r.format (r.float l.z) (map r.float l.t)
+    horner_sum r.format (r.float l.z) (map r.float l.c-iterator.iter.rest.now ++ (r.float l.p ∷ []))
+    ≡ horner_sum r.format (r.float l.z) (map r.float l.t)

@@ -1,10 +1,11 @@
--- `coeffs::sim3::armed_at` meets its contract: either arm forms what is due at Δ, and is told with whether v0 and w0 come from series of their own. Assumes nothing.
+-- `coeffs::sim3::armed_at` meets its contract: either arm forms what is due at Δ, and is told with whether v0 and w0
+-- come from series of their own. Assumes nothing.
 use mathlib.Core.Path.{sym, ap, ◌∙◌}
 use lib.Dec.{ltb}
 use Rattle.std.proofs.Common.{rules}
-use Rattle.closed.specs.Limits.{coeffs_delta}
-use Rattle.closed.specs.Floats.{as_values}
-use Rattle.closed.proofs.Arm.{ends-series, ends-closed, series-below}
+use Rattle.arms.specs.Limits.{coeffs_delta}
+use Rattle.arms.specs.Floats.{as_values}
+use Rattle.arms.proofs.Arm.{ends-series, ends-closed, series-below}
 use Rattle.coeffs.specs.Group.{coeffs_armed}
 use Rattle.coeffs.proofs.Arms.{by_series, by_closed}
 use Rattle.coeffs.proofs.sim3.armed_at.Goals as goal

@@ -1,10 +1,11 @@
--- `coeffs::sim3::armed_pair_at` meets its contract: either arm forms what is due at Δ, and is told at both signs. Assumes nothing.
+-- `coeffs::sim3::armed_pair_at` meets its contract: either arm forms what is due at Δ, and is told at both signs.
+-- Assumes nothing.
 use mathlib.Core.Path.{sym, ap, ◌∙◌}
 use lib.Dec.{ltb}
 use Rattle.std.proofs.Common.{rules}
-use Rattle.closed.specs.Limits.{coeffs_delta}
-use Rattle.closed.specs.Floats.{as_values}
-use Rattle.closed.proofs.Arm.{ends-series, ends-closed, series-below}
+use Rattle.arms.specs.Limits.{coeffs_delta}
+use Rattle.arms.specs.Floats.{as_values}
+use Rattle.arms.proofs.Arm.{ends-series, ends-closed, series-below}
 use Rattle.coeffs.proofs.Even.{pair_by_series, pair-closed, armed-pair-is}
 use Rattle.coeffs.proofs.sim3.armed_pair_at.Goals as goal
 

@@ -1,4 +1,5 @@
--- `coeffs::sim3::sim3_coeffs_armed_pair` meets its contract: below zero it is refused, else what is formed is answered. Assumes nothing.
+-- `coeffs::sim3::sim3_coeffs_armed_pair` meets its contract: below zero it is refused, else what is formed is answered.
+-- Assumes nothing.
 use Rattle.std.proofs.Common.{rules}
 use Rattle.coeffs.proofs.Even.{armed-pair-answer-is}
 use Rattle.coeffs.proofs.sim3.sim3_coeffs_armed_pair.Goals as goal

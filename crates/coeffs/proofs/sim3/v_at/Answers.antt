@@ -3,10 +3,10 @@ use mathlib.Core.Path.{sym, ap, ◌∙◌}
 use lib.Dec.{ltb}
 use lib.Ieee.{of_bits}
 use Rattle.std.proofs.Common.{rules}
-use Rattle.closed.specs.Limits.{coeffs_delta}
-use Rattle.closed.specs.Arm.{arm_terms}
-use Rattle.closed.specs.Floats.{as_values}
-use Rattle.closed.proofs.Arm.{series-below}
+use Rattle.arms.specs.Limits.{coeffs_delta}
+use Rattle.arms.specs.Arm.{arm_terms}
+use Rattle.arms.specs.Floats.{as_values}
+use Rattle.arms.proofs.Arm.{series-below}
 use Rattle.coeffs.proofs.Arms.{v-series, v-closed}
 use Rattle.coeffs.proofs.sim3.v_at.Goals as goal
 
@@ -18,7 +18,8 @@ returns-in-Series g c =
     let real = g.met.T.Real in
     let e = simp (real.add_law _ _ _ c.add-delta.ensures, real.mul_law _ _ _ c.mul.ensures) at c.in-Series.ensures in
     let t = ap (λ n. ltb n 5) (sym e) ∙ series-below c.in-Series.by in
-    let s = v-series r.format (r.float a.sigma) (r.float a.z) (as_values r.float a.v) _ t (c.arm_terms.ensures.count ∙ ap (arm_terms r.format) e) in
+    let s = v-series r.format (r.float a.sigma) (r.float a.z) (as_values r.float a.v) _ t
+    (c.arm_terms.ensures.count ∙ ap (arm_terms r.format) e) in
     search (rules, s)
 
 pub returns-in-Closed : goal.returns-in-Closed

@@ -12,4 +12,5 @@ unfolding tangent_to_dense
 returns g c =
     let h = g.T.Real.float in
     let k : c.args.at + 7 - c.args.at ≡ 7 = omega arith in
-    rw k (stored h c.args.out.now _ _ c.args.at (ap (map h) c.copy_from_slice.ensures.after ∙ c.to_dense.ensures) refl c.requires)
+    rw k (stored h c.args.out.now _ _ c.args.at (ap (map h) c.copy_from_slice.ensures.after
+    ∙ c.to_dense.ensures) refl c.requires)

@@ -1,4 +1,5 @@
--- `point_lists::many::short` meets its contract: the last triple of an odd count is in its place before the others are moved. Assumes nothing.
+-- `point_lists::many::short` meets its contract: the last triple of an odd count is in its place before the others are
+-- moved. Assumes nothing.
 use Rattle.std.proofs.Common.{rules, ◌≡◌, ◌-◌, ◌*◌, ◌/◌, ◌%◌, length, take, arith, ap, ◌∙◌}
 use Rattle.std.specs.Prelude.{Float, List}
 use lib.Seq.{length-take-le}
@@ -19,6 +20,7 @@ returns g c =
     let k : length (take (e * 3) a.pts.now) ≡ e * 3 = length-take-le (e * 3) a.pts.now (omega arith) in
     let k3 : length (take (e * 3) a.pts.now) / 3 ≡ e = omega (arith, k) in
     let p : points_moved m (fl (take (e * 3) a.pts.now)) e ≡ points_moved m (fl a.pts.now) e =
-    ap (λ (l : List Float). points_moved m l e) (floats_take h fl law (e * 3) a.pts.now) ∙ moved_part m (fl a.pts.now) (e * 3) e (omega arith) in
+    ap (λ (l : List Float). points_moved m l e) (floats_take h fl law (e * 3) a.pts.now)
+    ∙ moved_part m (fl a.pts.now) (e * 3) e (omega arith) in
     let moved = rw (k3, p) at (c.each.ensures.moved m (λ p q post. search rules)) in
     moved ∙ c.last.ensures

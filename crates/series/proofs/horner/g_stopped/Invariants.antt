@@ -1,4 +1,5 @@
--- `series::horner::g_stopped` meets its contract: after i turns the loop holds the partial sum after i entries. Assumes nothing.
+-- `series::horner::g_stopped` meets its contract: after i turns the loop holds the partial sum after i entries. Assumes
+-- nothing.
 use mathlib.Core.Path.{◌≡◌}
 use Rattle.series.specs.Pass.{g_stopped}
 use Rattle.series.proofs.horner.g_stopped.Given as goal

@@ -1,4 +1,5 @@
--- `series::horner::horner_stopped` meets its contract: after i turns the sums are the partial sums that each sign alone has after i entries. Assumes nothing.
+-- `series::horner::horner_stopped` meets its contract: after i turns the sums are the partial sums that each sign alone
+-- has after i entries. Assumes nothing.
 use Rattle.std.proofs.Common.{rules}
 use lib.Ieee.{of_bits}
 use Rattle.series.specs.Pass.{g_stopped}

@@ -1,4 +1,5 @@
--- `series::horner::horner_stopped` meets its contract: after i turns the sums are the partial sums that each sign alone has after i entries. Assumes nothing.
+-- `series::horner::horner_stopped` meets its contract: after i turns the sums are the partial sums that each sign alone
+-- has after i entries. Assumes nothing.
 use mathlib.Core.Path.{◌≡◌}
 use Rattle.series.specs.Floats.{as_signs}
 use Rattle.series.specs.Pass.{both_stopped}

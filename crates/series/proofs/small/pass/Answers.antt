@@ -1,4 +1,5 @@
--- `series::small::pass` meets its contract: after i turns the loops hold what each sign alone has after i entries. Assumes nothing.
+-- `series::small::pass` meets its contract: after i turns the loops hold what each sign alone has after i entries.
+-- Assumes nothing.
 use Rattle.std.proofs.Common.{rules}
 use lib.Ieee.{of_bits}
 use Rattle.series.specs.Pass.{g_stopped}

@@ -13,4 +13,5 @@ pub returns : goal.returns
 returns c =
     let a = c.args in
     let part : c.unwrap.result.now ≡ take 68 (take (length a.b.now - a.at) (drop a.at a.b.now)) = search rules in
-    c.framed_of.ensures ∙ ap (framed_in binary64) (part ∙ ap (take 68) (take_rest a.b.now a.at)) ∙ framed_front a.b.now a.at
+    c.framed_of.ensures ∙ ap (framed_in binary64) (part ∙ ap (take 68) (take_rest a.b.now a.at))
+    ∙ framed_front a.b.now a.at

@@ -1,23 +1,15 @@
--- `sheets::bytes::framed_bytes` meets its contract: the ten stores are one run. Assumes nothing.
-use mathlib.Core.Path.{sym, ◌∙◌}
-use lib.Ieee.{binary64}
-use Rattle.wire.proofs.Lists.{all_stored}
-use Rattle.replies.proofs.Frames.{framed-length}
-use Rattle.sheets.proofs.Framed.{framed_stored}
+-- `sheets::bytes::framed_bytes` meets its contract: the numbers and the frames are one run. Assumes nothing.
+use Rattle.linalg.specs.Vector.{vec_numbers}
+use Rattle.layout.specs.Layout.{quat_numbers, pose_numbers}
+use Rattle.wire.specs.Wire.{word_bytes, number_bytes, numbers_bytes, item_bytes, items_bytes, numbers}
+use Rattle.replies.specs.Table.{framed_items}
 use Rattle.sheets.proofs.bytes.framed_bytes.Goals as goal
 
-pub returns : goal.returns
-returns c =
-    let a = c.args in
-    (rw (
-      c.put_short.ensures,
-      c.put_number-8.ensures,
-      c.put_number-7.ensures,
-      c.put_number-6.ensures,
-      c.put_number-5.ensures,
-      c.put_number-4.ensures,
-      c.put_number-3.ensures,
-      c.put_number-2.ensures,
-      c.put_number.ensures,
-    ) at c.put_short-2.ensures)
-    ∙ (framed_stored a.x _ 0 ∙ all_stored _ _ (sym (framed-length binary64 a.x)))
+pub returns-clause-bytes : goal.returns-clause-bytes
+unfolding framed_items pose_numbers quat_numbers vec_numbers numbers items_bytes item_bytes numbers_bytes number_bytes
+    word_bytes
+returns-clause-bytes c = rw (c.put_short.ensures, c.encode-finite.ensures.out_after) at c.put_short-2.ensures
+
+pub returns-clause-finite : goal.returns-clause-finite
+unfolding pose_numbers quat_numbers vec_numbers
+returns-clause-finite c = c.encode-finite.ensures.value

@@ -8,7 +8,7 @@ use Rattle.linalg.specs.Vector.{vec_cross, vec_norm_sq}
 use Rattle.tables.specs.Tables.{b_row}
 use Rattle.circle.specs.Limits.{row_limit}
 use Rattle.sim3.specs.Exp.{combined, v_apply, poly_apply}
-use Rattle.closed.specs.Limits.{coeffs_delta}
+use Rattle.arms.specs.Limits.{coeffs_delta}
 use Rattle.sim3.proofs.sim3.v_apply.Goals as goal
 
 pub returns-then-not-b_takes_exact_arm_of : goal.returns-then-not-b_takes_exact_arm_of

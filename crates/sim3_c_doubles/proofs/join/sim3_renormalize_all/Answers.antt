@@ -1,4 +1,5 @@
--- `sim3_c_doubles::join::sim3_renormalize_all` meets its contract: a list of whole poses is renormalised, and any other is left as it was. Assumes nothing.
+-- `sim3_c_doubles::join::sim3_renormalize_all` meets its contract: a list of whole poses is renormalised, and any other
+-- is left as it was. Assumes nothing.
 use Prim.Native.Nat.{◌+◌, ◌*◌, ◌-◌}
 use mathlib.Core.Path.{◌≡◌, ◌∙◌}
 use native.Mathlib.Omega.{arith}
@@ -12,6 +13,8 @@ loop-i-preserved c =
     let a = c.args in
     let L = c.loop-i in
     let k : L.i * 8 + 8 - L.i * 8 ≡ 8 = omega arith in (
-      rw k (part_more binary64 a.poses.now L.poses _ L.i (omega arith) L.invariant.1 L.invariant.0 (rw k at c.renormalize_pose.ensures.x_after)),
-      same_len_mid (L.i * 8) (L.i * 8 + 8 - L.i * 8) L.poses c.renormalize_pose.new.x c.renormalize_pose.auto.x ∙ L.invariant.1,
+      rw k (part_more binary64 a.poses.now L.poses _ L.i (omega arith) L.invariant.1 L.invariant.0
+          (rw k at c.renormalize_pose.ensures.x_after)),
+      same_len_mid (L.i * 8) (L.i * 8 + 8 - L.i * 8) L.poses c.renormalize_pose.new.x c.renormalize_pose.auto.x
+          ∙ L.invariant.1,
     )

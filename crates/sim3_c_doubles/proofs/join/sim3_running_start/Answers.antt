@@ -1,4 +1,5 @@
--- `sim3_c_doubles::join::sim3_running_start` meets its contract: zeros are written, or a wrong length is told. Assumes nothing.
+-- `sim3_c_doubles::join::sim3_running_start` meets its contract: zeros are written, or a wrong length is told. Assumes
+-- nothing.
 use borrow.Author.Tests.{eq-eqb}
 use lib.Ieee.{of_bits}
 use Rattle.to_lists.specs.Written.{written}

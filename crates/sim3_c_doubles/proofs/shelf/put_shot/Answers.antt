@@ -1,4 +1,5 @@
--- `sim3_c_doubles::shelf::put_shot` meets its contract: lists of the lengths that are due have take, numbers and frames written, and any other three are left as they were. Assumes nothing.
+-- `sim3_c_doubles::shelf::put_shot` meets its contract: lists of the lengths that are due have take, numbers and frames
+-- written, and any other three are left as they were. Assumes nothing.
 use borrow.Author.Tests.{eq-eqb}
 use mathlib.Core.Path.{◌∙◌}
 use mathlib.Core.List.{[], ◌∷◌}
@@ -13,7 +14,13 @@ unfolding written shot_fitting
 returns-clause-out_frames_after c =
     let a = c.args in
     let take = sets-all a.take.now (a.s.take ∷ []) c.if-take-ne-TAKE.false in
-    let put = framed_fitted (pose_lists a.out.now a.out_frames.now) a.s.pose c.if-out-ne-POSE.false c.if-out_frames-ne-FRAMES.false in
+    let put = framed_fitted (pose_lists a.out.now a.out_frames.now) a.s.pose c.if-out-ne-POSE.false
+    c.if-out_frames-ne-FRAMES.false in
     let both = c.put_framed.ensures.out_frames_after ∙ put.1 in
-    rw (eq-eqb _ _ c.if-take-ne-TAKE.false, eq-eqb _ _ c.if-out-ne-POSE.false, eq-eqb _ _ c.if-out_frames-ne-FRAMES.false)
+    rw (
+      eq-eqb _ _ c.if-take-ne-TAKE.false,
+      eq-eqb _ _ c.if-out-ne-POSE.false,
+      eq-eqb _ _
+          c.if-out_frames-ne-FRAMES.false,
+    )
     (λ i. shot_lists (take i) (both i).numbers (both i).frames)

@@ -1,5 +1,5 @@
--- `sim3_c_doubles::square_root::sim3_root` meets its contract: a refusal is handed on; lists of the lengths that are due have the parts of the root written, and any other three are left as they were.
--- Assumes nothing.
+-- `sim3_c_doubles::square_root::sim3_root` meets its contract: a refusal is handed on; lists of the lengths that are
+-- due have the parts of the root written, and any other three are left as they were. Assumes nothing.
 use borrow.Author.Rules.{rules}
 use borrow.Author.Tests.{eq-eqb}
 use mathlib.Core.Path.{◌≡◌, ap, ◌∙◌}
@@ -23,8 +23,16 @@ returns-clause-nearest_after c =
     let p = c.in_ok-p.p in
     let is : root_of a.z ≡ answers p = search rules in
     let whole = sets-all a.whole.now (p.root ∷ p.remainder ∷ []) c.if-whole-ne-WHOLE.false in
-    let back : to_z w64 (of_z w64 p.exponent) ≡ p.exponent = to_z-of_z w64 p.exponent (record { sfits = c.struct_told-1.given.1.1.0.1 }) in
-    let exponent = ap (λ (s : ℤ). set a.exponent.now 0 s) back ∙ sets-all a.exponent.now (p.exponent ∷ []) c.if-exponent-ne-EXPONENT.false in
+    let back : to_z w64 (of_z w64 p.exponent) ≡ p.exponent =
+    to_z-of_z w64 p.exponent (record { sfits = c.struct_told-1.given.1.1.0.1 }) in
+    let exponent = ap (λ (s : ℤ). set a.exponent.now 0 s) back
+    ∙ sets-all a.exponent.now (p.exponent ∷ []) c.if-exponent-ne-EXPONENT.false in
     let nearest = sets-all a.nearest.now (p.nearest ∷ []) c.if-nearest-ne-NEAREST.false in
-    rw (is, eq-eqb _ _ c.if-whole-ne-WHOLE.false, eq-eqb _ _ c.if-exponent-ne-EXPONENT.false, eq-eqb _ _ c.if-nearest-ne-NEAREST.false)
+    rw (
+      is,
+      eq-eqb _ _ c.if-whole-ne-WHOLE.false,
+      eq-eqb _ _ c.if-exponent-ne-EXPONENT.false,
+      eq-eqb _ _
+          c.if-nearest-ne-NEAREST.false,
+    )
     (λ i. root_lists (whole i) (exponent i) (nearest i))

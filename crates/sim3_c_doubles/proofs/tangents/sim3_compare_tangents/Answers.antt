@@ -1,4 +1,5 @@
--- `sim3_c_doubles::tangents::sim3_compare_tangents` meets its contract: lists of the lengths that are due have the order's number written, and any other leaves `out` as it was. Assumes nothing.
+-- `sim3_c_doubles::tangents::sim3_compare_tangents` meets its contract: lists of the lengths that are due have the
+-- order's number written, and any other leaves `out` as it was. Assumes nothing.
 use borrow.Author.Rules.{rules}
 use borrow.Author.Tests.{eq-eqb}
 use mathlib.Core.Path.{◌≡◌, ap, ◌∙◌}
@@ -25,6 +26,12 @@ returns-clause-out_after c =
     let y : c.in_ok-y.y.now ≡ a.b.now = search rules in
     let o : c.order_number.result ≡ order_number t =
     c.order_number.ensures ∙ ap order_number (c.compare.ensures ∙ (λ i. tangent_order binary64 (x i) (y i))) in
-    let kept = ap (λ (z : ℤ). set a.out.now 0 (to_z w64 (of_z w64 z))) o ∙ ap (λ (z : ℤ). set a.out.now 0 z) (number_back t) in
-    rw (sized-right a.a.now 7 a.a.now (search rules), sized-right a.b.now 7 a.b.now (search rules), eq-eqb _ _ c.if-out-ne-ORDER.false)
+    let kept = ap (λ (z : ℤ). set a.out.now 0 (to_z w64 (of_z w64 z))) o
+    ∙ ap (λ (z : ℤ). set a.out.now 0 z) (number_back t) in
+    rw (
+      sized-right a.a.now 7 a.a.now (search rules),
+      sized-right a.b.now 7 a.b.now
+          (search rules),
+      eq-eqb _ _ c.if-out-ne-ORDER.false,
+    )
     (kept ∙ sets-all a.out.now (order_number t ∷ []) c.if-out-ne-ORDER.false)

@@ -8,5 +8,21 @@ use Rattle.to_lists.proofs.Sim3JacToNumbers.to_numbers.Goals as goal
 pub returns : goal.returns
 unfolding block_numbers
 returns g c =
-    let last = one_stored c.split_at_mut-f.result.1.now c.args.self.e (omega (arith, c.split_at_mut-a.ensures.back_len, c.split_at_mut-b.ensures.back_len, c.split_at_mut-c.ensures.back_len, c.split_at_mut-f.ensures.back_len, c.requires)) in
-    simp (← c.to_numbers.ensures, ← c.to_numbers-2.ensures, ← c.to_numbers-3.ensures, ← c.to_numbers-4.ensures, last, g.met.T.Real.floats_law, map-append)
+    let last = one_stored c.split_at_mut-f.result.1.now c.args.self.e
+    (omega (
+      arith,
+      c.split_at_mut-a.ensures.back_len,
+      c.split_at_mut-b.ensures.back_len,
+      c.split_at_mut-c.ensures.back_len,
+      c.split_at_mut-f.ensures.back_len,
+      c.requires,
+    )) in
+    simp (
+      ← c.to_numbers.ensures,
+      ← c.to_numbers-2.ensures,
+      ← c.to_numbers-3.ensures,
+      ← c.to_numbers-4.ensures,
+      last,
+      g.met.T.Real.floats_law,
+      map-append,
+    )

@@ -1,4 +1,5 @@
--- `sim3::tangent::Sim3Tangent::from_dense` meets its contract: each number is the entry of its place, and every place is below 7. Assumes nothing.
+-- `sim3::tangent::Sim3Tangent::from_dense` meets its contract: each number is the entry of its place, and every place
+-- is below 7. Assumes nothing.
 use Rattle.std.proofs.Common.{arith}
 use Rattle.so3.proofs.Entry.{number_at}
 use Rattle.sim3.specs.Tangent.{tangent_from_dense}

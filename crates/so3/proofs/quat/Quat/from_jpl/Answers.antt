@@ -1,4 +1,5 @@
--- `so3::quat::Quat::from_jpl` meets its contract: each component is the entry of its place, negated but for w, and every place is below 4. Assumes nothing.
+-- `so3::quat::Quat::from_jpl` meets its contract: each component is the entry of its place, negated but for w, and
+-- every place is below 4. Assumes nothing.
 use Rattle.std.proofs.Common.{arith}
 use Rattle.so3.proofs.Entry.{number_at}
 use Rattle.so3.specs.Quat.{quat_of_jpl, quat_conjugate, quat_of_xyzw}

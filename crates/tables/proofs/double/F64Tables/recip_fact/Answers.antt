@@ -9,4 +9,7 @@ use Rattle.tables.proofs.double.F64Tables.recip_fact.Goals as goal
 
 pub returns : goal.returns
 unfolding floats patterns of_bits
-returns c = option_map_id c.copied.result ∙ c.copied.ensures ∙ item_is (floats binary64 (patterns binary64 recip_row)) c.args.n c.get.result c.get.ensures.lookup ∙ recip_got binary64 c.args.n
+returns c =
+    option_map_id c.copied.result ∙ c.copied.ensures ∙ item_is
+    (floats binary64 (patterns binary64 recip_row)) c.args.n c.get.result c.get.ensures.lookup
+    ∙ recip_got binary64 c.args.n

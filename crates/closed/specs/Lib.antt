@@ -1,4 +1,0 @@
-pub mod Floats
-pub mod Values
-pub mod Limits
-pub mod Arm

@@ -1,5 +1,0 @@
-pub mod Holds
-pub mod Flags
-pub mod Opposite
-pub mod Turned
-pub mod TurnedExamples

@@ -1,0 +1,5 @@
+-- To be read in this order.
+pub mod State
+pub mod Records
+pub mod Chain
+pub mod Retakes

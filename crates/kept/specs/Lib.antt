@@ -1,4 +1,0 @@
-pub mod State
-pub mod Records
-pub mod Chain
-pub mod Retakes

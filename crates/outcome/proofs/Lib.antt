@@ -1,3 +1,0 @@
--- The laws of what is told and written for a record.
-pub mod Told
-pub mod Record

@@ -1,0 +1,3 @@
+-- The laws of what is told and written for a record.
+pub mod Views
+pub mod Record

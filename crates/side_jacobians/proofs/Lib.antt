@@ -1,0 +1,4 @@
+pub mod Unfolds
+pub mod Flags
+pub mod Examples
+mod Findings

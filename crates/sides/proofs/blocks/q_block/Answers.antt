@@ -1,8 +1,0 @@
-use Rattle.std.proofs.Common.{rules}
-use Rattle.sides.specs.Blocks.{jl_q}
-use lib.Ieee.{of_bits}
-use Rattle.sides.proofs.blocks.q_block.Goals as goal
-
-pub returns : goal.returns
-unfolding jl_q of_bits
-returns g c = let real = g.met.T.Real in search (rules, real.mul_law)

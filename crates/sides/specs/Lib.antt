@@ -1,5 +1,0 @@
-pub mod Floats
-pub mod Blocks
-pub mod Side
-pub mod Pair
-pub mod Examples
