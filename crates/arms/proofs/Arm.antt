@@ -1,5 +1,5 @@
--- The arm: Δ, the arm and whether v₀ and w₀ come from series of their own are even in σ; the last on either kind of
--- arm; and a series arm's number. Assumes nothing.
+-- The arm: Δ, the arm and whether v₀ and w₀ come from their own series are even in σ; the last on either kind of arm;
+-- and a series arm's number. Assumes nothing.
 use mathlib.Core.Path.{◌≡◌, refl, ap}
 use Prim.Native.Nat.{ℕ}
 use mathlib.Core.Bool.{true, false}

@@ -1,4 +1,4 @@
--- Comparisons in other words: with zero, and with a number that is no NaN. Assumes nothing.
+-- Other forms of comparisons: with zero, and with a number that is not a NaN. Assumes nothing.
 use mathlib.Core.Path.{◌≡◌, refl}
 use mathlib.Core.Bool.{true, false, ◌&&◌}
 use Prim.Native.Nat.{ℕ}

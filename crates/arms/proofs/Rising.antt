@@ -1,5 +1,5 @@
--- The limits of the series arms rise, so a Δ that is not below the last is below none, and its arm is the closed one.
--- Assumes nothing.
+-- The limits of the series arms rise, so a Δ that is not below the last is below none of them, and its arm is the
+-- closed one. Assumes nothing.
 use mathlib.Core.Path.{◌≡◌, refl, subst}
 use Prim.Native.Nat.{ℕ}
 use mathlib.Core.Bool.{Bool, true, false, cond}

@@ -1,4 +1,4 @@
--- The ten function values that are handed in, and the scope's mirrored values.
+-- The ten function values that the caller passes, and the scope's mirrored values.
 use Rattle.std.specs.Prelude.{Bool, cond, ◌&&◌, Float}
 use Rattle.std.specs.Float.Ieee.{le}
 use Rattle.ieee.specs.Numbers.{f0}
@@ -8,7 +8,7 @@ use Rattle.arms.specs.Floats.{Values}
 unfoldable pub at_zero : Float → Bool
 at_zero sigma = le sigma f0 && le f0 sigma
 
--- the values of the negative: up for down, and where σ is ±0 also E for E0 and M for M0
+-- the values of the negative tangent: up and down exchanged, and if σ is ±0 also E and E0, M and M0
 unfoldable pub mirrored : Float → Values → Values
 mirrored sigma v =
     let zero = at_zero sigma in

@@ -1,5 +1,4 @@
-// Where the arms of the coefficients change and how many terms the series takes: what the width of
-// the numbers decides.
+// Where the arms of the coefficients change and how many terms the series take, at each width of the numbers.
 ghost use Rattle.std.specs.Prelude.{◌≡◌, ◌≤◌};
 ghost use Rattle.std.specs.Float.Ieee.{mul, lt, le};
 ghost use Rattle.arms.specs.Limits.{short_below, mid_below, upper_below, series_below, form_b_below, w0_below};
@@ -37,8 +36,8 @@ impl Arm {
         }
     }
 
-    // The arm at delta, by series with more and more terms, or the closed one, which a NaN takes. The last
-    // limit is tested first, so that the closed arm costs one test.
+    // The arm at delta: a series with more and more terms, or the closed one, which a NaN takes. The last limit is
+    // tested first, so that the closed arm costs one test.
     pub fn at<T: Arms>(delta: T) -> Arm
         ensures { arm_number result ≡ coeffs_arm T.format (T.float delta) }
     {
@@ -58,7 +57,7 @@ impl Arm {
     }
 }
 
-// The limits in delta, rising: a series arm is taken below its limit, the closed one at the last.
+// The limits in delta, rising: a series arm is taken below its limit, the closed one from the last limit on.
 pub trait Arms: Real {
     fn short_below() -> Self
         ensures { Self.float result ≡ short_below Self.format };
@@ -80,7 +79,7 @@ pub trait Arms: Real {
     fn w0_below() -> Self
         ensures { Self.float result ≡ w0_below Self.format };
 
-    // The series' term count: within what the series take, so no arm is refused 4.
+    // The series' term count: within what the series accept, so no arm gets refusal 4.
     fn arm_terms(arm: SeriesArm) -> usize
         ensures count { result ≡ arm_terms Self.format (series_number arm) }
         ensures accepted { result ≤ 28 };

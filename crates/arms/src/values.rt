@@ -1,13 +1,13 @@
-// The function values that are handed in, and those of the negative.
+// The function values that the caller passes, and those of the negative tangent.
 ghost use Rattle.std.specs.Prelude.{◌≡◌};
 ghost use Rattle.arms.specs.Values.{at_zero, mirrored};
 ghost use Rattle.arms.specs.Floats.{as_values};
 
 use ieee::Real;
 
-// Any ten numbers. A host gives the root of z, sine and cosine of half the root, the sine of the
-// root, e^t and e^t - 1 at t = -|sigma| (t = sigma where sigma is a zero or a NaN), the same two at
-// -sigma (read only where sigma is a zero), e^sigma and e^-sigma.
+// Any ten numbers. A host passes the root of z, sine and cosine of half the root, the sine of the root, e^t and e^t - 1
+// at t = -|sigma| (t = sigma where sigma is a zero or a NaN), the same two at -sigma (read only where sigma is a zero),
+// e^sigma and e^-sigma.
 #[derive(Clone, Copy)]
 pub struct Values<T> {
     pub root: T,
@@ -22,8 +22,8 @@ pub struct Values<T> {
     pub down: T,
 }
 
-// Whether sigma is +0 or -0. PERF (D122): one `==`, since `<=` of a type parameter asks std for an order of
-// three, which the compiler does not put together to one comparison again.
+// Whether sigma is +0 or -0. PERF (D122): one `==`, since `<=` of a type parameter calls std's three-way comparison,
+// which the compiler does not turn back into one comparison.
 pub fn at_zero<T: Real>(sigma: T) -> bool
     ensures { result ≡ at_zero (T.float sigma) }
 {
@@ -31,8 +31,8 @@ pub fn at_zero<T: Real>(sigma: T) -> bool
 }
 
 impl<T: Real> Values<T> {
-    // The values of the negative, the scope's mirrored values: up and down change places, and
-    // where sigma is a zero so do e and e0, m and m0.
+    // The values of the negative tangent, the scope's mirrored values: up and down change places, and where sigma is a
+    // zero so do e and e0, m and m0.
     #[tactic(auto, unfolding(crate::specs::Values::mirrored))]
     pub fn mirrored(self, sigma: T) -> Values<T>
         ensures { as_values T.float result ≡ mirrored (T.float sigma) (as_values T.float self) }

@@ -1,5 +1,5 @@
--- The squared norm of a rotation vector is never below zero, so an entry that forms it has nothing to refuse. Assumes
--- nothing.
+-- The squared norm of a rotation vector is never below zero, so a function that computes it has nothing to refuse.
+-- Assumes nothing.
 use mathlib.Core.Path.{◌≡◌}
 use mathlib.Core.Bool.{false}
 use lib.Ieee.{Format, lt}

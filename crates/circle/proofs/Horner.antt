@@ -1,5 +1,5 @@
--- Horner's sum from the last term down: the last two terms make one, the first of them plus z times the second. Assumes
--- nothing.
+-- Horner's sum from the last term down: the last two terms combine into one, the first of them plus z times the second.
+-- Assumes nothing.
 use mathlib.Core.Path.{◌≡◌, refl, ap}
 use mathlib.Core.List.{List, [], ◌∷◌, ◌++◌}
 use lib.Ieee.{Float, Format, add, mul}

@@ -8,7 +8,7 @@ use Rattle.std.proofs.lemmas.Float.{lt_of_lt_of_le}
 use Rattle.tables.specs.Tables.{Row, cos_half_row, k_row, a_row, b_row, d_row}
 use Rattle.circle.specs.Limits.{row_limit}
 
--- cosine-half has the least limit, so below it every member is below its own
+-- cosine-half has the least limit, so below it every member is below its limit
 cos_half-least : (f : Format) (row : Row) → T (le (row_limit f cos_half_row) (row_limit f row))
 unfolding of_bits le
 cos_half-least binary32 cos_half_row = tt

@@ -1,5 +1,5 @@
--- The circle functions at a squared angle z, with its root, the sine sh and cosine ch of half the root and the sine s
--- of the root handed in.
+-- The circle functions at a squared angle z; the caller passes its root, the sine sh and cosine ch of half the root and
+-- the sine s of the root.
 use Rattle.std.specs.Prelude.{List, [], ◌∷◌, Bool, cond, ℕ, take, Float}
 use Rattle.std.specs.Float.{Format}
 use Rattle.std.specs.Float.Ieee.{lt}
@@ -45,11 +45,11 @@ module _ (f : Format) where
   exact_d z a = (half ⊖ a) ⊘ z
 
   -- ---- a member of a group
-  -- by its own limit: the whole series below it, else the exact form, which a NaN takes too
+  -- by its limit: the whole series below it, else the exact form, which a NaN takes too
   unfoldable pub row_own : Row → Float → Float → Float
   row_own row z exact = cond (lt z (row_limit f row)) (row_whole row z) exact
 
-  -- the short series where the group takes it, else by its own limit
+  -- the short series where the group takes it, else by its limit
   unfoldable pub row_member : Bool → Row → Float → Float → Float
   row_member short row z exact = cond short (row_short row z) (row_own row z exact)
 
@@ -85,7 +85,7 @@ module _ (f : Format) where
       let c = circle_sinc_abd z root sh ch f0 in
       record { sinc = c.sinc; a = c.a }
 
--- ---- the entries
+-- ---- the public functions
 abbrev pub not_below_zero : {A : Type 0} → Float → A → Answer A
 not_below_zero z x = unless_below_zero z (answers x)
 

@@ -1,4 +1,4 @@
--- Only private contracts cite it: the group of five where b and d may not be asked for.
+-- Definitions for private contracts only: the group of five, with zeros for b and d unless all are wanted.
 use Rattle.std.specs.Prelude.{Bool, cond}
 use Rattle.ieee.specs.Numbers.{f0}
 use Rattle.circle.specs.Floats.{SincABD}

@@ -1,6 +1,5 @@
-// The exact arms, the series arms and the two groups, at a squared angle z = x^2. Its root x, the sine
-// and cosine of x/2 and the sine of x are handed in. A NaN is below no limit, so it takes the exact
-// arms.
+// The exact arms, the series arms and the two groups, at a squared angle z = x^2. The caller passes its root x, the
+// sine and cosine of x/2 and the sine of x. A NaN is below no limit, so it takes the exact arms.
 ghost use Rattle.std.specs.Prelude.{◌≡◌, cond, not, ◌≤◌, map};
 ghost use Rattle.std.specs.Float.Ieee.{lt};
 ghost use Rattle.ieee.specs.Numbers.{f0};
@@ -28,9 +27,9 @@ pub struct ExpCoeffs<T> {
     pub cos_half: T,
 }
 
-// (1 - cos x)/x^2, (x - sin x)/x^3, sin x/x, (x^2/2 - 1 + cos x)/x^4. PERF (D122): a and b stand together
-// because the compiler forms and stores them as one vector: read as halves of other vectors, which
-// another order brings about, they would have to wait for the store.
+// (1 - cos x)/x^2, (x - sin x)/x^3, sin x/x, (x^2/2 - 1 + cos x)/x^4. PERF (D122): a and b are adjacent because the
+// compiler forms and stores them as one vector: in another order they are read as halves of other vectors and have to
+// wait for the store.
 #[derive(Clone, Copy)]
 pub struct SincABD<T> {
     pub a: T,
@@ -88,7 +87,7 @@ pub fn unless_negative<T: Limits>(z: T) -> Result<(), Refusal>
     Ok(())
 }
 
-// A member above its group's short limit: its whole arm below its own limit, else `exact`.
+// A member above its group's short limit: its whole arm below its limit, else `exact`.
 #[tactic(auto, unfolding(crate::specs::Kernel::row_own))]
 fn own_arm<T: Limits>(row: Row, z: T, exact: T) -> T
     ensures { T.float result ≡ row_own T.format (row_named row) (T.float z) (T.float exact) }
@@ -100,8 +99,8 @@ fn own_arm<T: Limits>(row: Row, z: T, exact: T) -> T
     }
 }
 
-// The group of k and cos_half. The limit of cos_half is the lesser, so below it both are on their
-// series and no exact form is worked.
+// The group of k and cos_half. The limit of cos_half is the lesser, so below it both are on their series and no exact
+// form is computed.
 fn exp_group<T: Limits>(z: T, root: T, sin_half: T, cos_half: T) -> ExpCoeffs<T>
     ensures { as_exp_coeffs T.float result ≡ circle_exp T.format (T.float z) (T.float root) (T.float sin_half)
         (T.float cos_half) }
@@ -159,15 +158,15 @@ pub fn sinc_value<T: Limits>(z: T, root: T, sin_half: T, cos_half: T) -> Result<
     Ok(sinc_from(c.k, c.cos_half))
 }
 
-// x where all members are asked for, and else zero.
+// x if ALL members are wanted, else zero.
 fn asked<T: Limits, const ALL: bool>(x: T) -> T
     ensures { T.float result ≡ cond ALL (T.float x) f0 }
 {
     if ALL { x } else { T::of(0.0) }
 }
 
-// The group of five, k and cos_half as sin x/x. Where not all are asked for, b and d are zero, and the
-// compiler leaves out what nothing reads.
+// The group of five, with k and cos_half as sin x/x. If not all are wanted, b and d are zero, and the compiler leaves
+// out what nothing reads.
 fn group<T: Limits, const ALL: bool>(z: T, root: T, sin_half: T, cos_half: T, sin: T) -> SincABD<T>
     ensures { as_sinc_abd T.float result
         ≡ asked_of ALL (circle_sinc_abd T.format (T.float z) (T.float root) (T.float sin_half) (T.float cos_half)
@@ -199,8 +198,8 @@ fn group<T: Limits, const ALL: bool>(z: T, root: T, sin_half: T, cos_half: T, si
     }
 }
 
-// Whether b is on its exact arm at the squared norm of a rotation vector, which a NaN is: nothing is
-// worked. For a caller that forms sin x/x, which is 1 - b z, another way there.
+// Whether b is on its exact arm at the squared norm of a rotation vector, which it is at a NaN; it computes no
+// function. For a caller that there forms sin x/x, which is 1 - b z, in another way.
 pub fn b_takes_exact_arm_of<T: Limits>(phi: Vec3<T>) -> bool
     ensures { result ≡ not (lt (vec_norm_sq T.format (as_vec3 T.float phi)) (row_limit T.format b_row)) }
 {
@@ -215,7 +214,7 @@ pub fn five_group<T: Limits>(z: T, root: T, sin_half: T, cos_half: T, sin: T) ->
     group::<T, true>(z, root, sin_half, cos_half, sin)
 }
 
-// sinc and a of the group of five alone, with its bits, at any z.
+// sinc and a of the group of five only, with the same bits, at any z.
 #[tactic(auto, unfolding(crate::specs::Kernel::circle_sinc_a, crate::specs::Kernel::circle_sinc_abd))]
 pub fn two_group<T: Limits>(z: T, root: T, sin_half: T, cos_half: T) -> SincA<T>
     ensures { as_sinc_a T.float result ≡ circle_sinc_a T.format (T.float z) (T.float root) (T.float sin_half)
@@ -244,7 +243,7 @@ pub fn sinc_a_b_d<T: Limits>(
     Ok(five_group(z, root, sin_half, cos_half, sin))
 }
 
-// sinc and a of `sinc_a_b_d` alone, which the closed form of V reads; refusal 1 for z below zero.
+// sinc and a of `sinc_a_b_d` only, which the closed form of V reads; refusal 1 for z below zero.
 #[tactic(auto, unfolding(crate::specs::Kernel::circle_sinc_a_answer))]
 pub fn sinc_a<T: Limits>(z: T, root: T, sin_half: T, cos_half: T) -> Result<SincA<T>, Refusal>
     ensures { view (as_sinc_a T.float) result ≡ circle_sinc_a_answer T.format (T.float z) (T.float root)

@@ -1,5 +1,4 @@
-// How many terms of a row an arm reads, and below which limit it is taken: what the width of the
-// numbers decides.
+// How many terms of a row an arm reads, and below which limit it is taken, at each width of the numbers.
 ghost use Rattle.std.specs.Prelude.{◌≡◌};
 ghost use Rattle.tables.specs.Rows.{row_named};
 ghost use Rattle.circle.specs.Limits.{row_limit, row_terms, short_terms, exp_short_limit, five_short_limit};
@@ -54,12 +53,12 @@ impl Limits for f64 {
         5
     }
 
-    // That of cos_half.
+    // The limit of cos_half.
     fn exp_short_below() -> f64 {
         0.005232991146814947 // 3f756f305d5f8ce6
     }
 
-    // That of d.
+    // The limit of d.
     fn five_short_below() -> f64 {
         0.0026416483203860926 // 3f65a3f024984d68
     }
@@ -90,12 +89,12 @@ impl Limits for f32 {
         3
     }
 
-    // That of cos_half.
+    // The limit of cos_half.
     fn exp_short_below() -> f32 {
         0.001910953 // 3afa78f1
     }
 
-    // That of a.
+    // The limit of a.
     fn five_short_below() -> f32 {
         0.001 // 3a83126f
     }

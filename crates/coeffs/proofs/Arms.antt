@@ -1,4 +1,5 @@
--- What an arm answers is what the entry answers: g makes the entry's numbers of the arm's. Assumes nothing.
+-- From the result of an arm to the result of a public function: g makes the function's numbers of the arm's. Assumes
+-- nothing.
 use mathlib.Core.Path.{◌≡◌, refl, sym, ap, ◌∙◌}
 use Prim.Native.Nat.{ℕ}
 use mathlib.Core.Bool.{Bool, true, false, cond}
@@ -60,7 +61,7 @@ pub by_closed :
 unfolding closed_one
 by_closed f sigma z v t = scaled-closed f sigma z v t
 
--- ---- with the arm told
+-- ---- with the arm
 pub then_as : {A B : Type 0} (t : Bool) (a : A) (g : A → B) →
     cond t (refuses 1) (answers (g a)) ≡ and_then (cond t (refuses 1) (answers a)) (λ x. answers (g x))
 then_as true a g = refl
@@ -110,7 +111,7 @@ pub v-answers :
 unfolding coeffs_v coeffs_unscaled coeffs_v_scaled coeffs4 coeffs_unscale coeffs_unscale_v
 v-answers f sigma z v s r = arm-answers z _ s _ (λ (x : VScaled). coeffs_unscale_v f x.c v.up x.scaled) refl r
 
--- ---- the flag depends on σ and z alone: any values give the same
+-- ---- the flag depends on σ and z only: any values lead to the same
 flag_of : (b : Bool) (x y : Scaled) → (cond b x y).scaled ≡ cond b x.scaled y.scaled
 flag_of true x y = refl
 flag_of false x y = refl

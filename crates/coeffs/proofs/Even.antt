@@ -1,5 +1,5 @@
--- The coefficients at -σ and the mirrored values, in what is even in σ: Δ, the arm, its ends, the term count, the masks
--- and the circle functions. Assumes nothing.
+-- The coefficients at -σ and the mirrored values, as far as they are even in σ: Δ, the arm, its ends, the term count,
+-- the masks and the circle functions. Assumes nothing.
 use mathlib.Core.Path.{◌≡◌, refl, sym, ap, ◌∙◌}
 use Prim.Native.Nat.{ℕ}
 use mathlib.Core.Bool.{Bool, true, false}
@@ -54,7 +54,7 @@ pair-closed f sigma z v t =
     let e = simp (delta_even, mul-neg-neg) at n in
     λ i. record { pos = p i; neg = e i }
 
--- ---- both answers behind one test
+-- ---- both answers after one test
 pub pair-answer-is : (f : Format) (sigma z : Float) (v : Values) →
     pair_answer f sigma z v ≡ not_below_zero z (coeffs_pair f sigma z v)
 unfolding pair_answer beside scaled_answer coeffs_pair
@@ -69,7 +69,7 @@ pub pair_by_series :
 unfolding series_arm series_arms
 pair_by_series f sigma z v t = pair-series f sigma z v _ t refl
 
--- ---- with the arms told: the armed pair's answer is the pair's, with the arm at σ and its ends told at either sign
+-- ---- with the arms: the armed pair's answer is the pair's, with the arm at σ and its ends for both signs
 abbrev pub view_both : ℕ → Bool → ScaledPair → ArmedPair
 view_both arm ends p = record { pos = view_at arm ends p.pos; neg = view_at arm ends p.neg }
 

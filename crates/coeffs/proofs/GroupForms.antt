@@ -1,4 +1,4 @@
--- What an answer unfolds to compute a coefficient group or the answer of an entry.
+-- The definitions to unfold to compute a coefficient group or the answer of a public function.
 use Rattle.std.specs.Prelude.{⊤}
 use Rattle.series.specs.Series.{coeffs4}
 use Rattle.coeffs.specs.Group.{coeffs_armed, coeffs_armed_pair, coeffs_pair, coeffs_unscaled, coeffs_v, coeffs_v_scaled}

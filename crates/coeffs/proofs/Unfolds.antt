@@ -1,4 +1,4 @@
--- What the proofs of some functions unfold, by the function.
+-- For each function named here, the definitions that its proof unfolds.
 use Rattle.std.specs.Prelude.{⊤}
 use Rattle.coeffs.specs.Entries.{scaled_answer, coeffs_answer}
 use Rattle.coeffs.proofs.GroupForms.{unscaled_forms}

@@ -25,7 +25,7 @@ closed_m sigma mt = cond (lt f0 sigma) (neg mt) mt
 abbrev pub closed_g : Float → Float → Float
 closed_g sigma et = cond (lt f0 sigma) et f1
 
--- the circle functions with those alone that v reads
+-- the circle functions, with only those that v reads
 unfoldable pub closed_only : SincA → SincABD
 closed_only t = record { a = t.a; b = f0; sinc = t.sinc; d = f0 }
 

@@ -1,5 +1,5 @@
--- What the entries answer: refusal 1 for a squared angle below zero, else the coefficients; and the pair, the one-sign
--- answers beside each other.
+-- The answers of the public functions: refusal 1 for a squared angle below zero, else the coefficients; and the pair,
+-- the two one-sign answers side by side.
 use Rattle.std.specs.Prelude.{Float}
 use Rattle.std.specs.Float.{Format}
 use Rattle.std.specs.Float.Ieee.{neg}
@@ -39,7 +39,7 @@ beside a b = and_then a (λ p. and_then b (λ n. answers (record { pos = p; neg 
 unfoldable pub pair_answer : Format → Float → Float → Values → Answer ScaledPair
 pair_answer f sigma z v = beside (scaled_answer f sigma z v) (scaled_answer f (neg sigma) z (mirrored sigma v))
 
--- likewise with the arms told
+-- the same with the arms
 unfoldable pub beside_armed : Answer Armed → Answer Armed → Answer ArmedPair
 beside_armed a b = and_then a (λ p. and_then b (λ n. answers (record { pos = p; neg = n })))
 

@@ -1,5 +1,5 @@
--- The structs over the floats that the definitions speak of, and each struct of the code as one of them: `h` gives the
--- float of a number.
+-- The structs over floats that the definitions use, and each struct of the code as one of them: `h` maps a number to
+-- its float.
 use Rattle.std.specs.Prelude.{ℕ, Bool, Float}
 use Rattle.coeffs.specs.declared.closed_form.Ws as CodeWs
 use Rattle.coeffs.specs.declared.closed_form.Dvs as CodeDvs
@@ -63,7 +63,7 @@ abbrev pub as_scaled_pair : {T : Type 0} → (T → Float) → CodeSigns.Signs
     (CodeScaled.Scaled (CodeSim3Coeffs.Sim3Coeffs T)) → ScaledPair
 as_scaled_pair h a = record { pos = as_scaled h a.pos; neg = as_scaled h a.neg }
 
--- the arm by its number
+-- the armed coefficients, with the arm as its number
 pub record Armed : Type 0 where
   pub s : Scaled
   pub arm : ℕ

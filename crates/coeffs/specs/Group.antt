@@ -1,4 +1,4 @@
--- The coefficients: which arm, and whether scaled; with the arm told; unscaled; v alone; and at both signs.
+-- The coefficients: which arm, and whether scaled; with the arm; unscaled; v only; and at both signs.
 use Rattle.std.specs.Prelude.{Bool, false, cond, ltb, Float}
 use Rattle.std.specs.Float.{Format}
 use Rattle.std.specs.Float.Ieee.{neg, lt, le}
@@ -20,7 +20,7 @@ use Rattle.coeffs.specs.Floats.{ScaledPair}
 use Rattle.coeffs.specs.Floats.{Armed}
 use Rattle.coeffs.specs.Floats.{ArmedPair}
 
--- the closed forms, from the circle functions t and from et and mt, v₀ and w₀ by their series where `ends`: scaled
+-- the closed forms, from the circle functions t and from et and mt, with v₀ and w₀ by their series where `ends`: scaled
 -- exactly where 0 < σ
 abbrev pub closed_scaled : Format → Float → Float → SincABD → Float → Float → Bool → Scaled
 closed_scaled f sigma z t et mt ends =
@@ -38,7 +38,7 @@ coeffs_scaled f sigma z v =
     (record { c = series_full f sigma z (arm_terms f arm); scaled = false })
     (closed_scaled f sigma z (circle_sinc_abd f z v.root v.sin_half v.cos_half v.sin) v.e v.m (arm_ends f sigma arm))
 
--- the same with the arm, and with whether v₀ and w₀ come from series of their own
+-- the same with the arm, and with whether v₀ and w₀ come from their own series
 unfoldable pub coeffs_armed : Format → Float → Float → Values → Armed
 coeffs_armed f sigma z v =
     let arm = coeffs_arm f (coeffs_delta f sigma z) in
@@ -64,7 +64,7 @@ module _ (f : Format) where
         chi_delta = s ⊗ c.chi_delta;
       }
 
-  -- the same on v and χΔ alone
+  -- the same for v and χΔ only
   unfoldable pub coeffs_unscale_v : Coeffs4 → Float → Bool → Coeffs4
   coeffs_unscale_v c up scaled =
       let s = cond scaled up f1 in

@@ -33,13 +33,13 @@ closed_ends f sigma x y small =
       w0_neg = closed_w0 f (neg sigma) y.g y.m1 small;
     }
 
--- all nine of one sign with v₀ and w₀ given
+-- all nine of one sign from v₀ and w₀
 unfoldable pub closed_with : Format → Float → Float → SincABD → Float → Float → Float → Float → Bool → Sim3Coeffs
 closed_with f sigma z t et mt v0 w0 formB =
     let e = closed_e sigma et in
     closed_nine f sigma z t e (closed_v f sigma z t e (closed_m sigma mt) v0 formB) w0
 
--- e^t and e^t - 1 at -σ: where σ is a zero they are handed in apart
+-- e^t and e^t - 1 at -σ: where σ is a zero the caller passes them separately
 unfoldable pub minus_et_mt : Float → Values → EtMt
 minus_et_mt sigma v = record { et = cond (at_zero sigma) v.e0 v.e; mt = cond (at_zero sigma) v.m0 v.m }
 
@@ -49,7 +49,7 @@ pair_ends f sigma small v =
     let n = minus_et_mt sigma v in
     closed_ends f sigma (closed_exps sigma v.e v.m) (closed_exps (neg sigma) n.et n.mt) small
 
--- one sign of the closed arm at Δ, v₀ and w₀ by their series where `small`; and both, with v₀ and w₀ given
+-- one sign of the closed arm at Δ, with v₀ and w₀ by their series where `small`; and both signs, from v₀ and w₀
 unfoldable pub closed_one : Format → Float → Float → Float → Bool → SincABD → Values → Scaled
 closed_one f sigma z delta small t v =
     record { c = closed_from f sigma z t v.e v.m (le (form_b_below f) delta) small; scaled = lt f0 sigma }
@@ -63,7 +63,7 @@ closed_pair f sigma z delta h t v =
       neg = record { c = closed_with f (neg sigma) z t n.et n.mt h.v0_neg h.w0_neg formB; scaled = lt f0 (neg sigma) };
     }
 
--- ---- what a series arm forms by its number, for one sign and for both
+-- ---- what a series arm forms, by its number, for one sign and for both
 unfoldable pub series_arm : Format → Float → Float → ℕ → Scaled
 series_arm f sigma z arm = record { c = series_full f sigma z (arm_terms f arm); scaled = false }
 

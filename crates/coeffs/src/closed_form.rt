@@ -1,5 +1,5 @@
-// The closed arm: the coefficients from the circle functions and the exponential, scaled by e^-sigma where
-// 0 < sigma, so that nothing overflows before the answer does.
+// The closed arm: the coefficients from the circle functions and the exponential, scaled by e^-sigma where 0 < sigma,
+// so that nothing overflows before the result does.
 ghost use Rattle.std.specs.Prelude.{◌≡◌};
 ghost use Rattle.std.specs.Float.Ieee.{neg};
 ghost use Rattle.coeffs.specs.ClosedForm.{closed_v0, closed_w0, closed_v, closed_ws, closed_dvs, closed_nine};
@@ -153,7 +153,7 @@ fn exps_of<T: Width>(sigma: T, x: EtMt<T>) -> Exps<T>
     }
 }
 
-// Those of the circle functions that v reads.
+// The circle functions that v reads.
 fn of_v<T: Width>(t: SincABD<T>) -> SincA<T>
     ensures { as_sinc_a T.float result ≡ record { sinc = T.float t.sinc; a = T.float t.a } }
 {
@@ -163,8 +163,8 @@ fn of_v<T: Width>(t: SincABD<T>) -> SincA<T>
     }
 }
 
-// v and chi_delta alone, from the circle functions t and from e^t, e^t - 1 at t = -|sigma|. PERF (D122): it and `v_at`
-// have several callers, and as functions of their own they would be handed their numbers in memory.
+// v and chi_delta only, from the circle functions t and from e^t, e^t - 1 at t = -|sigma|. PERF (D122): it and `v_at`
+// have several callers, and if they were not inlined they would receive their numbers in memory.
 #[inline(always)]
 #[tactic(auto, unfolding(crate::specs::ClosedForm::closed_v_from, crate::specs::Private::closed_exps))]
 pub fn closed_v<T: Width>(

@@ -1,5 +1,5 @@
-// The entries of the coefficient group: scaled, with the arm told, unscaled, v alone, and the pair for
-// both signs. Each finds the arm once.
+// The public functions of the coefficient group: scaled, with the arm, unscaled, v alone, and the pair for both signs.
+// Each finds the arm once.
 ghost use Rattle.std.specs.Prelude.{◌≡◌};
 ghost use Rattle.linalg.specs.Vector.{vec_norm_sq};
 ghost use Rattle.coeffs.specs.Group.{coeffs_scaled, coeffs_unscale, coeffs_unscale_v, coeffs_unscaled, coeffs_v_scaled};
@@ -27,21 +27,21 @@ use series::count::Count;
 use series::pair::series_pair_at;
 use series::sim3::{Coeffs4, Signs, Sim3Coeffs, series_at, series_v_at};
 
-// Coefficients as their arm forms them: scaled by e^-sigma where `scaled`.
+// Coefficients as their arm forms them: scaled by e^-sigma if `scaled`.
 #[derive(Clone, Copy)]
 pub struct Scaled<C> {
     pub c: C,
     pub scaled: bool,
 }
 
-// v and chi_delta alone, as their arm forms them.
+// v and chi_delta only, as their arm forms them.
 pub type VScaled<T> = Scaled<Coeffs4<T>>;
 
 // The coefficients at sigma and at -sigma.
 pub type ScaledPair<T> = Signs<Scaled<Sim3Coeffs<T>>>;
 
-// The coefficients with the arm that formed them; `ends` says whether v0 and w0 of the closed arm come
-// from series of their own.
+// The coefficients with the arm that formed them; `ends` says whether v0 and w0 of the closed arm come from their own
+// series.
 #[derive(Clone, Copy)]
 pub struct Armed<T> {
     pub s: Scaled<Sim3Coeffs<T>>,
@@ -76,7 +76,7 @@ impl<T: Width> Scaled<Sim3Coeffs<T>> {
 }
 
 impl<T: Width> Scaled<Coeffs4<T>> {
-    // The same on v and chi_delta alone.
+    // The same for v and chi_delta only.
     #[tactic(auto, unfolding(crate::specs::Group::coeffs_unscale_v))]
     fn unscale_v(self, up: T) -> Coeffs4<T>
         ensures { as_coeffs4 T.float result ≡ coeffs_unscale_v T.format (as_coeffs4 T.float self.c)
@@ -93,7 +93,7 @@ impl<T: Width> Scaled<Coeffs4<T>> {
     }
 }
 
-// ---- at any z: what the entries answer where they do not refuse
+// ---- at any z: the results where the public functions do not refuse
 
 // The coefficients by a series arm.
 #[tactic(auto, unfolding(crate::specs::Private::series_arm))]
@@ -112,8 +112,7 @@ fn by_series<T: Width>(sigma: T, z: T, arm: SeriesArm) -> Scaled<Sim3Coeffs<T>>
     }
 }
 
-// The coefficients by the closed arm from the circle functions t, v0 and w0 by their series where
-// `small`.
+// The coefficients by the closed arm from the circle functions t, with v0 and w0 by their series where `small`.
 #[tactic(auto, unfolding(crate::specs::Private::closed_one))]
 fn closed_one<T: Width>(
     sigma: T,
@@ -132,7 +131,7 @@ fn closed_one<T: Width>(
     }
 }
 
-// sim3_coeffs_armed.
+// `sim3_coeffs_armed` at any z.
 fn armed_at<T: Width>(sigma: T, z: T, v: Values<T>) -> Armed<T>
     ensures { as_armed T.float result ≡ coeffs_armed T.format (T.float sigma) (T.float z) (as_values T.float v) }
 {
@@ -153,7 +152,7 @@ fn armed_at<T: Width>(sigma: T, z: T, v: Values<T>) -> Armed<T>
     }
 }
 
-// sim3_v_scaled. PERF (D122): see `closed_v`.
+// `sim3_v_scaled` at any z. PERF (D122): see `closed_v`.
 #[inline(always)]
 fn v_at<T: Width>(sigma: T, z: T, v: Values<T>) -> VScaled<T>
     ensures { as_v_scaled T.float result ≡ coeffs_v_scaled T.format (T.float sigma) (T.float z) (as_values T.float v) }
@@ -244,7 +243,7 @@ fn closed_pair<T: Width>(
     }
 }
 
-// f of what is at sigma, and of what is at -sigma.
+// f of the value at sigma, and of the value at -sigma.
 fn each_sign<X: Copy, Y: Copy, F: Fn(X) -> Y>(p: Signs<X>, f: F) -> Signs<Y>
     requires { F.IsAlwaysCallable f }
     ensures { F.post f p.pos result.pos × F.post f p.neg result.neg }
@@ -265,7 +264,7 @@ fn pair_by_series<T: Width>(sigma: T, z: T, arm: SeriesArm) -> ScaledPair<T>
     each_sign(p, |c| Scaled { c, scaled: false })
 }
 
-// Both signs with the arm told: it is even in sigma.
+// Both signs with the arm, which is even in sigma.
 fn with_arm<T: Width>(p: ScaledPair<T>, arm: Arm, ends: bool) -> ArmedPair<T>
     ensures { as_armed_pair T.float result
         ≡ record {
@@ -277,7 +276,7 @@ fn with_arm<T: Width>(p: ScaledPair<T>, arm: Arm, ends: bool) -> ArmedPair<T>
     each_sign(p, |s| Armed { s, arm, ends })
 }
 
-// sim3_coeffs_armed_pair.
+// `sim3_coeffs_armed_pair` at any z.
 fn armed_pair_at<T: Width>(sigma: T, z: T, v: Values<T>) -> ArmedPair<T>
     ensures { as_armed_pair T.float result ≡ coeffs_armed_pair T.format (T.float sigma) (T.float z)
         (as_values T.float v) }
@@ -297,7 +296,7 @@ fn armed_pair_at<T: Width>(sigma: T, z: T, v: Values<T>) -> ArmedPair<T>
 
 // ---- at z = theta^2, refusal 1 for z < 0
 
-// The coefficients at (sigma, z) with the arm told.
+// The coefficients at (sigma, z) with the arm.
 #[tactic(auto, unfolding(crate::specs::Entries::armed_answer))]
 pub fn sim3_coeffs_armed<T: Width>(sigma: T, z: T, v: Values<T>) -> Result<Armed<T>, Refusal>
     ensures { view (as_armed T.float) result ≡ armed_answer T.format (T.float sigma) (T.float z) (as_values T.float v) }
@@ -329,7 +328,7 @@ pub fn sim3_coeffs<T: Width>(sigma: T, z: T, v: Values<T>) -> Result<Sim3Coeffs<
     Ok(s.unscale(v.up))
 }
 
-// v and chi_delta of sim3_coeffs_scaled alone: the same bits. PERF (D122): a call of its own would copy the ten values.
+// v and chi_delta of sim3_coeffs_scaled only: the same bits. PERF (D122): a separate call would copy the ten values.
 #[inline(always)]
 #[tactic(auto, unfolding(crate::specs::Entries::v_scaled_answer))]
 pub fn sim3_v_scaled<T: Width>(sigma: T, z: T, v: Values<T>) -> Result<VScaled<T>, Refusal>
@@ -340,7 +339,7 @@ pub fn sim3_v_scaled<T: Width>(sigma: T, z: T, v: Values<T>) -> Result<VScaled<T
     Ok(v_at(sigma, z, v))
 }
 
-// v and chi_delta of sim3_coeffs alone: the same bits.
+// v and chi_delta of sim3_coeffs only: the same bits.
 pub fn sim3_v<T: Width>(sigma: T, z: T, v: Values<T>) -> Result<Coeffs4<T>, Refusal>
     ensures { view (as_coeffs4 T.float) result ≡ v_answer T.format (T.float sigma) (T.float z) (as_values T.float v) }
 {
@@ -362,9 +361,9 @@ pub fn sim3_coeffs_armed_pair<T: Width>(
     Ok(armed_pair_at(sigma, z, v))
 }
 
-// sim3_coeffs_scaled at sigma and at -sigma, likewise: the armed pair without what it tells besides.
-// So a library has the pair's code once, and the closed arm's numbers are stored once: with callers
-// of its own, closed_pair would be a call, whose answer is copied.
+// sim3_coeffs_scaled at sigma and at -sigma, each to the bit: the armed pair without its arms. So a library has the
+// pair's code once, and the closed arm's numbers are stored once: with its own callers, closed_pair would be a call,
+// whose result is copied.
 #[tactic(auto, unfolding(crate::proofs::GroupForms::entry_answers))]
 pub fn sim3_coeffs_scaled_pair<T: Width>(
     sigma: T,

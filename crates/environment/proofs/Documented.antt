@@ -1,4 +1,4 @@
--- The product of the documented numbers is the one that is due, by working it out. Assumes nothing.
+-- The product of the documented numbers is the documented one, by computing it. Assumes nothing.
 use mathlib.Core.Path.{refl}
 use lib.Ieee.{mul, eq, of_bits}
 use Rattle.environment.specs.Environment.{product_is_due, DocumentedIsDue}

@@ -1,2 +1,2 @@
--- That the documented numbers have the product that is due.
+-- The documented numbers have the documented product.
 pub mod Documented

@@ -1,5 +1,5 @@
--- The probe: two products, of which one at least is rounded to another number in every other setting of flushing and
--- rounding. No format is an argument: one register of the processor holds the setting for all.
+-- The probe: two products, at least one of which is rounded to another number under every other setting of flushing and
+-- rounding. It has no format as argument: one register of the processor holds the setting for all formats.
 use Rattle.std.specs.Prelude.{◌≡◌, Bool, true, Float}
 use Rattle.std.specs.Float.{binary64}
 use Rattle.std.specs.Float.Ieee.{eq, of_bits}
@@ -25,6 +25,6 @@ second = of_bits binary64 1
 abbrev pub third : Float
 third = of_bits binary64 0x7fe0000000000001
 
--- What is proved of them. So a machine that answers otherwise is not the one of the proofs.
+-- The theorem on these numbers. So a machine that returns something else is not the one of the proofs.
 abbrev pub DocumentedIsDue : Type 0
 DocumentedIsDue = product_is_due first second third ≡ true

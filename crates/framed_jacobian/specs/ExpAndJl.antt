@@ -1,4 +1,5 @@
--- (Exp τ, J_l(τ)) with the frames of the pose. It starts from no pose, so both are given; the Jacobian reads none.
+-- (Exp τ, J_l(τ)) with the frames of the pose. No pose is an argument, so the caller passes both frames; the Jacobian
+-- reads neither.
 use Rattle.std.specs.Prelude.{ℕ}
 use Rattle.std.specs.Float.{Format}
 use Rattle.linalg.specs.Floats.{Mat3}

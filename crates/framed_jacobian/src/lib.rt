@@ -1,5 +1,6 @@
-// The exponential beside its left Jacobian, as a pose with its frames. It starts from no pose, so both frames are
-// given; the Jacobian reads none. Proved: the numbers are those of crate side_jacobians. Rests on that and on frames.
+// The exponential as a pose with its frames, together with its left Jacobian. No pose is an argument, so the caller
+// passes both frames; the Jacobian reads neither. Proved: the numbers are those of crate side_jacobians. Rests on that
+// and on frames.
 #![tactic(auto)]
 
 ghost use Rattle.std.specs.Prelude.{◌≡◌};

@@ -1,4 +1,4 @@
--- The laws of frames: each answer is a test and what it gives, so a law is one of tests. Assumes nothing.
+-- The laws of frames: each answer is a test and its result, so a law is a law of tests. Assumes nothing.
 use mathlib.Core.Path.{◌≡◌, refl, sym, ap, ◌∙◌}
 use mathlib.Core.Bool.{Bool, true, false, cond}
 use mathlib.Core.Logic.{inl, inr}

@@ -1,5 +1,5 @@
--- Poses joined: the frames must meet, and the result has the frames of the joined map. Refusal 9 where they do not
--- meet.
+-- Poses joined: the frames must match, and the result has the frames of the composed map. Refusal 9 if they do not
+-- match.
 use Rattle.std.specs.Prelude.{ℕ, cond, eqb, Float}
 use Rattle.std.specs.Float.{Format}
 use Rattle.linalg.specs.Answer.{Answer, answers, refuses}
@@ -7,11 +7,11 @@ use Rattle.sim3.specs.Pose.{pose_mul, pose_mul_inv, pose_inv_mul}
 use Rattle.frames.specs.Pose.{framed}
 use Rattle.frames.specs.Floats.{Pose}
 
--- x, where the frames a and b are one and the same
+-- x, if the frames a and b are equal
 abbrev pub meets : ℕ → ℕ → Pose → Answer Pose
 meets a b x = cond (eqb a b) (answers x) (refuses 9)
 
--- X Y goes from where Y starts to where X goes
+-- X Y maps from the frame where Y starts to the frame where X ends
 unfoldable pub framed_mul : Format → Pose → Pose → Float → Answer Pose
 framed_mul f x y up = meets x.from y.to (framed (pose_mul f x.sim3 y.sim3 up) y.from x.to)
 

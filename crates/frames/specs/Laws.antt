@@ -1,5 +1,5 @@
--- Frames behave as those of maps, whatever the numbers, at any format. Proved as `frames_laws` in proofs/Laws.antt. The
--- exponentials that are handed in bear on no frame, so each is any number.
+-- Frames behave like those of maps, whatever the numbers, at any format. Proved as `frames_laws` in proofs/Laws.antt.
+-- The exponentials that the caller passes do not affect frames, so each is any number.
 use Rattle.std.specs.Prelude.{◌≡◌, ℕ, Float}
 use Rattle.std.specs.Float.{Format}
 use Rattle.linalg.specs.Answer.{Answer, answers, refuses, and_then}
@@ -19,8 +19,8 @@ frames_of x = (x.from, x.to)
 abbrev pub answered_frames : Answer Pose → Answer (ℕ × ℕ)
 answered_frames a = and_then a (λ x. answers (frames_of x))
 
--- a product is answered exactly where X starts from the frame to which Y goes; then its numbers are those of the
--- product without frames
+-- a product is answered exactly if X starts from the frame where Y ends; then its numbers are those of the product
+-- without frames
 pub record ProductLaws (f : Format) (x y : Pose) (up : Float) : Type 0 where
   pub accepted : x.from ≡ y.to → framed_mul f x y up ≡ answers (framed (pose_mul f x.sim3 y.sim3 up) y.from x.to)
   pub refused : (x.from ≡ y.to → ⊥) → framed_mul f x y up ≡ refuses 9
@@ -28,7 +28,7 @@ pub record ProductLaws (f : Format) (x y : Pose) (up : Float) : Type 0 where
 
 pub record FramesLaws (f : Format) : Type 0 where
   pub product : (x y : Pose) (up : Float) → ProductLaws f x y up
-  -- (X Y) Z and X (Y Z): answered or refused alike, and with the same frames
+  -- (X Y) Z and X (Y Z): both answered or both refused, and with the same frames
   pub association :
       (x y z : Pose) (a b c d : Float)
       → answered_frames (and_then (framed_mul f x y a) (λ p. framed_mul f p z b))

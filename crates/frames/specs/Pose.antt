@@ -1,5 +1,5 @@
--- Poses with two frames: such a pose maps points of the frame `from` to points of the frame `to`.
--- What starts from a pose keeps its frames, and the inverse exchanges them; what starts from none is given both.
+-- Poses with two frames: such a pose maps points of the frame `from` to points of the frame `to`. A result made from a
+-- pose keeps its frames, and the inverse exchanges them; for a result made from no pose, the caller passes both.
 use Rattle.std.specs.Prelude.{ℕ, Float}
 use Rattle.std.specs.Float.{Format}
 use Rattle.arms.specs.Floats.{Values}

@@ -1,6 +1,6 @@
-// Poses with their frames: a pose maps points of the frame `from` to points of the frame `to`. Poses are joined only
-// where the frames meet. Proved: the numbers are those of crate sim3, whose argument orders are kept, and frames behave
-// as those of maps (FramesLaws). The action and the Jacobians read no frame, and take `x.sim3`. Rests on sim3.
+// Poses with their frames: a pose maps points of the frame `from` to points of the frame `to`. Poses are joined only if
+// the frames match. Proved: the numbers are those of crate sim3, whose argument orders are kept, and frames behave like
+// those of maps (FramesLaws). The action and the Jacobians read no frame, and take `x.sim3`. Rests on sim3.
 #![tactic(auto)]
 
 ghost use Rattle.std.specs.Prelude.{◌≡◌};
@@ -31,7 +31,7 @@ pub struct Pose<T> {
     pub to: u16,
 }
 
-// The two frames of a pose that starts from none.
+// The two frames of a result that is made from no pose.
 #[derive(Clone, Copy, PartialEq, Eq)]
 pub struct Frames {
     pub from: u16,
@@ -48,8 +48,8 @@ fn between<T: Real>(sim3: Sim3<T>, frames: Frames) -> Pose<T>
     }
 }
 
-// A product's numbers and frames, where the frames a and b, at which its operands meet, are one and the same.
-// PERF (D122): it and `mul` are written into their callers, since a call would copy the poses.
+// A product's numbers and frames, if the frames a and b, which must match, are equal.
+// PERF (D122): it and `mul` are inlined into their callers, since a call would copy the poses.
 #[inline(always)]
 fn joined<T: Real>(a: u16, b: u16, sim3: Sim3<T>, frames: Frames) -> Result<Pose<T>, Refusal>
     ensures { view (as_pose T.float) result ≡ meets a b (framed (as_sim3 T.float sim3) frames.from frames.to) }
@@ -77,7 +77,7 @@ impl<T: Real> Pose<T> {
         between(Sim3::identity(), frames)
     }
 
-    // X Y, where X starts from the frame to which Y goes; up is e^sigma of X. PERF (D122): see `joined`.
+    // X Y, where X starts from the frame where Y ends; up is e^sigma of X. PERF (D122): see `joined`.
     #[inline(always)]
     #[tactic(auto, unfolding(crate::specs::Joins::framed_mul))]
     pub fn mul(self, other: Pose<T>, up: T) -> Result<Pose<T>, Refusal>
@@ -120,7 +120,7 @@ impl<T: Real> Pose<T> {
         )
     }
 
-    // Y^-1 X, where both go to one frame; down is e^-sigma of Y.
+    // Y^-1 X, where both end in one frame; down is e^-sigma of Y.
     #[tactic(auto, unfolding(crate::specs::Joins::framed_inv_mul))]
     pub fn inv_mul(self, other: Pose<T>, down: T) -> Result<Pose<T>, Refusal>
         ensures { view (as_pose T.float) result
@@ -141,7 +141,7 @@ impl<T: Real> Pose<T> {
 }
 
 impl<T: Width> Pose<T> {
-    // Exp tau, which starts from no pose.
+    // Exp tau, with the frames that the caller passes.
     #[tactic(auto, unfolding(crate::specs::Pose::framed_exp))]
     pub fn exp(tau: Sim3Tangent<T>, v: Values<T>, frames: Frames) -> Pose<T>
         ensures { as_pose T.float result

@@ -1,4 +1,4 @@
--- A thing is what its numbers are read as; so what is told by its numbers is told of the thing. Assumes nothing.
+-- A structure is what its numbers read as, so a result on the numbers is a result on the structure. Assumes nothing.
 use Rattle.std.proofs.Common.{◌≡◌, ℕ, List, length, refl, Float, cond, eqb}
 use Rattle.std.specs.Prelude.{Result, Ok, Err, Bool, true, false}
 use Rattle.linalg.specs.Answer.{answers, refuses, view}
@@ -32,7 +32,7 @@ pub view_back :
 unfolding sized
 view_back h numbers back inv n l floats r k e = rw k (told_if h numbers back (eqb (length l) n) floats r inv e)
 
--- ---- each thing is read from its numbers
+-- ---- each structure is read from its numbers
 pub vec_back : (v : Vec3) → vec_in (number_in (vec_numbers v)) 0 ≡ v
 unfolding vec_in vec_numbers
 vec_back v = refl

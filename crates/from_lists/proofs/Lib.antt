@@ -1,3 +1,3 @@
--- The laws of lists that are read whole.
+-- Lemmas on lists that hold exactly one structure.
 pub mod Back
 pub mod Lists

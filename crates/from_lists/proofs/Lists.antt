@@ -1,4 +1,4 @@
--- Lists that have the length that is due. Assumes nothing.
+-- Lists of the right length. Assumes nothing.
 use Prim.Native.Nat.{ℕ}
 use mathlib.Core.Path.{◌≡◌}
 use mathlib.Core.List.{List}

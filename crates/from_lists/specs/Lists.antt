@@ -1,4 +1,4 @@
--- What is read of the lists of a call. A list of another length is refused.
+-- What a call reads from its lists. A list of the wrong length is refused.
 use Rattle.std.specs.Prelude.{ℕ, cond, List, eqb, get_or, length, Float}
 use Rattle.std.specs.Float.{nan}
 use Rattle.linalg.specs.Answer.{Answer, answers, refuses, and_then}
@@ -14,11 +14,11 @@ use Rattle.layout.specs.Layout.{vec_count, mat_count, pose_count, tangent_count,
 use Rattle.layout.specs.Layout.{mat_in, pose_in, tangent_in, values_in, block_in}
 use Rattle.frames.specs.declared.Frames.{Frames}
 
--- the refusal of a list whose length is not the one that is due
+-- the refusal of a list of the wrong length
 abbrev pub wrong_length : ℕ
 wrong_length = 100
 
--- what is read of a list that has n places
+-- a if the list has n elements, else the refusal
 unfoldable pub sized : {A B : Type 0} → List B → ℕ → A → Answer A
 sized l n a = cond (eqb (length l) n) (answers a) (refuses wrong_length)
 
@@ -26,7 +26,7 @@ sized l n a = cond (eqb (length l) n) (answers a) (refuses wrong_length)
 abbrev pub number_in : List Float → ℕ → Float
 number_in l i = get_or l i nan
 
--- ---- whole lists, in the order of the job's records
+-- ---- lists that hold one structure, in the order of the job's records
 unfoldable pub vec_from : List Float → Answer Vec3
 vec_from l = sized l vec_count (vec_in (number_in l) 0)
 
@@ -45,7 +45,7 @@ values_from l = sized l values_count (values_in (number_in l) 0)
 unfoldable pub block_from : List Float → Answer Sim3Jac
 block_from l = sized l block_count (block_in (number_in l) 0)
 
--- ---- a pose with its frames stands in two lists: its eight numbers; from, then to
+-- ---- a pose with its frames, in two lists: its eight numbers; from, then to
 pub record PoseLists : Type 0 where
   pub numbers : List Float
   pub frames : List ℕ

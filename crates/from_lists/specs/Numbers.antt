@@ -1,4 +1,4 @@
--- The numbers of what only is read, in the order in which Layout.antt of crate `layout` reads them.
+-- The numbers of the structures that calls only read, in the order in which Layout.antt of crate `layout` reads them.
 use Rattle.std.specs.Prelude.{List, [], ◌∷◌, ◌++◌, Float}
 use Rattle.linalg.specs.Vector.{vec_numbers}
 use Rattle.arms.specs.Floats.{Values}

@@ -1,6 +1,5 @@
-// The things that stand in the numbers of a list that a C function is lent; refused where the list has another length.
-// Matrices go column by column. Proved: what is read has the list's numbers in the order of layout (specs/Lists). Rests
-// on layout.
+// Structures read from the lists that a C function borrows; a list of the wrong length is refused. Matrices are stored
+// column by column. Proved: what is read has the list's numbers in the order of layout (specs/Lists). Rests on layout.
 #![tactic(auto)]
 
 ghost use Rattle.std.specs.Prelude.{◌≡◌, ◌+◌, ◌≤◌, ◌++◌, ℕ, List, Float, length};
@@ -33,7 +32,7 @@ use so3::quat::Quat;
 // A pose's frames: from, to.
 pub const FRAMES: usize = 2;
 
-// What is made of a fixed number of numbers, in the order in which they stand in a list.
+// A structure of a fixed number of numbers, in the order in which a list holds them.
 trait FromNumbers<T: Real>: Copy {
     const COUNT: usize;
 
@@ -46,7 +45,7 @@ trait FromNumbers<T: Real>: Copy {
         ensures { numbers result ≡ T.floats l.now };
 }
 
-// What stands at the front of a list, and the list behind it.
+// The structure at the front of a list, and the rest of the list.
 fn front<T: Real, X: FromNumbers<T>>(l: &[T]) -> (X, &[T])
     requires { X.COUNT ≤ length l.now }
     ensures value { X.numbers result.0 ++ T.floats result.1.now ≡ T.floats l.now }
@@ -56,7 +55,7 @@ fn front<T: Real, X: FromNumbers<T>>(l: &[T]) -> (X, &[T])
     (X::from_numbers(first), rest)
 }
 
-// What a list says that has just the numbers of one thing.
+// The structure in a list that holds exactly its numbers.
 #[tactic(auto, unfolding(crate::specs::Lists::sized))]
 fn from_list<T: Real, X: FromNumbers<T>>(l: &[T]) -> Result<X, Refusal>
     ensures { view X.numbers result ≡ sized l.now X.COUNT (T.floats l.now) }
@@ -257,7 +256,7 @@ pub fn frames_from(l: &[u16]) -> Result<Frames, Refusal>
     Ok(Frames { from, to })
 }
 
-// A pose's numbers, and its frames from a list beside them.
+// A pose whose frames are in a second list.
 #[tactic(auto, unfolding(crate::specs::Lists::framed_from))]
 pub fn framed_from<T: Real>(l: &[T], k: &[u16]) -> Result<Pose<T>, Refusal>
     ensures { view (as_pose T.float) result ≡ framed_from (pose_lists (T.floats l.now) k.now) }

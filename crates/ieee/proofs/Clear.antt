@@ -1,6 +1,6 @@
--- Where a result is not -0, which the names of the laws call clear. A sum is -0 only where its first operand is: a sum
--- that is not zero does not round to zero, since both operands are multiples of the format's smallest value. So of
--- values that fit and are not -0, `Same` is equality. Assumes nothing.
+-- Where a result is not -0; the lemmas' names call this clear. A sum is -0 only if its first operand is: a sum that is
+-- not zero does not round to zero, since both operands are multiples of the format's smallest value. So for values that
+-- fit and are not -0, `Same` is equality. Assumes nothing.
 use mathlib.Core.Path.{◌≡◌, refl, sym, ap, ◌∙◌, subst}
 use mathlib.Core.Logic.{◌⊎◌, inl, inr}
 use Prim.Native.Nat.{ℕ, zero, suc, ◌+◌, ◌-◌, ◌*◌, ◌^◌, ◌≤◌, ◌<◌}
@@ -191,7 +191,7 @@ pub same-is : (f : Format) (x y : Float) → T (fits f x) → T (fits f y) → T
     Same x y → x ≡ y
 same-is f x y p q c d h = sym (plain_id f x p c) ∙ h ∙ plain_id f y q d
 
--- so a sum of values that are the same is the same value, where it starts from one that is not -0
+-- so a sum of values that are the same is the same value, if it starts from one that is not -0
 pub add-is-same :
     (f : Format) (x x' y y' : Float) → T (fits f x) → T (fits f x') → T (fits f y) → T (fits f y') →
     T (not_minus_zero x) → T (not_minus_zero x') → Same x x' → Same y y' →

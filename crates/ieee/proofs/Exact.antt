@@ -1,6 +1,6 @@
--- Where a result is a value that the format holds, it is that value: so x + 0 is x up to the sign of a zero. And two
--- values that fit and are the same number are `Same`. For claims on neighbouring values: between two of them lies no
--- third. Assumes nothing.
+-- If a result is a value that the format holds, rounding returns that value: so x + 0 is x up to the sign of a zero.
+-- And two values that fit and are the same number are `Same`. For claims on neighbouring values: there is no third
+-- between two of them. Assumes nothing.
 use mathlib.Core.Path.{◌≡◌, refl, sym, ap, ◌∙◌, subst}
 use mathlib.Core.Logic.{inl, inr}
 use Prim.Native.Nat.{ℕ, zero, suc, ◌+◌, ◌-◌, ◌*◌, ◌%◌, ◌^◌, ◌≤◌, ◌<◌}
@@ -24,7 +24,7 @@ use Rattle.ieee.proofs.Signed.{signed, signed_same, signed-plus, signed-minus, h
 use Rattle.ieee.proofs.Clear.{zero_exp, fits_down, tail, down_is}
 use Rattle.ieee.proofs.Order.{le→under}
 
--- ---- a number above 0 is written in one way: an odd m times a power of two
+-- ---- a number above 0 has one representation: an odd m times a power of two
 odd_pow : (m n a b : ℕ) → m % 2 ≡ 1 → n % 2 ≡ 1 → m * 2 ^ a ≡ n * 2 ^ b → (m ≡ n) × (a ≡ b)
 odd_pow m n zero zero o p h = (sym (mul-one m) ∙ h ∙ mul-one n, refl)
 odd_pow m n zero (suc b) o p h = absurd (omega (arith, rw (pow-succ' 2 b) at h))

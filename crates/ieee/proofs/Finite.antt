@@ -1,4 +1,4 @@
--- A product that begins with 0 tells whether all its factors are finite, in every format. Assumes nothing.
+-- A product that begins with 0 shows whether all its factors are finite, in every format. Assumes nothing.
 use Prim.Native.Nat.{ℕ, zero, suc, ◌*◌}
 use mathlib.Core.Path.{◌≡◌, refl}
 use mathlib.Core.Bool.{Bool, true, false, not, ◌&&◌}
@@ -11,7 +11,7 @@ use Rattle.ieee.specs.Signs.{unsigned_zero}
 use Rattle.ieee.specs.Finite.{is_finite, ZeroIf}
 use Rattle.ieee.proofs.Product.{mul-zero_l}
 
--- it begins
+-- the product before any factor
 pub zero-starts : (f : Format) → ZeroIf true (of_bits f 0)
 unfolding unsigned_zero of_bits
 zero-starts binary32 = refl
@@ -51,7 +51,7 @@ zero-finite false (fin s (suc m) e) h = cc
 pub zero-joins : (f : Format) (b c : Bool) (z w : Float) → ZeroIf b z → ZeroIf c w → ZeroIf (b && c) (mul f z w)
 zero-joins f b c z w h k = rw (zero-finite c w k) at (zero-times f b z w h)
 
--- which of the two it is, by comparing it with itself
+-- which of the two it is: a comparison with itself decides
 pub equals_itself : (s : Bool) (m : ℕ) (e : ℤ) → eq (fin s m e) (fin s m e) ≡ true
 unfolding eq
 equals_itself true m e = rw (eq-eqb (m * up e * down e) (m * up e * down e) refl)
@@ -67,7 +67,7 @@ zero-view true (fin s m e) h = equals_itself s m e
 zero-view false (fin s zero e) h = cc
 zero-view false (fin s (suc m) e) h = cc
 
--- ---- a finite value is no NaN
+-- ---- a finite value is not a NaN
 pub finite-no_nan : (x : Float) → is_finite x ≡ true → T (not (is_nan x))
 unfolding is_finite is_nan
 finite-no_nan nan h = cc

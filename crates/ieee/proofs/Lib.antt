@@ -1,4 +1,4 @@
--- The laws of the IEEE 754 operations, each over any format.
+-- Lemmas on the IEEE 754 operations, each for any format.
 pub mod Sign
 pub mod Zero
 pub mod Signed

@@ -87,7 +87,7 @@ sums_le hx lx dx hx' lx' dx' hy ly dy hy' ly' dy' X Y =
     (both_le (hx * dx' * (dy * dy')) (lx' * dx * (dy * dy')) (hx' * dx * (dy * dy')) (lx * dx' * (dy * dy'))
     (hy * dy' * (dx * dx')) (ly' * dy * (dx * dx')) (hy' * dy * (dx * dx')) (ly * dy' * (dx * dx')) A B)
 
--- x and y under another name, up to the sign of a zero
+-- x and y under other names, up to the sign of a zero
 pub le_through : (x x' y y' : Float) → Same x x' → Same y y' → T (le x' y') → T (le x y)
 le_through x x' y y' p q h = rw (le_same x x' y y' p q) h
 

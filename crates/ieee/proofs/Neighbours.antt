@@ -1,5 +1,5 @@
--- Neighbouring patterns are neighbouring values: the values rise strictly with the patterns, every finite value from
--- zero up that is not -0 has a pattern, and so none lies between those of p and p + 1. Assumes nothing.
+-- Neighbouring patterns are neighbouring values: the values rise strictly with the patterns, and every finite value
+-- from zero up that is not -0 has a pattern, so none lies between those of p and p + 1. Assumes nothing.
 use mathlib.Core.Path.{◌≡◌, sym, ap, ◌∙◌, subst}
 use mathlib.Core.Logic.{inl, inr}
 use Prim.Native.Nat.{ℕ, ◌+◌, ◌<◌}

@@ -1,5 +1,5 @@
--- The comparisons, as comparisons of signed fractions: `le` is reflexive, and respects `Same`; away from a NaN `lt` is
--- its opposite, and a sign turns both round. Assumes nothing.
+-- The comparisons, as comparisons of signed fractions: `le` is reflexive, and respects `Same`; without a NaN `lt` is
+-- its opposite, and negation reverses both. Assumes nothing.
 use mathlib.Core.Path.{◌≡◌, refl, sym, ap, ◌∙◌}
 use mathlib.Core.Logic.{◌⊎◌, inl, inr}
 use Prim.Native.Nat.{ℕ, zero, suc, ◌+◌, ◌*◌, ◌≤◌, zero-le}
@@ -123,7 +123,7 @@ le_refl (inf true) p = unfold le in tt
 le_refl (inf false) p = unfold le in tt
 le_refl (fin s m e) p = under→le (fin s m e) (fin s m e) tt tt (le_of_eq refl)
 
--- ---- away from a NaN `lt` is the opposite of `le`
+-- ---- without a NaN `lt` is the opposite of `le`
 ltb_not : (a b : ℕ) → ltb a b ≡ not (leb b a)
 ltb_not a b =
     elim (cases_lt a b) [ inl h ↦ rw (lt-ltb a b h, lt-leb b a h) refl | inr h ↦ rw (le-ltb a b h, le-leb b a h) refl ]
@@ -144,7 +144,7 @@ lt_not_le (fin s m e) (fin t n d) p q =
     rw (lt-is (fin s m e) (fin t n d) tt tt, le_is (fin t n d) (fin s m e) tt tt)
     (ltb_not (side (fin s m e) (fin t n d)) (side (fin t n d) (fin s m e)))
 
--- ---- a sign turns an order round
+-- ---- negation reverses an order
 pub lt-neg : (x y : Float) → lt (neg x) (neg y) ≡ lt y x
 lt-neg nan nan = unfold lt neg in refl
 lt-neg nan (inf t) = unfold lt neg in refl
@@ -190,7 +190,7 @@ pub le-neg : (x y : Float) → le (neg x) (neg y) ≡ le y x
 unfolding le
 le-neg x y = rw (lt-neg x y, eq-neg x y)
 
--- ---- `Same` values compare alike
+-- ---- `Same` values compare in the same way
 pub level→le : (x y : Float) → T (finite x) → T (finite y) → Level x y → T (le x y) × T (le y x)
 level→le x y p q h = (under→le x y p q (le_of_eq h), under→le y x q p (le_of_eq (sym h)))
 
@@ -242,7 +242,7 @@ le_same x x' y y' p q =
 
 -- ---- `lt` and `le` of the same two
 
--- x < y from the refusal of y ≤ x, and back
+-- x < y from the negation of y ≤ x, and back
 pub lt_i : (x y : Float) → T (number x) → T (number y) → (T (le y x) → ⊥) → T (lt x y)
 lt_i x y p q n = rw (lt_not_le x y p q) (not_T (le y x) n)
 

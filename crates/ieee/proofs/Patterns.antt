@@ -1,5 +1,5 @@
--- The patterns below the infinity's are those of the finite values from +0 up, and stand in the order of the values;
--- and each such value is a whole number of units. Assumes nothing.
+-- The patterns below the infinity's are those of the finite values from +0 up, in the order of the values; and each
+-- such value is a whole number of units. Assumes nothing.
 use mathlib.Core.Path.{◌≡◌, sym, ap, ◌∙◌, subst}
 use mathlib.Core.Logic.{inl, inr}
 use Prim.Native.Nat.{ℕ, zero, suc, ◌+◌, ◌-◌, ◌*◌, ◌/◌, ◌%◌, ◌^◌, ◌≤◌, ◌<◌}
@@ -86,7 +86,7 @@ units_large f p h =
     let some : 1 ≤ p / hid f = (le-div_iff_mul-le (hid_pos f)).1 (rw one-mul h) in
     ap (λ (x : ℕ). field_units (hid f) x (p % hid f)) (one_up (p / hid f) some)
 
--- ---- what a pattern below the infinity's is read as
+-- ---- the value of a pattern below the infinity's
 read : (f : Format) (x t : ℕ) → x < ones f → HasValue (of_fields f false x t) false (field_units (hid f) x t)
     (2 ^ low f)
 unfolding of_fields field_units
@@ -119,7 +119,7 @@ rising f p q k h =
 pub pattern_finite : (f : Format) (p : ℕ) → p < patterns f → T (finite (of_bits f p))
 pattern_finite f p h = value-finite (of_bits f p) false _ _ (pattern_value f p h)
 
--- ---- and a finite value without a minus sign has such a pattern
+-- ---- and each finite value without a minus sign has such a pattern
 room : (n k h w o : ℕ) → n < w → w ≡ 2 * h → k + 2 ≤ o → k * h + n < o * h
 room n k h w o a e b =
     let c : (k + 2) * h ≤ o * h = mul-le-mul_right h b in

@@ -194,7 +194,7 @@ add-level f x x' y y' p p' q q' X Y =
     (sums (hi x) (lo x) (den x) (hi x') (lo x') (den x') (hi y) (lo y) (den y) (hi y') (lo y') (den y') X Y) in
     add_is f x y p q ∙ ap unsigned_zero e ∙ sym (add_is f x' y' p' q')
 
--- a zero is any other zero
+-- any zero is on a level with +0
 pub zero-level : (s : Bool) (e : ℤ) → Level (fin s 0 e) (fin false 0 (pos 0))
 zero-level true e = simp zero-mul
 zero-level false e = simp zero-mul

@@ -1,4 +1,4 @@
--- How far apart the values of a format are: beside v * 2 ^ h units, where v has all its digits, the next larger value
+-- How far apart the values of a format are: next to v * 2 ^ h units, where v has all its digits, the next larger value
 -- is at least 2 ^ h units away, and so is the next smaller one, unless v is the least number with that many digits.
 -- Assumes nothing.
 use mathlib.Core.Path.{◌≡◌, sym, ap, ◌∙◌, subst}
@@ -23,7 +23,7 @@ digits f p = elim (cases_lt p (hid f)) [
   | inr l ↦ (hid f + p % hid f, p / hid f - 1, omega (arith, mod-lt p (hid_pos f)), units_large f p l)
 ]
 
--- q * 2 ^ x beside v * 2 ^ h
+-- q * 2 ^ x next to v * 2 ^ h
 module _ (H v h q x : ℕ) (full : H ≤ v) (few : q < 2 * H) where
   finer : x < h → q * 2 ^ x < H * 2 ^ h
   finer l =

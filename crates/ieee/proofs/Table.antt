@@ -1,5 +1,5 @@
--- A table of constants against its rule: one computed test over its patterns, and the laws that turn it into the rule
--- at each entry. Assumes nothing.
+-- A table of constants and its rule: one computed test over its patterns, and the lemmas that turn it into the rule at
+-- each entry. Assumes nothing.
 use mathlib.Core.Path.{◌≡◌, refl, sym, ap, ◌∙◌}
 use mathlib.Core.List.{List, [], ◌∷◌}
 use mathlib.Core.Bool.{Bool, true, ◌&&◌}

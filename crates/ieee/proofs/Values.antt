@@ -1,5 +1,5 @@
--- What it says of x that it has a sign and a size, `HasValue x s a c`: it is a number, finite and not -0; and where the
--- format holds x, it is the rounding of a / c, and the only such value. Assumes nothing.
+-- `HasValue x s a c` says that x has the sign s and the size a / c: x is a number, finite and not -0; and if the format
+-- holds x, x is the rounding of a / c, and the only such value. Assumes nothing.
 use mathlib.Core.Path.{◌≡◌, sym, ap, ◌∙◌, subst}
 use Prim.Native.Nat.{ℕ, zero, suc, ◌*◌, ◌<◌}
 use native.Mathlib.Nat.{eq_of_mul-eq-mul_right}
@@ -48,7 +48,7 @@ pub value-only : (f : Format) (x y : Float) (s : Bool) (a c : ℕ) → T (fits f
     HasValue x s a c → HasValue y s a c → x ≡ y
 value-only f x y s a c t u C h k = sym (value-rounds f x s a c t C h) ∙ value-rounds f y s a c u C k
 
--- two fractions of one size are one
+-- two fractions of the same size, cross-multiplied
 pub value_cross : (x : Float) (s t : Bool) (a c b d : ℕ) → HasValue x s a c → HasValue x t b d → a * d ≡ b * c
 value_cross nan s t a c b d h k = absurd h
 value_cross (inf u) s t a c b d h k = absurd h

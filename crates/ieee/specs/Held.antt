@@ -1,4 +1,4 @@
--- A number that a program holds, which is one that machine values say, is a number of its format.
+-- A number that a program can hold, that is, one with machine values, is a number of its format.
 use Rattle.std.specs.Prelude.{T, List, Float}
 use Rattle.std.specs.Float.{Format}
 use Rattle.std.specs.Float.Ieee.{fits}

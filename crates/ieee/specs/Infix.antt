@@ -1,5 +1,5 @@
--- The four operations written between their numbers, for a format: a file of definitions opens these four names, and `a
--- ⊗ b ⊕ c` there is `add f (mul f a b) c`.
+-- The four operations as infix operators, for a format: a file of definitions opens these four names, and `a ⊗ b ⊕ c`
+-- there is `add f (mul f a b) c`.
 use Rattle.std.specs.Prelude.{Float}
 use Rattle.std.specs.Float.{Format}
 use Rattle.std.specs.Float.Ieee.{add, sub, mul, div}

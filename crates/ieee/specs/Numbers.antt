@@ -1,4 +1,4 @@
--- The constants that the definitions name. Each is one value in every format.
+-- The constants that the definitions name. Each is the same value in every format.
 use Rattle.std.specs.Prelude.{false, pos, negsuc, Float}
 use Rattle.std.specs.Float.{fin}
 

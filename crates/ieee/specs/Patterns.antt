@@ -8,7 +8,7 @@ use Rattle.std.specs.Float.Ieee.{low, up, down, hid, ones}
 abbrev pub patterns : Format → ℕ
 patterns f = ones f * hid f
 
--- m * 2 ^ e in units; where the format holds that value, the division leaves nothing over
+-- m * 2 ^ e in units; if the format holds that value, the division leaves no remainder
 unfoldable pub units_of : Format → ℕ → ℤ → ℕ
 units_of f m e = m * up e * 2 ^ low f / down e
 

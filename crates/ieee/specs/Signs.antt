@@ -10,7 +10,7 @@ unsigned_zero (fin s zero e) = fin false zero (pos zero)
 unsigned_zero (fin s (suc m) e) = fin s (suc m) e
 
 -- equal up to the sign of a zero: a NaN is the same as a NaN, and -0 as +0. It is an equation, so `refl`, `sym` and
--- `◌∙◌` serve it.
+-- `◌∙◌` apply.
 abbrev pub Same : Float → Float → Type 0
 Same x y = unsigned_zero x ≡ unsigned_zero y
 

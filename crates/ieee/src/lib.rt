@@ -1,7 +1,7 @@
-// IEEE 754 numbers of either width: the arithmetic in which every crate above is written, bit patterns both ways on
-// every input, and a select that the compiler turns into no branch. Proved: each operation is the format's of the
-// logic, and every pattern reads back. The laws of rounding, signs and order in proofs/ hold in every format. Rests on
-// the toolchain's library alone.
+// IEEE 754 numbers of either width: the arithmetic that every crate above uses, bit patterns both ways on every input,
+// and a select that the compiler turns into no branch. Proved: each operation is the format's in the logic, and every
+// pattern reads back. The lemmas on rounding, signs and order in proofs/ hold in every format. Rests on the toolchain's
+// library only.
 #![tactic(auto)]
 
 ghost use Rattle.std.specs.Prelude.{◌≡◌, ◌≤◌, ℕ, List, Float, cond, map, refl};
@@ -29,15 +29,15 @@ pub trait Real: Copy
     // `binary64` or `binary32`.
     ghost format: { Format };
 
-    // The number as the definitions see it, which are the same for every format.
+    // The number as the definitions have it, which are the same for every format.
     ghost float: { Self → Float };
 
-    // The numbers of a list as the definitions see them.
+    // The numbers of a list as the definitions have them.
     ghost floats: { List Self → List Float };
 
     ghost bits: { Self.Bits → ℕ };
 
-    // The number `x`, where both formats hold it: every number of the narrower one.
+    // The number `x`, if both formats hold it, as they hold every number of the narrower one.
     fn of(x: f32) -> Self
         ensures { float result ≡ x };
 
@@ -49,8 +49,8 @@ pub trait Real: Copy
     fn pattern(self) -> Self::Bits
         ensures { bits result ≡ to_bits format (float self) };
 
-    // `self < other`. Its own method, since `<` of a type parameter asks `partial_cmp` for an order of three, which
-    // the compiler does not put together to one comparison again where the answer is stored or combined.
+    // `self < other`. A method, since `<` of a type parameter calls the three-way `partial_cmp`, which the compiler
+    // does not turn back into one comparison where the result is stored or combined.
     fn is_below(self, other: Self) -> bool
         ensures { result ≡ Ieee.lt (float self) (float other) };
 
@@ -222,7 +222,7 @@ impl Real for f32 {
     ghost eq_law = { λ a b. refl };
 }
 
-// `a` where `c` holds, `b` elsewhere: the Rust's `select`.
+// `a` if `c` holds, else `b`: the Rust's `select`.
 pub fn pick<T: Copy>(c: bool, a: T, b: T) -> T
     ensures { result ≡ cond c a b }
 {

@@ -51,7 +51,7 @@ column {A} h l r cs n i e k q =
     ∙ ap (take 7) (sym (drop-map h (i * 7) l)) in
     ap tangent_from_dense m ∙ part_at (map h l) (i * 7)
 
--- ---- stored: a part that is lent and comes back as d
+-- ---- stored: a borrowed part that becomes d
 pub stored :
     {A : Type 0} (h : A → Float) (l d : List A) (v : List Float) (a : ℕ) → map h d ≡ v → length v ≡ 7 →
     a + 7 ≤ length l →

@@ -1,4 +1,4 @@
--- What the proofs of some functions unfold, by the function.
+-- For each function named here, the definitions that its proof unfolds.
 use Rattle.std.specs.Prelude.{⊤}
 use Rattle.jacobian.specs.Jac.{jac_inverse_answer, jac_inverse}
 use Rattle.arms.specs.Values.{at_zero}

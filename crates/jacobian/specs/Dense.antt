@@ -31,7 +31,7 @@ seven_flat m =
     tangent_to_dense m.c0 ++ tangent_to_dense m.c1 ++ tangent_to_dense m.c2 ++ tangent_to_dense m.c3
     ++ tangent_to_dense m.c4 ++ tangent_to_dense m.c5 ++ tangent_to_dense m.c6
 
--- rows for columns: g picks one number of a column
+-- transposed: g picks one number of a column
 abbrev pub row_by : Seven → (Sim3Tangent → Float) → Sim3Tangent
 row_by m g = tangent (vec (g m.c0) (g m.c1) (g m.c2)) (vec (g m.c3) (g m.c4) (g m.c5)) (g m.c6)
 
@@ -50,7 +50,7 @@ seven_apply f j m =
 unfoldable pub jac_sandwich : Format → Sim3Jac → List Float → List Float
 jac_sandwich f j cov = seven_flat (seven_transpose (seven_apply f j (seven_transpose (seven_apply f j (seven_of cov)))))
 
--- J as a matrix: column c under φ holds a and b, under ρ holds c, under σ holds f and e
+-- J as a matrix: the columns under φ hold a and b, those under ρ hold c, that under σ holds f and e
 abbrev pub none3 : Vec3
 none3 = vec f0 f0 f0
 

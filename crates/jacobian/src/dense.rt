@@ -41,7 +41,7 @@ fn columns<T: Real>(m: [T; 49]) -> Seven<T>
     }
 }
 
-// A column's seven numbers, stored from a place on.
+// Stores a column's seven numbers from a place on.
 fn put_column<T: Real>(out: &mut [T], at: usize, t: Sim3Tangent<T>)
     requires { at + 7 ≤ length out.old }
     ensures { map T.float out.new ≡ sets (map T.float out.old) at (tangent_to_dense (as_sim3_tangent T.float t)) }
@@ -65,7 +65,7 @@ fn flat<T: Real>(m: Seven<T>) -> [T; 49]
     out
 }
 
-// Rows for columns.
+// The transpose.
 #[tactic(auto, unfolding(crate::specs::Dense::seven_transpose, sim3::specs::Tangent::tangent_from_dense))]
 fn transpose<T: Real>(m: Seven<T>) -> Seven<T>
     ensures { as_seven T.float result ≡ seven_transpose (as_seven T.float m) }

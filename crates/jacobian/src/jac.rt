@@ -52,9 +52,9 @@ impl<T: Real> Sim3Jac<T> {
         }
     }
 
-    // (A^-1, -C^-1 B A^-1, C^-1, -C^-1 f / e, 1 / e), by the adjugates of A and C; refusal 2 where e
-    // is a zero. A zero determinant is divided by. PERF (D122): C^-1 is formed first and before the test
-    // of e, since the compiler then packs the products better.
+    // (A^-1, -C^-1 B A^-1, C^-1, -C^-1 f / e, 1 / e), by the adjugates of A and C; refusal 2 if e is a zero. A zero
+    // determinant is not refused: it is divided by. PERF (D122): C^-1 is formed first and before the test of e, since
+    // the compiler then packs the products better.
     #[tactic(auto, unfolding(crate::proofs::Unfolds::inverse_unfolds))]
     pub fn inverse(self) -> Result<Sim3Jac<T>, Refusal>
         ensures { view (as_sim3_jac T.float) result ≡ jac_inverse_answer T.format (as_sim3_jac T.float self) }

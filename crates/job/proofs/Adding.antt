@@ -1,5 +1,5 @@
--- The job's counts: they are what is written last, of no more records than the limit, and the last three of the four
--- add up to the first, as those by mark do. Assumes nothing.
+-- The job's counts: the job writes them last, they count no more records than the limit, and the last three of the four
+-- add up to the first, as do the counts by mark. Assumes nothing.
 use Prim.Native.Nat.{ℕ, zero, suc, ◌+◌}
 use mathlib.Core.Path.{◌≡◌, refl, sym, ap, ◌∙◌}
 use mathlib.Core.List.{List, [], ◌++◌, append_assoc}
@@ -17,7 +17,7 @@ use Rattle.job.proofs.Rows.{none-total}
 use Rattle.job.proofs.Loop.{counted_sound}
 use Rattle.job.proofs.Turns.{counted_begun}
 
--- what is written where j are the counts so far and n more records may begin
+-- the job's output ends with its counts, where j is the standing so far and n more records may begin
 abbrev Ends : ℕ → Standing → List ℕ → Type 0
 Ends n j xs = (body : List ℕ) × (job_from n j xs ≡ body ++ trailer (counts_from n j xs))
 
@@ -39,7 +39,7 @@ unfolding job_from counts_from
 is_over zero j xs = ([], refl)
 is_over (suc n) j xs = ends_on n j xs (head_of j.state xs) (is_over n)
 
--- the counts stay those of a job of so many records and n more
+-- the final counts are sound for a job of the records so far and n more
 counts_on_lem :
     (n : ℕ) (j : Standing) (xs : List ℕ) (f : InputHead) → Sound (j.counts.totals.begun + suc n) j.counts →
     ((j : Standing) (xs : List ℕ) → Sound (j.counts.totals.begun + n) j.counts →

@@ -1,4 +1,4 @@
--- What `reply` tells of the record at the head, as the record loop reads it. Assumes nothing.
+-- The result of `reply` for the next record, as the record loop reads it. Assumes nothing.
 use Prim.Native.Nat.{ℕ, ◌-◌}
 use mathlib.Core.Path.{◌≡◌}
 use mathlib.Core.Bool.{Bool}
@@ -15,7 +15,7 @@ use Rattle.job.specs.Job.{Standing, standing}
 use Rattle.job.proofs.Loop.{Going}
 use Rattle.job.proofs.Steps.{Turn}
 
--- the turn, where m is the state
+-- one turn of the loop, where m is the state
 pub dispatched :
     {limit : ℕ} {input : List ℕ} {last : Bool} {j₀ : Standing} {out₀ : List ℕ} {d : Counts} {out : List ℕ}
     {at to : ℕ} (m : JobState) →

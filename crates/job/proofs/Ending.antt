@@ -1,4 +1,4 @@
--- What is written at the end: the stores of the counts and of a refusal before them, and how many bytes they are.
+-- The end of the output: the stores of a refusal, if there is one, and of the counts, and how many bytes they write.
 -- Assumes nothing.
 use Prim.Native.Nat.{ℕ, ◌+◌, ◌≤◌}
 use mathlib.Core.Path.{◌≡◌, refl}
@@ -23,7 +23,7 @@ use Rattle.job.specs.Private.{trailer_length}
 use Rattle.job.specs.Feed.{closing, closing_of, is_over}
 use Rattle.job.proofs.Rows.{by_mark-length}
 
--- how long the pieces are, and a run of several pieces as the runs that the code writes
+-- the lengths of the pieces, and a run of several pieces as the runs that the code writes
 ruleset sizes = (length-append, count-length)
 
 ruleset runs = (sets_split, add_assoc, sizes)
@@ -54,7 +54,7 @@ pub refused-length : (k : ℕ) (c : Counts) → length c.by_mark ≡ row_count �
     length (no_bytes k ++ trailer c) ≡ 3 + trailer_length
 refused-length k c h = simp (sizes, no_length, trailer-length c h)
 
--- where the loop left room for the longest answer, the end has room
+-- where the loop left room for the longest answer, there is room for the end
 pub closing_fits : (r : Reason) (c : Counts) (m room : ℕ) → length c.by_mark ≡ row_count → m ≤ room →
     (is_over r ≡ true → m + longest ≤ room) → m + length (closing r c) ≤ room
 unfolding closing_of

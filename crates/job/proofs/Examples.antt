@@ -1,5 +1,6 @@
--- The whole output for one AC record at either width, for a product whose frames do not meet, for a running join, each
--- other way in which a job stops, and how long a record of each mark is, computed from the definition. Assumes nothing.
+-- The whole output for one AC record at either width, for a product whose frames do not match, for a running join and
+-- for each other way in which a job stops, and the length of a record of each mark, all computed from the definition.
+-- Assumes nothing.
 use Prim.Native.Nat.{ℕ, ◌+◌, ◌-◌}
 use mathlib.Core.Path.{◌≡◌, refl}
 use mathlib.Core.Bool.{Bool, true, false, ◌&&◌}
@@ -27,7 +28,7 @@ use Rattle.marks.specs.Rows.{row_count, row_known, row_at}
 use Rattle.job.specs.Counts.{counts_more, totals_more, by_mark_more, by_mark_bytes}
 use Rattle.job.specs.Job.{trailer, job_on, job_from, job_of, job_limit}
 
--- a double by its two greatest bytes, the others 0
+-- a double by its two most significant bytes, the others 0
 double : ℕ → ℕ → List ℕ
 double a b = 0 ∷ 0 ∷ 0 ∷ 0 ∷ 0 ∷ 0 ∷ a ∷ b ∷ []
 
@@ -76,7 +77,7 @@ unfolding of_bits to_bits add sub mul vec_scale vec_cross vec_add so3_act pose_a
     row_known by_mark_bytes trailer job_on job_from double zero one words counts nowhere only frames record_in
 answered = refl
 
--- the same record on singles, each by its two greatest bytes
+-- the same record on singles, each by its two most significant bytes
 single : ℕ → ℕ → List ℕ
 single a b = 0 ∷ 0 ∷ a ∷ b ∷ []
 
@@ -105,7 +106,7 @@ unfolding of_bits to_bits add sub mul vec_scale vec_cross vec_add so3_act pose_a
     row_known by_mark_bytes trailer job_on job_from single nought unit words counts nowhere only frames small_in
 small = refl
 
--- the same with an infinite point: it is answered, and counted last
+-- the same with an infinite point: the record is answered and counted as unusable
 unfinite_in : List ℕ
 unfinite_in =
     0x41
@@ -125,7 +126,7 @@ unfolding of_bits to_bits add sub mul vec_scale vec_cross vec_add so3_act pose_a
     row_known by_mark_bytes trailer job_on job_from double zero one words counts nowhere only frames unfinite_in
 unfinite = refl
 
--- nothing at all
+-- an empty input
 empty : job_of job_limit [] ≡ counts 0 0 0 0 nowhere
 unfolding word_bytes count_bytes mark_bytes head_of by_mark_bytes trailer job_on job_from words counts nowhere only
 empty = refl
@@ -136,14 +137,14 @@ unfolding word_bytes count_bytes mark_bytes no_bytes counts_more totals_more by_
     trailer job_on job_from words counts nowhere only
 half = refl
 
--- a record that is cut after its mark
+-- a record cut after its mark
 cut_short : job_of job_limit (0x41 ∷ 0x43 ∷ 0 ∷ []) ≡ 0x4e ∷ 0x4f ∷ 7 ∷ counts 1 0 1 0 (only 3)
 unfolding word_bytes count_bytes look_up mark_of mark_bytes no_bytes counts_more totals_more by_mark_more record_head
     head_by_rule head_at head_of row_at row_known
     by_mark_bytes trailer job_on job_from words counts nowhere only
 cut_short = refl
 
--- SH and SQ that are cut behind their letters
+-- SH and SQ cut after their letters
 sh-cut : job_of job_limit (0x53 ∷ 0x48 ∷ []) ≡ 0x4e ∷ 0x4f ∷ 7 ∷ counts 1 0 1 0 (only 17)
 unfolding word_bytes count_bytes look_up mark_of mark_bytes no_bytes counts_more totals_more by_mark_more record_head
     head_by_rule head_at head_of row_at row_known
@@ -156,7 +157,7 @@ unfolding word_bytes count_bytes look_up mark_of mark_bytes no_bytes counts_more
     by_mark_bytes trailer job_on job_from words counts nowhere only
 sq-cut = refl
 
--- a mark that is not in the table, with nothing behind it
+-- a mark that is not in the table, with nothing after it
 unlisted : job_of job_limit (0x51 ∷ 0x51 ∷ []) ≡ 0x4e ∷ 0x4f ∷ 6 ∷ counts 1 0 1 0 (only 19)
 unfolding word_bytes count_bytes look_up mark_of mark_bytes no_bytes counts_more totals_more by_mark_more record_head
     head_by_rule head_at head_of row_at row_known
@@ -176,8 +177,8 @@ unfolding word_bytes count_bytes look_up mark_of mark_bytes no_bytes counts_more
     by_mark_bytes trailer job_on job_from words counts nowhere only
 mixed = refl
 
--- a product of poses from 3 to 5 and from 3 to 7: whole it is refused, since 3 is not 7; and cut by its last byte it is
--- a cut record
+-- a product of poses from 3 to 5 and from 3 to 7: the whole record is refused, since 3 is not 7; without its last byte
+-- it is a cut record
 mu_in : ℕ → List ℕ
 mu_in n = 0x4d ∷ 0x55 ∷ (replicate 64 0 ++ (frames 3 5 ++ (replicate 64 0 ++ (frames 3 7 ++ replicate n 0))))
 
@@ -193,8 +194,8 @@ unfolding word_bytes count_bytes look_up mark_of mark_bytes no_bytes counts_more
     by_mark_bytes trailer job_on job_from words counts nowhere only frames mu_in
 apart-cut = refl
 
--- the running join: the first pose, from 3 to 5, is answered as it came; one from 3 to 7 does not meet it; and n is
--- answered
+-- the running join: the reply to the first pose, from 3 to 5, is that pose; one from 3 to 7 does not match it; the
+-- reply to RN is n
 ch_in : ℕ → ℕ → List ℕ
 ch_in from to = 0x43 ∷ 0x48 ∷ (replicate 64 0 ++ (frames from to ++ replicate 8 0))
 
@@ -210,18 +211,18 @@ unfolding of_bits to_bits vec_in quat_in pose_in vec_numbers quat_numbers pose_n
     counts nowhere only frames ch_in
 joined = refl
 
--- at the limit no mark is looked at
+-- at the limit the job reads no mark
 at_limit_lem : job_of 0 (0x51 ∷ 0x51 ∷ []) ≡ counts 0 0 0 0 nowhere
 unfolding word_bytes count_bytes mark_bytes by_mark_bytes trailer job_from words counts nowhere only
 at_limit_lem = refl
 
--- ---- with so many bytes behind its mark a record is whole, and with one fewer it is cut
+-- ---- each record is whole with this many bytes after its mark, and cut with one fewer
 record Row : Type 0 where
   first : ℕ
   second : ℕ
   bytes : ℕ
 
--- how many bytes are taken where a whole record stands at the head, its mark among them
+-- how many bytes a whole record at the head takes, its mark included
 taken : InputHead → ℕ
 taken (took how k b) = k
 taken ended = 0

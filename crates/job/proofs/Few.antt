@@ -1,5 +1,5 @@
--- Where a call asks for more input, it leaves fewer bytes than the longest record has, so that a reader's buffer has
--- room. Assumes nothing.
+-- Where a call waits for more input, it leaves fewer bytes than the longest record has, so a reader's buffer has room.
+-- Assumes nothing.
 use Prim.Native.Nat.{ℕ, ◌-◌, ◌<◌}
 use mathlib.Core.Path.{◌≡◌, refl}
 use mathlib.Core.Bool.{Bool, true, false}
@@ -17,7 +17,7 @@ use Rattle.job.specs.Feed.{Part, records_of, feed_of, record_room}
 use Rattle.job.proofs.Turns.{Stops, at_end_lem, at_pause, at-unknown, at_cut, at_part, records_by}
 use Rattle.job.proofs.Pieces.{feed_bad, feed_good}
 
--- ---- of the loop, and of a call
+-- ---- for the loop, and for a call
 abbrev Few : ℕ → Standing → List ℕ → ℕ → Part → Type 0
 Few n j xs room p = p.reason ≡ More → length xs - p.used < record_room
 

@@ -1,5 +1,5 @@
--- Any input of bytes: what the job writes are the replies to its records and its end; what is kept behind each of them
--- is their plain history, and by it they are answered. Assumes nothing.
+-- For any input of bytes the job writes the replies to its records and then its end. After each record the state is
+-- that of the plain history of the records so far, and the replies follow from it. Assumes nothing.
 use Prim.Native.Nat.{ℕ, zero, suc, ◌<◌, ◌≤◌}
 use mathlib.Core.Path.{◌≡◌, refl, sym, ap, subst, ◌∙◌}
 use mathlib.Core.List.{List, [], ◌∷◌, ◌++◌, append_assoc}
@@ -27,7 +27,7 @@ none_written : (j : Standing) (xs : List ℕ) → Written 0 j xs
 unfolding job_from input_records input_end counts_from replies_to
 none_written j xs = refl
 
--- where no record stands at the head
+-- where no record is at the head
 module _ (n : ℕ) (j : Standing) (xs : List ℕ) where
   end_written : ((z : State) → head_of z xs ≡ ended) → Written (suc n) j xs
   unfolding job_from job_on input_records records_on input_end end_on counts_from counts_on replies_to
@@ -41,7 +41,7 @@ module _ (n : ℕ) (j : Standing) (xs : List ℕ) where
   unfolding job_from job_on input_records records_on input_end end_on counts_from counts_on replies_to
   cut-written e = rw (e j.state, e state_none) refl
 
-  -- and where one does
+  -- where one is
   module _ (k : ℕ) (reply : State → Reply) (e : Takes xs k reply) where
     abbrev next : Standing
     next = moved (reply j.state).disposition xs j
@@ -92,7 +92,7 @@ written (suc n) j xs = by (head xs) (written n)
     by (at_record k l reply e f g) go =
         record_written n j xs k reply e f g (go (moved (reply j.state).disposition xs j) (drop k xs))
 
--- ---- where a reply stands
+-- ---- the place of a reply
 placed :
     (z : State) (before : List (List ℕ)) (r : List ℕ) (later : List (List ℕ)) →
     replies_to z (before ++ (r ∷ later))
@@ -103,7 +103,7 @@ placed z (a ∷ before) r later =
     ap (λ (l : List ℕ). reply_to z a ++ l) (placed (next_of z a) before r later)
     ∙ sym (append_assoc (reply_to z a) (replies_to (next_of z a) before) _)
 
--- ---- each record of an input of bytes is whole, and bytes
+-- ---- each record of an input of bytes is whole, and consists of bytes
 abbrev Fine : List ℕ → Type 0
 Fine r = Whole r × Bytes r
 

@@ -1,5 +1,5 @@
--- What the code keeps, round the record loop and out of it: at each turn what the loop leaves is what it would have
--- left from its start. Assumes nothing.
+-- The state that the code keeps, in the record loop and after it: at each turn, what remains to be done leaves the same
+-- state as the whole loop from its start. Assumes nothing.
 use Prim.Native.Nat.{ℕ, zero, suc, ◌+◌, ◌-◌, ◌≤◌, ◌<◌}
 use mathlib.Core.Path.{◌≡◌, refl, sym, ap, ◌∙◌}
 use mathlib.Core.Bool.{Bool, false, cond}
@@ -64,7 +64,7 @@ kept_still (suc n) m xs room f e k =
     let s : kept_on (head_of (state_of m) xs) m go ≡ m = ap (λ (x : InputHead). kept_on x m go) e ∙ still_on f m go k in
     ap (λ (l : JobState). cond (ltb room longest) m l) s ∙ one_of_two (ltb room longest) m
 
--- The loop began with the state m₀, has m now, and `reply` has left m'.
+-- The loop began with the state m₀ and has m now; `reply` left m'.
 module _
     {limit : ℕ} {input : List ℕ} {last : Bool} {j₀ : Standing} {out₀ : List ℕ} {j : Standing} {out : List ℕ}
     {at to : ℕ} {q : Step} {p : ℕ} {R : List ℕ} {w : State}
@@ -75,7 +75,7 @@ module _
     (g :
     kept_records (limit - j₀.counts.totals.begun) m₀ input (length out₀) ≡
     kept_records (limit - j.counts.totals.begun) m (drop at input) (length out₀ - to)) where
-  -- what the loop leaves from its start on
+  -- the state that the whole loop leaves
   abbrev pub final : JobState
   final = kept_records (limit - j₀.counts.totals.begun) m₀ input (length out₀)
 
@@ -85,7 +85,7 @@ module _
   in_bytes : head_of (state_of m) (drop at input) ≡ head_of j.state (drop at input)
   in_bytes = ap (λ (z : State). head_of z (drop at input)) (sym is)
 
-  -- round the loop, with the counts d
+  -- another turn, with the counts d
   pub kept_round :
       (how : Disposition) (k n : ℕ) → q ≡ step.Took how k n → (d : Counts) → d ≡ counts_more how p j.counts →
       final ≡ kept_records (limit - d.totals.begun) m' (drop (at + k) input) (length out₀ - (to + n))
@@ -108,7 +108,7 @@ module _
       ∙ kept_took (limit - d.totals.begun) m (drop at input) (length out₀ - to) (omega arith) how k b found
       ∙ rw (room, drop-drop k at input, left)
 
-  -- out of it
+  -- the loop ends
   pub kept_roomless : q ≡ step.Room → m' ≡ final
   kept_roomless o =
       let u = sym (told_here t) ∙ ap step_view o in
@@ -133,7 +133,7 @@ module _
   pub kept_cut : q ≡ step.Cut → m' ≡ final
   kept_cut o = stopped cut (found-cut t o) refl
 
--- ---- out of the loop: what it answers, what the output holds then, and what is kept
+-- ---- after the loop: its result, the output and the state
 abbrev pub Leaves : ℕ → List ℕ → Bool → Counts → JobState → List ℕ → Fed → List ℕ → JobState → Type 0
 Leaves limit input last c m₀ out₀ f out m =
     let P = records_of (limit - c.totals.begun) (standing c (state_of m₀)) input last (length out₀) in

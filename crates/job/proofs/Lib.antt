@@ -1,4 +1,4 @@
--- The laws of the job, from one record to any run of a program.
+-- Lemmas on the job, from one record to any run of a program.
 pub mod Rows
 pub mod Turns
 pub mod Loop

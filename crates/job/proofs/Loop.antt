@@ -1,4 +1,4 @@
--- The record loop keeps to its definition: what holds at each turn, round the loop and out of it. Assumes nothing.
+-- The record loop follows its definition: what holds at each turn, for another turn and at the end. Assumes nothing.
 use Prim.Native.Nat.{ℕ, suc, ◌+◌, ◌-◌, ◌≤◌}
 use mathlib.Core.Path.{◌≡◌, refl, sym, ap, ◌∙◌}
 use mathlib.Core.Bool.{Bool}
@@ -26,7 +26,7 @@ use Rattle.marks.proofs.Rows.{row-few}
 use Rattle.job.proofs.Rows.{by_mark-add}
 use Rattle.job.proofs.Turns.{records_took, after-after, counted_begun}
 
--- one record more, of the mark at the head of xs, and the counts are still those of a job
+-- with one more record, of the mark at the head of xs, the counts are still sound
 pub counted_sound : (how : Disposition) (limit : ℕ) (xs : List ℕ) (c : Counts) → Sound limit c →
     (c.totals.begun ≡ limit → ⊥) → Sound limit (counts_more how (row_at xs) c)
 unfolding counts_more totals_more
@@ -55,8 +55,8 @@ counted_sound Unusable limit xs c s h =
           by_mark-add (row_at xs) c.totals.begun c.by_mark (row-few xs) s.each;
     }
 
--- The loop began with the standing j₀ and the output out₀, of which it has j and out now; it is done with `at` bytes
--- and has written `to`.
+-- The loop began with the standing j₀ and the output out₀, and has j and out now; it has used `at` bytes and written
+-- `to`.
 pub record Going (limit : ℕ) (input : List ℕ) (last : Bool) (j₀ : Standing) (out₀ : List ℕ) (j : Standing)
     (out : List ℕ) (at to : ℕ) : Type 0 where
   pub sound : Sound limit j.counts
@@ -68,7 +68,7 @@ pub record Going (limit : ℕ) (input : List ℕ) (last : Bool) (j₀ : Standing
       records_of (limit - j₀.counts.totals.begun) j₀ input last (length out₀) ≡
       after at (take to out) (records_of (limit - j.counts.totals.begun) j (drop at input) last (length out₀ - to))
 
--- its parts, for the check to find
+-- the parts of this record, where the checker can find them
 module _ {limit : ℕ} {input : List ℕ} {last : Bool} {j₀ : Standing} {out₀ : List ℕ} {j : Standing} {out : List ℕ}
     {at to : ℕ} (g : Going limit input last j₀ out₀ j out at to) where
   pub going_sound : Sound limit j.counts
@@ -80,7 +80,7 @@ module _ {limit : ℕ} {input : List ℕ} {last : Bool} {j₀ : Standing} {out�
   pub going_room : to ≤ length out
   going_room = g.room
 
--- what the loop answers, what the output holds then, and the state
+-- after the loop: its result, the output and the state
 abbrev pub Left : ℕ → List ℕ → Bool → Standing → List ℕ → Fed → List ℕ → State → Type 0
 Left limit input last j₀ out₀ f out w =
     (f ≡ part_fed (records_of (limit - j₀.counts.totals.begun) j₀ input last (length out₀)))
@@ -89,7 +89,7 @@ Left limit input last j₀ out₀ f out w =
 
 module _ {limit : ℕ} {input : List ℕ} {last : Bool} {j₀ : Standing} {out₀ : List ℕ} {j : Standing} {out : List ℕ}
     {at to : ℕ} (g : Going limit input last j₀ out₀ j out at to) where
-  -- out of the loop, with the output as it is
+  -- the loop ends, with the output as it is
   pub going_halt :
       (r : Reason) (e : Standing) (f : Fed) → f ≡ record { reason = r; counts = e.counts; used = at; written = to } →
       records_of (limit - j.counts.totals.begun) j (drop at input) last (length out₀ - to) ≡ halt r e →
@@ -109,7 +109,7 @@ module _ {limit : ℕ} {input : List ℕ} {last : Bool} {j₀ : Standing} {out�
         ),
       )
 
-  -- round it
+  -- another turn
   pub going_took :
       (how : Disposition) (k : ℕ) (b : List ℕ) → longest ≤ length out - to → (j.counts.totals.begun ≡ limit → ⊥) →
       head_of j.state (drop at input) ≡ took how k b →

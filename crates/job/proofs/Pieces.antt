@@ -1,5 +1,5 @@
--- One call: the loop's value fits the input and the output, and with the end written behind it it is `feed_of`. Assumes
--- nothing.
+-- One call: the loop's result fits the input and the output, and with the end written after it the call is `feed_of`.
+-- Assumes nothing.
 use Prim.Native.Nat.{ℕ, suc, ◌+◌, ◌-◌, ◌≤◌}
 use mathlib.Core.Path.{◌≡◌, refl, sym, ap, ◌∙◌}
 use mathlib.Core.Bool.{Bool, true, false, cond}
@@ -33,7 +33,7 @@ use Rattle.job.proofs.Turns.{Stops, at_end_lem, at_pause, at-unknown, at_cut, at
 use Rattle.job.proofs.Loop.{counted_sound}
 use Rattle.job.proofs.Ending.{closing_fits}
 
--- ---- the loop's value fits, and where it ends the job it leaves room for the end
+-- ---- the loop's result fits, and where it ends the job it leaves room for the end
 record Fits (xs : List ℕ) (room : ℕ) (p : Part) : Type 0 where
   uses : p.used ≤ length xs
   within : length p.bytes ≤ room
@@ -58,7 +58,7 @@ records_fit n j xs last room =
     })
     n j xs room
 
--- ---- the counts stay those of a job
+-- ---- the counts stay sound
 module _ (limit : ℕ) (last : Bool) where
   abbrev Keeps : ℕ → Standing → List ℕ → ℕ → Part → Type 0
   Keeps n j xs room p = Sound limit j.counts → limit - j.counts.totals.begun ≡ n → Sound limit p.standing.counts
@@ -84,7 +84,7 @@ module _ (limit : ℕ) (last : Bool) where
       (rw (counted_begun how (row_at xs) j.counts) (omega arith)))
       (limit - j.counts.totals.begun) j xs room s refl
 
--- ---- the counts handed in
+-- ---- the counts that the caller passes
 pub sound_is : (limit : ℕ) (c : Counts) → counts_sound limit c ≡ true → Sound limit c
 unfolding counts_sound
 sound_is limit c e =
@@ -128,7 +128,7 @@ pub feed_good :
 unfolding feed_of
 feed_good limit j xs last room e = rw e
 
--- ---- what an answer says is all of it: the reason can be read back
+-- ---- the view of a result determines it: the reason can be read back
 reason_of : ReasonView → Reason
 reason_of wants_bytes = More
 reason_of wants_room = Room
@@ -155,7 +155,7 @@ view_back f p e = λ i. record {
   written = (e i).written;
 }
 
--- what the code keeps, likewise
+-- the state that the code keeps: unsound and sound counts
 module _ (c : Counts) (m : JobState) (xs : List ℕ) (room : ℕ) where
   pub kept_bad : counts_sound job_limit c ≡ false → fed_kept c m xs room ≡ m
   unfolding fed_kept
@@ -166,8 +166,7 @@ module _ (c : Counts) (m : JobState) (xs : List ℕ) (room : ℕ) where
   unfolding fed_kept
   kept_good e = rw e
 
--- ---- the counts are a job's, and the loop has answered l and left the output out₁ and the
--- state w
+-- ---- the counts are sound, and the loop has returned l and left the output out₁ and the state w
 pub record Looped (limit : ℕ) (j : Standing) (xs : List ℕ) (last : Bool) (out : List ℕ) (l : Fed)
     (out₁ : List ℕ) (w : State) : Type 0 where
   pub good : counts_sound limit j.counts ≡ true
@@ -198,7 +197,7 @@ module _ {limit : ℕ} {j : Standing} {xs : List ℕ} {last : Bool} {out : List 
       part_fed (feed_of limit j xs last (length out))
   feed_view n e = rw (e, k.view, feed_good limit j xs last (length out) k.good, length-append)
 
-  -- as a caller reads it
+  -- as the caller reads it
   pub feed_viewed :
       (n : ℕ) → n ≡ length (closing l.reason l.counts) →
       fed_view (record { reason = l.reason; counts = l.counts; used = l.used; written = l.written + n }) ≡

@@ -1,4 +1,4 @@
--- Each call with the counts of a job goes on: it begins a record, or uses nothing and waits for more, or ends the job.
+-- Each call with sound counts makes progress: it begins a record, or uses nothing and waits for more, or ends the job.
 -- Assumes nothing.
 use Prim.Native.Nat.{ℕ, ◌+◌, ◌-◌, ◌≤◌, ◌<◌}
 use mathlib.Core.Path.{◌≡◌, refl}
@@ -16,8 +16,8 @@ use Rattle.job.specs.Feed.{Part, halt, records_of, feed_of}
 use Rattle.job.proofs.Turns.{Stops, at_end_lem, at_pause, at-unknown, at_cut, at_part, records_by, counted_begun}
 use Rattle.job.proofs.Pieces.{feed_good}
 
--- what a call with the counts of a job does: it does not find them bad; it waits only where more may come; where it
--- begins no record it uses nothing; and with room for an answer it stops for want of room only after a record
+-- what a call with sound counts does: it does not reject them; it waits only where more input may come; if it begins no
+-- record, it uses nothing; and if the output has room for an answer, it stops for lack of room only after a record
 pub record Progress (last : Bool) (j : Standing) (room : ℕ) (p : Part) : Type 0 where
   pub more : p.reason ≡ More → last ≡ false
   pub grows : j.counts.totals.begun ≤ p.standing.counts.totals.begun

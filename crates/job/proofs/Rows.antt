@@ -1,4 +1,4 @@
--- The counts by mark: their sum, one more in one of them, and the stores by which they are written. Assumes nothing.
+-- The counts by mark: their sum, adding one to one of them, and the stores that write them. Assumes nothing.
 use Prim.Native.Nat.{ℕ, zero, suc, ◌+◌, ◌*◌, ◌-◌, ◌≤◌, ◌<◌}
 use mathlib.Core.Path.{◌≡◌, refl, sym, ap, ◌∙◌}
 use mathlib.Core.Bool.{false}
@@ -31,13 +31,13 @@ set-total [] r h = absurd (omega arith)
 set-total (x ∷ l) zero h = omega arith
 set-total (x ∷ l) (suc r) h = let i = set-total l r (omega arith) in omega arith
 
--- one more in one of them is one more in their sum
+-- adding one to one of them adds one to their sum
 pub by_mark-add : (r n : ℕ) (l : List ℕ) → r < row_count → (length l ≡ row_count) × (total l ≡ n) →
     (length (by_mark_more r l) ≡ row_count) × (total (by_mark_more r l) ≡ n + 1)
 unfolding by_mark_more
 by_mark-add r n l h e = (length-set l r _ ∙ e.0, set-total l r (omega (arith, e.0)) ∙ ap (λ (x : ℕ). x + 1) e.1)
 
--- none is more than their sum
+-- none exceeds their sum
 row_within : (l : List ℕ) (r : ℕ) → get_or l r 0 ≤ total l
 unfolding total
 row_within [] zero = omega arith
@@ -63,7 +63,7 @@ total-least l zero = omega arith
 total-least [] (suc i) = omega arith
 total-least (x ∷ l) (suc i) = let k = total-least l i in omega arith
 
--- ---- taken from n, one after another
+-- ---- subtracted from n one by one
 pub taken_none : (l : List ℕ) (n : ℕ) → total (take 0 l) + n ≡ n
 unfolding total
 taken_none l n = omega arith
@@ -112,7 +112,7 @@ stored_more l out at i h =
     ∙ sets_split (by_mark_bytes (take i l)) (count_bytes (get_or l i 0)) out at
     ∙ ap (λ (k : ℕ). sets (sets out at (by_mark_bytes (take i l))) (at + k) (count_bytes (get_or l i 0))) n)
 
--- ---- the four counts and those by mark, counted apart
+-- ---- the four counts and those by mark are counted separately
 pub small : (f : Totals) (l : List ℕ) → Sound job_limit (joined f l) → Small f
 small f l s = (s.few, s.sum)
 

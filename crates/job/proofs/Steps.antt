@@ -1,5 +1,5 @@
--- The record loop as the code goes through it: by the limit, by what it is answered of the record at the head, and by
--- the room that is left for the end. Assumes nothing.
+-- The record loop as the code runs it: the test of the limit, the result of `reply` for the next record, and the test
+-- of the room for the end. Assumes nothing.
 use Prim.Native.Nat.{ℕ, suc, ◌+◌, ◌-◌, ◌≤◌, ◌<◌}
 use mathlib.Core.Path.{◌≡◌, refl, sym, ap, ◌∙◌}
 use mathlib.Core.Bool.{Bool, true, false, cond}
@@ -41,7 +41,7 @@ module _ {limit : ℕ} {input : List ℕ} {last : Bool} {j₀ : Standing} {out�
       let len : length out ≡ length out₀ = g.kept in
       going_halt g Room j f view (records_room _ j _ last _ (omega arith))
 
-  -- out of the loop by the test for room: the reason r and the counts e are the definition's where there is room
+  -- the loop ends by the test for room: if there is room, the reason r and the counts e are the definition's
   stopped :
       (r : Reason) (e : Standing) (f : Fed) → e.state ≡ j.state →
       f ≡ stop_of r j.counts e.counts at to (length out - to) →
@@ -63,8 +63,8 @@ module _ {limit : ℕ} {input : List ℕ} {last : Bool} {j₀ : Standing} {out�
       let z : limit - j.counts.totals.begun ≡ 0 = omega arith in
       stopped Full j f refl view (λ h. rw z (records_full j _ last _ h))
 
--- the limit is not met, and the code has lent `reply` the input from `at` on and the output from `to` on: q is the
--- answer, p the place among the marks, R what that part of the output holds then, and w the state
+-- the limit is not reached, and the code has lent `reply` the input from `at` on and the output from `to` on: q is the
+-- result, p the place among the marks, R that part of the output afterwards, and w the state
 pub record Turn
     (limit : ℕ) (input : List ℕ) (last : Bool) (j₀ : Standing) (out₀ : List ℕ) (j : Standing) (out : List ℕ) (at to : ℕ)
     (q : Step) (p : ℕ) (R : List ℕ) (w : State) : Type 0 where
@@ -119,7 +119,7 @@ module _
   lost_here : counts_more Refused p j.counts ≡ (lost (drop at input) j).counts
   lost_here = ap (λ (x : ℕ). counts_more Refused x j.counts) place_here
 
-  -- the state behind a record, and where none is taken
+  -- the state after a record, and where none is taken
   left_here : w ≡ cond (ltb (length out - to) longest) j.state (next_of j.state (drop at input))
   left_here = rw (here, spare) at t.left
 
@@ -133,7 +133,7 @@ module _
       by true = refl
       by false = refl
 
-  -- round the loop
+  -- another turn
   pub round : (how : Disposition) (k n : ℕ) → q ≡ step.Took how k n →
       Going limit input last j₀ out₀ (standing (counts_more how (row_at (drop at input)) j.counts) w) after_it (at + k)
       (to + n)
@@ -148,7 +148,7 @@ module _
       Going limit input last j₀ out₀ (standing d w) after_it (at + k) (to + n)
   round-to how k n e d is = rw (is ∙ ap (λ (x : ℕ). counts_more how x j.counts) place_here) (round how k n e)
 
-  -- ---- out of it: nothing was written
+  -- ---- the loop ends: nothing was written
   quiet_room : q ≡ step.Room → after_it ≡ out
   quiet_room e =
       quiet (told_room (head_of j.state (drop at input)) (length out - to) (sym told_here ∙ ap step_view e)).1
@@ -176,7 +176,7 @@ module _
   quiet-cut : q ≡ step.Cut → after_it ≡ out
   quiet-cut e = quiet ((stop_bytes (head_of j.state (drop at input)) (length out - to)).2 (found-cut e))
 
-  -- there was no room for its answer
+  -- there was no room for the answer
   pub left-roomless : q ≡ step.Room → (f : Fed) → f ≡ record {
     reason = Room;
     counts = j.counts;

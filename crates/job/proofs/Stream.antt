@@ -1,5 +1,5 @@
 -- The stream theorem: a call writes the beginning of what the job writes for the bytes at hand and all that follow, and
--- leaves a standing and input with which the job goes on. Assumes nothing.
+-- leaves a standing and input from which the job continues. Assumes nothing.
 use Prim.Native.Nat.{ℕ, suc, ◌-◌, ◌≤◌, ◌<◌}
 use mathlib.Core.Path.{◌≡◌, refl, sym, ap, ◌∙◌}
 use mathlib.Core.Bool.{Bool, true, cond}
@@ -47,7 +47,7 @@ job_cut n j xs e = rw e
 
 -- ---- one part, and the rest
 module _ (limit : ℕ) (ys : List ℕ) (last : Bool) (alone : last ≡ true → ys ≡ []) where
-  -- all that is written from a part p of xs on, when ys follows xs
+  -- the output from a part p of xs on, when ys follows xs
   abbrev onward : Part → List ℕ → List ℕ
   onward p xs =
       p.bytes ++ (closing p.reason p.standing.counts ++ cond (goes_on p.reason)
@@ -105,8 +105,8 @@ module _ (limit : ℕ) (ys : List ℕ) (last : Bool) (alone : last ≡ true → 
   records_stream j xs room = records_by last Onward at_room at-full at_stop at-took
       (limit - j.counts.totals.begun) j xs room refl
 
-  -- what one call wrote, and then what the job writes for the bytes that it is not done with and all that follow.
-  -- `last` is said only where nothing follows.
+  -- the output of one call, and then the job's output for the bytes that it did not use and all that follow. `last` is
+  -- set only where nothing follows.
   pub stream :
       (j : Standing) (xs : List ℕ) (room : ℕ) → counts_sound limit j.counts ≡ true →
       (let f = feed_of limit j xs last room in job_with limit j (xs ++ ys)

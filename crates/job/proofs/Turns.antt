@@ -63,7 +63,7 @@ counted_begun Unusable r c = refl
 
 -- ---- induction over the loop's turns
 
--- what the loop answers at each stop
+-- what the loop returns at each stop
 pub data Stops (last : Bool) (j : Standing) (xs : List ℕ) : InputHead → Reason → Standing → Type 0 where
   at_end_lem : last ≡ true → Stops last j xs ended End j
   at_pause : last ≡ false → Stops last j xs ended More j
@@ -71,8 +71,8 @@ pub data Stops (last : Bool) (j : Standing) (xs : List ℕ) : InputHead → Reas
   at_cut : last ≡ true → Stops last j xs cut Cut (lost xs j)
   at_part : last ≡ false → Stops last j xs cut More j
 
--- P n j xs room p, of the loop's value p where n more records may begin, holds always, if it holds out of room, at the
--- limit and at each stop, and a record keeps it
+-- P n j xs room p, of the loop's result p where n more records may begin, always holds if it holds without room, at the
+-- limit and at each stop, and a record preserves it
 module _
     (last : Bool) (P : ℕ → Standing → List ℕ → ℕ → Part → Type 0)
     (roomless : (n : ℕ) (j : Standing) (xs : List ℕ) (room : ℕ) → room < longest → P n j xs room (halt Room j))

@@ -1,4 +1,4 @@
--- Every run of a program, however it reads and feeds, writes what the job writes for the whole input. Assumes nothing.
+-- Every run of a program, however it reads and feeds, writes the job's output for the whole input. Assumes nothing.
 use Prim.Native.Nat.{ℕ}
 use mathlib.Core.Path.{◌≡◌, refl, sym, ap, ◌∙◌}
 use mathlib.Core.Bool.{Bool, true, false}

@@ -1,4 +1,4 @@
--- The counts of a job: four of all its records, and one of each mark's.
+-- The counts of a job: four over all its records, and one for each mark.
 use Rattle.std.specs.Prelude.{ℕ, ◌+◌, ◌-◌, ◌≡◌, Bool, ◌&&◌, List, [], ◌∷◌, ◌++◌, length, get_or, set, replicate, leb}
 use Rattle.std.specs.Prelude.{eqb}
 use Rattle.wire.specs.Wire.{count_bytes}
@@ -12,7 +12,7 @@ abbrev pub counts_none : Counts
 counts_none =
     record { totals = record { begun = 0; answered = 0; refused = 0; unusable = 0 }; by_mark = replicate row_count 0 }
 
--- ---- the counts by mark: one more in the place r, their sum, and their bytes
+-- ---- the counts by mark: one more in place r, their sum, and their bytes
 unfoldable pub by_mark_more : ℕ → List ℕ → List ℕ
 by_mark_more r l = set l r (get_or l r 0 + 1)
 
@@ -24,7 +24,7 @@ unfoldable pub by_mark_bytes : List ℕ → List ℕ
 by_mark_bytes [] = []
 by_mark_bytes (x ∷ l) = count_bytes x ++ by_mark_bytes l
 
--- ---- one record more, by how it counts and its place among the marks
+-- ---- one more record, by its disposition and its place among the marks
 unfoldable pub totals_more : Disposition → Totals → Totals
 totals_more Answered f =
     record { begun = f.begun + 1; answered = f.answered + 1; refused = f.refused; unusable = f.unusable }
@@ -40,11 +40,11 @@ counts_more disposition r c = record { totals = totals_more disposition c.totals
 abbrev pub Adds : Counts → Type 0
 Adds c = c.totals.answered + c.totals.refused + c.totals.unusable ≡ c.totals.begun
 
--- and so do those by mark
+-- the counts by mark add up to it too
 abbrev pub ByMarkAdd : Counts → Type 0
 ByMarkAdd c = (length c.by_mark ≡ row_count) × (total c.by_mark ≡ c.totals.begun)
 
--- counts that a job of at most `limit` records can have; the four are tested without a sum
+-- whether a job of at most `limit` records can have these counts; the four are tested without forming a sum
 unfoldable pub counts_sound : ℕ → Counts → Bool
 counts_sound limit c =
     leb c.totals.begun limit

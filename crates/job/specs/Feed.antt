@@ -15,7 +15,7 @@ use Rattle.job.specs.declared.Reason.TheVariants.{More, Room, Bad, Full, End, Un
 use Rattle.job.specs.Counts.{Adds, ByMarkAdd, counts_sound}
 use Rattle.job.specs.Job.{Standing, standing, moved, lost, trailer, job_limit}
 
--- why it stopped, where the job stands then, how many bytes it is done with, and what it wrote
+-- why the call stopped, the standing then, how many bytes it used, and what it wrote
 pub record Part : Type 0 where
   pub reason : Reason
   pub standing : Standing
@@ -25,18 +25,18 @@ pub record Part : Type 0 where
 abbrev pub halt : Reason → Standing → Part
 halt r s = record { reason = r; standing = s; used = 0; bytes = [] }
 
--- a record of k bytes, for which `bytes` are written, and then p
+-- a record of k bytes, whose reply is `bytes`, and then p
 abbrev pub after : ℕ → List ℕ → Part → Part
 after k bytes p = record { reason = p.reason; standing = p.standing; used = k + p.used; bytes = bytes ++ p.bytes }
 
--- by what stands at the head of xs; where the bytes at hand are not the last, an end and a cut wait for more
+-- by the head of xs; if the bytes at hand are not the last, the call waits for more at an end and at a cut record
 unfoldable pub part_on : Bool → InputHead → Standing → List ℕ → (Disposition → ℕ → List ℕ → Part) → Part
 part_on last (took d k bytes) s xs go = after k bytes (go d k bytes)
 part_on last ended s xs go = cond last (halt End s) (halt More s)
 part_on last unknown s xs go = halt Unknown (lost xs s)
 part_on last cut s xs go = cond last (halt Cut (lost xs s)) (halt More s)
 
--- the record loop, where at most n more records are begun: each turn asks first for the room of the longest answer
+-- the record loop, where at most n more records may begin: each turn first tests for the room of the longest answer
 unfoldable pub records_of : ℕ → Standing → List ℕ → Bool → ℕ → Part
 records_of zero s xs last room = cond (ltb room longest) (halt Room s) (halt Full s)
 records_of (suc n) s xs last room =
@@ -44,7 +44,7 @@ records_of (suc n) s xs last room =
     (part_on last (head_of s.state xs) s xs (λ d k bytes. records_of n (moved d xs s) (drop k xs) last
     (room - length bytes)))
 
--- what the code keeps behind the records that the loop takes: by the same turns, and m as it was where it takes none
+-- the state that the code keeps after the records that the loop takes: by the same turns, and m itself if it takes none
 unfoldable pub kept_on : InputHead → JobState → (ℕ → List ℕ → JobState) → JobState
 kept_on (took d k bytes) m go = go k bytes
 kept_on ended m go = m
@@ -57,9 +57,8 @@ kept_records (suc n) m xs room =
     cond (ltb room longest) m
     (kept_on (head_of (state_of m) xs) m (λ k bytes. kept_records n (behind_of m xs) (drop k xs) (room - length bytes)))
 
--- what a reason says: the caller is to call again, with more bytes, or with more room; the counts handed in are none
--- of a job's; the job has ended, at the limit, or with the input; or
--- it has ended by a refusal. The first three are no refusals: nothing is written for them.
+-- what a reason means: call again with more bytes, or with more room; the counts passed in are unsound; the job has
+-- ended, at the limit, with the input, or with a refusal. The first three are no refusals: nothing is written for them.
 pub data ReasonView : Type 0 where
   wants_bytes : ReasonView
   wants_room : ReasonView
@@ -77,7 +76,7 @@ reason_view End = at_end
 reason_view Unknown = refused unknown_mark
 reason_view Cut = refused cut_record
 
--- what is written when the loop was left: the refusal, if any, and the counts
+-- what is written after the loop: the refusal, if any, and the counts
 unfoldable pub closing_of : ReasonView → Counts → List ℕ
 closing_of wants_bytes c = []
 closing_of wants_room c = []
@@ -99,21 +98,21 @@ closed p =
           p.bytes ++ closing p.reason p.standing.counts;
     }
 
--- one call, with an output of some room; with counts that are none of a job's, all is handed back
+-- one call, with an output of some room; if the counts are unsound, nothing is used and the standing stays
 unfoldable pub feed_of : ℕ → Standing → List ℕ → Bool → ℕ → Part
 feed_of limit s xs last room =
     cond (counts_sound limit s.counts) (closed (records_of (limit - s.counts.totals.begun) s xs last room)) (halt Bad s)
 
--- with the counts c and the state m
+-- the call with the counts c and the state m
 abbrev pub fed_of : Counts → JobState → List ℕ → Bool → ℕ → Part
 fed_of c m xs last room = feed_of job_limit (standing c (state_of m)) xs last room
 
--- what the code keeps behind that call
+-- the state that the code keeps after that call
 unfoldable pub fed_kept : Counts → JobState → List ℕ → ℕ → JobState
 fed_kept c m xs room = cond (counts_sound job_limit c) (kept_records (job_limit - c.totals.begun) m xs room) m
 
--- with the counts of a job each call, whatever its input and its room, leaves counts of a job: the last three of the
--- four add up to the first, and those by mark too
+-- if the counts are sound, each call, whatever its input and its room, leaves sound counts: the last three of the four
+-- add up to the first, and so do those by mark
 abbrev pub FeedTheorem : Type 0
 FeedTheorem =
     (limit : ℕ) (s : Standing) (xs : List ℕ) (last : Bool) (room : ℕ) →
@@ -122,7 +121,7 @@ FeedTheorem =
     × (Adds (feed_of limit s xs last room).standing.counts
     × ByMarkAdd (feed_of limit s xs last room).standing.counts)
 
--- what the function answers: what its reason says, the counts, how many bytes it is done with, and how many it wrote
+-- what the function returns: the meaning of its reason, the counts, how many bytes it used, and how many it wrote
 pub record FedView : Type 0 where
   pub reason : ReasonView
   pub counts : Counts
@@ -140,8 +139,8 @@ part_view p = record {
   written = length p.bytes;
 }
 
--- ---- a call with the counts c, the state m, the input xs and the output out: what it answers, and what the lent
--- things are then
+-- ---- a call with the counts c, the state m, the input xs and the output out: its result r, and the output and the
+-- state after it
 pub record Feeds (c : Counts) (m : JobState) (xs : List ℕ) (last : Bool) (out : List ℕ) (r : Fed) (out' : List ℕ)
     (m' : JobState) : Type 0 where
   pub result_value : fed_view r ≡ part_view (fed_of c m xs last (length out))
@@ -150,7 +149,7 @@ pub record Feeds (c : Counts) (m : JobState) (xs : List ℕ) (last : Bool) (out 
   pub state_after : state_of m' ≡ (fed_of c m xs last (length out)).standing.state
   pub in_bounds : (r.used ≤ length xs) × (r.written ≤ length out)
 
--- whether the job has ended, and whether a call is to be made again
+-- whether the job has ended, and whether to call again
 abbrev pub view_is_over : ReasonView → Bool
 view_is_over wants_bytes = false
 view_is_over wants_room = false
@@ -173,7 +172,7 @@ view_goes_on (refused k) = false
 abbrev pub goes_on : Reason → Bool
 goes_on r = view_goes_on (reason_view r)
 
--- whether more is read before the next call
+-- whether to read more before the next call
 abbrev pub asks_for : Reason → Bool
 asks_for More = true
 asks_for Room = false
@@ -183,8 +182,8 @@ asks_for End = false
 asks_for Unknown = false
 asks_for Cut = false
 
--- ---- what the caller of a call provides for: an output with less room than this takes no answer, and of an input that
--- a call waits on fewer bytes than these are left
+-- ---- sizes for the caller: an output with less room than the first receives no answer, and a call that waits for more
+-- input leaves fewer bytes than the second
 abbrev pub answer_room : ℕ
 answer_room = longest
 

@@ -1,4 +1,4 @@
--- The job: all that is written for all that is read. Bytes are numbers below 256.
+-- The job: the whole output for the whole input. Bytes are numbers below 256.
 use Rattle.std.specs.Prelude.{ℕ, zero, suc, ◌≤◌, ◌≡◌, List, ◌++◌, drop}
 use Rattle.wire.specs.Wire.{count_bytes}
 use Rattle.record_result.specs.declared.Disposition.{Disposition}
@@ -11,7 +11,7 @@ use Rattle.marks.specs.Rows.{row_at}
 use Rattle.job.specs.declared.Counts.{Counts}
 use Rattle.job.specs.Counts.{counts_none, counts_more, by_mark_bytes, Adds, ByMarkAdd}
 
--- where a job stands between records: its counts, and what it keeps
+-- the standing of a job between records: its counts and its state
 pub record Standing : Type 0 where
   pub counts : Counts
   pub state : State
@@ -22,7 +22,7 @@ standing c st = record { counts = c; state = st }
 abbrev pub standing_none : Standing
 standing_none = standing counts_none state_none
 
--- behind the record at the head of xs, which counts so; and where none is taken
+-- the standing after the record at the head of xs, whose disposition is d; and after a mark or record that ends the job
 abbrev pub moved : Disposition → List ℕ → Standing → Standing
 moved d xs s = standing (counts_more d (row_at xs) s.counts) (next_of s.state xs)
 
@@ -36,19 +36,19 @@ trailer c =
     ++ (count_bytes c.totals.begun ++ (count_bytes c.totals.answered
     ++ (count_bytes c.totals.refused ++ (count_bytes c.totals.unusable ++ by_mark_bytes c.by_mark))))
 
--- by what stands at the head of xs, and after a record what `go` says of the rest
+-- the output by the head of xs; after a record, `go` is the rest of it
 unfoldable pub job_on : InputHead → Standing → List ℕ → (Disposition → ℕ → List ℕ) → List ℕ
 job_on (took d k bytes) s xs go = bytes ++ go d k
 job_on ended s xs go = trailer s.counts
 job_on unknown s xs go = no_bytes unknown_mark ++ trailer (lost xs s).counts
 job_on cut s xs go = no_bytes cut_record ++ trailer (lost xs s).counts
 
--- all that is written where the job stands at s and at most n more records are begun
+-- the output from the standing s on, where at most n more records may begin
 unfoldable pub job_from : ℕ → Standing → List ℕ → List ℕ
 job_from zero s xs = trailer s.counts
 job_from (suc n) s xs = job_on (head_of s.state xs) s xs (λ d k. job_from n (moved d xs s) (drop k xs))
 
--- no more records than these are begun
+-- the most records that a job may begin
 abbrev pub job_limit : ℕ
 job_limit = 1000000
 
@@ -70,8 +70,8 @@ counts_from (suc n) s xs = counts_on (head_of s.state xs) s xs (λ d k. counts_f
 abbrev pub counts_of : ℕ → List ℕ → Counts
 counts_of limit xs = counts_from limit standing_none xs
 
--- they are what is written last; of no more records than the limit; and on every input the last three of the four add
--- up to the first, and those by mark too
+-- the job writes them last; they count no more records than the limit; and on every input the last three of the four
+-- add up to the first, as do those by mark
 pub record CountsTheorem : Type 0 where
   pub written : (limit : ℕ) (xs : List ℕ) → (body : List ℕ) × (job_of limit xs ≡ body ++ trailer (counts_of limit xs))
   pub few : (limit : ℕ) (xs : List ℕ) → (counts_of limit xs).totals.begun ≤ limit

@@ -1,4 +1,4 @@
--- What the private functions ask for and answer; no public contract cites it.
+-- Definitions for the contracts of private functions; no public contract cites it.
 use Rattle.std.specs.Prelude.{ℕ, ◌+◌, ◌-◌, ◌*◌, ◌≤◌, ◌<◌, ◌≡◌, Bool, cond, List, length, ltb, Option, None, Some}
 use Rattle.record_result.specs.RecordResult.{longest}
 use Rattle.record_result.specs.declared.Disposition.TheVariants.{Refused}
@@ -14,13 +14,13 @@ use Rattle.job.specs.Counts.{Adds, ByMarkAdd, counts_more}
 use Rattle.job.specs.Job.{standing, job_limit}
 use Rattle.job.specs.Feed.{Part, records_of, kept_records}
 
--- counts of a job of at most `limit` records
+-- sound counts of a job of at most `limit` records
 pub record Sound (limit : ℕ) (c : Counts) : Type 0 where
   pub few : c.totals.begun ≤ limit
   pub sum : Adds c
   pub each : ByMarkAdd c
 
--- the four counts are of no more records than the limit, which they add up to
+-- the four counts add up, to no more records than the limit
 abbrev pub Small : Totals → Type 0
 Small f = (f.begun ≤ job_limit) × (f.answered + f.refused + f.unusable ≡ f.begun)
 
@@ -28,12 +28,12 @@ Small f = (f.begun ≤ job_limit) × (f.answered + f.refused + f.unusable ≡ f.
 abbrev pub joined : Totals → List ℕ → Counts
 joined f l = record { totals = f; by_mark = l }
 
--- the counts beside those of one record more, which is refused and not read, where there is one
+-- the counts with one more record, refused and not read, if there is one
 abbrev pub counts_lost : Option ℕ → Counts → Counts
 counts_lost None c = c
 counts_lost (Some row) c = counts_more Refused row c
 
--- such a record counts in one of the counts by mark
+-- the place of such a record is among the counts by mark
 abbrev pub InRows : Option ℕ → Type 0
 InRows None = Unit {0}
 InRows (Some row) = row < row_count
@@ -42,11 +42,11 @@ InRows (Some row) = row < row_count
 abbrev pub looped_of : Counts → JobState → List ℕ → Bool → ℕ → Part
 looped_of c m xs last room = records_of (job_limit - c.totals.begun) (standing c (state_of m)) xs last room
 
--- what the loop's function answers: the counts, and how many bytes it wrote in place of the bytes
+-- what the loop's function returns: as `Part`, with the counts for the standing and the number of bytes for the bytes
 abbrev pub part_fed : Part → Fed
 part_fed p = record { reason = p.reason; counts = p.standing.counts; used = p.used; written = length p.bytes }
 
--- and what the code keeps behind it
+-- the state that the code keeps after the loop
 abbrev pub looped_kept : Counts → JobState → List ℕ → ℕ → JobState
 looped_kept c m xs room = kept_records (job_limit - c.totals.begun) m xs room
 
@@ -54,7 +54,8 @@ looped_kept c m xs room = kept_records (job_limit - c.totals.begun) m xs room
 abbrev pub trailer_length : ℕ
 trailer_length = 2 + 4 * 4 + 4 * row_count
 
--- out of the loop with the counts e; or, where the output has too little room for the end, with the counts c
+-- the end of the loop with the counts e, or, if the output has too little room for the end, for lack of room with the
+-- counts c
 unfoldable pub stop_of : Reason → Counts → Counts → ℕ → ℕ → ℕ → Fed
 stop_of r c e used written room =
     cond (ltb room longest) (record { reason = Room; counts = c; used = used; written = written })

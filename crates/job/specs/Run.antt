@@ -1,15 +1,15 @@
--- A program that reads its input in pieces and feeds them.
+-- A program that reads its input in pieces and feeds them to the job.
 use Rattle.std.specs.Prelude.{ℕ, ◌-◌, ◌≡◌, Bool, true, false, List, [], ◌++◌, drop}
 use Rattle.job.specs.Job.{Standing, standing_none, job_from, job_of}
 use Rattle.job.specs.Feed.{feed_of, goes_on}
 
--- the job from the standing s on, where xs is still to be read
+-- the output from the standing s on, where xs is still to be read
 abbrev pub job_with : ℕ → Standing → List ℕ → List ℕ
 job_with limit s xs = job_from (limit - s.counts.totals.begun) s xs
 
--- Any run from the standing s, with the bytes `kept` in hand and those `coming` still unread, that writes `out`: it
--- reads some bytes, or feeds what it has, with any room, and goes on with what was not used, until a reason ends it.
--- `last` is said only where nothing more is coming.
+-- Any run from the standing s, with the bytes `kept` in hand and the bytes `coming` still unread, that writes `out`: it
+-- reads some bytes, or feeds what it has, with any room, and continues with what was not used, until a reason ends it.
+-- `last` is set only where nothing more is coming.
 pub data Run (limit : ℕ) : Standing → List ℕ → List ℕ → List ℕ → Type 0 where
   reads : {s : Standing} {kept coming out : List ℕ} (p : List ℕ) → Run limit s (kept ++ p) coming out →
       Run limit s kept (p ++ coming) out

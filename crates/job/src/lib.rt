@@ -1,8 +1,8 @@
-// The job: records are read and answered one after another until the input ends, a mark is unknown, a record is cut or
-// the limit is met; then the counts are written. `feed` does this with the bytes at hand, so that a program may read
-// its input in any pieces. Proved: each call is the definition's (Feeds), any way of feeding writes what the whole job
-// writes (StreamTheorem), which are the replies in their order (InputTheorem), and the counts add up (CountsTheorem).
-// Rests on marks.
+// The job: it reads records and answers them one after another until the input ends, a mark is unknown, a record is cut
+// or the limit is reached; then it writes the counts. `feed` does this with the bytes at hand, so that a program may
+// read its input in any pieces. Proved: each call follows its definition (Feeds); any way of feeding writes the output
+// of the whole job (StreamTheorem), which is the replies in their order (InputTheorem); and the counts add up
+// (CountsTheorem). Rests on marks.
 #![tactic(auto)]
 
 ghost use Rattle.std.specs.Prelude.{◌≡◌, true, false, ◌++◌, ◌+◌, ◌*◌, ◌≤◌, ◌<◌, length, drop, eqb};
@@ -25,15 +25,14 @@ use linalg::refusal::Refusal;
 use marks::ROWS;
 use record_result::{Disposition, LONGEST, Step};
 
-// No more records than these are begun.
+// The most records that a job may begin.
 const LIMIT: u32 = 1_000_000;
 
-// How many bytes the counts take, their mark among them.
+// How many bytes the counts take, their mark included.
 const TRAILER: usize = 2 + 4 * 4 + 4 * ROWS;
 
-// How many records were begun; and how many of them were answered with finite numbers alone, were
-// refused, and were answered with a NaN or an infinity. An unknown mark, a half mark and a cut record
-// count as begun and refused.
+// How many records were begun; and how many of them were answered with finite numbers only, were refused, and were
+// answered with a NaN or an infinity. An unknown mark, a half mark and a cut record count as begun and refused.
 #[derive(Clone, Copy, Default)]
 pub struct Totals {
     pub begun: u32,
@@ -42,17 +41,17 @@ pub struct Totals {
     pub unusable: u32,
 }
 
-// The counts of a job: these four, how many records were begun of each mark, a cut record among them,
-// and last how many unknown and half marks.
+// The counts of a job: these four, then how many records of each mark were begun, cut records included, and last how
+// many unknown and half marks.
 #[derive(Clone, Copy)]
 pub struct Counts {
     pub totals: Totals,
     pub by_mark: [u32; ROWS],
 }
 
-// Why the record loop was left. `More`: the bytes at hand end within a record, or with one, and more
-// may come. `Room`: the output has no room for the longest answer. `Bad`: the counts handed in are
-// not those of a job. The other four end the job: the limit, the end of the input, an unknown mark, a cut record.
+// Why the record loop ended. `More`: the bytes at hand end inside a record or after one, and more may come. `Room`: the
+// output has no room for the longest answer. `Bad`: the counts passed in are unsound. The other four end the job: the
+// limit, the end of the input, an unknown mark, a cut record.
 #[derive(Clone, Copy, PartialEq, Eq)]
 pub enum Reason {
     More,
@@ -65,14 +64,14 @@ pub enum Reason {
 }
 
 impl Reason {
-    // Whether a call is made again.
+    // Whether to call again.
     pub fn goes_on(self) -> bool
         ensures { result ≡ goes_on self }
     {
         matches!(self, Reason::More | Reason::Room)
     }
 
-    // Whether more is read first.
+    // Whether to read more first.
     pub fn asks_for(self) -> bool
         ensures { result ≡ asks_for self }
     {
@@ -80,8 +79,7 @@ impl Reason {
     }
 }
 
-// What a call did: why it stopped, the counts, how many bytes of the input it is done with, and how
-// many it wrote.
+// What a call did: why it stopped, the counts, how many bytes of the input it used, and how many it wrote.
 #[derive(Clone, Copy)]
 pub struct Fed {
     pub reason: Reason,
@@ -115,7 +113,7 @@ fn counted(c: Totals, disposition: Disposition) -> Totals
     }
 }
 
-// An unknown mark, or a mark or record that is cut.
+// Counts an unknown mark, or a cut mark or record.
 fn refused(c: Counts, row: usize) -> Counts
     requires sound { Sound job_limit c }
     requires row_lt_row_count { row < row_count }
@@ -138,9 +136,9 @@ fn leave(reason: Reason, counts: Counts, used: usize, written: usize) -> Fed
     }
 }
 
-// Out of the loop, behind a record that is refused and not read where `lost` has its place among the
-// marks, where the output has room for the end: as much as for the longest answer, which is more than a
-// refusal and the counts take. Else for want of room, with the counts as they are.
+// Ends the loop if the output has room for the end: as much as for the longest answer, which is more than a refusal and
+// the counts take. Else the loop ends for lack of room, with the counts as they are. `lost` is the place among the
+// marks of a record that is refused and not read.
 fn stop(
     reason: Reason,
     c: Counts,
@@ -162,8 +160,7 @@ fn stop(
     }
 }
 
-// The whole records at hand. A record is asked for room where it is replied to, an end where the loop
-// is left.
+// The whole records at hand. `reply` tests the room for each answer, `stop` the room for the end.
 #[tactic(auto, using(crate::proofs::Loop::going))]
 fn records(c0: Counts, state: &mut JobState, input: &[u8], last: bool, out: &mut [u8]) -> Fed
     requires sound { Sound job_limit c0 }
@@ -253,7 +250,7 @@ fn records(c0: Counts, state: &mut JobState, input: &[u8], last: bool, out: &mut
     left
 }
 
-// ---- what is written at the end, and the whole
+// ---- the end of the output, and the whole
 fn put_no(out: &mut [u8], at: usize, refusal: Refusal)
     requires { at + 3 ≤ length out.old }
     ensures { out.new ≡ sets out.old at (no_bytes (number refusal)) }
@@ -275,7 +272,6 @@ fn put_count(out: &mut [u8], at: usize, n: u32)
     out[at..at + 4].copy_from_slice(&wire::count_to_le_bytes(n));
 }
 
-// The counts by mark.
 fn put_by_mark(out: &mut [u8], at: usize, by_mark: [u32; ROWS])
     requires { at + 4 * row_count ≤ length out.old }
     ensures { out.new ≡ sets out.old at (by_mark_bytes by_mark) }
@@ -285,7 +281,7 @@ fn put_by_mark(out: &mut [u8], at: usize, by_mark: [u32; ROWS])
     }
 }
 
-// ZZ and the counts. Answers how many bytes they are.
+// ZZ and the counts. Returns how many bytes they are.
 fn put_trailer(out: &mut [u8], at: usize, c: Counts) -> usize
     requires { at + trailer_length ≤ length out.old }
     ensures value { result ≡ length (trailer c) }
@@ -300,7 +296,7 @@ fn put_trailer(out: &mut [u8], at: usize, c: Counts) -> usize
     TRAILER
 }
 
-// The refusal that ends a job, and the counts.
+// The refusal that ends a job, and the counts. Returns how many bytes they are.
 fn put_refused(out: &mut [u8], at: usize, refusal: Refusal, c: Counts) -> usize
     requires { at + (3 + trailer_length) ≤ length out.old }
     ensures value { result ≡ length (no_bytes (number refusal) ++ trailer c) }
@@ -310,7 +306,7 @@ fn put_refused(out: &mut [u8], at: usize, refusal: Refusal, c: Counts) -> usize
     3 + put_trailer(out, at + 3, c)
 }
 
-// What is written when the loop was left.
+// What is written after the loop. Returns how many bytes it is.
 fn close(reason: Reason, c: Counts, out: &mut [u8], at: usize) -> usize
     requires { is_over reason ≡ true → at + longest ≤ length out.old }
     ensures value { result ≡ length (closing reason c) }
@@ -324,8 +320,7 @@ fn close(reason: Reason, c: Counts, out: &mut [u8], at: usize) -> usize
     }
 }
 
-// Whether the counts by mark add up to n: each is taken from what is left of it, so that no sum can
-// wrap.
+// Whether the counts by mark add up to n: each is subtracted from what is left of n, so no sum can overflow.
 fn add_up(by_mark: [u32; ROWS], n: u32) -> bool
     ensures { result ≡ eqb (total by_mark) n }
 {
@@ -355,10 +350,10 @@ fn sound(c: Counts) -> bool
     false
 }
 
-// One call with the bytes at hand, `last` where no more will come: handles whole records while the
-// output has room for the longest answer, and ends the job where there is a reason to. The bytes it
-// is done with are to be taken from the input, the counts and the rest handed in again, with the same state. Counts
-// that are none of a job's are answered `Bad`, and nothing is written.
+// One call with the bytes at hand, `last` if no more will come: it handles whole records while the output has room for
+// the longest answer, and ends the job where there is a reason to. The caller removes the used bytes from the input and
+// calls again with the rest, the returned counts and the same state. For unsound counts it returns `Bad` and writes
+// nothing.
 pub fn feed(c: Counts, state: &mut JobState, input: &[u8], last: bool, out: &mut [u8]) -> Fed
     ensures { Feeds c state.old input.now last out.old result out.new state.new }
 {
@@ -373,7 +368,7 @@ pub fn feed(c: Counts, state: &mut JobState, input: &[u8], last: bool, out: &mut
     }
 }
 
-// Of a job that has not begun.
+// The counts before the first record.
 pub fn no_counts() -> Counts
     ensures { result ≡ counts_none }
 {
@@ -383,9 +378,8 @@ pub fn no_counts() -> Counts
     }
 }
 
-// The whole job on one slice. Where `out` is too short the reason is `Room`, and the records that
-// found room are answered. What the job writes are the replies to the records of the input, each by
-// what is kept after those before it (`InputTheorem`).
+// The whole job on one slice. If `out` is too short, the reason is `Room`, and the records that had room are answered.
+// The output is the replies to the records of the input, each by the state after those before it (`InputTheorem`).
 pub fn run(input: &[u8], out: &mut [u8]) -> Fed
     ensures result_value { fed_view result
         ≡ part_view (feed_of job_limit standing_none input.now true (length out.old)) }

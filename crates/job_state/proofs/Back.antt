@@ -1,4 +1,4 @@
--- SQ for the sheet of an SH that was kept answers its take and its pose as they were sent. Assumes nothing.
+-- After an SH that is kept, SQ for its sheet returns its take and its pose as they were sent. Assumes nothing.
 use Prim.Native.Nat.{ℕ}
 use mathlib.Core.Path.{◌≡◌, refl, ap, ◌∙◌}
 use mathlib.Core.List.{List, ◌++◌}
@@ -16,7 +16,7 @@ use Rattle.sheets.specs.declared.Shot.{Shot}
 use Rattle.sheets.proofs.Back.{asked, bytes_take, bytes_drop, word_of_lem, sent_back}
 use Rattle.job_state.specs.Retakes.{sh_of, sq_reply, AskedBackTheorem}
 
--- the answer to SQ
+-- ---- the reply to SQ
 view : (b : List ℕ) → (sq_reply (answers (shot_in b))).bytes
     ≡ mark_bytes 0x53 0x51 ++ (word_bytes 2 (word_at 2 b 2) ++ items_bytes binary64
     (framed_items (framed_in binary64 (drop 4 b))))

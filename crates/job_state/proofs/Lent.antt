@@ -1,4 +1,4 @@
--- What CH and RN are answered, write and leave. Assumes nothing.
+-- CH and RN: the reply, the bytes written and the state afterwards. Assumes nothing.
 use Prim.Native.Nat.{ℕ, suc}
 use mathlib.Core.Path.{◌≡◌, refl, ap, ◌∙◌}
 use mathlib.Core.List.{List, ◌∷◌}
@@ -28,14 +28,14 @@ use Rattle.job_state.specs.Chain.{rn_after, ch_rule, rn_rule}
 use Rattle.job_state.specs.Records.{IsTaken, by_rule, Handled}
 use Rattle.job_state.proofs.Records.{handled_whole}
 
--- ---- CH: the pose and up are read from its bytes
+-- ---- CH: the pose and `up`, read from its bytes
 pub ch-joined :
     (b : List ℕ) (x : Pose) (up : Float) (r : Running) (j : Joint) → x ≡ framed_in binary64 b →
     up ≡ number_of binary64 (take 8 (drop 68 b)) → j ≡ join_of binary64 r x up → j ≡ ch_of r b
 unfolding ch_of number_at
 ch-joined b x up r j e g k = k ∙ rw (e, g) refl
 
--- ---- what is answered and written: CH, by whether its numbers are finite, and where it is refused; RN
+-- ---- the result and the bytes written: CH, by whether its numbers are finite, and where it is refused; RN
 pub pose_replied :
     (d : Disposition) (x : Pose) (out out' : List ℕ) → d ≡ disposition_of (all_finite (numbers (pose_numbers x.sim3))) →
     out' ≡ sets (set (set out 0 0x43) 1 0x48) 2 (items_bytes binary64 (framed_items x)) →
@@ -64,7 +64,7 @@ pub every_replied :
 unfolding rn_reply reply_of mark_bytes all_finite items_bytes item_bytes word_bytes
 every_replied n out out' w = record { result_value = refl; out_after = w }
 
--- ---- whole records, by the bytes b behind their marks
+-- ---- whole records, by the bytes b after their marks
 module _ (m : JobState) (s out b : List ℕ) where
   pub ch-whole :
       IsTaken ch_size s out b → (q : Step) (out' : List ℕ) (r : Running) → let j = ch_of m.running b in

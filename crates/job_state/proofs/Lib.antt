@@ -1,5 +1,5 @@
--- A record by what its mark asks for, the bytes of the state, what the records that move it tell, and what comes back
--- of a shot.
+-- A record by the rule of its mark; the results of CH and RN, and of SH and SQ; the length of replies; and that SQ
+-- returns what SH stored.
 pub mod Records
 pub mod Lent
 pub mod Shelf

@@ -1,5 +1,5 @@
--- A record by what its mark asks for: what becomes of it, what is written and kept where it is cut, without room for
--- its answer, and answered. Assumes nothing.
+-- A record by the rule of its mark: what the call writes and keeps if the record is cut, if the output has no room for
+-- its answer, and if it is answered. Assumes nothing.
 use Prim.Native.Nat.{ℕ, ◌+◌, ◌≤◌, ◌<◌}
 use mathlib.Core.Path.{◌≡◌, refl, sym, ap}
 use mathlib.Core.List.{List}
@@ -19,12 +19,12 @@ use Rattle.job_state.specs.State.{state_of}
 use Rattle.job_state.specs.Records.{RecordRule, head_by_rule, next_by, behind_by, Reader, by_rule, Handled, took_of}
 use Rattle.job_state.specs.Records.{IsTaken, IsLeft}
 
--- the bytes behind a mark are the record's but two
+-- a record has two bytes more than follow its mark
 pub own_length : (k : ℕ) (s out b : List ℕ) → 2 ≤ k → IsTaken k s out b → 2 + length b ≡ k
 own_length k s out b h t =
     omega (arith, ap (λ (l : List ℕ). length l) t.bytes, length-drop 2 (take k s), length-take-le k s t.whole)
 
--- ---- where the state stays
+-- ---- calls that leave the state as it is
 pub handled_still :
     (r : Reader) (m : JobState) (s out : List ℕ) (f : InputHead) (q : Step) (out' : List ℕ) →
     r.head (state_of m) s ≡ f → r.next (state_of m) s ≡ state_of m → r.behind m s ≡ m →
@@ -62,12 +62,12 @@ module _ (a : RecordRule) (m : JobState) (s out : List ℕ) where
         state_after = sym (rw c refl);
       }
 
-  -- a record that is left
+  -- a record that is not taken
   pub handled_left : (q : Step) → IsLeft a.bytes s out q → Handled (by_rule a) m s out q out m
   handled_left q (inl e) = rw e.1 (view-cut e.0)
   handled_left q (inr e) = rw e.1.1 (view-roomless e.0 e.1.0)
 
-  -- and one that is taken, where b are the bytes behind its mark
+  -- one that is, where b are the bytes after its mark
   pub handled_whole :
       (b : List ℕ) (q : Step) (out' : List ℕ) (m' : JobState) → IsTaken a.bytes s out b →
       let k = a.step (state_of m) (take a.bytes s) in

@@ -1,4 +1,4 @@
--- What SH and SQ are answered, write and leave. Assumes nothing.
+-- SH and SQ: the reply, the bytes written and the state afterwards. Assumes nothing.
 use Prim.Native.Nat.{ℕ, suc, ◌/◌, ◌%◌, ◌<◌}
 use mathlib.Core.Path.{◌≡◌, refl, ap}
 use mathlib.Core.List.{List, ◌∷◌}
@@ -27,7 +27,7 @@ use Rattle.job_state.specs.Retakes.{sh_size, sq_size, sh_of, sh_reply, sq_reply,
 use Rattle.job_state.specs.Retakes.{sq_rule}
 use Rattle.job_state.proofs.Records.{handled_whole}
 
--- ---- the answers as the code writes them: SH, SQ by whether its numbers are finite, and the refusals
+-- ---- the answers as the code writes them: SH; SQ, by whether its numbers are finite; and the refusals
 pub shelf_replied :
     (how before : ℕ) (out out' : List ℕ) → how < 256 → out' ≡ sets (set (set (set out 0 0x53) 1 0x48) 2 how) 3
     (frame before) →
@@ -66,14 +66,14 @@ pub sq-refused :
 unfolding sq_reply reply_of no_bytes
 sq-refused k = (refl, refl)
 
--- ---- what is read from the bytes of SH
+-- ---- what SH reads from its bytes
 pub shelf_shot :
     (b : List ℕ) (t : ℕ) (x : Pose) → t ≡ word_at 2 b 2 → x ≡ framed_in binary64 (drop 4 b) →
     record { take = t; pose = x } ≡ shot_in b
 unfolding shot_in
 shelf_shot b t x f g = rw (f, g) refl
 
--- ---- whole records, by the bytes b behind their marks
+-- ---- whole records, by the bytes b after their marks
 module _ (m : JobState) (s out b : List ℕ) where
   pub sh-whole :
       IsTaken sh_size s out b → (q : Step) (out' R : List ℕ) → let j = sh_of (sheets_of m.store) b in

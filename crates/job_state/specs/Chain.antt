@@ -1,4 +1,4 @@
--- CH and RN, the records of the running join: what they leave and what they are answered, where b are the bytes behind
+-- CH and RN, the records of the running join: the state after them and the reply to them, where b are the bytes after
 -- the mark.
 use Rattle.std.specs.Prelude.{ℕ, ◌+◌, List, [], ◌∷◌, drop}
 use Rattle.std.specs.Float.{binary64}
@@ -13,29 +13,29 @@ use Rattle.job_state.specs.State.{State}
 use Rattle.job_state.specs.declared.JobState.{JobState}
 use Rattle.job_state.specs.Records.{Stepped, RecordRule}
 
--- their letters as one number, the first times 256 and the second
+-- their letters as one number: the first times 256 plus the second
 abbrev pub ch_letters : ℕ
 ch_letters = 0x4348
 
 abbrev pub rn_letters : ℕ
 rn_letters = 0x524e
 
--- how many bytes they have, their marks among them
+-- how many bytes they have, the mark included
 abbrev pub ch_size : ℕ
 ch_size = 2 + (framed_width binary64 + width binary64)
 
 abbrev pub rn_size : ℕ
 rn_size = 2 + 2
 
--- CH: a pose with its frames, and up of the running pose
+-- CH holds a pose with its frames, and `up` of the running pose
 unfoldable pub ch_of : Running → List ℕ → Joint
 ch_of r b = join_of binary64 r (framed_in binary64 b) (number_at binary64 (drop (framed_width binary64) b) 0)
 
--- it is answered the running pose with its frames, or the refusal
+-- the reply to CH is the running pose with its frames, or the refusal
 unfoldable pub ch_reply : Answer Pose → Reply
 ch_reply a = reply_of binary64 0x43 0x48 (and_then a (λ x. answers (framed_items x)))
 
--- RN is answered its n
+-- the reply to RN is its n
 unfoldable pub rn_reply : ℕ → Reply
 rn_reply n = reply_of binary64 0x52 0x4e (answers (word 2 n ∷ []))
 
@@ -53,7 +53,7 @@ rn_step st r =
     let n = word_at 2 (drop 2 r) 0 in
     record { state = record { running = every_of st.running n; sheets = st.sheets }; reply = rn_reply n }
 
--- ---- what the code keeps behind a whole record r
+-- ---- the state that the code keeps after a whole record r
 unfoldable pub ch_after : JobState → List ℕ → JobState
 ch_after m r = record { running = (ch_of m.running (drop 2 r)).running; store = m.store }
 

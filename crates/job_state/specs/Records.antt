@@ -1,5 +1,4 @@
--- A record by what its mark asks for: what stands at the head of the input, the state behind it, and what becomes of
--- it.
+-- A record by the rule of its mark: the head of the input, the state after it, and the result of the call.
 use Rattle.std.specs.Prelude.{ℕ, ◌≡◌, ◌<◌, ◌≤◌, ◌⊎◌, cond, List, length, take, drop, ltb}
 use Rattle.std.proofs.lemmas.List.Edits.{sets}
 use Rattle.record_result.specs.RecordResult.{longest, step_view, Reply, InputHead, record_head, RecordResult, wrote}
@@ -9,43 +8,42 @@ use Rattle.record_result.specs.declared.Step.TheVariants.{Room, Cut}
 use Rattle.job_state.specs.State.{State, state_of}
 use Rattle.job_state.specs.declared.JobState.{JobState}
 
--- the state behind a whole record, and its reply
+-- the state after a whole record, and the reply to it
 pub record Stepped : Type 0 where
   pub state : State
   pub reply : Reply
 
--- what a mark asks for: how many bytes a record has, its mark among them; what a whole one does, by the state before it
--- and its bytes; and what the code keeps behind it
+-- the rule of a mark: how many bytes a record has, its mark included; what a whole one does, by the state before it and
+-- its bytes; and the state that the code keeps after it
 pub record RecordRule : Type 0 where
   pub bytes : ℕ
   pub step : State → List ℕ → Stepped
   pub after : JobState → List ℕ → JobState
 
--- ---- what stands at the head of the input s, where st is the state; and the state behind it, which is st where no
--- whole record stands there
+-- ---- the head of the input s, where st is the state; and the state after it, which is st if no whole record is there
 unfoldable pub head_by_rule : RecordRule → State → List ℕ → InputHead
 head_by_rule a st s = record_head a.bytes (λ r. (a.step st r).reply) s
 
 unfoldable pub next_by : RecordRule → State → List ℕ → State
 next_by a st s = cond (ltb (length s) a.bytes) st (a.step st (take a.bytes s)).state
 
--- what the code keeps behind it: m as it was where no whole record stands there
+-- the state that the code keeps after it: m itself if no whole record is there
 unfoldable pub behind_by : RecordRule → JobState → List ℕ → JobState
 behind_by a m s = cond (ltb (length s) a.bytes) m (a.after m (take a.bytes s))
 
--- ---- how a reader finds what stands at the head of the input s; the state behind it; and what the code keeps then.
--- Both stay where no whole record stands there.
+-- ---- a reader: the head of the input s, the state after it, and the state that the code keeps. Both states stay as
+-- they are if no whole record is there.
 pub record Reader : Type 0 where
   pub head : State → List ℕ → InputHead
   pub next : State → List ℕ → State
   pub behind : JobState → List ℕ → JobState
 
--- by one rule
+-- the reader of one rule
 abbrev pub by_rule : RecordRule → Reader
 by_rule a = record { head = head_by_rule a; next = next_by a; behind = behind_by a }
 
--- ---- a call that is lent the state m and the output out: step says what becomes of the head of s, and out' and m' are
--- what was lent, then. Without room for the longest answer nothing changes.
+-- ---- a call that borrows the state m and the output out: step is its result for the head of s, and out' and m' are
+-- the output and the state after it. Without room for the longest answer nothing changes.
 pub record Handled (r : Reader) (m : JobState) (s out : List ℕ) (step : Step) (out' : List ℕ)
     (m' : JobState) : Type 0 where
   pub result_value : step_view step ≡ record_result (r.head (state_of m) s) (length out)
@@ -53,12 +51,12 @@ pub record Handled (r : Reader) (m : JobState) (s out : List ℕ) (step : Step) 
   pub kept_after : m' ≡ cond (ltb (length out) longest) m (r.behind m s)
   pub state_after : state_of m' ≡ cond (ltb (length out) longest) (state_of m) (r.next (state_of m) s)
 
--- a record of k bytes that is replied to so, as it is told
+-- the result of a record of k bytes with the reply r
 abbrev pub took_of : ℕ → Reply → RecordResult
 took_of k r = wrote r.disposition k (length r.bytes)
 
--- ---- as the code finds out, where a record of k bytes is asked for: it is taken, and b are the bytes behind its mark;
--- or it is left, and step says why
+-- ---- the test of a record of k bytes in the code: it is taken, and b are the bytes after its mark; or it is not, and
+-- step says why
 pub record IsTaken (k : ℕ) (s out b : List ℕ) : Type 0 where
   pub whole : k ≤ length s
   pub room : longest ≤ length out

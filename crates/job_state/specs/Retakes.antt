@@ -1,5 +1,5 @@
--- SH and SQ, the records of retaken sheets: what they leave and what they are answered, where b are the bytes behind
--- the mark.
+-- SH and SQ, the records of retaken sheets: the state after them and the reply to them, where b are the bytes after the
+-- mark.
 use Rattle.std.specs.Prelude.{ℕ, ◌+◌, ◌≡◌, true, List, [], ◌∷◌, ◌++◌, length, take, drop}
 use Rattle.std.specs.Float.{binary64}
 use Rattle.linalg.specs.Answer.{Answer, answers, and_then}
@@ -15,33 +15,33 @@ use Rattle.job_state.specs.State.{State}
 use Rattle.job_state.specs.declared.JobState.{JobState}
 use Rattle.job_state.specs.Records.{Stepped, RecordRule}
 
--- their letters as one number, the first times 256 and the second
+-- their letters as one number: the first times 256 plus the second
 abbrev pub sh_letters : ℕ
 sh_letters = 0x5348
 
 abbrev pub sq_letters : ℕ
 sq_letters = 0x5351
 
--- how many bytes they have, their marks among them
+-- how many bytes they have, the mark included
 abbrev pub sh_size : ℕ
 sh_size = 2 + slot_width
 
 abbrev pub sq_size : ℕ
 sq_size = 2 + 2
 
--- SH: a sheet, a take, and a pose with its frames
+-- SH holds a sheet, a take, and a pose with its frames
 unfoldable pub sh_of : Sheets → List ℕ → Shelf
 sh_of s b = shelve s (word_at 2 b 0) (shot_in b)
 
--- it is answered a byte and the take that stood before, or the refusal
+-- the reply to SH is a byte and the take of that sheet kept before, or the refusal
 unfoldable pub sh_reply : Answer Shelved → Reply
 sh_reply a = reply_of binary64 0x53 0x48 (and_then a (λ x. answers (word 1 x.how ∷ word 2 x.before ∷ [])))
 
--- SQ is answered the take and the pose with its frames, or the refusal
+-- the reply to SQ is the take and the pose with its frames, or the refusal
 unfoldable pub sq_reply : Answer Shot → Reply
 sq_reply a = reply_of binary64 0x53 0x51 (and_then a (λ x. answers (word 2 x.take ∷ framed_items x.pose)))
 
--- ---- what a whole record r does; a question leaves the state as it is
+-- ---- what a whole record r does; SQ leaves the state as it is
 unfoldable pub sh_step : State → List ℕ → Stepped
 sh_step st r =
     let j = sh_of st.sheets (drop 2 r) in record {
@@ -53,7 +53,7 @@ sh_step st r =
 unfoldable pub sq_step : State → List ℕ → Stepped
 sq_step st r = record { state = st; reply = sq_reply (ask st.sheets (word_at 2 (drop 2 r) 0)) }
 
--- ---- what the code keeps behind a whole SH r: what the store writes
+-- ---- the state that the code keeps after a whole SH r: the store with what `put_bytes` writes
 unfoldable pub sh_after : JobState → List ℕ → JobState
 sh_after m r =
     let b = drop 2 r in
@@ -65,8 +65,8 @@ sh_rule = record { bytes = sh_size; step = sh_step; after = sh_after }
 abbrev pub sq_rule : RecordRule
 sq_rule = record { bytes = sq_size; step = sq_step; after = λ m r. m }
 
--- ---- SH with the bytes b behind its mark, where it is kept, and then SQ for its sheet: take and pose come back as
--- they were sent, but every NaN as the one NaN. Proved as `asked_back` in proofs/Back.antt.
+-- ---- SH with the bytes b after its mark, if it is kept, and then SQ for its sheet: take and pose come back as they
+-- were sent, except that every NaN comes back as the one NaN. Proved as `asked_back` in proofs/Back.antt.
 abbrev pub AskedBackTheorem : Type 0
 AskedBackTheorem =
     (s : Sheets) (b : List ℕ) → Bytes b → length b ≡ slot_width → keeps (sh_of s b).answer ≡ true →

@@ -1,4 +1,4 @@
--- What a job keeps between records besides its counts: the running join, and the retaken sheets.
+-- The state of a job between records, besides its counts: the running join and the retaken sheets.
 use Rattle.running.specs.Running.{running_none}
 use Rattle.running.specs.declared.Running.{Running}
 use Rattle.sheets.specs.Sheets.{Sheets, no_sheets}
@@ -9,10 +9,10 @@ pub record State : Type 0 where
   pub running : Running
   pub sheets : Sheets
 
--- of a job that has not begun
+-- the state before the first record
 abbrev pub state_none : State
 state_none = record { running = running_none; sheets = no_sheets }
 
--- as the code keeps it: the sheets stand in the bytes of a store, and any bytes are one
+-- the state that a `JobState` represents: its store is bytes, which `sheets_of` reads; any bytes are a store
 abbrev pub state_of : JobState → State
 state_of m = record { running = m.running; sheets = sheets_of m.store }

@@ -1,4 +1,4 @@
-// Numbers, and poses with their frames, at a place of a list of bytes.
+// Numbers, and poses with their frames, at a place in a list of bytes.
 ghost use Rattle.std.specs.Prelude.{◌≡◌, ◌+◌, ◌≤◌, length, take, drop};
 ghost use Rattle.std.specs.Float.{binary64};
 ghost use Rattle.std.proofs.lemmas.List.Edits.{sets};
@@ -41,7 +41,7 @@ pub(crate) fn put_short(out: &mut [u8], at: usize, n: u16)
     out[at..at + 2].copy_from_slice(&wire::short_to_le_bytes(n));
 }
 
-// Answers whether all numbers of the pose are finite.
+// Writes a pose and returns whether all its numbers are finite.
 pub(crate) fn put_framed(out: &mut [u8], at: usize, x: Pose<f64>) -> bool
     requires { at + framed_width binary64 ≤ length out.old }
     ensures finite { result ≡ all_finite (numbers (pose_numbers x.sim3)) }
@@ -52,7 +52,7 @@ pub(crate) fn put_framed(out: &mut [u8], at: usize, x: Pose<f64>) -> bool
     finite
 }
 
-// The mark at the front.
+// Writes the mark at the front.
 pub(crate) fn put_mark(out: &mut [u8], mark: &[u8; 2])
     requires { 2 ≤ length out.old }
     ensures { out.new ≡ sets out.old 0 mark.now }

@@ -16,13 +16,13 @@ use record_result::{Disposition, Step};
 use running::Running;
 use sheets::bytes::FRAMED;
 
-// How many bytes the records have, with their marks.
+// How many bytes the records have, the mark included.
 const CH: usize = 2 + FRAMED + 8;
 
 const RN: usize = 2 + 2;
 
 // ---- CH
-// The mark and the running pose.
+// Writes the mark and the running pose.
 fn put_running(out: &mut [u8], x: Pose<f64>) -> Step
     requires { longest ≤ length out.old }
     ensures result_value { step_view result ≡ took_of ch_size (ch_reply (answers x)) }
@@ -33,7 +33,7 @@ fn put_running(out: &mut [u8], x: Pose<f64>) -> Step
     Step::Took(Disposition::of_answer(finite), CH, 2 + FRAMED)
 }
 
-// A pose is joined, by the bytes behind the mark.
+// Joins a pose, read from the bytes after the mark.
 fn join(b: &[u8], running: &mut Running, out: &mut [u8]) -> Step
     requires b_value { 2 + length b.now ≡ ch_size }
     requires longest_in_bounds { longest ≤ length out.old }
@@ -61,7 +61,7 @@ pub fn ch(s: &[u8], state: &mut JobState, out: &mut [u8]) -> Step
 }
 
 // ---- RN
-// From here on after every nth product, by the bytes behind the mark. The mark and n are answered.
+// Renormalise after every nth product from now on; n is read from the bytes after the mark. Writes the mark and n.
 fn renew(b: &[u8], running: &mut Running, out: &mut [u8]) -> Step
     requires b_value { 2 + length b.now ≡ rn_size }
     requires longest_in_bounds { longest ≤ length out.old }

@@ -1,6 +1,6 @@
-// The records that read or move what a job keeps between records: CH and RN the running join, SH and SQ the retaken
-// sheets. Proved: what becomes of such a record, what is written, and what is kept behind it are those of its rule
-// (Handled). Rests on running, sheets and replies.
+// The records that read or change a job's state between records: CH and RN the running join, SH and SQ the retaken
+// sheets. Proved: the result, the bytes written and the state afterwards follow the record's rule (Handled). Rests on
+// running, sheets and replies.
 #![tactic(auto)]
 
 ghost use Rattle.std.specs.Prelude.{◌≡◌};
@@ -9,19 +9,19 @@ ghost use Rattle.job_state.specs.State.{state_none, state_of};
 use running::Running;
 use sheets::{STORE, Store};
 
-mod bytes; // numbers and poses at a place of a list
-mod record; // when a record is taken, how its answer counts, and a refused one
+mod bytes; // numbers and poses at a place in a list
+mod record; // whether a record is taken, and the refusal of one
 pub mod chain; // the running join
 pub mod retakes; // the retaken sheets
 
-// What a job keeps between records besides its counts: the running join, and the store of the retaken sheets.
+// A job's state between records, besides its counts: the running join, and the store of the retaken sheets.
 #[derive(Clone, Copy)]
 pub struct JobState {
     pub running: Running,
     pub store: Store,
 }
 
-// Of a job that has not begun.
+// The state before the first record.
 pub fn fresh() -> JobState
     ensures { state_of result ≡ state_none }
 {

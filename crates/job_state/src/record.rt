@@ -1,4 +1,4 @@
-// What the four records have in common: when they are taken, and what is written for a refusal.
+// What the four records have in common: the test whether one is taken, and the refusal.
 ghost use Rattle.std.specs.Prelude.{◌≡◌, ◌≤◌, length, MatchResult};
 ghost use Rattle.std.proofs.lemmas.List.Edits.{sets};
 ghost use Rattle.linalg.specs.Answer.{number};
@@ -10,8 +10,8 @@ use crate::bytes::put_mark;
 use linalg::refusal::Refusal;
 use record_result::{Disposition, LONGEST, Step};
 
-// The bytes behind the mark of a record of so many bytes; or what becomes of it where the input cuts it, or the output
-// has no room for the longest answer.
+// The bytes after the mark of a record of this size; or the result if the input cuts the record or the output has no
+// room for the longest answer.
 pub(crate) fn taken<'a>(size: usize, s: &'a [u8], out: &[u8]) -> Result<&'a [u8], Step>
     requires { 2 ≤ size }
     ensures { MatchResult result
@@ -27,7 +27,7 @@ pub(crate) fn taken<'a>(size: usize, s: &'a [u8], out: &[u8]) -> Result<&'a [u8]
     Ok(&s[2..size])
 }
 
-// NO and the refusal.
+// Writes NO and the refusal.
 #[tactic(auto, unfolding(record_result::specs::RecordResult::no_bytes))]
 pub(crate) fn refuse(size: usize, out: &mut [u8], refusal: Refusal) -> Step
     requires { longest ≤ length out.old }

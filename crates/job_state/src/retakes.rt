@@ -17,13 +17,13 @@ use record_result::{Disposition, Step};
 use sheets::bytes::FRAMED;
 use sheets::{Shelved, Shot, Store};
 
-// How many bytes the records have, with their marks.
+// How many bytes the records have, the mark included.
 const SH: usize = 2 + 2 + 2 + FRAMED;
 
 const SQ: usize = 2 + 2;
 
 // ---- SH
-// The mark, 1, 2 or 3, and the take that stood before; or the refusal.
+// Writes the mark, 1, 2 or 3, and the take of that sheet kept before; or the refusal.
 fn put_shelved(out: &mut [u8], a: Result<Shelved, Refusal>) -> Step
     requires { longest ≤ length out.old }
     ensures result_value { step_view result ≡ took_of sh_size (sh_reply (view shelved_of a)) }
@@ -40,7 +40,7 @@ fn put_shelved(out: &mut [u8], a: Result<Shelved, Refusal>) -> Step
     }
 }
 
-// A shot is put into the store, by the bytes behind the mark.
+// Puts a shot, read from the bytes after the mark, into the store.
 fn shelve(b: &[u8], store: &mut Store, out: &mut [u8]) -> Step
     requires b_value { 2 + length b.now ≡ sh_size }
     requires longest_in_bounds { longest ≤ length out.old }
@@ -65,7 +65,7 @@ pub fn sh(s: &[u8], state: &mut JobState, out: &mut [u8]) -> Step
 }
 
 // ---- SQ
-// The mark, the take, and the pose with its frames; or the refusal.
+// Writes the mark, the take, and the pose with its frames; or the refusal.
 fn put_shot(out: &mut [u8], a: Result<Shot, Refusal>) -> Step
     requires { longest ≤ length out.old }
     ensures result_value { step_view result ≡ took_of sq_size (sq_reply (answer a)) }
@@ -84,7 +84,7 @@ fn put_shot(out: &mut [u8], a: Result<Shot, Refusal>) -> Step
     }
 }
 
-// The store is asked for a sheet, by the bytes behind the mark.
+// Looks up a sheet, read from the bytes after the mark.
 fn find(b: &[u8], store: &Store, out: &mut [u8]) -> Step
     requires b_value { 2 + length b.now ≡ sq_size }
     requires longest_in_bounds { longest ≤ length out.old }

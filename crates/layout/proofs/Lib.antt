@@ -1,3 +1,3 @@
--- How many numbers each thing has, and runs of stores into a list.
+-- How many numbers each structure has, and runs of stores into a list.
 pub mod Numbers
 pub mod Runs

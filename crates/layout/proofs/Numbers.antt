@@ -1,4 +1,4 @@
--- Each thing has as many numbers as its count says. Assumes nothing.
+-- Each structure has as many numbers as its count says. Assumes nothing.
 use mathlib.Core.Path.{◌≡◌, refl}
 use lib.ListN.{length, length-append}
 use Rattle.linalg.specs.Vector.{vec_numbers}

@@ -1,5 +1,5 @@
--- The order of the numbers, wherever a thing is read or written: in the job's records, in either format, and in the
--- lists of the C functions. What is read is read by a function that gives the i-th number. Matrices go column by
+-- The order of the numbers wherever a structure is read or written: in the job's records, in either format, and in the
+-- lists of the C functions. Reading is by a function that returns the i-th number. Matrices are stored column by
 -- column.
 use Rattle.std.specs.Prelude.{ℕ, ◌+◌, ◌*◌, cond, List, [], ◌∷◌, ◌++◌, Float}
 use Rattle.ieee.specs.Numbers.{f0, f1}
@@ -24,7 +24,7 @@ use Rattle.side_jacobians.specs.Floats.{BlockPair}
 use Rattle.side_jacobians.specs.Floats.{ActJacobians}
 use Rattle.side_jacobians.specs.Floats.{TwoJacobians}
 
--- ---- how many numbers each has
+-- ---- how many numbers each structure has
 abbrev pub vec_count : ℕ
 vec_count = 3
 
@@ -47,7 +47,7 @@ values_count = 10
 abbrev pub block_count : ℕ
 block_count = 3 * mat_count + vec_count + 1
 
--- a block and its inverse for the left, then for the right
+-- the left block and its inverse, then the right block and its inverse
 abbrev pub block_pair_count : ℕ
 block_pair_count = 4 * block_count
 
@@ -125,7 +125,7 @@ scaled_numbers s = coeffs_numbers s.c ++ (cond s.scaled f1 f0 ∷ [])
 unfoldable pub scaled_pair_numbers : ScaledPair → List Float
 scaled_pair_numbers p = scaled_numbers p.pos ++ scaled_numbers p.neg
 
--- the scaled pair of one whose arms are told
+-- the scaled pair of an armed pair
 abbrev pub armed_scaled : ArmedPair → ScaledPair
 armed_scaled p = record { pos = p.pos.s; neg = p.neg.s }
 

@@ -1,5 +1,5 @@
-// How many numbers a thing has where it stands in a record of the job or in a list of a call, and in which order
-// (specs/Layout). Proved: the counts. Rests on side_jacobians, whose structures it orders.
+// How many numbers a structure has in a record of the job or in a list of a call, and their order (specs/Layout).
+// Proved: the counts. Rests on side_jacobians, whose structures it orders.
 #![tactic(auto)]
 
 pub const VEC: usize = 3;

@@ -1,5 +1,5 @@
--- The two cases of an answer are apart, and an answer gives its numbers back. A test that refuses hands its refusal
--- upward. Assumes nothing.
+-- The two cases of an answer are distinct, and an answer determines its numbers. A test that refuses passes its refusal
+-- on. Assumes nothing.
 use mathlib.Core.Path.{◌≡◌, refl}
 use Prim.Native.Nat.{ℕ}
 use mathlib.Core.Bool.{Bool, true, false, cond}
@@ -11,13 +11,13 @@ never a n e = absurd (cc)
 pub answers-is : {A : Type 0} (a b : A) → answers a ≡ answers b → a ≡ b
 answers-is a b e = cc
 
--- ---- t: the test that refuses by n
+-- ---- t: the test that refuses, by n
 pub answered_as : {A B : Type 0} (t : Bool) (n : ℕ) (a c : A) (g : A → B) → cond t (refuses n) (answers a) ≡ answers c →
     cond t (refuses n) (answers (g a)) ≡ answers (g c)
 answered_as true n a c g h = cc
 answered_as false n a c g h = cc
 
--- two answers behind one test are one answer behind it
+-- two answers after one test are one answer after it
 pub both_as :
     {A B C : Type 0} (t : Bool) (n : ℕ) (a : A) (b : B) (g : A → B → C) →
     and_then (cond t (refuses n) (answers a)) (λ x. and_then (cond t (refuses n) (answers b)) (λ y. answers (g x y)))

@@ -1,4 +1,4 @@
--- What the proofs of some functions unfold, by the function.
+-- For each function named here, the definitions that its proof unfolds.
 use Rattle.std.specs.Prelude.{⊤}
 use Rattle.linalg.specs.Matrix.{mat_get, mat_col, vec_component, mat_set, vec_put}
 

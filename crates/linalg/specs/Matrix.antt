@@ -1,4 +1,4 @@
--- Matrices of three columns, in the operations of a format f, and the answers of the entries that refuse a row or
+-- Matrices of three columns, in the operations of a format f, and the answers of the functions that refuse a row or
 -- column above 2.
 use Rattle.std.specs.Prelude.{ℕ, Bool, cond, ◌&&◌, eqb, Float}
 use Rattle.std.specs.Float.{Format}
@@ -84,7 +84,7 @@ module _ (f : Format) where
   unfoldable pub mat_mul : Mat3 → Mat3 → Mat3
   mat_mul a b = mat (mat_mul_vec a b.c0) (mat_mul_vec a b.c1) (mat_mul_vec a b.c2)
 
-  -- the adjugate over the determinant, a zero determinant included
+  -- the adjugate over the determinant, also for a zero determinant
   unfoldable pub mat_inverse_adj : Mat3 → Inverse
   mat_inverse_adj m =
       let r0 = m.c1 ⨯ m.c2 in
@@ -106,8 +106,8 @@ module _ (f : Format) where
   unfoldable pub mat_hat_mul : Vec3 → Mat3 → Mat3
   mat_hat_mul v b = mat (vec_hat_mul v b.c0) (vec_hat_mul v b.c1) (vec_hat_mul v b.c2)
 
--- the same between matrices, for files that open them: the sum a ⊞ᵐ b, the difference a ⊟ᵐ b, a ⊡ᵐ s (each entry times
--- s), the product a ⊠ b, and a ⊠ᵛ v, the matrix times a vector
+-- the same as infix operators between matrices, for files that open them: the sum a ⊞ᵐ b, the difference a ⊟ᵐ b, a ⊡ᵐ s
+-- (each entry times s), the product a ⊠ b, and a ⊠ᵛ v, the matrix times a vector
 pub record MatOperations : Type 0 where
   pub ◌⊞ᵐ◌ : Mat3 → Mat3 → Mat3
   pub ◌⊟ᵐ◌ : Mat3 → Mat3 → Mat3

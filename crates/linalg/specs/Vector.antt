@@ -44,8 +44,8 @@ module _ (f : Format) where
   unfoldable pub vec_over : Vec3 → Float → Vec3
   vec_over a s = vec (a.x ⊘ s) (a.y ⊘ s) (a.z ⊘ s)
 
--- the same between vectors, for files that open them: a ⊞ b, a ⊟ b, a ⊡ s (each component times s), a ⨯ b (the cross
--- product)
+-- the same as infix operators between vectors, for files that open them: a ⊞ b, a ⊟ b, a ⊡ s (each component times s),
+-- a ⨯ b (the cross product)
 pub record VecOperations : Type 0 where
   pub ◌⊞◌ : Vec3 → Vec3 → Vec3
   pub ◌⊟◌ : Vec3 → Vec3 → Vec3

@@ -203,8 +203,8 @@ impl<T: Real> Mat3<T> {
         }
     }
 
-    // (adj(self) / det, det): det = c0 . (c1 x c2), and the rows of adj are c1 x c2, c2 x c0,
-    // c0 x c1. Each entry is one division by det, a zero det included.
+    // (adj(self) / det, det): det = c0 . (c1 x c2), and the rows of adj are c1 x c2, c2 x c0, c0 x c1. Each entry is
+    // one division by det, also if det is zero.
     #[tactic(auto, unfolding(crate::specs::Matrix::mat_inverse_adj))]
     pub fn inverse_adj(self) -> Inverse<T>
         ensures { as_inverse T.float result ≡ mat_inverse_adj T.format (as_mat3 T.float self) }
@@ -289,7 +289,7 @@ pub fn hat<T: Real>(v: Vec3<T>) -> Mat3<T>
     }
 }
 
-// a * hat(v), the zeros of hat skipped.
+// a * hat(v), skipping the zeros of hat.
 #[tactic(auto, unfolding(crate::specs::Matrix::mat_mul_hat))]
 pub fn mul_hat<T: Real>(a: Mat3<T>, v: Vec3<T>) -> Mat3<T>
     ensures { as_mat3 T.float result ≡ mat_mul_hat T.format (as_mat3 T.float a) (as_vec3 T.float v) }
@@ -307,7 +307,7 @@ pub fn mul_hat<T: Real>(a: Mat3<T>, v: Vec3<T>) -> Mat3<T>
     }
 }
 
-// Column b of hat(v) * b, the zeros of hat skipped.
+// Column b of hat(v) * b, skipping the zeros of hat.
 #[tactic(auto, unfolding(crate::specs::Matrix::vec_hat_mul))]
 fn hat_col<T: Real>(v: Vec3<T>, b: Vec3<T>) -> Vec3<T>
     ensures { as_vec3 T.float result ≡ vec_hat_mul T.format (as_vec3 T.float v) (as_vec3 T.float b) }
@@ -319,7 +319,7 @@ fn hat_col<T: Real>(v: Vec3<T>, b: Vec3<T>) -> Vec3<T>
     }
 }
 
-// hat(v) * b, the zeros of hat skipped.
+// hat(v) * b, skipping the zeros of hat.
 #[tactic(auto, unfolding(crate::specs::Matrix::mat_hat_mul))]
 pub fn hat_mul<T: Real>(v: Vec3<T>, b: Mat3<T>) -> Mat3<T>
     ensures { as_mat3 T.float result ≡ mat_hat_mul T.format (as_vec3 T.float v) (as_mat3 T.float b) }

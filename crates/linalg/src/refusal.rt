@@ -1,4 +1,4 @@
-// Why an entry refuses. The papers number the first twelve reasons; C callers and the job's bytes have the numbers.
+// Why a function refuses. The papers number the first twelve reasons; C callers and the job's bytes use the numbers.
 ghost use Rattle.std.specs.Prelude.{◌≡◌};
 ghost use Rattle.linalg.specs.Answer.{number};
 
@@ -7,16 +7,16 @@ pub enum Refusal {
     NegativeAngle, // a squared angle below zero
     ZeroScale, // e is +0 or -0 in the block inverse
     NoSuchEntry, // a row or column of a 3x3 matrix above 2
-    TooManyTerms, // more terms than the table of reciprocals serves
-    BadLength, // a list of another length than the call takes
-    UnknownMark, // two bytes that are no mark of the job
+    TooManyTerms, // more terms than the table of reciprocals allows
+    BadLength, // a list of points or tangents of a wrong length
+    UnknownMark, // two bytes that are not a mark of the job
     CutInput, // the input ends inside a mark or a record
     NotFinite, // a NaN or an infinity where no other number would do
-    FramesDiffer, // two poses that do not meet in one frame
-    SameTake, // a take that the sheet has already
-    NoRoom, // no place for another sheet
-    NeverKept, // a sheet that was never put
-    ListLength, // a list that a C function is lent, of another length than it takes
+    FramesDiffer, // two poses whose frames do not match
+    SameTake, // the take that is already kept for its sheet
+    NoRoom, // no slot for another sheet
+    NeverKept, // a sheet for which nothing is kept
+    ListLength, // a list of a C function of the wrong length
 }
 
 impl Refusal {

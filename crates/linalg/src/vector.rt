@@ -1,4 +1,4 @@
-// A vector of three doubles. Every sum runs left to right from its first term.
+// A vector of three numbers. Every sum runs left to right from its first term.
 ghost use Rattle.std.specs.Prelude.{◌≡◌};
 ghost use Rattle.linalg.specs.Vector.{vec_scale, vec_dot, vec_norm_sq, vec_cross, vec_add, vec_sub, vec_neg, vec_over};
 ghost use Rattle.linalg.specs.Floats.{as_vec3};
@@ -99,7 +99,7 @@ impl<T: Real> Vec3<T> {
         self.map(|a| -a)
     }
 
-    // Each component divided by s, zero included.
+    // Each component divided by s, also if s is zero.
     #[tactic(auto, unfolding(crate::specs::Vector::vec_over))]
     pub fn over(self, s: T) -> Vec3<T>
         ensures { as_vec3 T.float result ≡ vec_over T.format (as_vec3 T.float self) (T.float s) }

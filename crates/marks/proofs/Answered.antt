@@ -1,4 +1,5 @@
--- CH, RN, SH and SQ behind any records of bytes are answered as the plain history of those says. Assumes nothing.
+-- The replies to CH, RN, SH and SQ after any records of bytes follow from the plain history of those records. Assumes
+-- nothing.
 use Rattle.std.specs.Prelude.{None, Some}
 use Prim.Native.Nat.{ℕ, ◌<◌}
 use mathlib.Core.Path.{◌≡◌, refl, sym, ap, subst, ◌∙◌}
@@ -49,7 +50,7 @@ sq-row : mark_of 0x53 0x51 ≡ answers (listed 18 sq_rule)
 unfolding mark_of look_up
 sq-row = refl
 
--- ---- the state behind one record more
+-- ---- the state after one more record
 pub kept_more : (z : State) (rs : List (List ℕ)) (r : List ℕ) →
     kept_after z (rs ++ (r ∷ [])) ≡ next_of (kept_after z rs) r
 unfolding kept_after
@@ -87,7 +88,7 @@ ch-refused : (k : ℕ) → (ch_reply (refuses k)).bytes ≡ no_bytes k
 unfolding ch_reply reply_of
 ch-refused k = refl
 
--- ---- SH, by what is kept of its sheet
+-- ---- SH, by what is kept for its sheet
 module _ (s : Sheets) (n : ℕ) (x : Shot) where
   is-new : s.count < most → (shelve_on none s n x).answer ≡ shelved 1 0
   unfolding shelve_on
@@ -110,7 +111,7 @@ module _ (s : Sheets) (n : ℕ) (x : Shot) where
   is_lower o l =
       rw (ne_eqb x.take o.take (λ e. absurd (omega (arith, e, l))), le-ltb o.take x.take (omega (arith, l)))
 
--- ---- behind the records rs
+-- ---- after the records rs
 module _ (rs : List (List ℕ)) (k : KeptAfter rs) where
   abbrev before : State
   before = kept_after state_none rs

@@ -1,5 +1,5 @@
--- What the retaken sheets are answered, byte by byte, computed from the definitions: a new sheet, a take that is equal,
--- older or higher, a 513th sheet, and questions. Assumes nothing.
+-- The replies on retaken sheets, byte by byte, computed from the definitions: a new sheet, an equal, an older and a
+-- higher take, a 513th sheet, and queries. Assumes nothing.
 use Prim.Native.Nat.{ℕ}
 use mathlib.Core.Path.{◌≡◌, refl}
 use mathlib.Core.List.{List, [], ◌∷◌, ◌++◌}
@@ -20,29 +20,29 @@ use Rattle.job_state.specs.Records.{head_by_rule, next_by}
 use Rattle.job_state.specs.Retakes.{sh_of, sh_reply, sq_reply, sh_step, sq_step}
 use Rattle.marks.specs.Marks.{look_up, mark_of, head_at, next_at, head_of, next_of}
 
--- a double by its two greatest bytes, the others 0
+-- a double by its two most significant bytes, the others 0
 double : ℕ → ℕ → List ℕ
 double a b = 0 ∷ 0 ∷ 0 ∷ 0 ∷ 0 ∷ 0 ∷ a ∷ b ∷ []
 
--- quaternion 1 0 0 0, translation 2 0 0, the number whose bytes are given for σ, from 7 to 9
+-- quaternion 1 0 0 0, translation 2 0 0, σ by its bytes, from 7 to 9
 posed : List ℕ → List ℕ
 posed s =
     double 0xf0 0x3f
     ++ (double 0 0 ++ (double 0 0
     ++ (double 0 0 ++ (double 0x00 0x40 ++ (double 0 0 ++ (double 0 0 ++ (s ++ (7 ∷ 0 ∷ 9 ∷ 0 ∷ []))))))))
 
--- of the sheet 5, with a take
+-- for the sheet 5, with a take
 sh : ℕ → List ℕ → List ℕ
 sh t s = 0x53 ∷ 0x48 ∷ 5 ∷ 0 ∷ t ∷ 0 ∷ posed s
 
 sq : ℕ → List ℕ
 sq n = 0x53 ∷ 0x51 ∷ n ∷ 0 ∷ []
 
--- behind a first shot, of take 3
+-- after a first shot, of take 3
 one : State
 one = next_of state_none (sh 3 (double 0 0))
 
--- with as many sheets as there can be, whichever they are
+-- with the most sheets kept, whichever they are
 full : State
 full = record { running = running_none; sheets = record { count = 512; at = λ n. none } }
 

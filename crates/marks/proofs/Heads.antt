@@ -1,5 +1,5 @@
--- What stands at the head of the input, and the state behind it: as the code's branches find it, within the input, and
--- whatever follows. Assumes nothing.
+-- The head of the input and the state after it: as the code's branches find them, within the input, and whatever
+-- follows. Assumes nothing.
 use Prim.Native.Nat.{ℕ, ◌+◌, ◌*◌, ◌≤◌, ◌<◌}
 use mathlib.Core.Path.{◌≡◌, refl, sym, ◌∙◌}
 use mathlib.Core.Bool.{Bool, true, false}
@@ -33,7 +33,7 @@ use Rattle.marks.proofs.Table.{Good, good}
 abbrev pub Meets : State → List ℕ → InputHead → State → Type 0
 Meets z s f w = (head_of z s ≡ f) × (next_of z s ≡ w)
 
--- and what becomes of the lent bytes, likewise
+-- the state that the code keeps
 pub behind_short : (m : JobState) (s : List ℕ) → length s < 2 → behind_of m s ≡ m
 unfolding behind_of
 behind_short m [] h = refl
@@ -88,7 +88,7 @@ pub found_mark :
 unfolding head_at next_at
 found_mark z s l h q = let t = found_two z s h in (t.0 ∙ rw q, t.1 ∙ rw q)
 
--- ---- a record lies within the input, and its answer within the room of the longest
+-- ---- a record lies within the input, and its answer within the room for the longest
 pub record Taken (s : List ℕ) (k : ℕ) (b : List ℕ) : Type 0 where
   pub whole : k ≤ length s
   pub short : length b ≤ longest
@@ -120,7 +120,7 @@ cut-few z [] q = omega arith
 cut-few z (x ∷ []) q = omega arith
 cut-few z (x ∷ y ∷ s) q = at-few (x * 256 + y) (mark_of x y) (good (x * 256 + y)) z (x ∷ y ∷ s) q
 
--- ---- behind a mark the input does not end
+-- ---- after a mark the input does not end
 at_not_ended : (v : Answer Listed) (z : State) (s : List ℕ) → head_at v z s ≡ ended → ⊥
 unfolding head_at head_by_rule
 at_not_ended (answers l) z s q = record_not_ended l.rule.bytes (λ r. (l.rule.step z r).reply) s q
@@ -132,7 +132,7 @@ ended-none z [] q = refl
 ended-none z (x ∷ []) q = absurd (cc)
 ended-none z (x ∷ y ∷ s) q = absurd (at_not_ended (mark_of x y) z (x ∷ y ∷ s) q)
 
--- ---- a record is what it is, whatever follows it
+-- ---- a record is the same whatever follows it
 at_more : (v : Answer Listed) (z : State) (s ys : List ℕ) (f : InputHead) → head_at v z s ≡ f → settled f ≡ true →
     head_at v z (s ++ ys) ≡ f
 unfolding head_at head_by_rule
@@ -146,7 +146,7 @@ found_more z [] ys f q k = absurd (false≢true (rw (← q) at k))
 found_more z (x ∷ []) ys f q k = absurd (false≢true (rw (← q) at k))
 found_more z (x ∷ y ∷ s) ys f q k = at_more (mark_of x y) z (x ∷ y ∷ s) ys f q k
 
--- and so is the state behind it
+-- so is the state after it
 took-whole : (n : ℕ) (reply : List ℕ → Reply) (s : List ℕ) (how : Disposition) (k : ℕ) (b : List ℕ) →
     record_head n reply s ≡ took how k b → n ≤ length s
 took-whole n reply s how k b =
@@ -168,7 +168,7 @@ next_more z [] ys how k b q = absurd (cc)
 next_more z (x ∷ []) ys how k b q = absurd (cc)
 next_more z (x ∷ y ∷ s) ys how k b q = next-at_more (mark_of x y) z (x ∷ y ∷ s) ys how k b q
 
--- ---- a call: where the state stays, by what stands at the head; and by what its mark asks for
+-- ---- a call: where the state stays, by the head of the input; and by the rule of its mark
 pub met_still :
     (m : JobState) (s out : List ℕ) (f : InputHead) → Meets (state_of m) s f (state_of m) → behind_of m s ≡ m →
     (q : Step) →
@@ -201,7 +201,7 @@ operation-view f e m s out q out' a b =
     (one_of_two (ltb (length s) (operation_rule f e).bytes) (state_of m))
     (one_of_two (ltb (length s) (operation_rule f e).bytes) m) a b
 
--- where no record is taken the state stays
+-- where no record is taken, the state stays
 abbrev pub taking : InputHead → Bool
 taking (took q k b) = true
 taking ended = false
@@ -234,7 +234,7 @@ still z [] f q k = refl
 still z (x ∷ []) f q k = refl
 still z (x ∷ y ∷ s) f q k = still_at (mark_of x y) z (x ∷ y ∷ s) f q k
 
--- and so do the lent bytes
+-- so does the state that the code keeps
 bytes_still_at :
     (v : Answer Listed) (z : State) (m : JobState) (s : List ℕ) (f : InputHead) → head_at v z s ≡ f →
     taking f ≡ false → behind_at v m s ≡ m

@@ -1,5 +1,5 @@
--- What holds of every row of the table; what stands at the head of the input and the state behind it, its place in the
--- counts by mark, any history of records, what is answered behind it, and examples.
+-- Every row of the table; the head of the input and the state after it; its place in the counts by mark; any history of
+-- records; whole records; the replies after a history; and examples.
 pub mod Table
 pub mod Heads
 pub mod Rows

@@ -1,6 +1,6 @@
--- After any records of bytes the running pose is that of the plain history of the CH and RN among them, and what is
--- kept of a sheet is the highest take among its accepted SH: a record moves the state as what it means does, and two
--- bytes are a number of 16 bits. Assumes nothing.
+-- After any records of bytes the running pose is that of the plain history of the CH and RN among them, and the shot
+-- kept for a sheet is the one with the highest take among its accepted SH: a record changes the state as its event
+-- does, and two bytes are a number of 16 bits. Assumes nothing.
 use Prim.Native.Nat.{ℕ, ◌+◌, ◌*◌, ◌<◌}
 use mathlib.Core.Path.{◌≡◌, refl, ap, ◌∙◌}
 use mathlib.Core.Bool.{Bool, true, false, cond}
@@ -87,7 +87,7 @@ word_small : (b : List ℕ) (at : ℕ) → Bytes b → word_at 2 b at < 65536
 unfolding word_at
 word_small b at h = two_small (drop at b) (bytes_drop at b h)
 
--- behind a mark too
+-- also after a mark
 behind_small : (k : ℕ) (r : List ℕ) → Bytes r → word_at 2 (drop 2 (take k r)) 0 < 65536
 behind_small k r b = word_small (drop 2 (take k r)) 0 (bytes_drop 2 (take k r) (bytes_take k r b))
 

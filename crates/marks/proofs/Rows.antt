@@ -1,5 +1,5 @@
--- In which of the counts by mark a record counts: as the code's branches find it, one of those there are, and the same
--- whatever follows. Assumes nothing.
+-- The place of a record among the counts by mark: as the code's branches find it, below the number of places, and the
+-- same whatever follows. Assumes nothing.
 use Prim.Native.Nat.{ℕ, ◌+◌, ◌*◌, ◌≤◌, ◌<◌}
 use mathlib.Core.Path.{◌≡◌, refl, sym, ap, ◌∙◌}
 use mathlib.Core.Bool.{true}
@@ -15,7 +15,7 @@ use Rattle.marks.specs.Marks.{Listed, mark_of, head_of}
 use Rattle.marks.specs.Rows.{row_count, unlisted, row_known, row_at}
 use Rattle.marks.proofs.Table.{Good, good}
 
--- ---- one of those there are
+-- ---- below the number of places
 known_few : (k : ℕ) (v : Answer Listed) → Good k v → row_known v < row_count
 unfolding row_known
 known_few k (answers l) g = g.0

@@ -1,6 +1,6 @@
--- What holds of every row of the table, and so of whatever two letters are found to be: a record has its mark, no
--- record and no reply is longer than the longest, and a record moves the running join and the sheets as what it means
--- does. Assumes nothing.
+-- What holds for every row of the table, and so for any two letters: a record includes its mark, no record and no reply
+-- is longer than the longest, and a record changes the running join and the sheets as its event and its shot do.
+-- Assumes nothing.
 use Prim.Native.Nat.{ℕ, ◌+◌, ◌≤◌, ◌<◌}
 use mathlib.Core.Path.{◌≡◌, refl, sym, ap, ◌∙◌}
 use mathlib.Core.Bool.{Bool, true, false, cond}
@@ -30,7 +30,7 @@ use Rattle.marks.specs.Marks.{Row, operation_rule, table, Listed, listed, look_u
 use Rattle.marks.specs.Rows.{row_count}
 use Rattle.marks.specs.History.{join_in, renew_in, event_on, shot_is, shot_on}
 
--- ---- of the letters k that ask for a
+-- ---- for the letters k and their rule a
 pub record Sound (k : ℕ) (a : RecordRule) : Type 0 where
   pub least : 2 ≤ a.bytes
   pub size : a.bytes ≤ longest_record
@@ -40,7 +40,7 @@ pub record Sound (k : ℕ) (a : RecordRule) : Type 0 where
   pub shot : (z : State) (r : List ℕ) (h : List Sent) → after_shots (next_by a z r).sheets h
       ≡ after_shots z.sheets (shot_on k r h)
 
--- a record that is cut moves nothing
+-- a cut record changes nothing
 pick :
     (t : Bool) (z w : State) (h g : List Event) → after binary64 w.running h ≡ after binary64 z.running g →
     after binary64 (cond t z w).running h ≡ after binary64 z.running (cond t h g)
@@ -53,7 +53,7 @@ pick_shot :
 pick_shot true z w h g e = refl
 pick_shot false z w h g e = e
 
--- what a record leaves of one part, where it moves the other
+-- a record that changes one part leaves the other
 beside : (t : Bool) (z : State) (s : Sheets) → (cond t z (record { running = z.running; sheets = s })).running
     ≡ z.running
 beside true z s = refl
@@ -63,7 +63,7 @@ before : (t : Bool) (z : State) (r : Running) → (cond t z (record { running = 
 before true z r = refl
 before false z r = refl
 
--- ---- an entry of the engine, whose letters are none of CH's, RN's and SH's
+-- ---- an operation of the engine, whose letters are not CH's, RN's or SH's
 other_event : (k : ℕ) (r : List ℕ) (h : List Event) → eqb k ch_letters ≡ false → eqb k rn_letters ≡ false →
     h ≡ event_on k r h
 unfolding event_on
@@ -88,7 +88,7 @@ entry_sound f e k c n s = record {
       ∙ ap (after_shots z.sheets) (other-shot k r h s);
 }
 
--- ---- the four that read or move what is kept
+-- ---- the four records that read or change the state
 ch_sound : Sound ch_letters ch_rule
 unfolding next_by ch_step ch_of event_on join_in shot_on after
 ch_sound = record {
@@ -129,13 +129,13 @@ sq_sound = record {
   shot = λ z r h. ap (λ (w : State). after_shots w.sheets h) (one_of_two (ltb (length r) sq_size) z);
 }
 
--- ---- of every row
+-- ---- for every row
 infixr 67 ◌▸◌
 data Each : List Row → Type 0 where
   none : Each []
   ◌▸◌ : {r : Row} {t : List Row} → Sound r.letters r.rule → Each t → Each (r ∷ t)
 
--- the letters of an entry are none of CH's, RN's and SH's, by computing
+-- an operation's letters are not CH's, RN's or SH's, by computing
 rows : Each table
 rows =
     entry_sound binary64 Ex _ refl refl refl
@@ -159,7 +159,7 @@ rows =
     ▸ sq_sound
     ▸ none
 
--- and so of what is found, whose place is that of a row
+-- so for what is found, whose place is that of a row
 abbrev At : ℕ → Listed → ℕ → Type 0
 At k l n = (l.place < n) × Sound k l.rule
 
@@ -189,7 +189,7 @@ absent k c n e a = by (eqb k c) refl
     by true b = absurd (false≢true (rw (← (eqb-true k c b), e) at a))
     by false b = b
 
--- ---- whatever two letters are
+-- ---- for any two letters
 abbrev pub Good : ℕ → Answer Listed → Type 0
 Good k (answers l) = (l.place < row_count) × Sound k l.rule
 Good k (refuses n) = (eqb k ch_letters ≡ false) × (eqb k rn_letters ≡ false) × (eqb k sh_letters ≡ false)
@@ -202,7 +202,7 @@ good_by k (refuses n) e = (absent k ch_letters n e refl, absent k rn_letters n e
 pub good : (k : ℕ) → Good k (look_up k 0 table)
 good k = good_by k (look_up k 0 table) refl
 
--- the state behind letters that are in no row is as it was, and they bring nothing
+-- letters in no row leave the state as it is, and bring no event and no shot
 pub event_at : (k : ℕ) (v : Answer Listed) → Good k v → (z : State) (r : List ℕ) (h : List Event) →
     after binary64 (next_at v z r).running h ≡ after binary64 z.running (event_on k r h)
 unfolding next_at

@@ -1,5 +1,5 @@
--- Whether a whole record stands at the head of the input, and how long it is, does not depend on what is kept; and a
--- whole record by itself is answered as at the head of any input. Assumes nothing.
+-- Whether a whole record is at the head of the input, and how long it is, does not depend on the state; and the reply
+-- to a whole record by itself is the reply to it at the head of any input. Assumes nothing.
 use Prim.Native.Nat.{ℕ, zero, suc, ◌+◌, ◌*◌, ◌≤◌}
 use mathlib.Core.Path.{◌≡◌, refl, sym, ap, ◌∙◌}
 use mathlib.Core.Bool.{Bool, true, false, cond}
@@ -19,7 +19,7 @@ use Rattle.marks.specs.Marks.{Listed, mark_of, head_at, next_at, head_of, next_o
 use Rattle.marks.specs.Answers.{reply_on, reply_to}
 use Rattle.marks.proofs.Table.{Good, good}
 
--- ---- two bytes and more, by what their mark is
+-- ---- two bytes or more, by their mark
 module _ (x y : ℕ) (t r : List ℕ) (q : r ≡ x ∷ y ∷ t) (v : Answer Listed) (e : mark_of x y ≡ v) (z : State) where
   found-is : head_of z r ≡ head_at v z r
   unfolding head_of
@@ -29,7 +29,7 @@ module _ (x y : ℕ) (t r : List ℕ) (q : r ≡ x ∷ y ∷ t) (v : Answer List
   unfolding next_of
   next-is = ap (next_of z) q ∙ ap (next_at (mark_of x y) z) (sym q) ∙ ap (λ (w : Answer Listed). next_at w z r) e
 
--- ---- all bytes of a record that has as many as its mark asks for
+-- ---- a record that has exactly the bytes of its rule
 module _ (a : RecordRule) (r : List ℕ) (n : length r ≡ a.bytes) (z : State) where
   all : take a.bytes r ≡ r
   all = take_all a.bytes r (omega (arith, n))
@@ -47,7 +47,7 @@ module _ (a : RecordRule) (r : List ℕ) (n : length r ≡ a.bytes) (z : State) 
       ap (λ (u : Bool). cond u z (a.step z (take a.bytes r)).state) t
       ∙ ap (λ (l : List ℕ). (a.step z l).state) all
 
--- ---- what stands at the head of xs, whatever is kept
+-- ---- the head of xs, whatever the state is
 abbrev pub Takes : List ℕ → ℕ → (State → Reply) → Type 0
 Takes xs k reply = (z : State) → head_of z xs ≡ took (reply z).disposition k (reply z).bytes
 
@@ -68,7 +68,7 @@ module _ (x y : ℕ) (s : List ℕ) where
   abbrev here : List ℕ
   here = x ∷ y ∷ s
 
-  -- a mark of the table, by whether as many bytes are there as it asks for
+  -- a mark of the table, by whether the input has the bytes of its rule
   module _ (l : Listed) (e : mark_of x y ≡ answers l) (two : 2 ≤ l.rule.bytes) where
     abbrev size : ℕ
     size = l.rule.bytes
@@ -122,7 +122,7 @@ head (x ∷ y ∷ s) = head_by x y s (mark_of x y) refl (good (x * 256 + y))
 abbrev pub Whole : List ℕ → Type 0
 Whole r = (q : Disposition) × ((b : List ℕ) × (head_of state_none r ≡ took q (length r) b))
 
--- its length, what it is answered, and the state behind it, where its mark is l in the table
+-- its length, the reply, and the state after it, where l is its mark's entry in the table
 module _ (x y : ℕ) (s : List ℕ) (l : Listed) (e : mark_of x y ≡ answers l) (w : Whole (x ∷ y ∷ s)) where
   abbrev whole : List ℕ
   whole = x ∷ y ∷ s

@@ -1,5 +1,5 @@
--- What CH, RN, SH and SQ are answered, by the plain history of the records before them. Proved as `answered` in
--- proofs/Answered.antt, of any whole records of bytes.
+-- The replies to CH, RN, SH and SQ, by the plain history of the records before them. Proved as `answered` in
+-- proofs/Answered.antt, for any whole records of bytes.
 use Rattle.std.specs.Prelude.{None, Some, ℕ, ◌<◌, ◌≡◌, List, [], ◌∷◌, ◌++◌}
 use Rattle.std.specs.Float.{binary64}
 use Rattle.frames.specs.Floats.{Pose}
@@ -13,7 +13,7 @@ use Rattle.job_state.specs.State.{State, state_none}
 use Rattle.marks.specs.Marks.{head_of}
 use Rattle.marks.specs.History.{kept_after, pose_after, sheet_after, sheet_count}
 
--- ---- the bytes that a whole record r is answered, where st is kept; and behind the records rs
+-- ---- the bytes of the reply to a whole record r, where st is the state; and after the records rs
 unfoldable pub reply_on : InputHead → List ℕ
 reply_on (took d k bytes) = bytes
 reply_on ended = []
@@ -26,7 +26,7 @@ reply_to st r = reply_on (head_of st r)
 abbrev pub reply_after : List (List ℕ) → List ℕ → List ℕ
 reply_after rs r = reply_to (kept_after state_none rs) r
 
--- ---- answers: of CH a pose with its frames; of SH one of 1, 2, 3 and a take; of SQ a take and a pose with its frames
+-- ---- answers: to CH a pose with its frames; to SH one of 1, 2, 3 and a take; to SQ a take and a pose with its frames
 abbrev pub ch_bytes : Pose → List ℕ
 ch_bytes y = mark_bytes 0x43 0x48 ++ items_bytes binary64 (framed_items y)
 
@@ -41,45 +41,46 @@ abbrev pub Accepts : Start → Pose → Type 0
 Accepts None x = Unit {0}
 Accepts (Some p) x = p.from ≡ x.to
 
--- s is the running pose before it and t behind it
+-- s is the running pose before it, and t the one after it
 pub record ChAnswered (s : Start) (x : Pose) (t : Start) (reply : List ℕ) : Type 0 where
-  -- the first, and one whose `to` is the running pose's `from`, is answered the running pose behind it, with its frames
+  -- for the first pose, and for one whose `to` is the running pose's `from`, the reply is the running pose after it,
+  -- with its frames
   pub joins : Accepts s x → (y : Pose) × ((t ≡ Some y) × (reply ≡ ch_bytes y))
-  -- any other is refused by 9
+  -- any other is refused, by 9
   pub apart : (Accepts s x → ⊥) → reply ≡ no_bytes 9
 
--- ---- SH with the take t, where k is kept of its sheet, and a shot of `count` sheets. No other cases are left.
+-- ---- SH with the take t, where k is kept for its sheet and `count` sheets have a shot. There are no other cases.
 pub record ShAnswered (k : Kept) (count t : ℕ) (reply : List ℕ) : Type 0 where
-  -- 1 and 0 where its sheet is new
+  -- 1 and 0 if its sheet is new
   pub new : k ≡ none → count < most → reply ≡ sh_bytes 1 0
-  -- 11 where its sheet would be one too many
+  -- 11 if its sheet would be one too many
   pub full : k ≡ none → count ≡ most → reply ≡ no_bytes no_room
-  -- 10 where the take is the one kept
+  -- 10 if the take is the one kept
   pub same : (o : Shot) → k ≡ kept o → t ≡ o.take → reply ≡ no_bytes same_take
-  -- 2 and the take before where it is higher
+  -- 2 and the take kept before, if t is higher
   pub replaces : (o : Shot) → k ≡ kept o → o.take < t → reply ≡ sh_bytes 2 o.take
-  -- 3 and the take that is kept where it is lower
+  -- 3 and the take that is kept, if t is lower
   pub older : (o : Shot) → k ≡ kept o → t < o.take → reply ≡ sh_bytes 3 o.take
 
--- ---- SQ, where k is kept of its sheet
+-- ---- SQ, where k is kept for its sheet
 pub record SqAnswered (k : Kept) (reply : List ℕ) : Type 0 where
   -- the take and the pose that are kept
   pub found : (o : Shot) → k ≡ kept o → reply ≡ sq_bytes o
-  -- 12 where nothing is
+  -- 12 if nothing is kept
   pub never : k ≡ none → reply ≡ no_bytes never_kept
 
--- ---- the record r behind the records rs, where b are its bytes behind the mark
+-- ---- the record r after the records rs, where b are its bytes after the mark
 pub record RecordAnswered (rs : List (List ℕ)) (r : List ℕ) : Type 0 where
-  -- CH, by the running pose before and behind it
+  -- CH, by the running pose before and after it
   pub ch :
       (b : List ℕ) → r ≡ mark_bytes 0x43 0x48 ++ b →
       ChAnswered (pose_after rs) (framed_in binary64 b) (pose_after (rs ++ (r ∷ []))) (reply_after rs r)
-  -- RN is answered its own mark and n, which are all its bytes
+  -- the reply to RN is its mark and n, which are all its bytes
   pub rn : (b : List ℕ) → r ≡ mark_bytes 0x52 0x4e ++ b → reply_after rs r ≡ r
-  -- SH, by the highest take of its sheet that was accepted, and by how many sheets are kept
+  -- SH, by the highest accepted take of its sheet, and by how many sheets are kept
   pub sh :
       (b : List ℕ) → r ≡ mark_bytes 0x53 0x48 ++ b →
       ShAnswered (sheet_after rs (word_at 2 b 0)) (sheet_count rs) (word_at 2 b 2) (reply_after rs r)
-  -- SQ, by the highest take of its sheet that was accepted
+  -- SQ, by the highest accepted take of its sheet
   pub sq :
       (b : List ℕ) → r ≡ mark_bytes 0x53 0x51 ++ b → SqAnswered (sheet_after rs (word_at 2 b 0)) (reply_after rs r)

@@ -1,5 +1,5 @@
--- The records that came, what each means to the running join and to the retaken sheets, and what is kept after them.
--- Proved as `kept-after` in proofs/Past.antt, of any records of bytes.
+-- The records so far, what each means for the running join and for the retaken sheets, and the state after them. Proved
+-- as `kept-after` in proofs/Past.antt, for any records of bytes.
 use Rattle.std.specs.Prelude.{None, ℕ, ◌+◌, ◌*◌, ◌≤◌, ◌≡◌, cond, List, [], ◌∷◌, length, take, drop, eqb, ltb}
 use Rattle.std.specs.Float.{binary64}
 use Rattle.running.specs.Running.{Start}
@@ -14,12 +14,12 @@ use Rattle.job_state.specs.Chain.{ch_letters, rn_letters, ch_size, rn_size}
 use Rattle.job_state.specs.Retakes.{sh_letters, sh_size}
 use Rattle.marks.specs.Marks.{next_of}
 
--- what is kept after these records, each with its mark
+-- the state after these records, each with its mark
 unfoldable pub kept_after : State → List (List ℕ) → State
 kept_after st [] = st
 kept_after st (r ∷ rs) = kept_after (next_of st r) rs
 
--- a whole CH and a whole RN, before what h holds, where k are the record's letters; other records mean nothing to the
+-- a whole CH and a whole RN, added in front of h, where k are the record's letters; other records mean nothing for the
 -- running join
 unfoldable pub join_in : List ℕ → List Event → List Event
 join_in r h =
@@ -46,7 +46,7 @@ events_of (r ∷ rs) = event_in r (events_of rs)
 unfoldable pub pose_after : List (List ℕ) → Start
 pose_after rs = ran binary64 None 0 0 (events_of rs)
 
--- a whole SH, before what h holds, where k are the record's letters; other records bring no shot
+-- a whole SH, added in front of h, where k are the record's letters; other records bring no shot
 unfoldable pub shot_is : List ℕ → List Sent → List Sent
 shot_is r h =
     let b = drop 2 (take sh_size r) in
@@ -64,8 +64,8 @@ unfoldable pub shots_of : List (List ℕ) → List Sent
 shots_of [] = []
 shots_of (r ∷ rs) = shot_from r (shots_of rs)
 
--- the SH among these records that were accepted; the highest take among those of the sheet n; and of how many sheets
--- there is one
+-- the accepted SH among these records; the highest take among those of the sheet n; and for how many sheets there is
+-- one
 unfoldable pub accepted_of : List (List ℕ) → List Sent
 accepted_of rs = accepted no_sheets (shots_of rs)
 
@@ -75,15 +75,15 @@ sheet_after rs n = highest n none (accepted_of rs)
 unfoldable pub sheet_count : List (List ℕ) → ℕ
 sheet_count rs = kept_below (sheet_after rs) sheet_numbers
 
--- ---- what is kept after the records rs
+-- ---- the state after the records rs
 pub record KeptAfter (rs : List (List ℕ)) : Type 0 where
   -- the running pose is that of the plain history of CH and RN
   pub pose : (kept_after state_none rs).running.pose ≡ pose_after rs
-  -- of each sheet the highest take among its SH that were accepted
+  -- for each sheet the highest take among its accepted SH is kept
   pub sheet : (n : ℕ) → (kept_after state_none rs).sheets.at n ≡ sheet_after rs n
-  -- it is one of them, and none of them is higher; nothing is kept where there is none
+  -- it is one of them, and none of them is higher; if there is none, nothing is kept
   pub highest : (n : ℕ) → Highest n (accepted_of rs) (sheet_after rs n)
-  -- the count is that of the sheets of which a shot is kept
+  -- the count is that of the sheets for which a shot is kept
   pub count : (kept_after state_none rs).sheets.count ≡ sheet_count rs
-  -- which are at most 512
+  -- it is at most 512
   pub few : sheet_count rs ≤ most

@@ -1,4 +1,4 @@
--- The table of marks, and what stands at the head of the input by it.
+-- The table of marks, and the head of the input by it.
 use Rattle.std.specs.Prelude.{ℕ, ◌+◌, ◌*◌, cond, List, [], ◌∷◌, eqb, Option, None, Some}
 use Rattle.std.specs.Float.{Format, binary32, binary64}
 use Rattle.linalg.specs.Answer.{Answer, answers, refuses}
@@ -14,7 +14,7 @@ use Rattle.job_state.specs.Retakes.{sh_letters, sq_letters, sh_rule, sq_rule}
 use Rattle.marks.specs.declared.Mark.{Mark}
 use Rattle.marks.specs.declared.Mark.TheVariants.{Double, Single, Ch, Rn, Sh, Sq}
 
--- ---- the table: a row has the two letters as one number, the first times 256 and the second, and what they ask for
+-- ---- the table: a row holds the two letters as one number, the first times 256 plus the second, and their rule
 pub record Row : Type 0 where
   pub letters : ℕ
   pub rule : RecordRule
@@ -22,7 +22,7 @@ pub record Row : Type 0 where
 abbrev pub row : ℕ → RecordRule → Row
 row k a = record { letters = k; rule = a }
 
--- an entry of the engine, which leaves the state as it is; on doubles, and on singles
+-- an operation of the engine, which leaves the state as it is; on doubles, and on singles
 abbrev pub operation_rule : Format → Operation → RecordRule
 operation_rule f e =
     record {
@@ -38,7 +38,7 @@ double e = operation_rule binary64 e
 abbrev pub single : Operation → RecordRule
 single e = operation_rule binary32 e
 
--- a line for each mark, in the order of the counts by mark
+-- a row for each mark, in the order of the counts by mark
 abbrev pub table : List Row
 table =
     row 0x4558 (double Ex)
@@ -62,7 +62,7 @@ table =
     ∷ row sq_letters sq_rule
     ∷ []
 
--- ---- what the letters k are in a table whose first row has the place n: the place of their row, and what they ask for
+-- ---- the letters k in a table whose first row has the place n: the place of their row, and its rule
 pub record Listed : Type 0 where
   pub place : ℕ
   pub rule : RecordRule
@@ -77,7 +77,7 @@ look_up k n (r ∷ t) = cond (eqb k r.letters) (answers (listed n r.rule)) (look
 unfoldable pub mark_of : ℕ → ℕ → Answer Listed
 mark_of a b = look_up (a * 256 + b) 0 table
 
--- what each case of `Mark` asks for, and what is said of a mark and its place, or of none
+-- the rule of each case of `Mark`; and the view of a mark with its place, or of none
 abbrev pub mark_rule : Mark → RecordRule
 mark_rule (Double e) = double e
 mark_rule (Single e) = single e
@@ -90,12 +90,11 @@ abbrev pub look_up_view : Option (Mark × ℕ) → Answer Listed
 look_up_view (Some p) = answers (listed p.1 (mark_rule p.0))
 look_up_view None = refuses unknown_mark
 
--- the bytes of the longest record: PA's mark and its numbers
+-- the length of the longest record: PA's mark and its numbers
 abbrev pub longest_record : ℕ
 longest_record = 2 + width_of binary64 Pa
 
--- ---- what stands at the head of the input s, where st is the state; and the state behind it, which is st where no
--- whole record stands there
+-- ---- the head of the input s, where st is the state; and the state after it, which is st if no whole record is there
 unfoldable pub head_at : Answer Listed → State → List ℕ → InputHead
 head_at (answers l) st s = head_by_rule l.rule st s
 head_at (refuses k) st s = unknown
@@ -114,7 +113,7 @@ next_of st [] = st
 next_of st (a ∷ []) = st
 next_of st (a ∷ b ∷ rest) = next_at (mark_of a b) st (a ∷ b ∷ rest)
 
--- what the code keeps behind it, which is m as it was where no whole record stands there
+-- the state that the code keeps after it, which is m itself if no whole record is there
 unfoldable pub behind_at : Answer Listed → JobState → List ℕ → JobState
 behind_at (answers l) m s = behind_by l.rule m s
 behind_at (refuses k) m s = m
@@ -124,6 +123,6 @@ behind_of m [] = m
 behind_of m (a ∷ []) = m
 behind_of m (a ∷ b ∷ rest) = behind_at (mark_of a b) m (a ∷ b ∷ rest)
 
--- a reader of the head by its mark
+-- the reader that goes by the table
 abbrev pub by_table : Reader
 by_table = record { head = head_of; next = next_of; behind = behind_of }

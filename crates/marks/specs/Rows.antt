@@ -1,21 +1,21 @@
--- The counts by mark: in which of them a record counts. Its place is that of its row in the table of marks.
+-- The counts by mark: the place of a record among them is that of its row in the table of marks.
 use Rattle.std.specs.Prelude.{ℕ, ◌+◌, List, [], ◌∷◌, length}
 use Rattle.linalg.specs.Answer.{Answer, answers, refuses}
 use Rattle.marks.specs.Marks.{table, Listed, mark_of}
 
--- the place of what is in no row, behind all rows; and how many places there are
+-- the place of what is in no row, after all rows; and how many places there are
 abbrev pub unlisted : ℕ
 unlisted = length table
 
 abbrev pub row_count : ℕ
 row_count = length table + 1
 
--- by what two bytes are in the table
+-- the place of two bytes, by what the table says of them
 unfoldable pub row_known : Answer Listed → ℕ
 row_known (answers l) = l.place
 row_known (refuses k) = unlisted
 
--- of what stands at the head of the input, whole or cut; half a mark is none
+-- the place of the head of the input, whole or cut; half a mark is in no row
 unfoldable pub row_at : List ℕ → ℕ
 row_at [] = unlisted
 row_at (a ∷ []) = unlisted

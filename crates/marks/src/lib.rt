@@ -1,6 +1,6 @@
-// The table of marks, and what stands at the head of the input. Proved: each record is handled by the rule of its mark
-// (Handled by_table), and after any records what is kept is their plain history (KeptAfter), by which CH, RN, SH and SQ
-// are answered (RecordAnswered). Rests on replies and job_state.
+// The table of marks, and the head of the input. Proved: each record follows the rule of its mark (Handled by_table),
+// and the state after any records is that of their plain history (KeptAfter), from which the replies to CH, RN, SH and
+// SQ follow (RecordAnswered). Rests on replies and job_state.
 #![tactic(auto)]
 
 ghost use Rattle.std.specs.Prelude.{◌≡◌, ◌+◌, ◌*◌};
@@ -13,14 +13,14 @@ use job_state::chain::{ch, rn};
 use job_state::retakes::{sh, sq};
 use record_result::{Operation, Step};
 
-// How many counts by mark a job has: one for each mark of the table, and the last for what is no mark.
+// How many counts by mark a job has: one for each mark of the table, and the last for anything else.
 pub const ROWS: usize = 20;
 
-// The place of what is no mark.
+// The place of what is not a mark.
 const UNLISTED: usize = ROWS - 1;
 
-// What a mark asks for: an entry of the engine, on doubles or on singles, the running join, or the
-// retaken sheets.
+// The meaning of a mark: an operation of the engine, on doubles or on singles, or a record of the running join or of
+// the retaken sheets.
 #[derive(Clone, Copy)]
 pub enum Mark {
     Double(Operation),
@@ -31,15 +31,14 @@ pub enum Mark {
     Sq,
 }
 
-// What stands at the head of the input, and in which of the counts by mark it counts.
+// The result for the head of the input, and its place among the counts by mark.
 #[derive(Clone, Copy)]
 pub struct Dispatched {
     pub step: Step,
     pub row: usize,
 }
 
-// The table: the mark of which the two bytes are this number, with its place among the counts by mark, a
-// line for each.
+// The table: the mark whose two bytes are this number, with its place among the counts by mark.
 #[tactic(auto, unfolding(crate::specs::Marks::look_up))]
 fn known(k: u16) -> Option<(Mark, usize)>
     ensures { look_up_view result ≡ look_up k 0 table }
@@ -68,7 +67,7 @@ fn known(k: u16) -> Option<(Mark, usize)>
     }
 }
 
-// What two bytes are in the table.
+// The mark of two bytes, if they are one.
 pub fn look_up(a: u8, b: u8) -> Option<(Mark, usize)>
     ensures { look_up_view result ≡ mark_of a b }
 {
@@ -81,11 +80,10 @@ fn dispatch(step: Step, row: usize) -> Dispatched
     Dispatched { step, row }
 }
 
-// Answers the record at the head of s at the front of `out`, and moves the state behind it, or
-// tells why there is none. Nothing is written where s ends within the record, or `out` is shorter than the longest
-// answer. With it comes the record's place in the counts by mark, which a cut record has too; half a mark counts as no
-// mark. PERF (D122): written into the record loop: a call costs
-// most records thirty instructions or more.
+// Writes the reply to the record at the head of s to the front of `out` and updates the state, or returns why it takes
+// none. Nothing is written if s ends inside the record or `out` is shorter than the longest answer. The result has the
+// record's place among the counts by mark, also for a cut record; half a mark counts as no mark. PERF (D122): inlined
+// into the record loop: a call costs most records thirty instructions or more.
 #[inline(always)]
 pub fn reply(s: &[u8], state: &mut JobState, out: &mut [u8]) -> Dispatched
     ensures handled { Handled by_table state.old s.now out.old result.step out.new state.new }

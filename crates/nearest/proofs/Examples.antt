@@ -1,6 +1,6 @@
 -- Worked examples, at both widths: ties, downward and upward; σ·σ one step below the closed limit, where z moves
--- through 2 ^ 62 patterns and more with the same Δ; σ·σ at the limit. An end of an arm is shown by two arms, at it and
--- before it. Assumes nothing.
+-- through 2 ^ 62 patterns and more with the same Δ; σ·σ at the limit. To show where an arm ends, they compute the arm
+-- there and one step before. Assumes nothing.
 use mathlib.Core.Path.{◌≡◌, refl}
 use Prim.Native.Nat.{ℕ, ◌+◌, ◌-◌, ◌≤◌, ◌<◌}
 use native.Mathlib.Nat.{le_trans}
@@ -20,7 +20,7 @@ use Rattle.nearest.proofs.Tried.{nearest-is}
 use Rattle.nearest.proofs.Only.{only_one}
 use Rattle.nearest.proofs.Sides.{Ends, downward, upward}
 
--- ---- the ends of an arm, by arms at and before them
+-- ---- the ends of an arm, from the arms at them and one step before them
 abbrev end_at : Format → Float → ℕ → ℕ → Bool
 end_at f sigma a b = ltb 0 b && ltb b (patterns f) && leb (arm_at f sigma (b - 1)) a && ltb a (arm_at f sigma b)
 

@@ -1,5 +1,5 @@
--- The search by halves: one arm, at a pattern between the two ends of what is left, settles all patterns on one side of
--- it. Assumes nothing.
+-- The search by halving: the arm at one pattern between the two ends of what is left decides all patterns on one side
+-- of it. Assumes nothing.
 use Prim.Native.Nat.{ℕ, ◌+◌, ◌≤◌, ◌<◌, zero-le}
 use native.Mathlib.Nat.{le_refl, le_trans}
 use native.Mathlib.Omega.{arith}

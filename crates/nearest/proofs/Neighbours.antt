@@ -1,6 +1,6 @@
 -- From patterns to values: the patterns below the end are those of the permitted values, the next pattern is that of
--- the next value, and so n moves lead where n steps of the pattern lead. With them `NearestTheorem` is one of values,
--- at the entry. Assumes nothing.
+-- the next value, and so n moves lead to the same value as n steps of the pattern. So `NearestTheorem` also holds for
+-- values, at the public function. Assumes nothing.
 use mathlib.Core.Path.{◌≡◌, refl, sym, ap, ◌∙◌, subst}
 use mathlib.Core.Logic.{inl, inr}
 use mathlib.Core.Bool.{true, false, ◌&&◌}
@@ -249,7 +249,7 @@ module _ (f : Format) where
     }
     from_values none o = λ q r Q R. o (of_bits f q) (of_bits f r) (permitted-at q Q) (permitted-at r R)
 
-  -- ---- at the entry
+  -- ---- at the public function
   pub nearest-arm_theorem : NearestArmTheorem f
   nearest-arm_theorem sigma z t s k b =
       let p = to_bits f (unsigned_zero z) in

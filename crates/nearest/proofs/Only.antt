@@ -1,5 +1,5 @@
--- What is asked for is asked for once: the least count is one number, the direction is told by the tie rule, and a step
--- to another arm excludes that there is one arm. Assumes nothing.
+-- The answer is unique: the least count is one number, the tie rule decides the direction, and if a step leads to
+-- another arm, there is more than one arm. Assumes nothing.
 use mathlib.Core.Path.{◌≡◌, refl, sym, ◌∙◌, subst}
 use mathlib.Core.Logic.{◌⊎◌, inl, inr}
 use Prim.Native.Nat.{ℕ, ◌+◌, ◌-◌, ◌<◌}
@@ -9,7 +9,7 @@ use Rattle.nearest.specs.Nearest.{Way, down, up, Near, step, none, place, change
 use Rattle.nearest.specs.Theorem.{Least, OneArm, NearIs}
 use Rattle.nearest.proofs.Steps.{down-permitted, up-permitted, another}
 
--- of two directions that differ one is `first`
+-- of two different directions one is `first`
 one-first : (first d e : Way) → (d ≡ e) ⊎ ((d ≡ first) ⊎ (e ≡ first))
 one-first down down e = inr (inl refl)
 one-first down up down = inr (inr refl)

@@ -1,5 +1,5 @@
--- The arm does not fall as z grows: z ↦ σ·σ + z keeps the order, rounded as it is, and a test Δ < limit that holds at a
--- larger Δ holds at a smaller one. So where +0 has the last arm, every z has it. Assumes nothing.
+-- The arm does not fall as z grows: z ↦ σ·σ + z, also when rounded, keeps the order, and a test Δ < limit that holds at
+-- a larger Δ holds at a smaller one. So where +0 has the last arm, every z has it. Assumes nothing.
 use mathlib.Core.Path.{◌≡◌, ap}
 use mathlib.Core.Logic.{inl, inr}
 use Prim.Native.Nat.{ℕ, ◌≤◌, ◌<◌}

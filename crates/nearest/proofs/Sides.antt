@@ -1,4 +1,4 @@
--- From the two ends of p's arm to what is asked for: below `low` and from `high` on the arm is another, and between
+-- From the two ends of p's arm to the nearest other arm: below `low` and from `high` on the arm is another, and between
 -- them it is p's. Assumes nothing.
 use mathlib.Core.Path.{◌≡◌, refl, sym, ◌∙◌}
 use mathlib.Core.Logic.{inl, inr}
@@ -13,7 +13,7 @@ use Rattle.nearest.proofs.Steps.{down-changes, up-changes, down-permitted, up-pe
 use Rattle.nearest.proofs.Tried.{nearest-is}
 use Rattle.nearest.proofs.Only.{only_one}
 
--- p has the arm a, and low and high part the patterns below and above it
+-- p has the arm a, and low and high split the patterns below and above it
 pub record Ends (arm : ℕ → ℕ) (end p a low high : ℕ) : Type 0 where
   pub known : a ≡ arm p
   pub inside : p < end
@@ -21,7 +21,7 @@ pub record Ends (arm : ℕ → ℕ) (end p a low high : ℕ) : Type 0 where
   pub lower : Parts arm end (a - 1) low
   pub upper : Parts arm end a high
 
--- n steps in the direction d come before m steps in the other: fewer, or as many where d is told first
+-- n steps in the direction d come before m steps in the other: fewer, or as many if d is tried first
 abbrev pub Ahead : Way → Way → ℕ → ℕ → Type 0
 Ahead down down n m = n ≤ m
 Ahead down up n m = n < m
@@ -126,7 +126,7 @@ module _ {arm : ℕ → ℕ} {end p a low high : ℕ} (s : Ends arm end p a low 
       tie up k c = refl
       tie down k c = let x = down-least n c in let y : n < p - low + 1 = k (down-only n c) in absurd (omega arith)
 
-  -- ---- so that is what the definition finds
+  -- ---- so the definition returns that
   pub downward : (first : Way) (n : ℕ) → 0 < low → n ≡ p - low + 1 → (high < end → Ahead first down n (high - p)) →
       (b : ℕ) → b ≡ arm (p - n) → step n down b ≡ nearest_from arm end first p
   downward first n l e h b t =

@@ -1,4 +1,4 @@
--- What it says of n steps that they change the arm: they are permitted, and the arm there is another. Assumes nothing.
+-- What it means that n steps change the arm: they are permitted, and the arm there is another. Assumes nothing.
 use mathlib.Core.Path.{◌≡◌, subst}
 use Prim.Native.Nat.{ℕ, ◌+◌, ◌-◌, ◌≤◌, ◌<◌}
 use mathlib.Core.Bool.{not}

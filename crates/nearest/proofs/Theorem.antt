@@ -1,5 +1,5 @@
--- The definition is what is asked for (`Tried`), nothing else is (`Only`), and it starts from a permitted pattern
--- (`Starts`). Assumes nothing.
+-- The definition returns the nearest arm (`Tried`), nothing else is the nearest arm (`Only`), and it starts from a
+-- permitted pattern (`Starts`). Assumes nothing.
 use Rattle.nearest.specs.Theorem.{NearestTheorem}
 use Rattle.nearest.specs.Nearest.{nearest_from}
 use Rattle.nearest.proofs.Tried.{nearest-is}

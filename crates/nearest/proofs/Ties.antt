@@ -1,5 +1,5 @@
--- Up first and down first differ at a tie alone: count by count both try the same two steps, and only where both change
--- the arm does the order tell. Assumes nothing.
+-- Upward first and downward first differ at a tie only: count by count both try the same two steps, and the order
+-- matters only where both change the arm. Assumes nothing.
 use mathlib.Core.Path.{◌≡◌, refl}
 use Prim.Native.Nat.{ℕ, zero, suc, ◌+◌, ◌-◌}
 use mathlib.Core.Bool.{Bool, true, false, cond}
@@ -7,8 +7,8 @@ use Rattle.nearest.specs.Nearest.{down, up, Near, step, changes, least_from}
 use Rattle.nearest.specs.Theorem.{up_at_tie, UpwardFirst}
 
 module _ (arm : ℕ → ℕ) (end p : ℕ) where
-  -- at the count n, where d and u say whether steps down and up change the arm, and r and s are what further counts
-  -- give
+  -- at the count n, where d and u say whether steps down and up change the arm, and r and s are the results of further
+  -- counts
   at_count : (n : ℕ) (d u : Bool) (r s : Near) → changes arm end p up n ≡ u → r ≡ up_at_tie arm end p s
       → cond u (step n up (arm (p + n))) (cond d (step n down (arm (p - n))) r)
       ≡ up_at_tie arm end p (cond d (step n down (arm (p - n))) (cond u (step n up (arm (p + n))) s))

@@ -1,5 +1,5 @@
--- What is found by trying one count after the other is the least count, in the direction that is tried first where both
--- do; and where none is found, every pattern has the arm of p. Assumes nothing.
+-- Trying one count after the other finds the least count, in the direction that is tried first if both change the arm;
+-- and if none is found, every pattern has the arm of p. Assumes nothing.
 use mathlib.Core.Path.{◌≡◌, refl, sym, ap, ◌∙◌, subst}
 use mathlib.Core.Logic.{◌⊎◌, inl, inr}
 use Prim.Native.Nat.{ℕ, zero, suc, ◌+◌, ◌-◌, ◌≤◌, ◌<◌}

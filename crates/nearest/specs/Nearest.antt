@@ -24,7 +24,7 @@ pub data Near : Type 0 where
   step : ℕ → Way → ℕ → Near
   none : Near
 
--- ---- what each answer says
+-- ---- what each result means
 abbrev pub way_view : Direction → Way
 way_view toward.Down = down
 way_view toward.Up = up
@@ -32,7 +32,7 @@ way_view toward.Up = up
 unfoldable pub step_view : Step → Near
 step_view s = step s.count (way_view s.direction) (arm_number s.arm)
 
--- h reads the steps of the code
+-- h is the view of the code's steps
 abbrev pub near_view : {A : Type 0} → (A → Near) → Option A → Near
 near_view h (Some s) = h s
 near_view h None = none
@@ -47,7 +47,7 @@ abbrev pub place : Way → ℕ → ℕ → ℕ
 place down p n = p - n
 place up p n = p + n
 
--- whether they stay finite and not below zero
+-- whether n steps stay finite and not below zero
 abbrev pub permitted : ℕ → Way → ℕ → ℕ → Bool
 permitted end down p n = leb n p
 permitted end up p n = ltb (p + n) end
@@ -69,7 +69,7 @@ least_from arm end first p (suc left) n =
 abbrev pub nearest_from : (ℕ → ℕ) → ℕ → Way → ℕ → Near
 nearest_from arm end first p = least_from arm end first p end 1
 
--- the direction that is given where both need the same count
+-- the direction that is returned if both need the same count
 abbrev pub preferred : Way
 preferred = up
 

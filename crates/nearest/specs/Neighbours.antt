@@ -1,7 +1,7 @@
--- What is asked for, over values and not over their patterns: neighbouring values by the order of IEEE 754, moves from
+-- The nearest arm over values and not over their patterns: neighbouring values by the order of IEEE 754, moves from
 -- each to the next, and the least number of moves to another arm. `NeighboursTheorem` says that the next pattern is
--- that of the next value, and `NearestArmTheorem` what is answered at the entry; proved as `neighbours_theorem` and
--- `nearest-arm_theorem` in proofs/Neighbours.antt.
+-- that of the next value, and `NearestArmTheorem` says the same of the public function; proved as `neighbours_theorem`
+-- and `nearest-arm_theorem` in proofs/Neighbours.antt.
 use Rattle.std.specs.Prelude.{◌≡◌, true, false, ℕ, ◌+◌, ◌≤◌, ◌<◌, T, Float}
 use Rattle.std.specs.Float.{Format}
 use Rattle.std.specs.Float.Ieee.{of_bits, to_bits, fits, lt}
@@ -12,7 +12,7 @@ use Rattle.ieee.specs.Signs.{unsigned_zero, not_minus_zero}
 use Rattle.linalg.specs.Answer.{answers}
 use Rattle.nearest.specs.Nearest.{Way, down, up, Near, step, none, arm_of, preferred, nearest_of}
 
--- the values of the format to which z may move: finite and not below zero; -0 counts as +0, so +0 stands for both
+-- the values of the format to which z may move: finite and not below zero; -0 counts as +0, so +0 represents both
 pub record Permitted (f : Format) (x : Float) : Type 0 where
   pub value : T (fits f x)
   pub finite : is_finite x ≡ true
@@ -51,8 +51,8 @@ pub record Moves (f : Format) (d : Way) (n : ℕ) (x y : Float) : Type 0 where
 abbrev pub Changed : Format → Float → Float → Float → Type 0
 Changed f sigma z y = arm_of f sigma y ≡ arm_of f sigma z → ⊥
 
--- n moves in the direction d lead to another arm, and that is a; no fewer moves do, in either direction; and where n
--- moves in the direction `first` do as well, d is `first`
+-- n moves in the direction d lead to another arm, which is a; fewer moves do not, in either direction; and if n moves
+-- in the direction `first` do too, d is `first`
 pub record LeastMoves (f : Format) (first : Way) (sigma z : Float) (n : ℕ) (d : Way) (a : ℕ) : Type 0 where
   pub there : Float
   pub moves : Moves f d n z there
@@ -61,19 +61,20 @@ pub record LeastMoves (f : Format) (first : Way) (sigma z : Float) (n : ℕ) (d 
   pub least : (e : Way) (m : ℕ) (y : Float) → Moves f e m z y → Changed f sigma z y → n ≤ m
   pub tie : (y : Float) → Moves f first n z y → Changed f sigma z y → d ≡ first
 
--- "none" is asked for where every permitted z has the same arm
+-- "none" is right if every permitted z has the same arm
 abbrev pub IsNearest : Format → Way → Float → Float → Near → Type 0
 IsNearest f first sigma z (step n d a) = LeastMoves f first sigma z n d a
 IsNearest f first sigma z none = (x y : Float) → Permitted f x → Permitted f y → arm_of f sigma x ≡ arm_of f sigma y
 
--- what the entry answers is what is asked for, and nothing else is; so "none" is answered exactly where it is asked for
+-- what the public function returns is the nearest arm, and nothing else is; so it returns "none" exactly where that is
+-- right
 pub record NearestAnswered (f : Format) (sigma z : Float) : Type 0 where
   pub near : Near
   pub answered : nearest_of f preferred sigma z ≡ answers near
   pub is : IsNearest f preferred sigma (unsigned_zero z) near
   pub only : (r : Near) → IsNearest f preferred sigma (unsigned_zero z) r → r ≡ near
 
--- of every finite σ and every finite z of the format that is not below zero
+-- for every finite σ and every finite z of the format that is not below zero
 abbrev pub NearestArmTheorem : Format → Type 0
 NearestArmTheorem f =
     (sigma z : Float) → T (fits f z) → is_finite sigma ≡ true → is_finite z ≡ true → lt z f0 ≡ false

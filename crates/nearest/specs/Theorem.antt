@@ -1,4 +1,4 @@
--- What is asked for, in the request's words and without an order of trying: `NearestTheorem` below, proved as
+-- The nearest arm in the request's words, without an order of trying: `NearestTheorem` below, proved as
 -- `nearest_theorem` in proofs/Theorem.antt; and how the two rules for a tie differ, `UpwardFirst`, proved as
 -- `upward-first` in proofs/Ties.antt.
 use Rattle.std.specs.Prelude.{◌≡◌, true, false, cond, ℕ, ◌+◌, ◌≤◌, ◌<◌, T, Float}
@@ -10,8 +10,8 @@ use Rattle.ieee.specs.Patterns.{patterns}
 use Rattle.ieee.specs.Signs.{unsigned_zero}
 use Rattle.nearest.specs.Nearest.{Way, down, up, Near, step, none, place, changes, nearest_from}
 
--- n is the least count that changes the arm, in the direction d, which is `first` where that does as well; and a is the
--- arm there
+-- n is the least count that changes the arm, in the direction d, which is `first` if that direction does as well; and a
+-- is the arm there
 pub record Least (arm : ℕ → ℕ) (end : ℕ) (first : Way) (p n : ℕ) (d : Way) (a : ℕ) : Type 0 where
   pub changing : T (changes arm end p d n)
   pub least : (e : Way) (m : ℕ) → T (changes arm end p e m) → n ≤ m
@@ -26,20 +26,20 @@ abbrev pub NearIs : (ℕ → ℕ) → ℕ → Way → ℕ → Near → Type 0
 NearIs arm end first p (step n d a) = Least arm end first p n d a
 NearIs arm end first p none = OneArm arm end
 
--- what is defined is what is asked for, and nothing else is
+-- the definition returns the nearest arm, and nothing else is the nearest arm
 pub record Asked (arm : ℕ → ℕ) (end : ℕ) (first : Way) (p : ℕ) : Type 0 where
   pub is : NearIs arm end first p (nearest_from arm end first p)
   pub only : (r : Near) → NearIs arm end first p r → r ≡ nearest_from arm end first p
 
--- for arms of any kind, from every pattern below the end; and the patterns from which the definition starts are below
--- it
+-- for any function as the arm, from every pattern below the end; and the patterns from which the definition starts are
+-- below it
 pub record NearestTheorem : Type 0 where
   pub asked : (arm : ℕ → ℕ) (end : ℕ) (first : Way) (p : ℕ) → p < end → Asked arm end first p
   pub starts : (f : Format) (z : Float) → T (fits f z) → lt z f0 ≡ false → is_finite z ≡ true →
       to_bits f (unsigned_zero z) < patterns f
 
--- ---- upward first: an answer that leads down leads up instead where as many steps do that too, which is a tie; every
--- other answer is as it was
+-- ---- upward first: an answer that leads down leads up instead if as many steps do that too, which is a tie; every
+-- other answer is the same
 abbrev pub up_at_tie : (ℕ → ℕ) → ℕ → ℕ → Near → Near
 up_at_tie arm end p (step n down a) = cond (changes arm end p up n) (step n up (arm (p + n))) (step n down a)
 up_at_tie arm end p (step n up a) = step n up a

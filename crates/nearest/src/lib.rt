@@ -1,7 +1,7 @@
 // How near another arm of the coefficients is: the fewest neighbouring values that z must move, down or up, for the arm
 // at (sigma, z) to change. Proved: the answer is the least such number, and there is no other (NearestTheorem).
-// Neighbouring values have neighbouring bit patterns, and the arm does not fall as z grows; so the two ends of z's arm
-// are found by halving the patterns. Rests on arms.
+// Neighbouring values have neighbouring bit patterns, and the arm does not fall as z grows; so halving the patterns
+// finds the two ends of z's arm. Rests on arms.
 #![tactic(auto)]
 
 ghost use Rattle.std.specs.Prelude.{◌≡◌, true, false, ◌&&◌, ◌<◌, ◌≤◌};
@@ -20,7 +20,7 @@ use crate::width::Neighbours;
 use arms::limits::Arm;
 use linalg::refusal::Refusal;
 
-pub mod width; // what the width of the numbers decides
+pub mod width; // what depends on the width of the numbers
 
 #[derive(Clone, Copy, PartialEq, Eq)]
 pub enum Direction {
@@ -52,8 +52,7 @@ fn arm_at<T: Neighbours>(sigma: T, p: u64) -> Arm
     Arm::at(sigma * sigma + T::value(p))
 }
 
-// The first pattern with an arm above that of number a, or the end where there is none: each turn halves what
-// is left.
+// The first pattern with an arm above number a, or the end if there is none: each turn halves what is left.
 fn edge<T: Neighbours>(sigma: T, a: u8) -> u64
     ensures { Parts (arm_at T.format (T.float sigma)) (patterns T.format) a result }
 {
@@ -118,7 +117,7 @@ fn nearest_from<T: Neighbours>(sigma: T, p: u64) -> Option<Step>
     }
 }
 
-// Whether both are finite: 0 times a finite number is a zero, 0 times another is NaN, and NaN stays.
+// Whether both are finite: 0 times a finite number is a zero, 0 times another is NaN, and NaN stays NaN.
 fn both_finite<T: Neighbours>(x: T, y: T) -> bool
     ensures { result ≡ is_finite (T.float x) && is_finite (T.float y) }
 {
@@ -126,9 +125,9 @@ fn both_finite<T: Neighbours>(x: T, y: T) -> bool
     product == product
 }
 
-// How many neighbouring values z must move for the arm at (sigma, z) to change; where both directions
-// need the same count, up is given. None where every permitted z has the same arm. Refusal 1 for z < 0,
-// then 8 where sigma or z is a NaN or an infinity.
+// How many neighbouring values z must move for the arm at (sigma, z) to change; if both directions need the same count,
+// it returns up. None if every permitted z has the same arm. Refusal 1 for z < 0, then 8 if sigma or z is a NaN or an
+// infinity.
 pub fn nearest_arm<T: Neighbours>(sigma: T, z: T) -> Result<Option<Step>, Refusal>
     ensures { view (near_view step_view) result ≡ nearest_of T.format preferred (T.float sigma) (T.float z) }
 {

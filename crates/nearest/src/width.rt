@@ -1,5 +1,5 @@
-// What the width of the numbers decides: how many patterns the finite values from +0 up have, and
-// the ways from a value to its pattern and back.
+// What depends on the width of the numbers: how many patterns the finite values from +0 up have, and the conversions
+// from a value to its pattern and back.
 ghost use Rattle.std.specs.Prelude.{◌≡◌, ◌<◌};
 ghost use Rattle.std.specs.Float.Ieee.{of_bits, to_bits};
 ghost use Rattle.ieee.specs.Patterns.{patterns};
@@ -7,7 +7,7 @@ ghost use Rattle.ieee.specs.Patterns.{patterns};
 use arms::limits::Arms;
 use ieee::Real;
 
-// Numbers whose neighbours are counted: their patterns as whole numbers of one width.
+// Numbers whose neighbours can be counted: their patterns as whole numbers of one width.
 pub trait Neighbours: Arms {
     // The pattern of +infinity: those of the finite values from +0 up are the numbers below it.
     fn end() -> u64

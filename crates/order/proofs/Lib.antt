@@ -1,4 +1,4 @@
--- What the order means, and the laws that the functions' proofs cite.
+-- What the order means, and the lemmas that the functions' proofs cite.
 pub mod Magnitudes
 pub mod Keys
 pub mod Tangents

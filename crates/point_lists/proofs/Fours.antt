@@ -1,5 +1,5 @@
--- Moving the points of a list by fours, for any motion g, the last four first where they make no four; and a matrix
--- turned round twice. Assumes nothing.
+-- Moving the points of a list by fours, for any motion g, the last four first if their number is no multiple of four;
+-- and a matrix whose columns are negated twice. Assumes nothing.
 use Prim.Native.Nat.{ℕ, zero, suc, ◌+◌, ◌*◌, ◌-◌, ◌≤◌}
 use mathlib.Core.Path.{◌≡◌, refl, sym, ap, ◌∙◌}
 use mathlib.Core.List.{List, [], ◌++◌, append_assoc, append-nil}
@@ -26,12 +26,12 @@ pub columns_negated-twice : (m : Mat3) → mat_columns_negated (mat_columns_nega
 unfolding mat_columns_negated
 columns_negated-twice m = λ i. mat m.c0 (neg-twice m.c1 i) (neg-twice m.c2 i)
 
--- a product taken away is the product by the negative, added
+-- subtracting a product is adding the product with one factor negated
 pub less : (f : Format) (x a b : Float) → sub f x (mul f a b) ≡ add f x (mul f (neg a) b)
 unfolding sub
 less f x a b = ap (add f x) (sym (mul-neg_l f a b))
 
--- the action by a turned matrix, as the code has it
+-- the action by a matrix with negated columns, as the code has it
 abbrev pub mat_less : Format → Mat3 → Vec3 → Vec3 → Vec3
 mat_less f m t p =
     vec
@@ -43,7 +43,7 @@ pub less_is : (f : Format) (m : Mat3) (t p : Vec3) → mat_less f m t p ≡ mat_
 unfolding mat_act mat_mul_vec vec_add mat_columns_negated vec_neg
 less_is f m t p = simp less
 
--- ---- four triples more
+-- ---- four more triples
 pub four_more_lem :
     (g : Vec3 → Vec3) (l p out : List Float) (i : ℕ) → i * 3 + 12 ≤ length out →
     point_at p 0 ≡ point_at l i → point_at p 1 ≡ point_at l (i + 1) → point_at p 2 ≡ point_at l (i + 2) →
@@ -92,7 +92,7 @@ moved_split g l k (suc j) =
     ∙ append_assoc (points_moved g l k) r (vec_numbers (g (point_at l (k + j))))
     ∙ ap (λ (p : Vec3). points_moved g l k ++ (r ++ vec_numbers (g p))) (sym (point_behind l k j)))
 
--- what stands before a place does not count behind it
+-- what comes before a place does not matter after it
 drop_behind : (p s : List Float) (j : ℕ) → length p ≤ j → drop j (p ++ s) ≡ drop (j - length p) s
 drop_behind p s j h =
     let n : length p + (j - length p) ≡ j = omega arith in
@@ -109,7 +109,7 @@ first_part g l e n h =
     (points_moved g (drop (e * 3) l) (n - e)) (e * 3) (moved_length g l e))
     ∙ sym s
 
--- ---- the last four, moved in the part of the list that is lent for them
+-- ---- the last four, moved in the borrowed part of the list
 pub last_four :
     (g : Vec3 → Vec3) (l out : List Float) (n e k : ℕ) → 4 ≤ n → e ≤ n → n ≤ e + 4 → n * 3 ≡ length l →
     n * 3 ≡ length out → k ≡ n * 3 - 12 →

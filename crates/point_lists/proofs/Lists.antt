@@ -1,5 +1,5 @@
 -- Moving the points of a list one after another, for any motion g: after i turns the first i triples are moved and the
--- rest is as it was. Assumes nothing.
+-- rest is as before. Assumes nothing.
 use Prim.Native.Nat.{ℕ, zero, suc, ◌+◌, ◌*◌, ◌<◌, ◌≤◌}
 use mathlib.Core.Path.{◌≡◌, refl, sym, ap, ◌∙◌}
 use mathlib.Core.List.{List, [], ◌∷◌, ◌++◌, append_assoc, append-nil}
@@ -44,7 +44,7 @@ put_seam p out k v e h =
     let n3 : k + 3 ≡ suc (suc (suc k)) = omega arith in
     simp (append_assoc, n1, n2, n3, c0, c1, c2) (rw (← e) (seam p _ _ _ _ _ _ _))
 
--- one triple more
+-- one more triple
 pub moved_more :
     (g : Vec3 → Vec3) (l out : List Float) (i : ℕ) → i * 3 + 3 ≤ length out →
     put_point (points_moved g l i ++ drop (i * 3) out) (i * 3) (g (point_at l i))
@@ -78,7 +78,7 @@ pub moved_all : (g : Vec3 → Vec3) (l out : List Float) (i : ℕ) → i * 3 ≡
     points_moved g l i ++ drop (i * 3) out ≡ points_moved g l i
 moved_all g l out i e = rw (e, drop-length) (append-nil (points_moved g l i))
 
--- ---- the lists of the code, whose numbers h reads
+-- ---- the lists of the code, whose numbers h maps to floats
 
 pub put_map :
     {A : Type 0} (h : A → Float) (l : List A) (at : ℕ) (x y z : A) →
@@ -123,7 +123,7 @@ pub floats_length : {A : Type 0} (h : A → Float) (fl : List A → List Float) 
     (l : List A) → length (fl l) ≡ length l
 floats_length h fl law l = ap length (law l) ∙ length-map l h
 
--- ---- a part of a list, and a list whose part was lent and holds r then
+-- ---- a part of a list, and a list after its part was lent and became r
 module _ {A : Type 0} (h : A → Float) (fl : List A → List Float) (law : (l : List A) → fl l ≡ map h l) where
   pub floats_take : (j : ℕ) (l : List A) → fl (take j l) ≡ take j (fl l)
   floats_take j l = law (take j l) ∙ sym (take-map h j l) ∙ ap (take j) (sym (law l))
@@ -160,4 +160,4 @@ moved_part g l k (suc n) h =
 pub nothing_after : (x out : List Float) (n : ℕ) → n ≡ length out → x ++ drop n out ≡ x
 nothing_after x out n e = rw (e, drop-length) (append-nil x)
 
--- ---- what the test of the lists says: whole triples, and an output as long
+-- ---- the test of the lists: whole triples, and an output of the same length

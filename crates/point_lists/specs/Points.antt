@@ -24,7 +24,7 @@ points_moved g l (suc n) = points_moved g l n ++ vec_numbers (g (point_at l n))
 abbrev pub points_accepted : ℕ → ℕ → Bool
 points_accepted n k = eqb (n % 3) 0 && leb n 65535 && eqb k n
 
--- what is answered, and what the output then holds: a refusal leaves it as it was
+-- the result, and the output afterwards: a refusal leaves it as it was
 unfoldable pub points_answer : List Float → List Float → Answer (Unit {0})
 points_answer l out = cond (points_accepted (length l) (length out)) (answers tt) (refuses 5)
 

@@ -1,4 +1,4 @@
--- What the private functions store and take; no public contract cites it.
+-- Definitions for the contracts of private functions; no public contract cites it.
 use Rattle.std.specs.Prelude.{ℕ, ◌≡◌, ◌+◌, List, set, Float}
 use Rattle.linalg.specs.Vector.{vec_neg}
 use Rattle.linalg.specs.Matrix.{mat}
@@ -9,11 +9,11 @@ use Rattle.point_lists.specs.Points.{point_at}
 unfoldable pub put_point : List Float → ℕ → Vec3 → List Float
 put_point l at p = set (set (set l at p.x) (at + 1) p.y) (at + 2) p.z
 
--- what is moved as `post` says is moved by g; h gives the float of a number
+-- a motion with the postcondition `post` moves points by g; h maps a number to its float
 abbrev pub Moves : {T : Type 0} → (T → Float) → (CodeVec3.Vec3 T → CodeVec3.Vec3 T → Type 0) → (Vec3 → Vec3) → Type 0
 Moves {T} h post g = (p q : CodeVec3.Vec3 T) → post p q → as_vec3 h q ≡ g (as_vec3 h p)
 
--- a matrix with its last two columns turned round
+-- a matrix with its last two columns negated
 unfoldable pub mat_columns_negated : Mat3 → Mat3
 mat_columns_negated m = mat m.c0 (vec_neg m.c1) (vec_neg m.c2)
 

@@ -1,4 +1,4 @@
-// The action of a pose on a list of points, three numbers each, into another list. Two entries: act_many has the bits
+// The action of a pose on a list of points, three numbers each, into another list. Two functions: act_many has the bits
 // of the Rust's act_many, which forms the matrix s R once; act_each moves each point as Sim3::act and the mark AC do.
 // The two differ in the last bits. Proved: every number of the list is that of its point's definition, and a refused
 // call writes none (specs/Points). Rests on sim3.
@@ -63,9 +63,9 @@ pub(crate) fn mat_act<T: Real>(m: Mat3<T>, t: Vec3<T>, p: Vec3<T>) -> Vec3<T>
     m.mul_vec(p).add(t)
 }
 
-// The points of pts, each moved by f, into the places from the first on. PERF (D122): each point is
-// read from a triple of its own, so that the compiler loads two points as three vectors, where an
-// index into the whole list makes it load number by number.
+// The points of pts, each moved by f, into the places from the first on. PERF (D122): each point is read as a separate
+// triple, so that the compiler loads two points as three vectors; an index into the whole list would make it load
+// number by number.
 pub(crate) fn each<T: Real, F: Fn(Vec3<T>) -> Vec3<T>>(f: &F, pts: &[T], out: &mut [T])
     requires callable { F.IsAlwaysCallable f.now }
     requires room { length pts.now ≤ length out.old }
@@ -86,8 +86,8 @@ fn accepted(n: usize, k: usize) -> bool
     n % 3 == 0 && n <= 65535 && k == n
 }
 
-// out = s R p + t for every triple p of pts, by the matrix s R; up is e^sigma of x. Refusal 5 for lists
-// that are not accepted, and nothing written.
+// out = s R p + t for every triple p of pts, by the matrix s R; up is e^sigma of x. Refusal 5 for lists that are not
+// accepted, and nothing is written.
 #[tactic(auto, unfolding(crate::specs::Points::points_answer, crate::specs::Points::points_out))]
 pub fn act_many<T: PointWidth>(x: Sim3<T>, up: T, pts: &[T], out: &mut [T]) -> Result<(), Refusal>
     ensures result_value { answer result ≡ points_answer (T.floats pts.now) (T.floats out.old) }
@@ -101,8 +101,7 @@ pub fn act_many<T: PointWidth>(x: Sim3<T>, up: T, pts: &[T], out: &mut [T]) -> R
     Ok(())
 }
 
-// out = X p for every triple p of pts, each as Sim3::act has it; up is e^sigma of x. Refused as by
-// act_many.
+// out = X p for every triple p of pts, each as by Sim3::act; up is e^sigma of x. The refusals are those of act_many.
 #[tactic(auto, unfolding(crate::specs::Points::points_answer, crate::specs::Points::points_out))]
 pub fn act_each<T: Real>(x: Sim3<T>, up: T, pts: &[T], out: &mut [T]) -> Result<(), Refusal>
     ensures result_value { answer result ≡ points_answer (T.floats pts.now) (T.floats out.old) }

@@ -24,9 +24,8 @@ fn last<T: Real>(m: Mat3<T>, t: Vec3<T>, pts: &[T], out: &mut [T], e: usize)
     put_point(out, e * 3, mat_act(m, t, point_at(pts, e)));
 }
 
-// The last point of an odd count first, then the others. PERF (D122): their count is even, so the
-// compiler, which moves two points a turn, has none to do after its loop: the loop alone has the
-// registers.
+// The last point of an odd count first, then the others. PERF (D122): their count is even, so the compiler, which moves
+// two points a turn, has none left after its loop, and the loop has all the registers.
 fn short<T: Real>(m: Mat3<T>, t: Vec3<T>, pts: &[T], out: &mut [T])
     requires { (length pts.now % 3 ≡ 0) × (length out.old ≡ length pts.now) }
     ensures { T.floats out.new ≡ points_moved (mat_act T.format (as_mat3 T.float m) (as_vec3 T.float t))
@@ -40,7 +39,7 @@ fn short<T: Real>(m: Mat3<T>, t: Vec3<T>, pts: &[T], out: &mut [T])
 
 // ---- long lists: four points a turn.
 
-// m with its last two columns turned round.
+// m with its last two columns negated.
 #[tactic(auto, unfolding(crate::specs::Private::mat_columns_negated))]
 fn columns_negated<T: Real>(m: Mat3<T>) -> Mat3<T>
     ensures { as_mat3 T.float result ≡ mat_columns_negated (as_mat3 T.float m) }
@@ -52,9 +51,8 @@ fn columns_negated<T: Real>(m: Mat3<T>) -> Mat3<T>
     }
 }
 
-// mat_act by a turned matrix, the same bits. PERF (D122): products that are subtracted cannot change
-// places, so the compiler puts x of four numbers of the output together, y and z, and stores them as
-// they are.
+// mat_act by a matrix with negated columns, the same bits. PERF (D122): products that are subtracted cannot change
+// places, so the compiler puts x of four numbers of the output together, y and z, and stores them as they are.
 fn less_act<T: Real>(m: Mat3<T>, t: Vec3<T>, p: Vec3<T>) -> Vec3<T>
     ensures { as_vec3 T.float result ≡ mat_act T.format (mat_columns_negated (as_mat3 T.float m)) (as_vec3 T.float t)
         (as_vec3 T.float p) }
@@ -103,8 +101,8 @@ fn four<T: Real>(m: Mat3<T>, t: Vec3<T>, p: &[T; 12], out: &mut [T], at: usize)
     put_four(out, at, a, b, c, d);
 }
 
-// The points of pts by fours, into the places from the first on. Two callers, so that it is compiled by
-// itself and reads the matrix from memory: what it is made from does not change the loop then.
+// The points of pts by fours, into the places from the first on. It has two callers, so that it is compiled as a
+// separate function and reads the matrix from memory: how the matrix is formed then does not change the loop.
 fn fours<T: Real>(m: Mat3<T>, t: Vec3<T>, pts: &[T], out: &mut [T])
     requires { (length pts.now % 12 ≡ 0) × (length pts.now ≤ length out.old) }
     ensures { T.floats out.new
@@ -117,7 +115,7 @@ fn fours<T: Real>(m: Mat3<T>, t: Vec3<T>, pts: &[T], out: &mut [T])
     }
 }
 
-// The last four first, where the count is no multiple of four, and then the fours from the first on.
+// The last four first, if the count is no multiple of four, and then the fours from the first on.
 fn long<T: Real>(m: Mat3<T>, t: Vec3<T>, pts: &[T], out: &mut [T])
     requires lens { (length pts.now % 3 ≡ 0) × (length out.old ≡ length pts.now) }
     requires twelve { 12 ≤ length pts.now }

@@ -1,3 +1,3 @@
--- The laws of what is told and written for a record.
+-- Lemmas on the result of a record and on what is written for it.
 pub mod Views
 pub mod Record

@@ -23,7 +23,7 @@ pub no_length : (k : ℕ) → length (no_bytes k) ≡ 3
 unfolding no_bytes
 no_length k = refl
 
--- ---- of a record of k bytes, answered by `reply`
+-- ---- a record of k bytes, whose reply is `reply`
 module _ (k : ℕ) (reply : List ℕ → Reply) where
   pub record_cut : (s : List ℕ) → length s < k → record_head k reply s ≡ cut
   unfolding record_head
@@ -34,7 +34,7 @@ module _ (k : ℕ) (reply : List ℕ → Reply) where
   unfolding record_head
   record_whole s h = rw (le-ltb (length s) k h)
 
-  -- whichever it is
+  -- for any disposition
   pub record_by :
       (s : List ℕ) (P : InputHead → Type 0) → (length s < k → P cut) →
       (k ≤ length s → P (took (reply (take k s)).disposition k (reply (take k s)).bytes)) →
@@ -45,7 +45,7 @@ module _ (k : ℕ) (reply : List ℕ → Reply) where
       by true t = let h = ltb-true (length s) k t in rw (record_cut s h) (short h)
       by false t = let h = ltb-false (length s) k t in rw (record_whole s h) (whole h)
 
-  -- it lies within the input, and its reply within the room of the longest, if each reply does
+  -- it lies within the input, and if each reply is within the room for the longest, so is this one
   pub record_taken :
       ((r : List ℕ) → length (reply r).bytes ≤ longest) → (s : List ℕ) (q : Disposition) (j : ℕ) (b : List ℕ) →
       record_head k reply s ≡ took q j b →
@@ -56,14 +56,14 @@ module _ (k : ℕ) (reply : List ℕ → Reply) where
       (λ h e. absurd (cc))
       (λ h e. let n : k ≡ j = cc in let l : (reply (take k s)).bytes ≡ b = cc in (rw n at h, rw l at (most (take k s))))
 
-  -- a cut one is shorter
+  -- a cut one is shorter than k
   pub record_few : (s : List ℕ) → record_head k reply s ≡ cut → length s < k
   record_few s = record_by s (λ f. f ≡ cut → length s < k) (λ h e. h) (λ h e. absurd (cc))
 
   pub record_not_ended : (s : List ℕ) → record_head k reply s ≡ ended → ⊥
   record_not_ended s = record_by s (λ f. f ≡ ended → ⊥) (λ h e. absurd (cc)) (λ h e. absurd (cc))
 
--- ---- what more input cannot change
+-- ---- more input does not change it
 abbrev pub settled : InputHead → Bool
 settled (took q k b) = true
 settled ended = false
@@ -79,7 +79,7 @@ record_more k reply s ys f =
     (λ h e t. absurd (false≢true (rw (← e) at t)))
     (λ h e t. record_whole k reply (s ++ ys) (simp length-append (omega arith)) ∙ rw (take-append-le k s ys h) e)
 
--- ---- what a reply tells and writes: where the record is cut, where there is no room, and where there is
+-- ---- the result and the bytes written: if the record is cut, if there is no room, and if there is
 pub reply-cut : (room k : ℕ) (reply : List ℕ → Reply) (s : List ℕ) → length s < k →
     (step_view step.Cut ≡ record_result (record_head k reply s) room) × ([] ≡ written_of (record_head k reply s) room)
 unfolding record_result written_of
@@ -99,7 +99,7 @@ pub reply-whole :
 unfolding record_result written_of
 reply-whole room k reply s q b h r e = rw (record_whole k reply s h, le-ltb room longest r, e) (refl, refl)
 
--- ---- the mark is stored before what was written behind it
+-- ---- storing the mark after the bytes that follow it gives the same list
 sets_behind : (x : ℕ) (l b : List ℕ) (i : ℕ) → sets (x ∷ l) (suc i) b ≡ x ∷ sets l i b
 sets_behind x l [] i = refl
 sets_behind x l (y ∷ b) i = sets_behind x (set l i y) b (suc i)

@@ -1,4 +1,4 @@
--- What is told of the head of the input says what stands there. Assumes nothing.
+-- The result for the head of the input determines what is there. Assumes nothing.
 use Prim.Native.Nat.{ℕ, ◌≤◌, ◌<◌}
 use mathlib.Core.Path.{◌≡◌, refl}
 use mathlib.Core.Bool.{Bool, true, false, cond}

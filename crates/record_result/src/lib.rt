@@ -1,5 +1,5 @@
-// What becomes of a record: the cases in which the record loop, the marks and the operations of the engine tell it to
-// each other, in either format. Proved: what each case means (specs/RecordResult). Rests on layout and wire.
+// The result of a record: the cases that the engine's operations, the marks and the record loop return, in either
+// format. Proved: what each case means (specs/RecordResult). Rests on layout and wire.
 #![tactic(auto)]
 
 ghost use Rattle.std.specs.Prelude.{◌≡◌};
@@ -7,10 +7,10 @@ ghost use Rattle.record_result.specs.RecordResult.{disposition_of};
 
 use layout::BLOCK_PAIR;
 
-// No answer has more bytes: the mark and the doubles of PA's.
+// The length of the longest answer: the mark and the doubles of PA's.
 pub const LONGEST: usize = 2 + 8 * BLOCK_PAIR;
 
-// The entries of the engine that a record can ask for.
+// The operations of the engine that a record can name.
 #[derive(Clone, Copy)]
 pub enum Operation {
     Ex,
@@ -23,8 +23,8 @@ pub enum Operation {
     Ar,
 }
 
-// How a record counts: it got an answer whose every number is finite; it was refused; or it got an
-// answer that holds a NaN or an infinity.
+// How a record counts: it got an answer whose every number is finite; it was refused; or it got an answer that holds a
+// NaN or an infinity.
 #[derive(Clone, Copy)]
 pub enum Disposition {
     Answered,
@@ -33,7 +33,7 @@ pub enum Disposition {
 }
 
 impl Disposition {
-    // Of a record that got an answer, by whether its every number is finite.
+    // The disposition of a record that got an answer, by whether its every number is finite.
     pub fn of_answer(finite: bool) -> Disposition
         ensures { result ≡ disposition_of finite }
     {
@@ -45,16 +45,16 @@ impl Disposition {
     }
 }
 
-// What an entry wrote behind the mark: how the record counts, and how many bytes it is.
+// What an operation wrote after the mark: its disposition, and how many bytes.
 #[derive(Clone, Copy)]
 pub struct Wrote {
     pub disposition: Disposition,
     pub length: usize,
 }
 
-// What stands at the head of the input: a whole record, with how it counts, its length and how many
-// bytes were written for it; a whole record for whose answer the output has no room;
-// nothing; two bytes that are no mark; or a mark or record that the input cuts.
+// The result for the head of the input: a whole record, with its disposition, its length and how many bytes were
+// written for it; a whole record for whose answer the output has no room; nothing; two bytes that are not a mark; or a
+// mark or record that the input cuts.
 #[derive(Clone, Copy)]
 pub enum Step {
     Took(Disposition, usize, usize),

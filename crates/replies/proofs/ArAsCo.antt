@@ -1,5 +1,5 @@
--- AR's numbers are CO's on the same bytes, and its arm at σ is its arm at −σ: since the armed pair is the pair with the
--- arm at σ told at either sign. Assumes nothing.
+-- AR's numbers are CO's on the same bytes, and its arm at σ is its arm at −σ: the armed pair is the pair, with the arm
+-- at σ for both signs. Assumes nothing.
 use Prim.Native.Nat.{ℕ}
 use mathlib.Core.Path.{◌≡◌, refl, sym, ap, ◌∙◌}
 use mathlib.Core.Bool.{Bool}
@@ -18,7 +18,7 @@ use Rattle.wire.specs.Wire.{Item, number_at}
 use Rattle.replies.specs.Table.{gives, arm_items, armed_items, co_of, ar_of}
 use Rattle.replies.specs.ArAsCo.{ArAsCo}
 
--- the answer that follows from the pair's, with this arm and these ends told
+-- the answer that follows from the pair's, with this arm and these ends
 abbrev with_arms : ℕ → Bool → Answer ScaledPair → Answer (List Item)
 with_arms arm ends r = and_then (and_then r (λ p. answers (view_both arm ends p))) (λ p. answers (armed_items p))
 

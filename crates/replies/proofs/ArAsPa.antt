@@ -1,4 +1,4 @@
--- AR's flags are PA's: they depend on σ and z alone, and |φ|² is not below zero, so AR is answered. Assumes nothing.
+-- AR's flags are PA's: they depend on σ and z alone; and |φ|² is not below zero, so AR is not refused. Assumes nothing.
 use mathlib.Core.Path.{◌≡◌, refl, ap}
 use lib.Ieee.{Float, Format}
 use Rattle.linalg.specs.Answer.{Answer, answers, and_then}

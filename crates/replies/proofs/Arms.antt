@@ -1,4 +1,4 @@
--- The bytes of the arms and of the numbers behind them: how many they are; in either format. Assumes nothing.
+-- The bytes of the arms and of the numbers after them: how many they are; in either format. Assumes nothing.
 use Prim.Native.Nat.{ℕ, ◌+◌, ◌*◌}
 use mathlib.Core.Path.{◌≡◌, refl, ap, ◌∙◌}
 use mathlib.Core.List.{List, ◌++◌}

@@ -1,4 +1,5 @@
--- What each mark's call on lists tells is what the job answers to the same bytes; in either format. Assumes nothing.
+-- For each mark, the result of the call on lists is the job's answer to the same bytes; in either format. Assumes
+-- nothing.
 use Prim.Native.Nat.{ℕ, ◌+◌, ◌*◌, ◌<◌}
 use mathlib.Core.Path.{◌≡◌, refl, sym, ap, ◌∙◌}
 use mathlib.Core.Bool.{Bool, true, false, cond, ◌&&◌}

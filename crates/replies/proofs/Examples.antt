@@ -26,7 +26,7 @@ use Rattle.record_result.specs.declared.Operation.TheVariants.{Co, Ac, Mu, Ji, A
 use Rattle.record_result.specs.RecordResult.{mark_bytes, no_bytes, reply_of}
 use Rattle.replies.specs.Table.{framed_in, framed_items, co_of, ac_of, mu_of, ji_of, ar_of, answer_of, operation_reply}
 
--- the bytes of numbers that are given by their bits
+-- the bytes of numbers, from their bit patterns
 unfoldable words_bytes : List ℕ → List ℕ
 words_bytes [] = []
 words_bytes (n ∷ l) = word_bytes 8 n ++ words_bytes l
@@ -59,7 +59,7 @@ unfolding words_bytes eight up_point frames operation_reply reply_of answer_of a
     vec_cross vec_add so3_act pose_act
 ac_example = refl
 
--- that pose from 5 to 7 times itself from 3 to 5, up 1: t is doubled, and the product goes from 3 to 7
+-- that pose from 5 to 7 times the same pose from 3 to 5, up 1: t is doubled, and the product goes from 3 to 7
 mu_example :
     operation_reply binary64 Mu
     (0x4d ∷ 0x55 ∷ (words_bytes eight
@@ -77,7 +77,7 @@ unfolding words_bytes eight frames operation_reply reply_of answer_of mu_of fram
     mul vec_scale vec_cross vec_add so3_act quat_mul pose_act pose_mul
 mu_example = refl
 
--- and the other way round it is refused
+-- in the other order it is refused
 mu_apart : operation_reply binary64 Mu
     (0x4d ∷ 0x55 ∷ (words_bytes eight ++ (frames 3 5 ++ (words_bytes eight ++ (frames 5 7 ++ words_bytes (one ∷ []))))))
     ≡ record { disposition = Refused; bytes = no_bytes 9 }

@@ -47,7 +47,7 @@ framed-length f x =
     )
     (rw (posed_length f x, frame_length f x.from, frame_length f x.to) refl)
 
--- the frames are finite by nature
+-- frames are always finite
 pub framed-finite : (x : Pose) → all_finite (framed_items x) ≡ all_finite (numbers (pose_numbers x.sim3))
 unfolding framed_items pose_numbers quat_numbers vec_numbers numbers all_finite
 framed-finite x = refl

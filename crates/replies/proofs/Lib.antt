@@ -1,4 +1,4 @@
--- The laws of replies, and of calls on lists as answers.
+-- Lemmas on replies, and on calls on lists as answers.
 pub mod Unfolds
 pub mod Arms
 pub mod Calls

@@ -1,4 +1,5 @@
--- Replies: what an entry tells and writes, and that no record and no reply is longer than the longest. Assumes nothing.
+-- Replies: the result and the bytes of each operation, and that no record and no reply is longer than the longest.
+-- Assumes nothing.
 use Prim.Native.Nat.{ℕ, suc, ◌+◌, ◌-◌, ◌*◌, ◌≤◌}
 use mathlib.Core.Path.{◌≡◌, refl, sym, ap, ◌∙◌}
 use mathlib.Core.List.{List, [], ◌∷◌, ◌++◌}
@@ -31,7 +32,7 @@ use Rattle.replies.specs.Table.{operation_head}
 use Rattle.replies.proofs.Arms.{armed-length}
 use Rattle.replies.proofs.Frames.{framed-length}
 
--- ---- no record is longer than PA's, in doubles
+-- ---- no record is longer than PA's, on doubles
 pub width-most : (f : Format) (e : Operation) → width_of f e ≤ 8 * numbers_of Pa
 width-most binary32 Ex = omega arith
 width-most binary32 Co = omega arith
@@ -50,7 +51,7 @@ width-most binary64 In = omega arith
 width-most binary64 Ji = omega arith
 width-most binary64 Ar = omega arith
 
--- ---- and no reply than PA's
+-- ---- and no reply is longer than PA's
 pub widest : (f : Format) (n : ℕ) → n ≤ block_pair_count → 2 + n * width f ≤ longest
 widest binary32 n h = omega arith
 widest binary64 n h = omega arith
@@ -123,7 +124,7 @@ pub entry-most : (f : Format) (e : Operation) (r : List ℕ) → length (operati
 unfolding operation_reply
 entry-most f e r = reply-most f e (get_or r 0 0) (get_or r 1 0) (drop 2 r)
 
--- ---- a whole record's own bytes, as the code reads them
+-- ---- a whole record's bytes, as the code reads them
 own_bytes :
     (f : Format) (e : Operation) (w : ℕ) (s : List ℕ) → 2 + w ≤ length s →
     operation_reply f e (take (2 + w) s) ≡ reply_of f (get_or s 0 0) (get_or s 1 0) (answer_of f e (take w (drop 2 s)))
@@ -137,7 +138,7 @@ refused_stored : (n : ℕ) (l : List ℕ) → set (set (set l 0 0x4e) 1 0x4f) 2 
 unfolding no_bytes
 refused_stored n l = refl
 
--- ---- what an entry gave is what the reply holds
+-- ---- the reply holds what the operation wrote
 gave_wrote :
     (f : Format) (a b : ℕ) (w : Wrote) (x : Answer (List Item)) → answers w ≡ written_answer f x →
     (reply_of f a b x ≡ record { disposition = w.disposition; bytes = mark_bytes a b ++ answer_bytes f x })
@@ -154,8 +155,8 @@ unfolding reply_of written_answer answer_bytes
 gave_refused f a b k (answers l) q = absurd (cc)
 gave_refused f a b k (refuses j) q = let e : j ≡ k = cc in (rw e, refl)
 
--- the code has lent the entry e the record's bytes behind its mark and the output behind the mark's place: g is its
--- answer, and R what that part of the output holds then
+-- the code has lent the operation e the record's bytes after its mark, and the output after the mark's place: g is its
+-- result, and R that part of the output afterwards
 pub record Given (f : Format) (e : Operation) (s out : List ℕ) (g : Answer Wrote) (R : List ℕ) : Type 0 where
   pub whole : 2 + width_of f e ≤ length s
   pub room : longest ≤ length out

@@ -1,5 +1,5 @@
--- What the entries tell and write of a call's status and lists, as an answer's items; in either format. Assumes
--- nothing.
+-- The results and the bytes of the operations, from a call's status and lists, as an answer's items; in either format.
+-- Assumes nothing.
 use Prim.Native.Nat.{ℕ, suc, ◌+◌, ◌-◌, ◌*◌, ◌/◌, ◌%◌, ◌≤◌, ◌<◌}
 use mathlib.Core.Path.{◌≡◌, refl, sym, ap, ◌∙◌}
 use mathlib.Core.Bool.{Bool, true, ◌&&◌, and-true, and_assoc}
@@ -48,7 +48,7 @@ unfolding all_finite
 all_append [] m = refl
 all_append (i ∷ l) m = rw (all_append l m) (sym (and_assoc (item_finite i) (all_finite l) (all_finite m)))
 
--- whole numbers are finite by nature, behind numbers or before them
+-- whole numbers are always finite, after numbers or before them
 pub behind_finite : (y : List Float) (k : ℕ) (l : List ℕ) → all_finite (numbers y ++ words k l) ≡ all_finite (numbers y)
 behind_finite y k l = all_append (numbers y) (words k l) ∙ rw (words-finite k l) (and-true (all_finite (numbers y)))
 
@@ -56,7 +56,7 @@ pub before-finite : (y : List Float) (k : ℕ) (l : List ℕ) → all_finite (wo
 before-finite y k l = all_append (words k l) (numbers y) ∙ rw (words-finite k l) refl
 
 -- ---- the numbers of a list at the front of an output
--- n numbers of y in a part that has just their bytes
+-- n numbers of y in a part that has exactly their bytes
 pub part-whole : (f : Format) (y : List Float) (p : List ℕ) (n : ℕ) → length y ≡ n → length p ≡ n * width f →
     take (fewer (length y) (length p / width f)) y ≡ y
 part-whole f y p n h e = encoded y p (width f) n h (rw e (mul-width-div f n))
@@ -84,11 +84,11 @@ ending f out q y t r room s d g =
           (omega (arith, l))),
     )
 
--- ---- what a call tells, where it reads its lists: the answer of the engine
+-- ---- the result of a call on the structures that its lists hold: the engine's answer
 abbrev pub call : {S : Type 0} → Answer S → (S → List Float) → List Float → Answer (List Float)
 call a num y = and_then a (λ s. fitting y (num s))
 
--- a refusal has a number of one byte, and not 0
+-- a refusal's number fits in one byte, and is not 0
 abbrev pub Small : {S : Type 0} → Answer S → Type 0
 Small (answers s) = T true
 Small (refuses k) = (0 < k) × (k < 256)
@@ -106,7 +106,7 @@ view-number n k l e h g =
     let d : n ≡ 0 → ⊥ = λ z. omega (arith, e, h, z) in
     rw (ne_eqb n 0 d) (ap refuses q)
 
--- the refusal of a call is told by its own number
+-- the view of a refused call has the refusal's number
 pub told_refused : (r : Refusal) (l : List Item) → status_view (number r) l ≡ refuses (number r)
 told_refused refusal.NegativeAngle l = refl
 told_refused refusal.ZeroScale l = refl
@@ -132,7 +132,7 @@ pub view_not : (called : Result (Unit {0}) Refusal) (r : Refusal) (l : List Item
 unfolding status
 view_not called r l e = rw e (told_refused r l)
 
--- ---- numbers of a type, by what each is
+-- ---- the numbers of a type, as the floats that they are
 module _ {X : Type 0} (floats : List X → List Float) (float : X → Float) (law : (l : List X) →
     floats l ≡ map float l) where
   pub floats-length : (l : List X) → length (floats l) ≡ length l
@@ -225,7 +225,7 @@ view-framed (answers x) o w n e q small h g =
     ∙ ap answers (framed_items_lem x)
 view-framed (refuses k) o w n e q small h g = let s = small in view-number n k _ e s.0 s.1
 
--- ---- the arms, and behind them the scaled pair
+-- ---- the arms, and then the scaled pair
 bytes_kept : (a : List ℕ) → ((i : ℕ) → get_or a i 0 < 256) → words_bytes 1 a ≡ a
 unfolding words_bytes word_bytes
 bytes_kept [] h = refl

@@ -1,4 +1,4 @@
--- What AR's answer owes to CO's, for any bytes behind the mark, in either format.
+-- How AR's answer follows from CO's, for any bytes after the mark, in either format.
 use Rattle.std.specs.Prelude.{ℕ, ◌≡◌, List, take, drop}
 use Rattle.std.specs.Float.{Format}
 use Rattle.linalg.specs.Answer.{answers, and_then}
@@ -6,7 +6,7 @@ use Rattle.wire.specs.Wire.{Item}
 use Rattle.replies.specs.Table.{co_of, ar_of}
 
 pub record ArAsCo (f : Format) (b : List ℕ) : Type 0 where
-  -- behind the four bytes stand CO's numbers; and where one refuses, the other does, by the same number
+  -- after the four bytes come CO's numbers; and if one is refused, the other is too, with the same number
   pub same_numbers : co_of f b ≡ and_then (ar_of f b) (λ l. answers (drop 4 l))
-  -- the two bytes of σ are the two of −σ
+  -- the two bytes of σ equal the two of −σ
   pub same_arms : (l : List Item) → ar_of f b ≡ answers l → take 2 l ≡ take 2 (drop 2 l)

@@ -1,5 +1,5 @@
--- The flags in AR's answer are those by which PA scales when its tangent has the same σ and z (02, K1), for any bytes
--- behind either mark, in either format.
+-- The flags in AR's answer are those by which PA scales if its tangent has the same σ and z (02, K1), for any bytes
+-- after either mark, in either format.
 use Rattle.std.specs.Prelude.{ℕ, ◌≡◌, cond, List, [], ◌∷◌, take, drop}
 use Rattle.std.specs.Float.{Format}
 use Rattle.ieee.specs.Numbers.{f0, f1}
@@ -11,10 +11,10 @@ use Rattle.layout.specs.Layout.{tangent_in, values_in, mat_in, block_pair_number
 use Rattle.wire.specs.Wire.{number_at, numbers}
 use Rattle.replies.specs.Table.{gives, armed_items, ar_of, pa_of}
 
--- a are the bytes of an AR record, b those of a PA record
+-- a and b are the bytes after the marks of an AR record and of a PA record
 pub record ArAsPa (f : Format) (a b : List ℕ) : Type 0 where
-  -- AR is answered; behind the four bytes the tenth number is the flag at σ, and the twentieth that at −σ, each as 1 or
-  -- 0
+  -- AR is not refused; after the four bytes the tenth number is the flag at σ, and the twentieth that at −σ, each as 1
+  -- or 0
   pub armed : ArmedPair
   pub answered : ar_of f a ≡ answers (armed_items armed)
   pub flag : take 1 (drop 13 (armed_items armed)) ≡ numbers (cond armed.pos.s.scaled f1 f0 ∷ [])
@@ -28,7 +28,7 @@ pub record ArAsPa (f : Format) (a b : List ℕ) : Type 0 where
       (mat_in (number_at f b) 26)
       armed.pos.s.scaled armed.neg.s.scaled))
 
--- where σ is the tangent's, and z its |φ|² as it is rounded
+-- if σ is the tangent's, and z its rounded |φ|²
 abbrev pub ArAsPaTheorem : Type 0
 ArAsPaTheorem =
     (f : Format) (a b : List ℕ) →

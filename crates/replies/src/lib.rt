@@ -1,7 +1,7 @@
-// The operations of the engine behind the marks, on doubles and on singles: how many bytes a record has behind its
-// mark, and what it is answered. Each reads numbers to lists, calls the function that C callers have, and encodes what
-// that wrote. Proved: the reply to every record is the one of the table (specs/Table), and AR says what CO and PA do
-// (ArAsCo, ArAsPa). Rests on sim3_c_entries, wire and record_result.
+// The operations of the engine behind the marks, on doubles and on singles: how many bytes a record has after its mark,
+// and the answer to it. Each reads numbers into lists, calls the function that C callers have, and encodes what it
+// wrote. Proved: the reply to every record is the one of the table (specs/Table), and AR agrees with CO and PA (ArAsCo,
+// ArAsPa). Rests on sim3_c_entries, wire and record_result.
 #![tactic(auto)]
 
 ghost use Rattle.std.specs.Prelude.{◌≡◌, ◌+◌, ◌≤◌, length};
@@ -18,7 +18,7 @@ use linalg::refusal::Refusal;
 use record_result::{Disposition, LONGEST, Operation, Step, Wrote};
 use wire::Number;
 
-mod operations; // what each entry answers
+mod operations; // the operations
 
 // How many bytes both frames of a pose have.
 const FRAMES: usize = 2 * 2;
@@ -30,7 +30,7 @@ fn framed<T: Number>() -> usize
     T::BYTES * POSE + FRAMES
 }
 
-// How many bytes a record has behind its mark.
+// How many bytes a record has after its mark.
 fn width<T: Number>(e: Operation) -> usize
     ensures { result ≡ width_of T.format e }
 {
@@ -46,7 +46,7 @@ fn width<T: Number>(e: Operation) -> usize
     }
 }
 
-// The answer to the bytes b behind a mark, written from the front of `out` on.
+// The answer to the bytes b after a mark, written from the front of `out` on.
 #[tactic(auto, unfolding(crate::specs::Table::answer_of))]
 fn give<T: Width + Number>(e: Operation, b: &[u8], out: &mut [u8]) -> Result<Wrote, Refusal>
     requires b_len { length b.now ≡ width_of T.format e }
@@ -66,9 +66,9 @@ fn give<T: Width + Number>(e: Operation, b: &[u8], out: &mut [u8]) -> Result<Wro
     }
 }
 
-// Answers the record at the head of s, whose mark asks for the entry e, at the front of `out`: the mark
-// again and the numbers, or NO and the refusal. Nothing is written where s is shorter than the record,
-// or `out` than the longest answer.
+// Writes the reply to the record at the head of s, whose mark names the operation e, to the front of `out`: the mark
+// again and the numbers, or NO and the refusal. Nothing is written if s is shorter than the record, or `out` than the
+// longest answer.
 pub fn reply<T: Width + Number>(e: Operation, s: &[u8], out: &mut [u8]) -> Step
     ensures result_value { step_view result ≡ record_result (operation_head T.format e s.now) (length out.old) }
     ensures out_after { out.new ≡ sets out.old 0 (written_of (operation_head T.format e s.now) (length out.old)) }

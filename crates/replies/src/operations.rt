@@ -1,5 +1,5 @@
-// What each entry answers: the numbers behind the mark are read to arrays, the function that C callers have is called,
-// and the lists that it wrote are encoded from the front of `out` on.
+// The operations: each reads the numbers after the mark into arrays, calls the function that C callers have, and
+// encodes the lists that it wrote from the front of `out` on.
 ghost use Rattle.std.specs.Prelude.{◌≡◌, ◌+◌, ◌*◌, ◌≤◌, length};
 ghost use Rattle.std.proofs.lemmas.List.Edits.{sets};
 ghost use Rattle.linalg.specs.Answer.{answer};
@@ -22,7 +22,7 @@ use sim3_c_entries::{
 };
 use wire::{Number, decode, encode, encode_shorts, short_from_le_bytes};
 
-// ---- what is read
+// ---- reading
 // N numbers at the front of the bytes.
 fn read<T: Number, const N: usize>(b: &[u8]) -> [T; N]
     requires few { N ≤ 40 }
@@ -45,8 +45,8 @@ fn frames(b: &[u8]) -> [u16; 2]
     ]
 }
 
-// ---- what is written
-// What a call wrote to a list, or the refusal that it returned.
+// ---- writing
+// Encodes what a call wrote to a list, or returns its refusal.
 #[tactic(auto, using(crate::proofs::Views::view_not), unfolding(crate::proofs::Unfolds::encode_answer_unfolds))]
 fn encode_answer<T: Number>(
     called: Result<(), Refusal>,
@@ -68,7 +68,7 @@ fn encode_answer<T: Number>(
     })
 }
 
-// The same of a pose and its frames.
+// The same for a pose and its frames.
 #[tactic(auto, using(crate::proofs::Views::view_not), unfolding(crate::proofs::Unfolds::encode_answer_unfolds))]
 fn encode_framed<T: Number>(
     called: Result<(), Refusal>,
@@ -96,7 +96,7 @@ fn encode_framed<T: Number>(
     })
 }
 
-// The same of the scaled pair with the arms before it.
+// The same for the scaled pair with the arms before it.
 #[tactic(auto, using(crate::proofs::Views::view_not), unfolding(crate::proofs::Unfolds::encode_answer_unfolds))]
 fn encode_armed<T: Number>(
     called: Result<(), Refusal>,
@@ -123,7 +123,7 @@ fn encode_armed<T: Number>(
     })
 }
 
-// ---- the entries
+// ---- the operations
 // The exponential of a tangent.
 #[tactic(auto, using(crate::proofs::Replies::poses_most))]
 pub(crate) fn ex<T: Width + Number>(b: &[u8], out: &mut [u8]) -> Result<Wrote, Refusal>
@@ -200,7 +200,7 @@ pub(crate) fn ac<T: Width + Number>(b: &[u8], out: &mut [u8]) -> Result<Wrote, R
     encode_answer(called, &y, out)
 }
 
-// The product of two poses; refusal 9 where their frames do not meet.
+// The product of two poses; refusal 9 if their frames do not match.
 #[tactic(auto, using(crate::proofs::Replies::poses_most))]
 pub(crate) fn mu<T: Width + Number>(b: &[u8], out: &mut [u8]) -> Result<Wrote, Refusal>
     requires b_len { length b.now ≡ width_of T.format Operation.Mu }
@@ -238,7 +238,7 @@ pub(crate) fn inv<T: Width + Number>(b: &[u8], out: &mut [u8]) -> Result<Wrote, 
     encode_framed(called, &z, &m, out)
 }
 
-// The inverse of a block; refusal 2 where e is a zero.
+// The inverse of a block; refusal 2 if e is a zero.
 #[tactic(auto, using(crate::proofs::Replies::widest))]
 pub(crate) fn ji<T: Width + Number>(b: &[u8], out: &mut [u8]) -> Result<Wrote, Refusal>
     requires b_len { length b.now ≡ width_of T.format Operation.Ji }
@@ -252,7 +252,7 @@ pub(crate) fn ji<T: Width + Number>(b: &[u8], out: &mut [u8]) -> Result<Wrote, R
     encode_answer(called, &y, out)
 }
 
-// The scaled pair of coefficients with the arms that formed it; refusal 1 for z < 0.
+// The scaled pair of coefficients with their arms; refusal 1 for z < 0.
 #[tactic(auto, using(crate::proofs::Replies::arms_most))]
 pub(crate) fn ar<T: Width + Number>(b: &[u8], out: &mut [u8]) -> Result<Wrote, Refusal>
     requires b_len { length b.now ≡ width_of T.format Operation.Ar }

@@ -1,5 +1,4 @@
--- The answer for each kind of double, by the tests that the code makes: below zero, equal to zero, and the pattern.
--- Assumes nothing.
+-- The answer for each kind of double, by the code's tests: below zero, equal to zero, and the pattern. Assumes nothing.
 use Rattle.std.proofs.lemmas.Bool.{true≢false, and_left}
 use mathlib.Core.Path.{◌≡◌, refl, sym, ap, ◌∙◌}
 use Prim.Native.Nat.{ℕ, zero, suc, ◌+◌, ◌*◌, ◌≤◌, ◌<◌}

@@ -1,5 +1,5 @@
--- The digits and the power of a pattern: a subnormal's by its leading zeros, any other's as they stand; and the
--- exponent, which an i64 holds. Assumes nothing.
+-- The digits and the power of a pattern: a subnormal's by its leading zeros, any other's as they are; and the exponent,
+-- which fits an i64. Assumes nothing.
 use mathlib.Core.Path.{◌≡◌, refl, sym, ap, ◌∙◌, subst}
 use mathlib.Core.Logic.{inl, inr}
 use Prim.Native.Nat.{ℕ, suc, ◌+◌, ◌-◌, ◌*◌, ◌/◌, ◌%◌, ◌^◌, ◌≤◌, ◌<◌}

@@ -9,7 +9,7 @@ use Rattle.ieee.specs.Patterns.{units_of}
 use Rattle.linalg.specs.Answer.{answers, refuses}
 use Rattle.root.specs.Root.{whole_root, quarters, root_parts, root_from, root_zero, root_of}
 
--- the double with the pattern b has the root r, the remainder left, the exponent s and the nearest double with the
+-- the double with the pattern b has the root r, the remainder `left`, the exponent s and the nearest double with the
 -- pattern near
 abbrev Gives : ℕ → ℕ → ℕ → ℤ → ℕ → Type 0
 Gives b r left s near =

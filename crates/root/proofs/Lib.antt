@@ -1,4 +1,4 @@
--- What the root means, and the laws that the functions' proofs cite.
+-- What the root means, and the lemmas that the functions' proofs cite.
 pub mod Squares
 pub mod Largest
 pub mod Digits

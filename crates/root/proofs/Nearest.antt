@@ -1,5 +1,5 @@
--- The double is nearer to √z than any other: the next doubles beside v * 2 ^ s are 2 ^ s away, or below the least v
--- less than that, and √m lies within 1/2 of v. Assumes nothing.
+-- The double is nearer to √z than any other: the doubles next to v * 2 ^ s are 2 ^ s away, or less below the least v,
+-- and √m lies within 1/2 of v. Assumes nothing.
 use mathlib.Core.Path.{◌≡◌, sym, ap, subst}
 use mathlib.Core.Logic.{inl, inr}
 use Prim.Native.Nat.{ℕ, ◌+◌, ◌-◌, ◌*◌, ◌^◌, ◌≤◌, ◌<◌}

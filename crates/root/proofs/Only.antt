@@ -1,5 +1,4 @@
--- What is asked for at z is asked for once: m and s are the only ones, so r, the remainder and the double are. Assumes
--- nothing.
+-- The result at z is unique: m and s are the only ones, so r, the remainder and the double are. Assumes nothing.
 use mathlib.Core.Path.{◌≡◌, refl, sym, ap, ◌∙◌, subst}
 use mathlib.Core.Logic.{inl, inr}
 use Prim.Native.Nat.{ℕ, suc, ◌+◌, ◌*◌, ◌^◌, ◌≤◌, ◌<◌}
@@ -101,7 +100,7 @@ scaling-only (fin b k e) m n s t p q =
       exponent-only s t w,
     )
 
--- ---- and all that is told
+-- ---- and all numbers of the result
 pub root-only : (z : Float) (p q : RootParts) → RootIs z p → RootIs z q → p ≡ q
 root-only z p q h k =
     let o = scaling-only z h.m k.m p.exponent q.exponent h.scaling k.scaling in

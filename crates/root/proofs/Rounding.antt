@@ -60,7 +60,7 @@ module _ (a q r : ℕ) (lo : r * q ≤ a) (hi : a < (r + 1) * q) where
       rw (whole, left) (moves r ((a - r * q) * 2) q (compare ((a - r * q) * 2) q) (compared ((a - r * q) * 2) q)
       (omega arith) ∙ omega arith)
 
--- ---- the digits that are dropped are those behind the point
+-- ---- the digits that are dropped are those after the point
 scale-le : (a q h P A B : ℕ) → h * q ≤ a → h * (P * A) * (q * B) ≤ a * P * (A * B)
 scale-le a q h P A B k = omega (arith, mul-le-mul_right (P * A * B) k)
 

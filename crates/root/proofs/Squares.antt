@@ -16,7 +16,7 @@ pub above_zero_lem : (q t : ℕ) → t < q * q → 1 ≤ q
 above_zero_lem zero t h = absurd (omega arith)
 above_zero_lem (suc q) t h = omega arith
 
--- what `widen` knows
+-- what `widen` requires
 pub record Step (s r b a l : ℕ) : Type 0 where
   pub small : s < 2 ^ 27
   pub rest : r ≤ 2 * s

@@ -1,6 +1,6 @@
--- `root_theorem`: of every double above 0 the answer is what the request asks for, nothing else is, its double is the
--- correctly rounded square root, and its numbers lie in their ranges; a zero gives zeros, and what is refused is
--- refused by its number. Assumes nothing.
+-- `root_theorem`: for every double above 0 the answer is what the request specifies, nothing else is, its double is the
+-- correctly rounded square root, and its numbers lie in their ranges; for a zero it has zeros, and each refusal has its
+-- number. Assumes nothing.
 use mathlib.Core.Path.{◌≡◌, refl, sym, ap, ◌∙◌, subst}
 use mathlib.Core.Logic.{inl, inr}
 use Prim.Native.Nat.{ℕ, zero, suc, ◌+◌, ◌-◌, ◌*◌, ◌/◌, ◌%◌, ◌^◌, ◌≤◌, ◌<◌}
@@ -275,7 +275,7 @@ module _ (n j m : ℕ) (p : Place n j m) where
   unfolding r v x
   fraction a q b = rounds a q b
 
--- ---- of every double above 0
+-- ---- for every double above 0
 above_zero_lem : (k : ℕ) (e : ℤ) → lt (fin false (suc k) e) f0 ≡ false
 unfolding lt
 above_zero_lem k e = le-ltb (suc k * up e * 1) (0 * 1 * down e) (omega (arith, zero-mul (down e)))

@@ -1,4 +1,4 @@
--- Only private contracts cite it: a double above 0 by its digits and a power of two.
+-- Definitions for private contracts only: a double above 0 by its digits and a power of two.
 use Rattle.std.specs.Prelude.{◌≡◌, ℕ, ◌*◌, ◌^◌, ◌≤◌, ◌<◌}
 
 -- n units are c × 2 ^ y / 2 ^ 52, where c has 53 binary digits

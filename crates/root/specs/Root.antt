@@ -1,6 +1,6 @@
--- The square root of a double with what is left. For a finite z > 0, z = m × 4 ^ s with m whole, 2 ^ 104 ≤ m < 2 ^ 106:
--- r, the largest whole number whose square is at most m, the remainder m − r × r, the exponent s, and the double r × 2
--- ^ s where the remainder is at most r, else (r + 1) × 2 ^ s. Theorem.antt says that these are what is computed here,
+-- The square root of a double with its remainder. For a finite z > 0, z = m × 4 ^ s with m whole, 2 ^ 104 ≤ m < 2 ^
+-- 106: r, the largest whole number whose square is at most m, the remainder m − r × r, the exponent s, and the double r
+-- × 2 ^ s if the remainder is at most r, else (r + 1) × 2 ^ s. Theorem.antt says that these are what is computed here,
 -- and that no others are.
 use Rattle.std.specs.Prelude.{false, cond, ℕ, zero, suc, ◌+◌, ◌-◌, ◌*◌, ◌/◌, ◌^◌, leb, pos, Float}
 use Rattle.std.proofs.Math.IntN.{sub_ℕ}
@@ -35,7 +35,7 @@ unfolding size
 quarters n = (size n - 1) / 2
 
 -- z has n units of 2 ^ −1074. As 1074 + 104 = 2 × 589, z = n / 2 ^ 1074 is (n × 2 ^ 104 / 4 ^ j) × 4 ^ (j − 589), and
--- the division leaves nothing over
+-- the division leaves no remainder
 unfoldable pub root_parts : ℕ → RootParts
 unfolding whole_root quarters
 root_parts n =
@@ -43,7 +43,7 @@ root_parts n =
     let m = n * 2 ^ 104 / 4 ^ j in
     parts_at j m (whole_root 53 m)
 
--- a zero gives zeros, and the double is the zero itself, with its sign
+-- for a zero all numbers are 0, and the double is the zero itself, with its sign
 abbrev pub root_zero : Float → RootParts
 root_zero z = record { root = 0; remainder = 0; exponent = pos 0; nearest = z }
 

@@ -22,7 +22,7 @@ pub record Largest (m r : ℕ) : Type 0 where
   pub low : r * r ≤ m
   pub high : m < (r + 1) * (r + 1)
 
--- p is what is asked for at z
+-- p is the result that the request specifies at z
 pub record RootIs (z : Float) (p : RootParts) : Type 0 where
   pub m : ℕ
   pub scaling : Scaling z m p.exponent
@@ -56,7 +56,7 @@ pub record Beside (r remainder a q : ℕ) : Type 0 where
 abbrev pub Level : ℕ → Type 0
 Level m = (m ≡ (2 ^ 52 + 1) * 2 ^ 52) ⊎ (m ≡ (2 ^ 53 - 1) * 2 ^ 53)
 
--- in which ranges the numbers lie
+-- the ranges of the numbers
 pub record Ranges (m : ℕ) (p : RootParts) : Type 0 where
   -- the exponent is j − 589, from −589 to 459
   pub j : ℕ
@@ -72,7 +72,7 @@ pub record Ranges (m : ℕ) (p : RootParts) : Type 0 where
   pub level : p.remainder ≡ p.root → Level m
   pub level_at : Level m → p.remainder ≡ p.root
 
--- what is answered is asked for, nothing else is, and the double is the correctly rounded root
+-- the answer is what the request specifies, nothing else is, and the double is the correctly rounded root
 pub record Answered (z : Float) : Type 0 where
   pub parts : RootParts
   pub answered : root_of z ≡ answers parts
@@ -80,14 +80,14 @@ pub record Answered (z : Float) : Type 0 where
   pub only : (p : RootParts) → RootIs z p → p ≡ parts
   pub ranges : Ranges is.m parts
   pub rounded : Rounded z parts.nearest
-  -- and so does the format's rounding have it: it takes every fraction beside √m, times 2 ^ s, to this double
+  -- the format's rounding agrees: it takes every fraction close to √m, times 2 ^ s, to this double
   pub rounds : (a q : ℕ) → Beside parts.root parts.remainder a q →
       round binary64 false (a * up parts.exponent) (q * down parts.exponent) ≡ parts.nearest
 
 pub record RootTheorem : Type 0 where
-  -- of every double that is finite and above 0
+  -- for every double that is finite and above 0
   pub above_zero : (z : Float) → T (fits binary64 z) → T (positive z) → Answered z
-  -- a zero gives zeros, and the double keeps its sign
+  -- for a zero all numbers are 0, and the double keeps its sign
   pub zeros : (s : Bool) →
       root_of (fin s 0 (pos 0))
       ≡ answers (record { root = 0; remainder = 0; exponent = pos 0; nearest = fin s 0 (pos 0) })

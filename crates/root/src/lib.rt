@@ -1,8 +1,8 @@
-// The square root of a double with what is left: for a finite z > 0, z = m * 4^s with m whole, 2^104 <= m < 2^106; r,
+// The square root of a double with its remainder: for a finite z > 0, z = m * 4^s with m whole, 2^104 <= m < 2^106; r,
 // the largest whole number whose square is at most m; the remainder m - r*r; s; and the double nearest to the root.
 // Proved: r is that number, and the double is the root rounded to nearest, ties to even (RootTheorem). The root of m is
 // found by halves: the root of the upper half of its digits, and one division for the lower half. m is a number c below
-// 2^54 times 2^52, so that c is all that is held of it. Rests on ieee and linalg.
+// 2^54 times 2^52, so the code holds only c. Rests on ieee and linalg.
 #![tactic(auto)]
 
 ghost use Rattle.std.specs.Prelude.{◌≡◌, ◌+◌, ◌*◌, ◌^◌, ◌<◌, ◌≤◌};
@@ -123,8 +123,8 @@ fn whole_root(c: u64) -> Whole
     widen(q.root, q.remainder, BASE_26, 0, 0)
 }
 
-// The digits and the power of the double above 0 with the pattern b. A subnormal's digits are moved
-// up to where the others have theirs.
+// The digits and the power of the double above 0 with the pattern b. A subnormal's digits are shifted up to where the
+// others have theirs.
 fn digits_of(b: u64) -> Scaled
     requires { (0 < b) × (b < patterns binary64) }
     ensures { ScaledTo (pattern_units binary64 b) result.digits result.power }
@@ -172,7 +172,7 @@ fn positive(b: u64) -> RootParts
     }
 }
 
-// The square root of z with what is left, or refusal 1 for z < 0, or 8 for a NaN or +infinity.
+// The square root of z with its remainder; refusal 1 for z < 0, and 8 for a NaN or +infinity.
 pub fn root(z: f64) -> Result<RootParts, Refusal>
     ensures { answer result ≡ root_of z }
 {

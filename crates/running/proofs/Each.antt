@@ -1,4 +1,4 @@
--- A step on each element of a list, one after another: after i turns the first i are changed and the rest is as it was.
+-- A step on each element of a list, one after another: after i turns the first i are changed and the rest is as before.
 -- Assumes nothing.
 use Prim.Native.Nat.{ℕ, zero, suc}
 use mathlib.Core.Path.{◌≡◌, refl, ap}

@@ -1,5 +1,5 @@
--- After any history the running pose is the products and renormalisations in its order: a count that stops at 65535
--- tells what the whole count would. Assumes nothing.
+-- After any history the running pose is that of the products and renormalisations in its order: a count that stops at
+-- 65535 decides as the full count would. Assumes nothing.
 use Prim.Native.Nat.{ℕ, ◌+◌, ◌<◌, ◌≤◌}
 use mathlib.Core.Path.{◌≡◌, refl}
 use mathlib.Core.Bool.{Bool, true, false, cond}
@@ -16,7 +16,7 @@ use Rattle.running.specs.declared.Running.{Running}
 use Rattle.running.specs.Running.{Start, running_none, one_more, due, produced_of, product_on, join_on, every_of}
 use Rattle.running.specs.History.{Event, join, renew, after, product, renormalized_product, ran, Small, HistoryTheorem}
 
--- ---- the count that is held at 65535
+-- ---- the count that stops at 65535
 cap : ℕ → ℕ
 cap k = cond (ltb k 65535) k 65535
 
@@ -55,7 +55,7 @@ due_by false n k t h =
 due_more : (n k : ℕ) → n < 65536 → due n (one_more (cap k)) ≡ due n (k + 1)
 due_more n k h = rw (more_cap k) (due_by (ltb (k + 1) 65535) n (k + 1) refl h)
 
--- ---- event by event, from any state on whose count is that of k products
+-- ---- event by event, from any state whose count represents k products
 abbrev Follows : Format → List Event → Type 0
 Follows f h =
     (r : Running) (k : ℕ) → r.since ≡ cap k → r.every < 65536 → Small h → (after f r h).pose ≡ ran f r.pose r.every k h

@@ -1,5 +1,5 @@
--- Any history of the running join, plainly: the products and renormalisations in its order, with a count that has no
--- bound. Proved as `history` in proofs/Past.antt.
+-- Any history of the running join: its products and renormalisations in their order, with a count that has no bound.
+-- Proved as `history` in proofs/Past.antt.
 use Rattle.std.specs.Prelude.{Some, None, ℕ, ◌+◌, ◌<◌, ◌≡◌, cond, List, [], ◌∷◌, eqb, Float}
 use Rattle.std.specs.Float.{Format}
 use Rattle.sim3.specs.Pose.{pose_mul, pose_renormalized}
@@ -9,26 +9,26 @@ use Rattle.running.specs.declared.Running.{Running}
 use Rattle.running.specs.Running.{Start, running_none, due, join_of, every_of}
 
 pub data Event : Type 0 where
-  -- a pose, and up of the running pose
+  -- a pose, with `up` of the running pose
   join : Pose → Float → Event
   -- a new n
   renew : ℕ → Event
 
--- what the running join makes of them
+-- the running join after these events
 unfoldable pub after : Format → Running → List Event → Running
 after f r [] = r
 after f r (join x up ∷ h) = after f (join_of f r x up).running h
 after f r (renew n ∷ h) = after f (every_of r n) h
 
--- P X, and the same with its quaternion renormalised
+-- P X, and P X with its quaternion renormalised
 abbrev pub product : Format → Pose → Pose → Float → Pose
 product f p x up = framed (pose_mul f p.sim3 x.sim3 up) x.from p.to
 
 abbrev pub renormalized_product : Format → Pose → Pose → Float → Pose
 renormalized_product f p x up = framed (pose_renormalized f (pose_mul f p.sim3 x.sim3 up)) x.from p.to
 
--- the running pose after them, from the pose s on, where n is set and there were k products since the last
--- renormalisation; a product is accepted where the frames meet
+-- the running pose after these events, from the pose s on, where n is set and k products came since the last
+-- renormalisation; a product is accepted if the frames match
 unfoldable pub ran : Format → Start → ℕ → ℕ → List Event → Start
 ran f s n k [] = s
 ran f s n k (renew m ∷ h) = ran f s m k h

@@ -1,4 +1,4 @@
--- The running join: what a pose and a new n do to the running pose, in any format.
+-- The running join: how a pose and a new n change it, in any format.
 use Rattle.std.specs.Prelude.{Option, Some, None, ℕ, ◌+◌, Bool, cond, ◌&&◌, List, map, ltb, leb, Float}
 use Rattle.std.specs.Float.{Format}
 use Rattle.linalg.specs.Answer.{Answer, answers, refuses}
@@ -9,7 +9,7 @@ use Rattle.frames.specs.Floats.{Pose}
 use Rattle.running.specs.declared.Running.{Running}
 use Rattle.running.specs.declared.Joined.{Joined}
 
--- the running pose, none before the first pose comes
+-- the running pose; none before the first pose
 abbrev pub Start : Type 0
 Start = Option Pose
 
@@ -17,15 +17,15 @@ Start = Option Pose
 abbrev pub running_none : Running
 running_none = record { pose = None; every = 0; since = 0 }
 
--- one product more; 65535 are that many or more
+-- one more product; 65535 means that many or more
 unfoldable pub one_more : ℕ → ℕ
 one_more k = cond (ltb k 65535) (k + 1) k
 
--- whether the kth product since the last renormalisation is renormalised: never, where n is 0
+-- whether to renormalise the kth product since the last renormalisation: never, if n is 0
 unfoldable pub due : ℕ → ℕ → Bool
 due n k = ltb 0 n && leb n k
 
--- ---- a pose: what it leaves, and the running pose that is answered, or the refusal
+-- ---- a pose: the running join after it, and the reply, which is the running pose or the refusal
 pub record Joint : Type 0 where
   pub running : Running
   pub answer : Answer Pose
@@ -36,7 +36,7 @@ joint_view j = record { running = j.running; answer = answer j.answer }
 abbrev pub stands : Pose → ℕ → ℕ → Joint
 stands p n k = record { running = record { pose = Some p; every = n; since = k }; answer = answers p }
 
--- p is a product, and the kth since the last renormalisation
+-- p is a product, the kth since the last renormalisation
 unfoldable pub produced_of : Format → Pose → ℕ → ℕ → Joint
 produced_of f p n k = cond (due n k) (stands (framed_renormalized f p) n 0) (stands p n k)
 
@@ -45,7 +45,7 @@ unfoldable pub product_on : Format → Running → Answer Pose → Joint
 product_on f r (answers p) = produced_of f p r.every (one_more r.since)
 product_on f r (refuses e) = record { running = r; answer = refuses e }
 
--- the first pose is no product: its frames are not tested, and up is not used
+-- the first pose is not a product: its frames are not tested, and `up` is not used
 unfoldable pub join_on : Format → Start → Running → Pose → Float → Joint
 join_on f None r x up = stands x r.every r.since
 join_on f (Some p) r x up = product_on f r (framed_mul f p x up)

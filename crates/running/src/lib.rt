@@ -1,6 +1,6 @@
-// A running join: poses are joined as they come, each with the running pose as the left one, and the running pose's
-// quaternion is renormalised after every nth product. And the quaternions of a whole list of poses renormalised.
-// Proved: after any history the pose is that of the plain history (HistoryTheorem). Rests on frames.
+// A running join: it multiplies each pose that comes by the running pose from the left, and renormalises the running
+// pose's quaternion after every nth product. Also the renormalisation of a whole list of poses. Proved: after any
+// history the pose is that of the plain history (HistoryTheorem). Rests on frames.
 #![tactic(auto)]
 
 ghost use Rattle.std.specs.Prelude.{◌≡◌};
@@ -13,8 +13,8 @@ use frames::Pose;
 use linalg::refusal::Refusal;
 use so3::quat::Renormalize;
 
-// The running pose, none before the first pose comes; n, after every how many products it is renormalised,
-// 0 for never; and how many products there were since it was. 65535 of them are that many or more.
+// The running pose, none before the first pose; n, the number of products after which it is renormalised, 0 for never;
+// and the number of products since it last was, where 65535 means that many or more.
 #[derive(Clone, Copy, Default)]
 pub struct Running {
     pub pose: Option<Pose<f64>>,
@@ -22,14 +22,14 @@ pub struct Running {
     pub since: u16,
 }
 
-// What a pose leaves, and the running pose with which it is answered, or the refusal.
+// The running join after a pose, and the reply to it: the running pose or the refusal.
 #[derive(Clone, Copy)]
 pub struct Joined {
     pub running: Running,
     pub answer: Result<Pose<f64>, Refusal>,
 }
 
-// One product more. No n is greater than 65535, so none can tell that many from more.
+// One more product. No n is greater than 65535, so the count can stop there.
 #[tactic(auto, unfolding(crate::specs::Running::one_more))]
 fn one_more(k: u16) -> u16
     ensures { result ≡ one_more k }
@@ -40,7 +40,7 @@ fn one_more(k: u16) -> u16
     k
 }
 
-// Whether the product that is the kth since the last renormalisation is renormalised.
+// Whether to renormalise the kth product since the last renormalisation.
 #[tactic(auto, unfolding(crate::specs::Running::due))]
 fn due(n: u16, k: u16) -> bool
     ensures { result ≡ due n k }
@@ -49,14 +49,14 @@ fn due(n: u16, k: u16) -> bool
 }
 
 impl Running {
-    // No pose yet, and none will be renormalised.
+    // No pose yet, and no renormalisation.
     pub fn new() -> Running
         ensures { result ≡ running_none }
     {
         Running::default()
     }
 
-    // p becomes the running pose, and is answered too.
+    // p becomes the running pose, and is the reply.
     fn stand(self, p: Pose<f64>) -> Joined
         ensures { joint_view result ≡ stands p self.every self.since }
     {
@@ -69,7 +69,7 @@ impl Running {
         }
     }
 
-    // The product p becomes the running pose, renormalised where it is due.
+    // The product p becomes the running pose, renormalised if `due`.
     #[tactic(auto, unfolding(crate::specs::Running::produced_of))]
     fn produced(self, p: Pose<f64>) -> Joined
         ensures { joint_view result ≡ produced_of binary64 p self.every (one_more self.since) }
@@ -81,8 +81,8 @@ impl Running {
         Running { since, ..self }.stand(p)
     }
 
-    // The first pose is the running pose, and is no product; a further one is multiplied by it from the
-    // left, up being e^sigma of the running pose. Where the frames do not meet (9) nothing changes.
+    // The first pose becomes the running pose, and is not a product; a further one is multiplied by the running pose
+    // from the left, where up is e^sigma of the running pose. If the frames do not match (9), nothing changes.
     #[tactic(auto, unfolding(crate::specs::Running::join_on, crate::specs::Running::product_on))]
     pub fn join(self, x: Pose<f64>, up: f64) -> Joined
         ensures { joint_view result ≡ join_of binary64 self x up }
@@ -99,7 +99,7 @@ impl Running {
         }
     }
 
-    // From here on after every nth product. The pose and the count stay as they are.
+    // Renormalise after every nth product from now on. The pose and the count stay as they are.
     pub fn set_every(self, n: u16) -> Running
         ensures { result ≡ every_of self n }
     {
@@ -107,7 +107,7 @@ impl Running {
     }
 }
 
-// `Pose::renormalized` on every pose of a list that is lent; nothing else is altered.
+// `Pose::renormalized` on every pose of a borrowed list; nothing else changes.
 pub fn renormalize_all(poses: &mut [Pose<f64>])
     ensures { poses.new ≡ all_renormalized binary64 poses.old }
 {

@@ -1,4 +1,4 @@
--- Every reciprocal that a series asks for within its term counts is in the table, and the next term's is not. Assumes
+-- Every reciprocal that a series reads within its term counts is in the table, and the next term's is not. Assumes
 -- nothing.
 use Prim.Native.Nat.{ℕ, ◌+◌, ◌≤◌}
 use native.Mathlib.Omega.{arith}

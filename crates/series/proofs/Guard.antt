@@ -1,4 +1,4 @@
--- What a series refuses it refuses whatever its numbers are. Assumes nothing.
+-- Whether a series is refused does not depend on what it would compute. Assumes nothing.
 use mathlib.Core.Path.{◌≡◌, refl, sym, ap, ◌∙◌}
 use Prim.Native.Nat.{ℕ}
 use mathlib.Core.Bool.{Bool, true, false, cond}

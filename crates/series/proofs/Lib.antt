@@ -1,4 +1,4 @@
--- The laws of the series, each over any format.
+-- Lemmas on the series, each for any format.
 pub mod Mirror
 pub mod PartialSums
 pub mod Sum

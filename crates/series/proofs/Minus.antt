@@ -1,4 +1,4 @@
--- Levels that hold -p for p: done twice it is nothing.
+-- Levels that hold -p for p: doing this twice changes nothing.
 use mathlib.Core.Path.{◌≡◌}
 use Rattle.ieee.proofs.Sign.{neg-neg}
 use Rattle.series.specs.Private.{level_minus, state_minus}

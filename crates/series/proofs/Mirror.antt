@@ -1,5 +1,5 @@
--- The levels at -sigma are those at sigma, each part turned by its parity, up to the sign of a zero: every summand of a
--- part has one parity, and negation commutes with rounding. Assumes nothing.
+-- The levels at -sigma are those at sigma, with the parts of odd parity negated, up to the sign of a zero: every
+-- summand of a part has one parity, and negation commutes with rounding. Assumes nothing.
 use mathlib.Core.Path.{◌≡◌, refl, ap, ◌∙◌}
 use mathlib.Core.Logic.{inl, inr}
 use Prim.Native.Nat.{ℕ, zero, suc, ◌%◌}
@@ -21,11 +21,11 @@ abbrev pub turned : Bool → Float → Float
 turned true x = neg x
 turned false x = x
 
--- y is x turned, up to the sign of a zero
+-- y is x, negated where b, up to the sign of a zero
 abbrev pub Turned : Bool → Float → Float → Type 0
 Turned b x y = Same y (turned b x)
 
--- ---- sums and products of turned values
+-- ---- sums and products of such values
 pub add_turned : (f : Format) (b : Bool) (x x' y y' : Float) → Turned b x x' → Turned b y y' →
     Turned b (add f x y) (add f x' y')
 add_turned f true x x' y y' p q = add_same f x' (neg x) y' (neg y) p q ∙ neg-add f x y
@@ -44,7 +44,7 @@ mul-turned_r : (f : Format) (b : Bool) (x y y' : Float) → Turned b y y' → Tu
 mul-turned_r f true x y y' p = mul-same f x x y' (neg y) refl p ∙ ap unsigned_zero (mul-neg_r f x y)
 mul-turned_r f false x y y' p = mul-same f x x y' y refl p
 
--- sigma times a part, at -sigma: turned once more
+-- sigma times a part, at -sigma: negated once more
 pub by_sigma : (f : Format) (b : Bool) (sigma y y' : Float) → Turned b y y' →
     Turned (not b) (mul f sigma y) (mul f (neg sigma) y')
 by_sigma f true sigma y y' p =
@@ -58,7 +58,7 @@ times-sigma f true x x' sigma p =
 times-sigma f false x x' sigma p =
     mul-same f x' x (neg sigma) (neg sigma) p refl ∙ ap unsigned_zero (mul-neg_r f x sigma)
 
--- ---- a level: p, zeta and dzeta are turned by b, xi and dxi by its opposite
+-- ---- a level: p, zeta and dzeta are negated where b, xi and dxi where not
 pub record Mirror (b : Bool) (l m : Level) : Type 0 where
   pub p : Turned b l.p m.p
   pub zeta : Turned b l.zeta m.zeta

@@ -1,6 +1,6 @@
 -- The pair theorem: one recurrence at sigma with two sets of sums computes the series at sigma and the series at
--- -sigma, each to the bit. The terms at -sigma are sigma's, turned by their parity up to the sign of a zero (Mirror),
--- and a sum that is not -0 does not see that sign (Sum). Assumes nothing.
+-- -sigma, each to the bit. The terms at -sigma are sigma's, negated where they are odd, up to the sign of a zero
+-- (Mirror), and a sum that is not -0 does not depend on that sign (Sum). Assumes nothing.
 use mathlib.Core.Path.{◌≡◌, refl, sym, ap, ◌∙◌}
 use Prim.Native.Nat.{ℕ, zero, suc, ◌+◌, ◌%◌}
 use native.Mathlib.Omega.{arith}
@@ -65,7 +65,7 @@ sum_gain f sigma z g n m c b e p q h =
     let t : ℕ → Float = λ j. g (series_terms f (neg sigma) z j) in
     rw (e, p) (gain_is f b _ _ _ (sum_fits f t n) (sum_clear f t n (q (neg sigma))) (q sigma n) (q (neg sigma) n) h)
 
--- each of the six, from level n on: v1, w1 and dv1 have the parity that n has not, v2, w2 and dv2 have n's
+-- each of the six, from level n on: v1, w1 and dv1 have the opposite parity of n, v2, w2 and dv2 the same
 module _ (f : Format) (sigma z : Float) (n m : ℕ) (c : Bool) (e : m ≡ suc n) where
   v1_gain : c ≡ not (odd n) → gain_flip f c (sums_below f (neg sigma) z n).v1 (series_terms f sigma z n).v1
       ≡ (sums_below f (neg sigma) z m).v1
@@ -136,7 +136,7 @@ turns_are f sigma z (suc n) =
           gained f sigma z n i;
     })
 
--- ---- the terms after level k: the parity turns from level to level
+-- ---- the terms after level k: the parity changes from level to level
 last_mirrored-is :
     (f : Format) (sigma z : Float) (k : ℕ) →
     sums_last_mirrored f (odd (k + 1)) (sums_below f (neg sigma) z (k + 1))
@@ -169,8 +169,8 @@ last_mirrored-is f sigma z k =
           ∙ dv2_gain f sigma z (k + 3) (k + 4) b e3 p4) i;
     })
 
--- ---- the theorem, for every format and with no premise
--- chi times delta is even in sigma but for v0 and v2
+-- ---- the theorem, for every format and without a premise
+-- chi times delta is even in sigma except for v0 and v2
 coeffs_even : (f : Format) (sigma z v0 w0 : Float) (s : Sums) →
     series_coeffs f (neg sigma) z v0 w0 s ≡ series_coeffs f sigma z v0 w0 s
 unfolding series_coeffs series_chi coeffs_delta

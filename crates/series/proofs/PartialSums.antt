@@ -19,7 +19,7 @@ use Rattle.series.specs.Private.{g_term}
 use Rattle.series.specs.Floats.{Signs, Horner, Stopped}
 use Rattle.tables.proofs.Every.{recip_fits, recip_clear}
 
--- ---- one entry more, as a loop counts
+-- ---- one more entry, as a loop counts
 pub stopped_more :
     (f : Format) (sigma : Float) (l terms n j : ℕ) → j ≡ terms - (n + 1) + l →
     add f (recip_fact f j) (mul f sigma (g_stopped f sigma l terms n)) ≡ g_stopped f sigma l terms (n + 1)
@@ -52,7 +52,7 @@ whole f sigma stop k =
       closed_alone = horner_stopped f sigma (w0_terms f + 1) (w0_terms f) stop;
     }
 
--- -sigma + 0 is -sigma up to the sign of a zero, which a sum with a reciprocal does not see
+-- -sigma + 0 is -sigma up to the sign of a zero, which does not change a sum with a reciprocal
 pub minus_or_zero :
     (f : Format) (sigma : Float) → T (fits f (neg sigma)) → (j : ℕ) (g : Signs Float) →
     g_term f sigma (add f (neg sigma) f0) (recip_fact f j) g ≡ g_term f sigma (neg sigma) (recip_fact f j) g
@@ -90,7 +90,7 @@ unfolding g_series_pair
 both_last f sigma l terms =
     λ i. record { pos = stopped_last f sigma l terms i; neg = stopped_last f (neg sigma) l terms i }
 
--- ---- a sum of m + 1 terms from 1 / l! on reads what one of m terms from 1 / (l + 1)! on does, and one entry more
+-- ---- a sum of m + 1 terms from 1 / l! on reads what one of m terms from 1 / (l + 1)! on does, and one more entry
 stopped_shared : (f : Format) (sigma : Float) (l m n : ℕ) → n ≤ m →
     g_stopped f sigma l (m + 1) n ≡ g_stopped f sigma (l + 1) m n
 unfolding g_stopped

@@ -1,5 +1,5 @@
 -- The series' sums start from +0, so they fit the format and are never -0; and one more level, or the terms after level
--- k, carry them on. Assumes nothing.
+-- k, extend them. Assumes nothing.
 use mathlib.Core.Path.{◌≡◌, refl}
 use Prim.Native.Nat.{ℕ, zero, suc, ◌+◌}
 use native.Mathlib.Omega.{arith}

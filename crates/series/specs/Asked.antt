@@ -1,5 +1,5 @@
--- Which reciprocals the series ask for. Within the accepted term counts each is in the table, and with one term more
--- there is one that is not.
+-- Which reciprocals the series read. Within the accepted term counts each is in the table, and with one more term one
+-- is not.
 use Rattle.std.specs.Prelude.{Some, None, ◌≡◌, ℕ, ◌+◌, ◌≤◌, ◌<◌}
 use Rattle.std.specs.Float.{Format}
 use Rattle.tables.specs.Tables.{recip_fact, recip_table}
@@ -15,7 +15,7 @@ pub record VAsks (f : Format) (k : ℕ) : Type 0 where
   pub v1 : (j : ℕ) → j < k + 1 → Has f (j + 1)
   pub v2 : (j : ℕ) → j < k + 2 → Has f (j + 1)
 
--- the full series: besides, w₀ over i < k, w₁ and w₂ over the levels of v₁ and v₂, dv₁ over those below k + 3, dv₂ over
+-- the full series: also w₀ over i < k, w₁ and w₂ over the levels of v₁ and v₂, dv₁ over those below k + 3, dv₂ over
 -- those below k + 4
 pub record FullAsks (f : Format) (k : ℕ) : Type 0 where
   pub v : VAsks f k
@@ -25,7 +25,7 @@ pub record FullAsks (f : Format) (k : ℕ) : Type 0 where
   pub dv1 : (j : ℕ) → j < k + 3 → Has f (j + 1)
   pub dv2 : (j : ℕ) → j < k + 4 → Has f (j + 1)
 
--- what `asked` proves: the limits are those that the table sets
+-- what `asked` proves: the table sets the limits
 pub record AskedTheorem : Type 0 where
   pub full : (f : Format) (k : ℕ) → k ≤ series_most → FullAsks f k
   pub full_past : (f : Format) (k : ℕ) → series_most < k → recip_table f (k + 4) ≡ None

@@ -1,5 +1,5 @@
--- The structs over the floats that the definitions speak of, and each struct of the code as one of them: `h` gives the
--- float of a number.
+-- The structs over floats that the definitions use, and each struct of the code as one of them: `h` maps a number to
+-- its float.
 use Rattle.std.specs.Prelude.{Float}
 use Rattle.series.specs.declared.recurrence.Level as CodeLevel
 use Rattle.series.specs.declared.recurrence.Sums as CodeSums
@@ -76,7 +76,7 @@ Coeffs4 = CodeCoeffs4.Coeffs4 Float
 abbrev pub as_coeffs4 : {T : Type 0} → (T → Float) → CodeCoeffs4.Coeffs4 T → Coeffs4
 as_coeffs4 h a = record { v0 = h a.v0; v1 = h a.v1; v2 = h a.v2; chi_delta = h a.chi_delta }
 
--- what is at sigma and at -sigma
+-- a value at sigma and one at -sigma
 abbrev pub Signs : Type 0 → Type 0
 Signs X = CodeSigns.Signs X
 

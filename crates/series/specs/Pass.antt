@@ -1,6 +1,6 @@
 -- One pass over the reciprocals for both signs, stopped after some of its entries (02, K4). Horner's sums read the
--- table from the highest entry down; what the pass then holds is what each sign alone has after as many entries, in
--- every format, for every σ, every term count that an entry takes and every stop.
+-- table from the highest entry down; the stopped pass holds what each sign alone has after as many entries, in every
+-- format, for every σ, every accepted term count and every stop.
 use Rattle.std.specs.Prelude.{ℕ, zero, suc, ◌+◌, ◌-◌, cond, ltb, Float}
 use Rattle.std.specs.Float.{Format}
 use Rattle.std.specs.Float.Ieee.{neg}
@@ -28,11 +28,11 @@ module _ (f : Format) where
 abbrev pub both_stopped : Format → Float → ℕ → ℕ → ℕ → Signs Float
 both_stopped f sigma l terms n = record { pos = g_stopped f sigma l terms n; neg = g_stopped f (neg sigma) l terms n }
 
--- how many entries a sum of `terms` terms has read at a stop: behind its last entry it stays as it is
+-- how many entries a sum of `terms` terms has read at a stop: after its last entry it no longer changes
 abbrev pub entries_read : ℕ → ℕ → ℕ
 entries_read stop terms = cond (ltb terms stop) terms stop
 
--- v₀ and w₀ of so many terms, each at σ alone and at -σ alone, at a stop
+-- v₀ and w₀ of `terms` terms, each at σ alone and at -σ alone, at a stop
 unfoldable pub horner_stopped : Format → Float → ℕ → ℕ → ℕ → Horner
 horner_stopped f sigma vTerms wTerms stop =
     record {
@@ -41,7 +41,7 @@ horner_stopped f sigma vTerms wTerms stop =
           both_stopped f sigma 2 wTerms (entries_read stop wTerms);
     }
 
--- the series arm at k terms and the closed arm at its own: the pass, and the sums of each sign alone, hold the same;
+-- the series arm at k terms and the closed arm at its count: the pass, and the sums of each sign alone, hold the same;
 -- refusal 4 for k above the most terms
 unfoldable pub pass_stopped : Format → Float → ℕ → ℕ → Answer Stopped
 pass_stopped f sigma k stop =

@@ -1,5 +1,5 @@
--- The total-degree series at one sign of sigma, in the operations of a format f, and what its entries answer. The pair
--- is two of it: nothing here is shared between the signs.
+-- The total-degree series at one sign of sigma, in the operations of a format f, and the answers of its public
+-- functions. The pair is two of it: this file shares nothing between the signs.
 use Rattle.std.specs.Prelude.{ℕ, zero, suc, ◌+◌, cond, ltb, Float}
 use Rattle.std.specs.Float.{Format, binary32, binary64}
 use Rattle.std.specs.Float.Ieee.{neg}
@@ -37,7 +37,7 @@ module _ (f : Format) where
   infixl 70 ◌⊗◌
   open operations f use {◌⊕◌, ◌⊖◌, ◌⊗◌}
 
-  -- the next level, each number from the old one
+  -- the next level, each number from the old ones
   unfoldable pub series_next : Float → Float → Level → Level
   series_next sigma z l =
       record {
@@ -52,7 +52,7 @@ module _ (f : Format) where
   series_level sigma z zero = series_first
   series_level sigma z (suc j) = series_next sigma z (series_level sigma z j)
 
-  -- ---- the sums: level j gives ξ and ζ over (j + 1)! to v, over (j + 2)! to w, and ξ' and ζ' over (j + 1)! to dv
+  -- ---- the sums: level j adds ξ and ζ over (j + 1)! to v, over (j + 2)! to w, and ξ' and ζ' over (j + 1)! to dv
   unfoldable pub level_terms : Level → Float → Float → Sums
   level_terms l r1 r2 =
       record {
@@ -73,7 +73,7 @@ module _ (f : Format) where
   series_sum t zero = f0
   series_sum t (suc n) = series_sum t n ⊕ t n
 
-  -- each sum to its own last level: k, k + 1, k, k + 1, k + 2, k + 3
+  -- each sum to its last level: k, k + 1, k, k + 1, k + 2, k + 3
   unfoldable pub series_sums : Float → Float → ℕ → Sums
   series_sums sigma z k =
       record {
@@ -130,7 +130,7 @@ series_most = 28
 abbrev pub series_v_most : ℕ
 series_v_most = 30
 
--- ---- what the entries answer: refusal 1 for z below zero, then refusal 4 for k above the most terms
+-- ---- the answers: refusal 1 for z below zero, then refusal 4 for k above the most terms
 abbrev pub terms_guard : {A : Type 0} → ℕ → ℕ → A → Answer A
 terms_guard most k a = cond (ltb most k) (refuses 4) (answers a)
 
@@ -143,7 +143,7 @@ series_answer f sigma z k = series_guard series_most z k (series_full f sigma z 
 unfoldable pub series_v_answer : Format → Float → Float → ℕ → Answer Coeffs4
 series_v_answer f sigma z k = series_guard series_v_most z k (series_v f sigma z k)
 
--- the answers at sigma and at -sigma beside each other
+-- the answers at sigma and at -sigma side by side
 unfoldable pub series_pair_answer : Format → Float → Float → ℕ → Answer CoeffsPair
 series_pair_answer f sigma z k =
     and_then (series_answer f sigma z k) (λ p. and_then (series_answer f (neg sigma) z k)

@@ -1,4 +1,4 @@
-// How many terms a series takes, within what the table of reciprocals serves.
+// How many terms a series may take, by the length of the table of reciprocals.
 ghost use Rattle.std.specs.Prelude.{◌≤◌};
 
 // The most terms of a full series, which reads the reciprocals to k + 4, and of one for v alone, to k + 2.

@@ -54,7 +54,7 @@ pub fn horner_stopped<T: Tables>(sigma: T, k: usize, n: usize) -> Horner<T>
     Horner { v0, w0 }
 }
 
-// How many entries a sum of so many terms has read at a stop: all of them, if it has no more.
+// How many entries a sum of `terms` terms has read at a stop: all of them, if it has no more.
 pub fn entries_read(stop: usize, terms: usize) -> usize
     ensures { (result ≡ entries_read stop terms) × (result ≤ terms) }
 {

@@ -1,6 +1,6 @@
-// The series at sigma and at -sigma, each to the bit, from one recurrence. The levels at -sigma are
-// those at sigma with the sign of their parity, up to the sign of a zero, which no sum keeps: so
-// where a sum at sigma adds a term, the one at -sigma adds it, or its negative.
+// The series at sigma and at -sigma, each to the bit, from one recurrence. The parts of a level at -sigma are those at
+// sigma, negated where they are odd in sigma, up to the sign of a zero, which changes no sum: so where a sum at sigma
+// adds a term, the one at -sigma adds it or its negative.
 ghost use Rattle.std.specs.Prelude.{◌≡◌, true, false, ◌+◌, ◌%◌, ◌≤◌};
 ghost use Rattle.std.specs.Float.Ieee.{neg};
 ghost use Rattle.series.specs.Series.{g_series_pair, series_full, series_pair_answer};
@@ -47,7 +47,7 @@ pub fn series_pair_at<T: Tables>(sigma: T, z: T, k: Count<FULL>) -> CoeffsPair<T
     }
 }
 
-// The six sums at each sign, each to its own last level.
+// The six sums at each sign, each to its last level.
 #[tactic(auto, unfolding(crate::specs::Private::pair_sums))]
 fn sums_pair_at<T: Tables>(sigma: T, z: T, k: Count<FULL>) -> Signs<Sums<T>>
     ensures { as_signs (as_sums T.float) result ≡ pair_sums T.format (T.float sigma) (T.float z) k.terms }
@@ -66,7 +66,7 @@ fn sums_pair_at<T: Tables>(sigma: T, z: T, k: Count<FULL>) -> Signs<Sums<T>>
     }
 }
 
-// The levels to k, which give a term to every sum: an even one by itself where k is even.
+// The levels to k, which add a term to every sum: an even one by itself where k is even.
 #[tactic(auto, using(crate::proofs::Pairs::even_more))]
 fn levels_to<T: Tables>(sigma: T, z: T, k: usize) -> SeriesPairState<T>
     requires { k ≤ 28 }
@@ -79,9 +79,9 @@ fn levels_to<T: Tables>(sigma: T, z: T, k: usize) -> SeriesPairState<T>
     levels_below(sigma, z, k + 1)
 }
 
-// The levels below n, which is even: an even and an odd one at each turn. PERF (D122): this is called
-// from two places, so that it is compiled as a function of its own, which stores its answer: it is from
-// these stores that the compiler sees which numbers of a turn to compute in twos.
+// The levels below n, which is even: an even and an odd one at each turn. PERF (D122): this has two callers, so that it
+// is compiled as a separate function, which stores its result: from these stores the compiler sees which numbers of a
+// turn to compute in twos.
 #[tactic(auto, using(crate::proofs::Pairs::two_levels), unfolding(crate::specs::Private::pair_steps))]
 fn levels_below<T: Tables>(sigma: T, z: T, n: usize) -> SeriesPairState<T>
     requires { (n ≤ 28) × (n % 2 ≡ 0) }
@@ -110,9 +110,9 @@ fn state_minus<T: Tables>(s: SeriesPairState<T>) -> SeriesPairState<T>
     }
 }
 
-// An even level and the odd one after it, with r3 = 1/(j + 3)!. PERF (D70, D122): a function of its own, for
-// with both turns written into the loop the pair takes 7 % more; and s and the answer hold -p for p: x - (-p)
-// is x + p, and xi and dxi are formed alike.
+// An even level and the odd one after it, with r3 = 1/(j + 3)!. PERF (D70, D122): a separate function, for with both
+// turns inlined into the loop the pair takes 7 % more; and s and the result hold -p for p: x - (-p) is x + p, and xi
+// and dxi are formed in the same way.
 fn two_steps<T: Tables>(
     sigma: T,
     z: T,
@@ -152,7 +152,7 @@ fn step<T: Tables, const ODD: bool>(
     }
 }
 
-// The terms at -sigma of a level, even or `ODD`, that gives t at sigma.
+// The terms at -sigma of a level, even or `ODD`, with the terms t at sigma.
 fn mirrored<T: Tables, const ODD: bool>(t: Sums<T>) -> Sums<T>
     ensures { (s : _) → sums_gain T.format s (as_sums T.float result)
         ≡ sums_gain_mirrored T.format ODD s (as_sums T.float t) }

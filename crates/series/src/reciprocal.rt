@@ -1,4 +1,4 @@
-// The reciprocals that the series read: none of them is past the end of the table.
+// The reciprocals that the series read; no index is past the end of the table.
 ghost use Rattle.std.specs.Prelude.{◌≡◌, ◌≤◌};
 ghost use Rattle.tables.specs.Tables.{recip_fact};
 
@@ -16,9 +16,9 @@ pub fn table_entry<T: Tables>(n: usize) -> T
     }
 }
 
-// PERF (D123): 1/n! for an index that a loop counts. The compiler follows the range of an argument over
-// all calls of a function, and gives up after ten that widen it: this one is not called with the
-// indices of `small`, so its index is seen to be in the table and the loops test nothing.
+// PERF (D123): 1/n! for an index that a loop counts. The compiler follows the range of an argument over all calls of a
+// function, and gives up after ten that widen it: this one is not called with the indices of `small`, so the compiler
+// sees that its index is in the table and the loops test nothing.
 pub fn recip<T: Tables>(n: usize) -> T
     requires { n ≤ 32 }
     ensures { T.float result ≡ recip_fact T.format n }

@@ -1,5 +1,4 @@
-// The recurrence of the total-degree series: its levels, the terms that a level gives, and the six
-// sums of them, for one sign.
+// The recurrence of the total-degree series: its levels, the terms of a level, and the six sums of them, for one sign.
 ghost use Rattle.std.specs.Prelude.{◌≡◌};
 ghost use Rattle.series.specs.Series.{series_first, series_next, level_terms, series_chi, series_coeffs};
 ghost use Rattle.series.specs.Private.{sums_none, sums_gain, tail_terms, sums_last};
@@ -18,7 +17,7 @@ pub struct Level<T> {
     pub p: T,
 }
 
-// The six sums over the levels, or the six terms that one level gives them.
+// The six sums over the levels, or the six terms that one level adds to them.
 #[derive(Clone, Copy)]
 pub struct Sums<T> {
     pub v1: T,
@@ -129,8 +128,8 @@ pub fn gain<T: Tables>(s: Sums<T>, t: Sums<T>) -> Sums<T>
     }
 }
 
-// What the levels k + 1, k + 2 and k + 3 give, with l level k + 1 and r2, r3, r4 the reciprocals of
-// (k + 2)!, (k + 3)!, (k + 4)!.
+// The terms of the levels k + 1, k + 2 and k + 3, with l level k + 1 and r2, r3, r4 the reciprocals of (k + 2)!, (k +
+// 3)!, (k + 4)!.
 #[tactic(auto, unfolding(crate::specs::Private::tail_terms))]
 pub fn tail_terms<T: Tables>(sigma: T, z: T, l: Level<T>, r2: T, r3: T, r4: T) -> Tail<T>
     ensures { as_tail T.float result

@@ -1,6 +1,6 @@
-// The Sim(3) coefficients, and their total-degree series at one sign of sigma: the full one, and
-// the one for v alone, which has the full one's bits. k is the number of terms of v0 and w0; the
-// other sums run to the level that gives every coefficient the same total degree.
+// The Sim(3) coefficients, and their total-degree series at one sign of sigma: the full one, and the one for v alone,
+// with the same bits. k is the number of terms of v0 and w0; the other sums run to the level at which every coefficient
+// has the same total degree.
 ghost use Rattle.std.specs.Prelude.{◌≡◌, ◌+◌, ◌≤◌};
 ghost use Rattle.series.specs.Series.{series_sums, series_full, series_v, series_answer, series_v_answer};
 ghost use Rattle.series.specs.Private.{solo_step, solo_steps};
@@ -41,7 +41,7 @@ pub struct Coeffs4<T> {
     pub chi_delta: T,
 }
 
-// What is at sigma, and the same at -sigma.
+// A value at sigma, and one at -sigma.
 #[derive(Clone, Copy)]
 pub struct Signs<X> {
     pub pos: X,
@@ -87,7 +87,7 @@ pub fn series_at<T: Tables>(sigma: T, z: T, k: Count<FULL>) -> Sim3Coeffs<T>
     recurrence::coeffs(sigma, z, v0, w0, s)
 }
 
-// The six sums, each to its own last level.
+// The six sums, each to its last level.
 #[tactic(auto, using(crate::proofs::Solo::solo_are, crate::proofs::Solo::last_is))]
 fn sums_at<T: Tables>(sigma: T, z: T, k: Count<FULL>) -> Sums<T>
     ensures { as_sums T.float result ≡ series_sums T.format (T.float sigma) (T.float z) k.terms }
@@ -98,8 +98,8 @@ fn sums_at<T: Tables>(sigma: T, z: T, k: Count<FULL>) -> Sums<T>
     recurrence::last(s.sums, t)
 }
 
-// The levels to k, which give a term to every sum. PERF (D122): written out where it is called, so that
-// the compiler leaves out what v alone does not read.
+// The levels to k, which add a term to every sum. PERF (D122): inlined where it is called, so that the compiler leaves
+// out what v alone does not read.
 #[inline(always)]
 #[tactic(auto, using(crate::proofs::Solo::solo_more), unfolding(crate::specs::Private::solo_steps))]
 fn levels_to<T: Tables>(sigma: T, z: T, k: usize) -> SeriesState<T>
@@ -129,7 +129,8 @@ fn step<T: Tables>(sigma: T, z: T, r1: T, r2: T, s: SeriesState<T>) -> SeriesSta
     }
 }
 
-// `series_v` for a k that is not refused, at any z, likewise. v2 takes one level more than v1.
+// `series_v` for a k that is not refused, at any z: for a caller that has refused z already. v2 takes one level more
+// than v1.
 pub fn series_v_at<T: Terms>(sigma: T, z: T, k: Count<V_ALONE>) -> Coeffs4<T>
     ensures { as_coeffs4 T.float result ≡ series_v T.format (T.float sigma) (T.float z) k.terms }
 {
@@ -145,8 +146,8 @@ pub fn series_v_at<T: Terms>(sigma: T, z: T, k: Count<V_ALONE>) -> Coeffs4<T>
     }
 }
 
-// `levels_to` for v alone. PERF (D122): the fewest levels that an arm takes are a constant, so that the
-// compiler writes their turns out: a loop costs them a fourth of their time.
+// `levels_to` for v alone. PERF (D122): the fewest levels that an arm takes are a constant, so that the compiler
+// unrolls their turns: a loop costs them a fourth of their time.
 fn levels_v_to<T: Terms>(sigma: T, z: T, k: usize) -> SeriesState<T>
     requires { k ≤ 30 }
     ensures { as_series_state T.float result ≡ solo_steps T.format (T.float sigma) (T.float z) (k + 1) }

@@ -24,10 +24,10 @@ pub fn g2<T: Terms>(sigma: T) -> T
     g_series(sigma, 2, T::w0_terms())
 }
 
-// The pass for both signs stopped after n of v0's entries, the reciprocals from the highest down to 1:
-// it holds what each sign alone has then. PERF (D122): `minus` is -sigma but +0 for a zero, which no sum
-// sees, so that the compiler works both signs as one vector; and it writes out two loops of 8 turns,
-// with constant reciprocals, but not one of 15: so the pass is written out where its count is a constant.
+// The pass for both signs stopped after n of v0's entries, the reciprocals from the highest down to 1: it holds what
+// each sign alone has then. PERF (D122): `minus` is -sigma but +0 for a zero, which changes no sum, so that the
+// compiler computes both signs as one vector; and it unrolls two loops of 8 turns, with constant reciprocals, but not
+// one of 15: so the pass is inlined where its count is a constant.
 #[inline(always)]
 fn pass<T: Terms>(sigma: T, n: usize) -> Signs<T>
     requires { n ≤ w0_terms T.format + 1 }
@@ -61,8 +61,7 @@ pub fn horner_small<T: Terms>(sigma: T) -> Horner<T>
     Horner { v0, w0 }
 }
 
-// The pass of `horner_small` stopped after `stop` entries: a stop behind the last entry of a sum is its
-// last.
+// The pass of `horner_small` stopped after `stop` entries: a stop after the last entry of a sum counts as its last.
 #[tactic(auto, using(crate::proofs::PartialSums::both_shared), unfolding(crate::specs::Pass::horner_stopped))]
 pub fn horner_small_stopped<T: Terms>(sigma: T, stop: usize) -> Horner<T>
     ensures { as_horner T.float result

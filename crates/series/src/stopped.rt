@@ -1,5 +1,5 @@
-// One pass over the reciprocals, stopped: what it holds after any number of entries, beside what the sums
-// of each sign alone hold then. No other function calls this: its contract says that they are the same.
+// One pass over the reciprocals, stopped: what it holds after any number of entries, together with what the sums of
+// each sign alone hold then. No other function calls this: its contract says that they are equal.
 ghost use Rattle.std.specs.Prelude.{◌≡◌, ◌≤◌};
 ghost use Rattle.series.specs.Pass.{horner_stopped, pass_stopped};
 ghost use Rattle.linalg.specs.Answer.{view};
@@ -23,8 +23,8 @@ pub struct Stopped<T> {
     pub closed_alone: Horner<T>,
 }
 
-// The passes at k terms, and at those of the closed arm, stopped after `stop` entries: a stop behind the
-// last entry is the last. Refusal 4 for k above 28.
+// The passes at k terms, and at those of the closed arm, stopped after `stop` entries: a stop after the last entry
+// counts as the last. Refusal 4 for k above 28.
 pub fn pass_stopped<T: Terms>(sigma: T, k: usize, stop: usize) -> Result<Stopped<T>, Refusal>
     ensures { view (as_stopped T.float) result ≡ pass_stopped T.format (T.float sigma) k stop }
 {

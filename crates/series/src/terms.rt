@@ -1,4 +1,4 @@
-// How many terms the series take where the width of the numbers decides it.
+// How many terms the series take, where it depends on the width of the numbers.
 ghost use Rattle.std.specs.Prelude.{◌≡◌};
 ghost use Rattle.series.specs.Series.{fewest_terms, w0_terms};
 

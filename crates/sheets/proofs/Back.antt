@@ -1,4 +1,4 @@
--- A shot that is kept is the one that is asked for; and a pose's bytes that are read and written are the same, but that
+-- A query returns a shot that is kept; and reading a pose's bytes and writing them again changes nothing, except that
 -- every NaN is written as the one NaN. Assumes nothing.
 use Prim.Native.Nat.{ℕ, zero, suc, ◌+◌, ◌*◌, ◌^◌, ◌/◌, ◌%◌, ◌<◌, ◌≤◌}
 use mathlib.Core.Path.{◌≡◌, refl, sym, ap, ◌∙◌}
@@ -63,7 +63,7 @@ bytes_drop zero b h = h
 bytes_drop (suc k) [] h = tt
 bytes_drop (suc k) (x ∷ b) h = bytes_drop k b h.1
 
--- ---- the bytes of a word are those that it was read from
+-- ---- writing a word gives the bytes that it was read from
 word_less : (b : List ℕ) → Bytes b → word_of b < 256 ^ length b
 unfolding Bytes word_of
 word_less [] h = omega (arith, pow-zero 256)
@@ -81,7 +81,7 @@ word_again (x ∷ b) h =
 pub word_of_lem : (k : ℕ) (b : List ℕ) → Bytes b → length b ≡ k → word_bytes k (word_of b) ≡ b
 word_of_lem k b h e = ap (λ (n : ℕ). word_bytes n (word_of b)) (sym e) ∙ word_again b h
 
--- ---- and so are those of a number that is not NaN
+-- ---- and so for a number that is not NaN
 same_bits : (b : List ℕ) → Bytes b → length b ≡ 8 → is_nan (number_of binary64 b) ≡ false →
     number_bytes binary64 (number_of binary64 b) ≡ b
 unfolding number_of number_bytes
@@ -99,7 +99,7 @@ again_by b h e false t = rw t (same_bits b h e t)
 number_again : (b : List ℕ) → Bytes b → length b ≡ 8 → number_bytes binary64 (number_of binary64 b) ≡ one_nan b
 number_again b h e = again_by b h e (is_nan (number_of binary64 b)) refl
 
--- ---- numbers one behind another
+-- ---- numbers one after another
 numbers_in : ℕ → List ℕ → List Float
 numbers_in zero b = []
 numbers_in (suc k) b = number_of binary64 (take 8 b) ∷ numbers_in k (drop 8 b)
@@ -138,7 +138,7 @@ pose-from b = refl
 pose_in_lem : (b : List ℕ) → pose_numbers (framed_in binary64 b).sim3 ≡ numbers_in 8 b
 pose_in_lem b = pose-from b ∙ from_is 8 0 b
 
--- ---- the frames behind them
+-- ---- the frames after them
 frames_in :
     (b : List ℕ) → Bytes b → length b ≡ 68 →
     word_bytes 2 (framed_in binary64 b).from ++ (word_bytes 2 (framed_in binary64 b).to ++ []) ≡ drop 64 b

@@ -1,4 +1,4 @@
--- After any shots the count is that of the sheets of which one is kept, and never above 512. Assumes nothing.
+-- After any shots the count is that of the sheets for which one is kept, and never above 512. Assumes nothing.
 use Prim.Native.Nat.{ℕ, zero, suc, ◌+◌, ◌<◌, ◌≤◌}
 use mathlib.Core.Path.{◌≡◌, refl, ap}
 use mathlib.Core.Bool.{Bool, true, false}
@@ -73,7 +73,7 @@ module _ (s : Sheets) (n : ℕ) (x : Shot) (h : n < 65536) (c : Counted s) where
   unfolding shelve
   step = step_by (s.at n) refl
 
--- ---- any
+-- ---- any shots
 going : (h : List Sent) (s : Sheets) → Small h → Counted s → Counted (after s h)
 unfolding after Small
 going [] s m c = c

@@ -1,4 +1,4 @@
--- The bytes of a pose with its frames at a place of a list: as code reads and stores them, and that what is stored
+-- The bytes of a pose with its frames at a place in a list: as the code reads and stores them, and that what is stored
 -- reads back. Assumes nothing.
 use Prim.Native.Nat.{ℕ, ◌+◌, ◌≤◌, ◌<◌}
 use native.Mathlib.Omega.{arith}
@@ -17,7 +17,7 @@ use Rattle.wire.proofs.Places.{within}
 use Rattle.wire.proofs.Bytes.{word-length, word_back, number_back}
 use Rattle.replies.specs.Table.{framed_in, framed_items}
 
--- ---- read: what stands behind the pose is not read
+-- ---- read: the bytes after the pose are not read
 pub framed_front : (b : List ℕ) (at : ℕ) → framed_in binary64 (take 68 (drop at b)) ≡ framed_in binary64 (drop at b)
 unfolding framed_in pose_in quat_in vec_in number_at word_at
 framed_front b at =

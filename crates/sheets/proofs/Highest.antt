@@ -1,5 +1,5 @@
--- The fold gives the highest take: one of the shots of the sheet, than which none of them is higher; and nothing where
--- there is none. Assumes nothing.
+-- The fold returns the highest take: one of the shots of the sheet, and none of them is higher; or nothing if there is
+-- none. Assumes nothing.
 use Prim.Native.Nat.{ℕ, ◌≤◌}
 use mathlib.Core.Path.{◌≡◌, refl, sym, ap, ◌∙◌}
 use mathlib.Core.Logic.{◌⊎◌, inl, inr}
@@ -13,7 +13,7 @@ use Rattle.sheets.specs.Sheets.{Kept, none, kept}
 use Rattle.sheets.specs.History.{Sent, sent, Among, Highest, higher, highest, HighestTheorem}
 use Rattle.sheets.specs.declared.Shot.{Shot}
 
--- what is the highest among k and the shots h: as `Highest`, where k is one more of them
+-- the highest among k and the shots h: as `Highest`, with k as one more of them
 From : ℕ → List Sent → Kept → Kept → Type 0
 From n h none r = Highest n h r
 From n h (kept k) none = ⊥

@@ -1,5 +1,5 @@
--- The laws of poses with frames as bytes, of parts of a list, of how many sheets are kept, of the store, of what
--- is answered, of any history of shots, and of what is asked back.
+-- Lemmas on poses with frames as bytes, on parts of a list, on how many sheets are kept, on the store, on its results,
+-- on any history of shots, and on what a query returns.
 pub mod Framed
 mod Parts
 pub mod Counted

@@ -1,5 +1,5 @@
--- In any bytes each kept sheet has a slot of its own, and each slot that is a sheet's own holds a kept sheet: so they
--- are as many; and a search through the slots finds one that is no sheet's own unless 512 are kept. Assumes nothing.
+-- In any bytes each kept sheet owns a slot, and each owned slot holds a kept sheet, so they are equally many; and a
+-- search through the slots finds one that no sheet owns unless 512 are kept. Assumes nothing.
 use Prim.Native.Nat.{ℕ, zero, suc, ◌+◌, ◌-◌, ◌≤◌, ◌<◌}
 use mathlib.Core.Path.{◌≡◌, refl, sym, ap, ◌∙◌, fun_ext}
 use mathlib.Core.Bool.{Bool, true, false, cond, ◌&&◌, and-false}
@@ -19,7 +19,7 @@ unfolding slot_of
 slot_few m n = omega arith
 
 module _ (m : List ℕ) where
-  -- ---- a slot that is a sheet's own
+  -- ---- a slot that a sheet owns
   pub record Owned (i : ℕ) : Type 0 where
     pub small : sheet_in m i < sheet_numbers
     pub used : i < used_of m
@@ -41,7 +41,7 @@ module _ (m : List ℕ) where
   kept_up_to : ℕ → ℕ → Kept
   kept_up_to k n = cond (ltb (slot_of m n) k) (kept_of m n) none
 
-  -- the slot i is the sheet n's
+  -- the slot i holds the sheet n
   record Holds (n i : ℕ) : Type 0 where
     pub inside : n < sheet_numbers
     pub used : i < used_of m
@@ -54,7 +54,7 @@ module _ (m : List ℕ) where
       let r = and_parts (ltb (slot_of m n) (used_of m)) _ p.1 in
       record { inside = ltb-true _ _ p.0; used = ltb-true _ _ r.0; sheet = eqb-true _ _ r.1 }
 
-  -- a sheet whose slot is no sheet's own is not kept
+  -- a sheet whose slot is not owned is not kept
   unkept_by :
       (n i : ℕ) → slot_of m n ≡ i → own_at m i ≡ false →
       (t : Bool) → ltb n sheet_numbers && held_at m n (slot_of m n) ≡ t → kept_of m n ≡ none
@@ -73,7 +73,7 @@ module _ (m : List ℕ) where
   pub unkept : (n i : ℕ) → slot_of m n ≡ i → own_at m i ≡ false → kept_of m n ≡ none
   unkept n i e f = unkept_by n i e f (ltb n sheet_numbers && held_at m n (slot_of m n)) refl
 
-  -- nor is another than the one that a slot holds
+  -- nor is a sheet other than the one that its slot holds
   other_by :
       (n i : ℕ) → slot_of m n ≡ i → (n ≡ sheet_in m i → ⊥) →
       (t : Bool) → ltb n sheet_numbers && held_at m n (slot_of m n) ≡ t → kept_of m n ≡ none
@@ -88,7 +88,7 @@ module _ (m : List ℕ) where
   unfolding kept_of held_at sheet_in
   own_kept i o = rw (o.named, lt-ltb _ _ o.small, lt-ltb _ _ o.used, eq-eqb _ _ refl)
 
-  -- one slot more: its own sheet, or none
+  -- one more slot: the sheet that owns it, or none
   none_below : (n : ℕ) → kept_up_to 0 n ≡ none
   unfolding kept_up_to
   none_below n = rw (le-ltb (slot_of m n) 0 (omega arith))
@@ -155,8 +155,8 @@ module _ (m : List ℕ) where
   unfolding sheets_of
   count-is = ap (λ (f : ℕ → Kept). kept_below f sheet_numbers) (sym (fun_ext all-below)) ∙ counts most
 
-  -- ---- how many they are: no more than slots; no more than are in use; fewer than slots where one is no sheet's own;
-  -- as many where each is
+  -- ---- how many they are: no more than slots; no more than are in use; fewer than slots if one is not owned; as many
+  -- if each is
   abbrev Few : ℕ → ℕ → Type 0
   Few n i = (n ≤ i) × (n ≤ used_of m)
 
@@ -205,7 +205,7 @@ module _ (m : List ℕ) where
   pub count-whole : ((k : ℕ) → k < most → own_at m k ≡ true) → (sheets_of m).count ≡ most
   count-whole h = count-is ∙ whole most h
 
-  -- a slot that is not in use is no sheet's own; one in use is, where it is named for its sheet
+  -- a slot that is not in use is not owned; one in use is owned if its sheet's index names it
   pub unused : (i : ℕ) → used_of m ≤ i → own_at m i ≡ false
   unfolding own_at
   unused i h = rw (le-ltb i (used_of m) h) (and-false (ltb (sheet_in m i) sheet_numbers))
@@ -250,7 +250,7 @@ module _ (m : List ℕ) where
   searched zero i = (omega arith, (λ h. absurd (omega arith), λ k l u. absurd (omega arith)))
   searched (suc n) i = search_by n i (own_at m i) refl (searched n (i + 1))
 
-  -- as the code goes through it: from the slot i on, all slots being in use
+  -- as the code runs it: from the slot i on, with all slots in use
   pub search_start : free_slot m ≡ free_from m most 0
   unfolding free_slot
   search_start = refl
@@ -276,7 +276,7 @@ module _ (m : List ℕ) where
         let o : Owned i = record { small = rw (← s) k; used = omega arith; named = ap (slot_of m) (sym s) ∙ z } in
         turn ∙ free_next _ i (owning i o)
 
-  -- where it finds one, fewer than 512 sheets are kept; where it finds none, 512
+  -- if it finds one, fewer than 512 sheets are kept; if it finds none, 512
   pub free_own : free_slot m < most → own_at m (free_slot m) ≡ false
   unfolding free_slot
   free_own h = (searched most 0).1.0 (omega arith)

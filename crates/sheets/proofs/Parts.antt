@@ -1,4 +1,4 @@
--- Parts of a list after a run of stores: those beside the run, and the run's own. Assumes nothing.
+-- Parts of a list after a run of stores: those before and after the run, and the run itself. Assumes nothing.
 use Prim.Native.Nat.{ℕ, suc, ◌+◌, ◌-◌, ◌*◌, ◌≤◌, ◌<◌}
 use mathlib.Core.Path.{◌≡◌, refl, sym, ap, ◌∙◌}
 use mathlib.Core.List.{List, [], ◌∷◌, ◌++◌, append_assoc}
@@ -71,7 +71,7 @@ slot_on b l s h e =
     part_on_lem b l (slots + slot_width * s) slot_width (omega arith) (omega arith)
     ∙ take_all slot_width b (omega arith)
 
--- a number within a slot
+-- a number inside a slot
 pub short_in : (l : List ℕ) (s : ℕ) → word_at 2 (slot_at l s) 2 ≡ word_at 2 l (slots + slot_width * s + 2)
 unfolding word_at slot_at
 short_in l s =

@@ -1,4 +1,4 @@
--- After any shots the one kept of a sheet is that of the highest take among those accepted. Assumes nothing.
+-- After any shots the one kept for a sheet is that of the highest take among those accepted. Assumes nothing.
 use Prim.Native.Nat.{ℕ}
 use mathlib.Core.Path.{◌≡◌, refl, ap, ◌∙◌}
 use mathlib.Core.Bool.{Bool, true, false, cond}
@@ -11,13 +11,13 @@ use Rattle.sheets.specs.Sheets.{ask}
 use Rattle.sheets.specs.History.{Sent, after, unless_refused, accepted, higher, highest, HistoryTheorem}
 use Rattle.sheets.specs.declared.Shot.{Shot}
 
--- what one shot makes of what is kept of the sheet k
+-- how one shot changes what is kept for the sheet k
 module _ (s : Sheets) (n : ℕ) (x : Shot) (k : ℕ) where
   Moved : Answer Shelved → Kept
   Moved (answers a) = cond (eqb k n) (higher (s.at k) x) (s.at k)
   Moved (refuses e) = s.at k
 
-  -- the sheet's own shot
+  -- a shot of that sheet
   own : (o : Kept) → s.at n ≡ o → eqb k n ≡ true → s.at k ≡ o
   own o e d = ap s.at (eqb-true _ _ d) ∙ e
 

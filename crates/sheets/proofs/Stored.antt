@@ -52,7 +52,7 @@ pub shot_back : (n : ℕ) (x : Shot) → x.take < 65536 → Fit x.pose → shot_
 shot_back n x h f =
     λ i. record { take = (take-is n x ∙ short-word x.take h) i; pose = (pose-is n x ∙ framed_back x.pose f) i }
 
--- m' has the bytes b, of the sheet n, in the slot i, and is else as m
+-- m' has the bytes b, of the sheet n, in the slot i, and is otherwise as m
 pub record Stored (m m' : List ℕ) (n i : ℕ) (b : List ℕ) : Type 0 where
   pub sheet : word_at 2 b 0 ≡ n
   pub inside : n < 65536
@@ -91,7 +91,7 @@ module _ {m m' : List ℕ} {n i : ℕ} {b : List ℕ} (k : Stored m m' n i b) wh
   pub stored : kept_of m' ≡ keeping n (shot_in b) (kept_of m)
   stored = fun_ext (λ y. stored_by y (eqb y n) (ltb y 65536) refl refl)
 
-  -- the count: a sheet more, or as many
+  -- the count: one more sheet, or as many
   count_now : kept_below (kept_of m') sheet_numbers + one (kept_of m n) ≡ kept_below (kept_of m) sheet_numbers + 1
   count_now =
       ap (λ (f : ℕ → Kept). kept_below f sheet_numbers + one (kept_of m n)) stored
@@ -177,7 +177,7 @@ module _ (m b : List ℕ) (i : ℕ) (h : i < most) (l : length m ≡ size) (e : 
         );
       }
 
--- ---- bytes in the slot i, which is no sheet's own, and the slot named for the sheet n
+-- ---- bytes in the slot i, which no sheet owns, and the slot named in the index of the sheet n
 module _
     (m b : List ℕ) (n i : ℕ) (l : length m ≡ size) (e : length b ≡ slot_width) (q : n < 65536) (h : i < most)
     (p : word_at 2 b 0 ≡ n) (w : own_at m i ≡ false) where
@@ -193,7 +193,7 @@ module _
   l2 : length m2 ≡ size
   l2 = length-sets m1 (slots + slot_width * i) b ∙ l1
 
-  -- behind the index the first store changes nothing
+  -- after the index the first store changes nothing
   first_short : (a : ℕ) → slots ≤ a → word_at 2 m1 a ≡ word_at 2 m a
   first_short a k =
       let z : length (word_bytes 2 i) ≡ 2 = word-length 2 i in
@@ -259,7 +259,7 @@ module _
     free = λ y d s. (rw (head_two, ne_eqb n y (λ e. d (sym e))) (and-false (ltb i (used_of m2))), unkept m y i s w);
   }
 
-  -- the next, which is in use then
+  -- the next slot, which is in use afterwards
   abbrev m3 : List ℕ
   m3 = sets m2 tail (word_bytes 2 (i + 1))
 
@@ -300,7 +300,7 @@ module _
         (rw (head_three i h, head_two, ne_eqb n y (λ e. d (sym e))) (and-false (ltb i (used_of m3))), unkept m y i s w);
   }
 
--- ---- the sheet n, whose slot is i: what is asked for
+-- ---- the sheet n, whose slot is i: the result of a query
 module _ (m : List ℕ) (n i : ℕ) (q : n < 65536) (o : i ≡ slot_of m n) (l : length m ≡ size) where
   kept-none : held_at m n i ≡ false → kept_of m n ≡ none
   unfolding kept_of
@@ -326,7 +326,7 @@ module _ (m : List ℕ) (n i : ℕ) (q : n < 65536) (o : i ≡ slot_of m n) (l :
   unfolding ask ask_on
   missed h = rw (at_none h)
 
-  -- ---- and what becomes of its shot x
+  -- ---- and the result of its shot x
   module _ (x : Shot) where
     abbrev Took : Answer Shelved → List ℕ → Type 0
     Took t m' = (t ≡ (shelve (sheets_of m) n x).answer) × (sheets_of m' ≡ (shelve (sheets_of m) n x).sheets)
@@ -338,7 +338,7 @@ module _ (m : List ℕ) (n i : ℕ) (q : n < 65536) (o : i ≡ slot_of m n) (l :
         rw (at_none h, le-ltb (sheets_of m).count most c) (refl, refl)
 
     module _ (t : x.take < 65536) (f : Fit x.pose) where
-      -- in bytes m' in which it is stored as that of a sheet of which none was kept, where fewer than 512 are
+      -- the bytes m' store x as the shot of a sheet that had none, where fewer than 512 sheets are kept
       took_stored :
           held_at m n i ≡ false → (sheets_of m).count < most → (u : ℕ) (m' : List ℕ) →
           Stored m m' n u (slot_bytes n x) → Took (shelved 1 0) m'
@@ -393,7 +393,7 @@ module _ (m : List ℕ) (n i : ℕ) (q : n < 65536) (o : i ≡ slot_of m n) (l :
       pub took_again : held_at m n i ≡ true → Again
       took_again h = again_by h (eqb x.take old) (ltb old x.take) refl refl
 
--- ---- nothing is kept where no slot is in use, whatever else the bytes hold
+-- ---- nothing is kept if no slot is in use, whatever else the bytes hold
 none-at : (m : List ℕ) → used_of m ≡ 0 → (n : ℕ) → kept_of m n ≡ none
 unfolding kept_of held_at
 none-at m e n = rw (e, le-ltb (slot_of m n) 0 (omega arith)) (by (ltb n 65536) _)

@@ -1,4 +1,4 @@
--- What the public functions tell and leave, by the lent bytes and by the slot. Assumes nothing.
+-- The results of the public functions and the bytes afterwards, by the slot. Assumes nothing.
 use Prim.Native.Nat.{ℕ, ◌+◌, ◌≤◌, ◌<◌}
 use mathlib.Core.Path.{◌≡◌, refl, sym, ap, ◌∙◌}
 use mathlib.Core.Bool.{Bool, true, false}
@@ -69,7 +69,7 @@ module _ (m : List ℕ) where
           record { result_value = rw (← e, le-ltb i most h) refl; store_after = full-bytes h (ltb u most) refl }
 
   module _ (n : ℕ) where
-    -- ---- a question
+    -- ---- a query
     module _ (i : ℕ) (q : n < 65536) (o : i ≡ slot_of m n) (l : length m ≡ size) where
       pub get_kept :
           held_at m n i ≡ true → (x : Shot) → x ≡ shot_in (slot_at m i) → answer (Ok x) ≡ ask (sheets_of m) n

@@ -1,5 +1,5 @@
--- What is sent is asked back: a shot that is kept, and of its pose the same bytes, but that every NaN comes back as the
--- one NaN. Proved as `asked` and `sent_back` in proofs/Back.antt.
+-- A query returns what was sent: a shot that is kept, and the same bytes of its pose, except that every NaN comes back
+-- as the one NaN. Proved as `asked` and `sent_back` in proofs/Back.antt.
 use Rattle.std.specs.Prelude.{ℕ, zero, suc, ◌<◌, ◌≡◌, Bool, true, false, cond, List, [], ◌∷◌, ◌++◌, length, take, drop}
 use Rattle.std.specs.Prelude.{ltb}
 use Rattle.std.specs.Float.{nan, binary64}
@@ -25,11 +25,11 @@ unfoldable pub Bytes : List ℕ → Type 0
 Bytes [] = Unit {0}
 Bytes (x ∷ b) = (x < 256) × Bytes b
 
--- a number's bytes, where they are a NaN's those of the one NaN
+-- a number's bytes, with those of the one NaN for every NaN
 unfoldable pub one_nan : List ℕ → List ℕ
 one_nan b = cond (is_nan (number_of binary64 b)) (number_bytes binary64 nan) b
 
--- so k numbers, and what follows them as it is
+-- k numbers so, and the rest as it is
 unfoldable pub nans_one : ℕ → List ℕ → List ℕ
 nans_one zero b = b
 nans_one (suc k) b = one_nan (take (width binary64) b) ++ nans_one k (drop (width binary64) b)

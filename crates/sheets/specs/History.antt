@@ -1,5 +1,5 @@
--- Any shots, one after the other: of each sheet the highest take among those accepted is kept, and answered; and the
--- count is that of the sheets of which one is kept, which are never more than 512. Proved as `history` in
+-- Any shots, one after the other: for each sheet the highest take among those accepted is kept, and a query returns it;
+-- the count is that of the sheets for which one is kept, and never more than 512. Proved as `history` in
 -- proofs/Past.antt, `highest-is` in proofs/Highest.antt and `counted` in proofs/Counted.antt.
 use Rattle.std.specs.Prelude.{ℕ, ◌<◌, ◌≤◌, ◌≡◌, ◌⊎◌, cond, List, [], ◌∷◌, ltb, eqb}
 use Rattle.linalg.specs.Answer.{Answer, answers, refuses}
@@ -12,12 +12,12 @@ pub record Sent : Type 0 where
   pub sheet : ℕ
   pub shot : Shot
 
--- what is kept after them
+-- the sheets after these shots
 unfoldable pub after : Sheets → List Sent → Sheets
 after s [] = s
 after s (x ∷ h) = after (shelve s x.sheet x.shot).sheets h
 
--- those of them that are not refused
+-- the shots that are not refused
 unfoldable pub unless_refused : Answer Shelved → Sent → List Sent → List Sent
 unless_refused (answers a) x l = x ∷ l
 unless_refused (refuses k) x l = l
@@ -31,7 +31,7 @@ unfoldable pub higher : Kept → Shot → Kept
 higher none x = kept x
 higher (kept y) x = cond (ltb y.take x.take) (kept x) (kept y)
 
--- the one of the sheet n with the highest take among k and these
+-- the shot of the sheet n with the highest take, among k and these
 unfoldable pub highest : ℕ → Kept → List Sent → Kept
 highest n k [] = k
 highest n k (x ∷ h) = highest n (cond (eqb n x.sheet) (higher k x.shot) k) h
@@ -49,7 +49,7 @@ Among x (y ∷ h) = (x ≡ y) ⊎ Among x h
 abbrev pub sent : ℕ → Shot → Sent
 sent n x = record { sheet = n; shot = x }
 
--- nothing, and none of these is of the sheet n; or a shot of that sheet that is one of these, and none of that sheet
+-- nothing, and none of these is of the sheet n; or a shot of that sheet that is one of these, and no shot of that sheet
 -- has a higher take
 abbrev pub Highest : ℕ → List Sent → Kept → Type 0
 Highest n h none = (x : Shot) → Among (sent n x) h → ⊥

@@ -1,19 +1,19 @@
--- The sheets of which a shot is kept, and what a further shot and a question are answered.
+-- The sheets for which a shot is kept, and the replies to a further shot and to a query.
 use Rattle.std.specs.Prelude.{ℕ, zero, suc, ◌+◌, cond, ltb, eqb}
 use Rattle.linalg.specs.Answer.{Answer, answers, refuses}
 use Rattle.sheets.specs.declared.Shot.{Shot}
 
--- of a sheet: nothing, or a shot
+-- for a sheet: nothing, or a shot
 pub data Kept : Type 0 where
   none : Kept
   kept : Shot → Kept
 
--- of how many sheets one is kept, and what is kept of each, by its number
+-- for how many sheets one is kept, and what is kept for each, by its number
 pub record Sheets : Type 0 where
   pub count : ℕ
   pub at : ℕ → Kept
 
--- of how many sheets with a number below n one is kept
+-- for how many sheets with a number below n one is kept
 abbrev pub one : Kept → ℕ
 one none = 0
 one (kept x) = 1
@@ -33,7 +33,7 @@ no_sheets = record { count = 0; at = λ n. none }
 abbrev pub most : ℕ
 most = 512
 
--- the refusals: the take is the one kept; its sheet would be one too many; nothing is kept of the sheet asked for
+-- the refusals: the take is the one kept; its sheet would be one too many; nothing is kept for the sheet of the query
 abbrev pub same_take : ℕ
 same_take = 10
 
@@ -43,8 +43,8 @@ no_room = 11
 abbrev pub never_kept : ℕ
 never_kept = 12
 
--- what a shot is answered: 1 where its sheet is new, 2 where it replaces, 3 where it is older and not kept; and the
--- take that stood before, 0 with a new sheet
+-- the reply to a shot: 1 if its sheet is new, 2 if it replaces, 3 if it is older and not kept; and the take kept
+-- before, 0 for a new sheet
 pub record Shelved : Type 0 where
   pub how : ℕ
   pub before : ℕ
@@ -52,11 +52,11 @@ pub record Shelved : Type 0 where
 abbrev pub shelved : ℕ → ℕ → Answer Shelved
 shelved how before = answers (record { how = how; before = before })
 
--- the shot x instead of what is kept of the sheet n
+-- the shot x for the sheet n, and for others what is kept
 unfoldable pub keeping : ℕ → Shot → (ℕ → Kept) → ℕ → Kept
 keeping n x at k = cond (eqb k n) (kept x) (at k)
 
--- ---- a shot x of the sheet n: what it is answered, and what is kept then. A refused one and an older one change
+-- ---- a shot x of the sheet n: the reply to it, and the sheets after it. A refused shot and an older one change
 -- nothing.
 pub record Shelf : Type 0 where
   pub answer : Answer Shelved
@@ -77,7 +77,7 @@ shelve_on (kept old) s n x =
 unfoldable pub shelve : Sheets → ℕ → Shot → Shelf
 shelve s n x = shelve_on (s.at n) s n x
 
--- ---- a question for a sheet
+-- ---- a query for a sheet
 unfoldable pub ask_on : Kept → Answer Shot
 ask_on none = refuses never_kept
 ask_on (kept x) = answers x

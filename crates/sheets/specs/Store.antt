@@ -1,6 +1,7 @@
--- The lent bytes in which the code keeps the sheets: for each sheet number two bytes that name a slot; 512 slots, each
--- with a sheet number, a take and a pose with its frames; and how many slots are in use. All bytes of that many are a
--- store: a slot is a sheet's if it is in use, holds that sheet's number and is named for it.
+-- The bytes of the caller in which the code keeps the sheets: an index with two bytes for each sheet number, which name
+-- a slot; 512 slots, each with a sheet number, a take and a pose with its frames; and how many slots are in use. Any
+-- bytes of that length are a store: a sheet owns a slot if the slot is in use and holds its number and the index names
+-- the slot for it.
 use Rattle.std.specs.Prelude.{ℕ, zero, suc, ◌+◌, ◌*◌, ◌%◌, ◌≤◌, ◌≡◌, Bool, cond, ◌&&◌, List, ◌++◌, take, drop}
 use Rattle.std.specs.Prelude.{ltb, eqb, Option, Some, None}
 use Rattle.std.proofs.lemmas.List.Edits.{sets}
@@ -15,8 +16,8 @@ use Rattle.sheets.specs.declared.Shelved as code
 use Rattle.sheets.specs.declared.Shelved.TheVariants as variant
 use Rattle.sheets.specs.declared.slot.Slot.{Slot}
 
--- ---- the parts: how many bytes a slot has, where the slots begin, where their number stands, and how many bytes there
--- are
+-- ---- the parts: how many bytes a slot has, where the slots begin, where the number of slots in use is stored, and how
+-- many bytes there are
 abbrev pub slot_width : ℕ
 slot_width = 2 + 2 + framed_width binary64
 
@@ -33,7 +34,7 @@ size = tail + 2
 unfoldable pub used_of : List ℕ → ℕ
 used_of m = word_at 2 m tail
 
--- the slot that is named for the sheet n
+-- the slot that the index names for the sheet n
 unfoldable pub slot_of : List ℕ → ℕ → ℕ
 slot_of m n = word_at 2 m (2 * n) % most
 
@@ -45,7 +46,7 @@ slot_at m i = take slot_width (drop (slots + slot_width * i) m)
 unfoldable pub shot_in : List ℕ → Shot
 shot_in b = record { take = word_at 2 b 2; pose = framed_in binary64 (drop 4 b) }
 
--- whether the slot i is that of the sheet n
+-- whether the slot i is in use and holds the sheet n
 unfoldable pub held_at : List ℕ → ℕ → ℕ → Bool
 held_at m n i = ltb i (used_of m) && eqb (word_at 2 m (slots + slot_width * i)) n
 
@@ -56,8 +57,8 @@ kept_of m n = cond (ltb n sheet_numbers && held_at m n (slot_of m n)) (kept (sho
 unfoldable pub sheets_of : List ℕ → Sheets
 sheets_of m = record { count = kept_below (kept_of m) sheet_numbers; at = kept_of m }
 
--- ---- the slots by the sheets: the sheet number in the slot i; whether the slot is that sheet's own; and the first
--- from i on that is no sheet's own, where n are left to look at
+-- ---- the slots by their sheets: the sheet number in the slot i; whether that sheet owns the slot; and the first slot
+-- from i on that no sheet owns, of the n slots left
 unfoldable pub sheet_in : List ℕ → ℕ → ℕ
 sheet_in m i = word_at 2 m (slots + slot_width * i)
 
@@ -68,11 +69,11 @@ unfoldable pub free_from : List ℕ → ℕ → ℕ → ℕ
 free_from m zero i = i
 free_from m (suc n) i = cond (own_at m i) (free_from m n (i + 1)) i
 
--- of all; `most` where each is a sheet's own
+-- the first of all slots that no sheet owns; `most` if each is owned
 unfoldable pub free_slot : List ℕ → ℕ
 free_slot m = free_from m most 0
 
--- the slot for a sheet that has none: the next, or where all are in use the first that is no sheet's own
+-- the slot for a sheet that has none: the next, or if all are in use the first that no sheet owns
 unfoldable pub next_slot : List ℕ → ℕ
 next_slot m = cond (ltb (used_of m) most) (used_of m) (free_slot m)
 
@@ -80,13 +81,13 @@ unfoldable pub own_below : List ℕ → ℕ → ℕ
 own_below m zero = 0
 own_below m (suc i) = own_below m i + cond (own_at m i) 1 0
 
--- in any bytes as many sheets are kept as slots are a sheet's own, so never more than 512. Proved as `own_count` in
+-- in any bytes as many sheets are kept as slots are owned, so never more than 512. Proved as `own_count` in
 -- proofs/Own.antt.
 abbrev pub OwnTheorem : Type 0
 OwnTheorem = (m : List ℕ) → ((sheets_of m).count ≡ own_below m most) × ((sheets_of m).count ≤ most)
 
--- ---- written: a slot's bytes; the slot i, named for the sheet n, with the shot x in it; and so the next slot u, which
--- is in use then
+-- ---- written: a slot's bytes; the slot i, named for the sheet n, with the shot x in it; and so for the next slot u,
+-- which is then in use
 unfoldable pub slot_bytes : ℕ → Shot → List ℕ
 slot_bytes n x = word_bytes 2 n ++ (word_bytes 2 x.take ++ items_bytes binary64 (framed_items x.pose))
 
@@ -96,18 +97,18 @@ assign_of m n i x = sets (sets m (2 * n) (word_bytes 2 i)) (slots + slot_width *
 unfoldable pub add_of : List ℕ → ℕ → ℕ → Shot → List ℕ
 add_of m n u x = sets (assign_of m n u x) tail (word_bytes 2 (u + 1))
 
--- ---- what a shot that is not refused is answered
+-- ---- the reply that a result of the code means
 abbrev pub shelved_of : code.Shelved → Shelved
 shelved_of variant.New = record { how = 1; before = 0 }
 shelved_of (variant.Replaced t) = record { how = 2; before = t }
 shelved_of (variant.Older t) = record { how = 3; before = t }
 
--- the slot that is found; their number where there is none
+-- the number of the slot found; `most` if there is none
 abbrev pub slot_view : Option Slot → ℕ
 slot_view (Some s) = s.number
 slot_view None = most
 
--- where the slot i holds a shot of the sheet: what another is answered, and the bytes then
+-- where the slot i holds a shot of the sheet: the reply to another, and the bytes after it
 unfoldable pub retake_answer : List ℕ → ℕ → Shot → Answer Shelved
 retake_answer m i x =
     let t = word_at 2 m (slots + slot_width * i + 2) in
@@ -118,7 +119,7 @@ retake_bytes m i n x =
     let t = word_at 2 m (slots + slot_width * i + 2) in
     cond (eqb x.take t) m (cond (ltb t x.take) (sets m (slots + slot_width * i) (slot_bytes n x)) m)
 
--- where the sheet has no slot: what a shot is answered, and the bytes then
+-- where the sheet has no slot: the reply to a shot, and the bytes after it
 unfoldable pub add_answer : List ℕ → Answer Shelved
 add_answer m = cond (ltb (next_slot m) most) (shelved 1 0) (refuses no_room)
 
@@ -127,13 +128,13 @@ add_bytes m n x =
     cond (ltb (used_of m) most) (add_of m n (used_of m) x)
     (cond (ltb (free_slot m) most) (assign_of m n (free_slot m) x) m)
 
--- ---- all lent bytes behind a call
--- a shot x of the sheet n: into its sheet's slot where that holds a lower take; where its sheet has none, into the next
--- slot, or where all are in use into one that is no sheet's own; else nothing is written
+-- ---- all bytes of the store after a call
+-- a shot x of the sheet n: it goes into its sheet's slot if that holds a lower take; if its sheet has none, into the
+-- next slot, or if all are in use into one that no sheet owns; else nothing is written
 unfoldable pub put_bytes : List ℕ → ℕ → Shot → List ℕ
 put_bytes m n x =
     cond (held_at m n (slot_of m n)) (retake_bytes m (slot_of m n) n x) (add_bytes m n x)
 
--- made fresh: no slot is in use
+-- a fresh store: no slot is in use
 unfoldable pub fresh_bytes : List ℕ → List ℕ
 fresh_bytes m = sets m tail (word_bytes 2 0)

@@ -1,4 +1,4 @@
-// Poses with their frames as bytes; and they, and whole numbers of two bytes, at a place of a list.
+// Poses with their frames as bytes; and they, and whole numbers of two bytes, at a place in a list.
 ghost use Rattle.std.specs.Prelude.{◌≡◌, ◌+◌, ◌≤◌, length, drop};
 ghost use Rattle.std.specs.Float.{binary64};
 ghost use Rattle.std.proofs.lemmas.List.Edits.{sets};
@@ -17,7 +17,7 @@ const NUMBERS: usize = 8 * POSE;
 
 pub const FRAMED: usize = NUMBERS + 2 * 2;
 
-// ---- read
+// ---- reading
 #[tactic(auto, using(wire::proofs::Places::short_read))]
 pub(crate) fn short_at(b: &[u8], at: usize) -> u16
     requires { at + 2 ≤ length b.now }
@@ -57,7 +57,7 @@ pub(crate) fn framed_at(b: &[u8], at: usize) -> Pose<f64>
     framed_of(b[at..].first_chunk().unwrap())
 }
 
-// ---- written
+// ---- writing
 #[tactic(auto, using(wire::proofs::Places::short_stored))]
 pub(crate) fn put_short(out: &mut [u8], at: usize, n: u16)
     requires { at + 2 ≤ length out.old }

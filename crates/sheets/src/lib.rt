@@ -1,10 +1,11 @@
 // Retaken sheets: the pose of the highest take for each of up to 512 sheets, in bytes that the caller lends. Proved:
-// what is kept is the highest take among those accepted (HistoryTheorem, HighestTheorem), never of more than 512 sheets
-// (OwnTheorem), and comes back as it was sent, but with one NaN for all (SentBackTheorem). The bytes are an index that
-// names a slot for each sheet number, the slots, and how many of these are in use. A slot is a sheet's if it is in use,
-// holds that sheet's number and is named for it: so whatever bytes are lent are a store, and only the last two must be
-// set before the first use. Nothing is searched but where all slots are in use and a sheet without one comes: then for
-// a slot that is no sheet's own, which bytes that no store of ours left may have. Rests on frames, wire and replies.
+// what is kept is the highest take among those accepted (HistoryTheorem, HighestTheorem), never for more than 512
+// sheets (OwnTheorem), and comes back as it was sent, except that all NaNs are one (SentBackTheorem). The bytes are an
+// index that names a slot for each sheet number, the slots, and how many of these are in use. A sheet owns a slot if
+// the slot is in use and holds its number and the index names the slot for it: so any bytes are a store, and only the
+// last two must be set before the first use. The code searches only if all slots are in use and a new sheet comes: then
+// for a slot that no sheet owns, which only bytes that this crate did not write can have. Rests on frames, wire and
+// replies.
 #![tactic(auto)]
 
 ghost use Rattle.std.specs.Prelude.{◌≡◌, ◌+◌, ◌*◌, ◌≤◌};
@@ -20,13 +21,13 @@ use crate::slot::{MOST, SLOT, Slot, TAIL};
 use frames::Pose;
 use linalg::refusal::Refusal;
 
-pub mod bytes; // poses at a place of the bytes
+pub mod bytes; // poses at a place in the bytes
 mod slot; // one of the 512 slots
 
-// How many bytes are lent for a store.
+// How many bytes a store has.
 pub const STORE: usize = TAIL + 2;
 
-// The bytes of a store; any are one.
+// The bytes of a store; any bytes are one.
 pub type Store = [u8; STORE];
 
 // A sheet as it was photographed: the number of the take, and its pose.
@@ -36,8 +37,8 @@ pub struct Shot {
     pub pose: Pose<f64>,
 }
 
-// What became of a shot that is not refused: the first of its sheet; kept instead of the take named; not
-// kept, being older than the take named.
+// The result of a shot that is not refused: the first of its sheet; kept in place of the take given; not kept, because
+// it is older than the take given.
 #[derive(Clone, Copy, PartialEq, Eq)]
 pub enum Shelved {
     New,
@@ -57,7 +58,7 @@ impl Shelved {
         }
     }
 
-    // The take that stood before; 0 with a new sheet.
+    // The take kept before; 0 for a new sheet.
     pub fn before(self) -> u16
         ensures { result ≡ (shelved_of self).before }
     {
@@ -80,7 +81,7 @@ fn slot_of(store: &Store, sheet: u16) -> Slot
     }
 }
 
-// Whether that slot is the sheet's.
+// Whether that slot is in use and holds the sheet.
 #[tactic(auto, unfolding(crate::specs::Store::held_at, crate::specs::Store::used_of))]
 fn held(store: &Store, sheet: u16, slot: Slot) -> bool
     ensures { result ≡ held_at store.now sheet slot.number }
@@ -99,7 +100,7 @@ fn shot_in(b: &[u8; SLOT]) -> Shot
     }
 }
 
-// A shot, into a slot.
+// Writes a shot into a slot.
 fn put_slot(store: &mut Store, slot: Slot, sheet: u16, shot: Shot)
     ensures { store.new ≡ sets store.old (slots + slot_width * slot.number) (slot_bytes sheet shot) }
 {
@@ -112,7 +113,7 @@ fn put_slot(store: &mut Store, slot: Slot, sheet: u16, shot: Shot)
 }
 
 // ---- shots
-// A slot becomes the sheet's own: it is named for it, and holds its shot.
+// Gives a slot to the sheet: the index names it, and it holds the shot.
 #[tactic(auto, unfolding(crate::specs::Store::assign_of, wire::specs::Wire::item_bytes))]
 fn assign(store: &mut Store, sheet: u16, slot: Slot, shot: Shot)
     ensures { store.new ≡ assign_of store.old sheet slot.number shot }
@@ -121,7 +122,7 @@ fn assign(store: &mut Store, sheet: u16, slot: Slot, shot: Shot)
     put_slot(store, slot, sheet, shot);
 }
 
-// Where all slots are in use, the first that is no sheet's own.
+// With all slots in use, the first that no sheet owns.
 fn free_slot(store: &Store) -> Option<Slot>
     requires { most ≤ used_of store.now }
     ensures { slot_view result ≡ free_slot store.now }
@@ -136,7 +137,7 @@ fn free_slot(store: &Store) -> Option<Slot>
     None
 }
 
-// The slot for a sheet of which none is kept: the next, or where all are in use one that is no sheet's own.
+// The slot for a sheet that has none: the next, or if all are in use one that no sheet owns.
 fn next_slot(store: &Store, used: u16) -> Option<Slot>
     requires { used ≡ used_of store.now }
     ensures { slot_view result ≡ next_slot store.now }
@@ -147,7 +148,7 @@ fn next_slot(store: &Store, used: u16) -> Option<Slot>
     free_slot(store)
 }
 
-// Of a sheet of which none is kept: a slot becomes its own. Where there is none, 512 sheets are kept.
+// A shot of a sheet that has none gets a slot. If there is none left, 512 sheets are kept.
 // PERF (D122): one place that writes a slot for a new sheet, whichever slot it is.
 #[tactic(auto, unfolding(crate::specs::Store::used_of))]
 fn add(store: &mut Store, sheet: u16, shot: Shot) -> Result<Shelved, Refusal>
@@ -163,7 +164,7 @@ fn add(store: &mut Store, sheet: u16, shot: Shot) -> Result<Shelved, Refusal>
     Ok(Shelved::New)
 }
 
-// Of a sheet of which that slot holds one: the higher take stays.
+// A shot of a sheet that has one in this slot: the higher take stays.
 #[tactic(auto, unfolding(crate::specs::Store::retake_answer, crate::specs::Store::retake_bytes))]
 fn retake(store: &mut Store, sheet: u16, slot: Slot, shot: Shot) -> Result<Shelved, Refusal>
     ensures result_value { view shelved_of result ≡ retake_answer store.old slot.number shot }
@@ -181,7 +182,7 @@ fn retake(store: &mut Store, sheet: u16, slot: Slot, shot: Shot) -> Result<Shelv
     Ok(Shelved::Older(before))
 }
 
-// Makes the lent bytes a store in which nothing is kept.
+// Makes the bytes a store in which nothing is kept.
 pub fn fresh(store: &mut Store)
     ensures store_after { store.new ≡ fresh_bytes store.old }
     ensures sheets_after { sheets_of store.new ≡ no_sheets }
@@ -189,8 +190,8 @@ pub fn fresh(store: &mut Store)
     put_short(store, TAIL, 0);
 }
 
-// A shot of a sheet: it is kept if none of that sheet is, or one of a lower take. Refused with NoRoom where
-// none of that sheet is and 512 others are, whatever bytes are lent.
+// A shot of a sheet: it is kept if that sheet has none, or one of a lower take. Refused with NoRoom if that sheet has
+// none and 512 others have one, whatever the bytes are.
 pub fn put(store: &mut Store, sheet: u16, shot: Shot) -> Result<Shelved, Refusal>
     ensures result_value { view shelved_of result ≡ (shelve (sheets_of store.old) sheet shot).answer }
     ensures store_after { store.new ≡ put_bytes store.old sheet shot }
@@ -203,7 +204,7 @@ pub fn put(store: &mut Store, sheet: u16, shot: Shot) -> Result<Shelved, Refusal
     add(store, sheet, shot)
 }
 
-// The shot that is kept of a sheet.
+// The shot that is kept for a sheet.
 pub fn get(store: &Store, sheet: u16) -> Result<Shot, Refusal>
     ensures { answer result ≡ ask (sheets_of store.now) sheet }
 {

@@ -9,10 +9,10 @@ pub(crate) const MOST: u16 = 512;
 // Sheet, take, and the pose with its frames.
 pub(crate) const SLOT: usize = 2 + 2 + FRAMED;
 
-// Where the slots begin: two bytes for each sheet number stand before them.
+// Where the slots begin, after two bytes for each sheet number.
 const SLOTS: usize = 65_536 * 2;
 
-// Where the number of slots in use stands.
+// Where the number of slots in use is stored.
 pub(crate) const TAIL: usize = SLOTS + 512 * SLOT;
 
 #[derive(Clone, Copy)]
@@ -22,7 +22,7 @@ pub(crate) struct Slot {
 }
 
 impl Slot {
-    // Where its bytes begin.
+    // Where the slot's bytes begin.
     pub(crate) fn start(self) -> usize
         ensures { result ≡ 131072 + 72 * self.number }
     {

@@ -1,5 +1,5 @@
--- The tables of the worked examples hold, by computing them from the definitions; and a table that holds has in every
--- row what is due. Assumes nothing.
+-- The tables of the worked examples hold, by computing them from the definitions; and in a table that holds, every row
+-- has its expected value. Assumes nothing.
 use mathlib.Core.Path.{◌≡◌, refl}
 use mathlib.Core.List.{List, [], ◌∷◌}
 use Prim.Native.Nat.{ℕ, zero, suc, ◌<◌}

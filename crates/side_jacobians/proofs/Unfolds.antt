@@ -1,4 +1,4 @@
--- What the proofs of some functions unfold, by the function.
+-- For each function named here, the definitions that its proof unfolds.
 use Rattle.std.specs.Prelude.{⊤}
 use Rattle.side_jacobians.specs.Pair.{block_pair}
 use Rattle.side_jacobians.specs.Blocks.{jl_and_inverse, jac_jl}

@@ -1,5 +1,5 @@
 -- The left Jacobian of the exponential and its inverse, for one sign, as `jl_blocks_with` and `jl_and_inverse_from`
--- round them. The rotation Jacobian of φ and its inverse are handed in.
+-- round them. The caller passes the rotation Jacobian of φ and its inverse.
 use Rattle.std.specs.Prelude.{cond, Float}
 use Rattle.std.specs.Float.{Format}
 use Rattle.std.specs.Float.Ieee.{neg}
@@ -76,7 +76,7 @@ module _ (f : Format) where
       let ci = poly_matrix phi (inv_coeffs (three_v s.c) z) ⊡ᵐ cond s.scaled down f1 in
       record { j = j; inv = blocks jlInv (mat_neg (ci ⊠ j.b ⊠ jlInv)) ci (vec_neg (ci ⊠ᵛ j.f)) f1 }
 
-  -- the one-sign block and inverse of a tangent: values and matrices as given
+  -- the one-sign block and inverse of a tangent, with values and matrices as passed
   unfoldable pub jl_and_inverse : Sim3Tangent → Values → Mat3 → Mat3 → JacAndInverse
   jl_and_inverse tau v jl jlInv =
       let z = vec_norm_sq f tau.phi in

@@ -1,6 +1,6 @@
--- The scope's ten worked examples as rows of one table, what they become at f32 as rows of another, and the claim that
--- every row holds. A row has numbers: bit patterns, arms, term counts, and flags as 1 or 0. The handed-in values v are
--- free where a row reads none of them, and so is z beside a NaN.
+-- The scope's ten worked examples as rows of one table, their results at f32 as rows of another, and the claim that
+-- every row holds. A row has numbers: bit patterns, arms, term counts, and flags as 1 or 0. The function values v are
+-- free where a row reads none of them, and so is z at a NaN.
 use Rattle.std.specs.Prelude.{◌≡◌, Bool, true, false, cond, ◌&&◌, List, [], ◌∷◌, ◌++◌, ℕ, eqb, Float}
 use Rattle.std.specs.Float.{nan, Format, binary32, binary64}
 use Rattle.std.specs.Float.Ieee.{of_bits, to_bits, is_nan, neg, le}
@@ -19,7 +19,7 @@ use Rattle.so3.specs.Floats.{Quat}
 use Rattle.sim3.specs.Tangent.{tangent}
 use Rattle.sim3.specs.Exp.{pose_exp}
 
--- ---- a row: what the definitions give, and what is due
+-- ---- a row: the definitions' result, and the expected one
 pub record Example : Type 0 where
   pub found : List ℕ
   pub due : List ℕ
@@ -38,7 +38,7 @@ all_same (e ∷ es) = same e.found e.due && all_same es
 abbrev flag : Bool → ℕ
 flag b = cond b 1 0
 
--- the number of a refusal, and 0 where there is an answer
+-- the number of a refusal, or 0 for an answer
 abbrev refusal : {A : Type 0} → Answer A → ℕ
 refusal (answers a) = 0
 refusal (refuses n) = n
@@ -52,8 +52,8 @@ four f q = to_bits f q.w ∷ to_bits f q.x ∷ to_bits f q.y ∷ to_bits f q.z �
 abbrev three : Format → Vec3 → List ℕ
 three f v = to_bits f v.x ∷ to_bits f v.y ∷ to_bits f v.z ∷ []
 
--- the arm that the coefficients take, 5 being the closed one; its term count; whether they are scaled; and whether v₁
--- takes form b
+-- the arm that the coefficients take, where 5 is the closed one; its term count; whether they are scaled; and whether
+-- v₁ takes form b
 abbrev arm_at : Format → Float → Float → ℕ
 arm_at f sigma z = coeffs_arm f (coeffs_delta f sigma z)
 
@@ -73,7 +73,7 @@ arm_bits f b = arm_at f f0 (of_bits f b) ∷ terms_at f f0 (of_bits f b) ∷ []
 abbrev row : List ℕ → List ℕ → Example
 row found due = record { found = found; due = due }
 
--- ---- the ten; behind the eighth, a series that is refused, the same for v alone and for the pair, and that refusal 1
+-- ---- the ten; after the eighth, a series that is refused, the same for v alone and for the pair, and that refusal 1
 -- comes first
 unfoldable pub table : Values → Float → List Example
 table v z =
@@ -125,8 +125,8 @@ with_exp v e m =
 abbrev at_one : Values → Values
 at_one v = with_exp v (of_bits binary32 0x3ebc5ab2) (of_bits binary32 0xbf21d2a7)
 
--- rows 1 and 5 to 10 of the ten; beside each limit of an arm its two sides; form b of v₁ on both sides of its limit,
--- and a v₁ in form a, whose form b has the bits 3e9b5f9f
+-- rows 1 and 5 to 10 of the ten; for each limit of an arm both its sides; form b of v₁ on both sides of its limit, and
+-- a v₁ in form a, whose form b has the bits 3e9b5f9f
 unfoldable pub singles : Values → Float → List Example
 singles v z =
     row (nine (to_bits binary32) (coeffs_scaled binary32 f0 f0 v).c ++ is_scaled binary32 f0 f0 v ∷ [])

@@ -21,8 +21,8 @@ block_pair f tau v jl jlInv =
     let r = jl_and_inverse f (tangent_neg tau) (mirrored tau.sigma v) (mat_transpose jl) (mat_transpose jlInv) in
     record { left = l.j; left_inv = l.inv; right = r.j; right_inv = r.inv }
 
--- the same with the flags given by which the coefficients at σ and at −σ are scaled: the block is multiplied by e^σ
--- where the flag is set and by 1 where not, its inverse by e^−σ or 1; at −σ these two have changed places
+-- the same from the flags by which the coefficients at σ and at −σ are scaled: the block is multiplied by e^σ if the
+-- flag is set and by 1 if not, its inverse by e^−σ or 1; at −σ these two change places
 unfoldable pub block_pair_scaled : Format → Sim3Tangent → Values → Mat3 → Mat3 → Bool → Bool → BlockPair
 block_pair_scaled f tau v jl jlInv pos minus =
     let z = vec_norm_sq f tau.phi in

@@ -1,5 +1,5 @@
 -- The Jacobians of the exponential, the action, composition and inverse on both sides, each with the values and
--- matrices that the scope gives it.
+-- matrices that the scope names for it.
 use Rattle.std.specs.Prelude.{Float}
 use Rattle.std.specs.Float.{Format}
 use Rattle.ieee.specs.Numbers.{f0, f1}

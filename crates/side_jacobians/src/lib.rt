@@ -1,6 +1,6 @@
 // The Jacobians of Sim(3) by blocks: those of the exponential, both sides of the action, composition and inverse, and
 // the pair that serves both sides at once. Proved: each is its formula (specs/Blocks, Side, Pair), and ten rows of
-// numbers come out as helicoid's tests have them (specs/Examples). Rests on jacobian.
+// numbers are as in helicoid's tests (specs/Examples). Rests on jacobian.
 #![tactic(auto)]
 
 pub mod blocks; // the left Jacobian of the exponential and its inverse, by blocks

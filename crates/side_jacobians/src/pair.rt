@@ -23,11 +23,10 @@ pub struct BlockPair<T> {
     pub right_inv: Sim3Jac<T>,
 }
 
-// The left block and inverse of tau, and those of -tau on the mirrored values and the transposed
-// matrices, which are the right ones: as the end of the Rust's log_inverses assembles them, with
-// J_l(phi) and its inverse given. |phi|^2 is the same at -phi, and never below zero: nothing is
-// refused. The coefficients are read where the entry has put them, without a copy;
-// the entry is the one that tells the arms too, so that a program has the pair once.
+// The left block and inverse of tau, and those of -tau on the mirrored values and the transposed matrices, which are
+// the right ones: as the end of the Rust's log_inverses assembles them, from J_l(phi) and its inverse. |phi|^2 is the
+// same at -phi, and never below zero: nothing is refused. The coefficients are read from where the called function
+// stored them, without a copy; that function returns the arms too, so that a program has the pair's code once.
 #[tactic(auto, using(linalg::proofs::Even::norm_sq_even), unfolding(crate::proofs::Unfolds::block_pair_unfolds))]
 pub fn block_pair<T: Width>(
     tau: Sim3Tangent<T>,

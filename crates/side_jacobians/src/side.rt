@@ -1,5 +1,5 @@
-// The Jacobians of both sides: right, X Exp(tau), and left, Exp(tau) X. The two sides read different
-// handed-in values, so each has its own function.
+// The Jacobians of both sides: right, X Exp(tau), and left, Exp(tau) X. The two sides read different function values,
+// so there is one function for each.
 ghost use Rattle.std.specs.Prelude.{◌≡◌};
 ghost use Rattle.side_jacobians.specs.Blocks.{jac_jl, jl_and_inverse};
 ghost use Rattle.side_jacobians.specs.Side.{pose_adjoint, tangent_ad, jac_jr, jac_jl_inv, jac_jr_inv, exp_and_jl};

@@ -41,7 +41,7 @@ module _ (f : Format) where
       let mu = phi ⨯ v in
       combined v mu (phi ⨯ mu) x0 x1 x2
 
-  -- V ρ: by χ = χΔ/Δ where z = |φ|² is not below b's limit, a NaN included; else by two cross products
+  -- V ρ: by χ = χΔ/Δ if z = |φ|² is not below b's limit, or is a NaN; else by two cross products
   unfoldable pub v_apply : Vec3 → Float → Coeffs4 → Vec3 → Vec3
   v_apply phi sigma c rho =
       let z = vec_norm_sq f phi in
@@ -56,7 +56,7 @@ module _ (f : Format) where
       (v_apply tau.phi tau.sigma (coeffs_v f tau.sigma (vec_norm_sq f tau.phi) v) tau.rho)
       tau.sigma
 
-  -- X Exp(τ), reading X's e^σ; and Exp(τ) X, reading τ's
+  -- X Exp(τ), which reads X's e^σ; and Exp(τ) X, which reads τ's
   unfoldable pub pose_rplus : Sim3 → Float → Sim3Tangent → Values → Sim3
   pose_rplus x up tau v = pose_mul f x (pose_exp tau v) up
 

@@ -1,5 +1,4 @@
--- Poses (q, t, σ), in the operations of a format f. The scale e^σ and its inverse are handed in, by the place that
--- reads them.
+-- Poses (q, t, σ), in the operations of a format f. The caller passes the scale e^σ or its inverse wherever it is read.
 use Rattle.std.specs.Prelude.{Float}
 use Rattle.std.specs.Float.{Format}
 use Rattle.std.specs.Float.Ieee.{neg}
@@ -50,6 +49,6 @@ module _ (f : Format) where
       let c = quat_conjugate y.q in
       pose (quat_mul f c x.q) (so3_act f c (x.t ⊟ y.t) ⊡ down) (x.sigma ⊖ y.sigma)
 
-  -- the rotation's Newton step alone
+  -- the rotation's Newton step, with t and σ as they are
   unfoldable pub pose_renormalized : Sim3 → Sim3
   pose_renormalized x = pose (quat_renormalized f x.q) x.t x.sigma

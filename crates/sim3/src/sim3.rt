@@ -1,5 +1,4 @@
-// A pose of Sim(3), X p = e^sigma R p + t, by its numbers alone. Exponentials of log scales are handed
-// in.
+// A pose of Sim(3), X p = e^sigma R p + t, by its numbers alone. The caller passes the exponentials of log scales.
 ghost use Rattle.std.specs.Prelude.{◌≡◌};
 ghost use Rattle.sim3.specs.Pose.{pose_identity, pose_inverse, pose_act, pose_mul, pose_mul_inv, pose_inv_mul};
 ghost use Rattle.sim3.specs.Pose.{pose_renormalized};
@@ -18,8 +17,8 @@ use linalg::vector::Vec3;
 use series::sim3::{Coeffs4, Sim3Coeffs};
 use so3::quat::{Quat, Renormalize};
 
-// The numbers of a pose. A pose with the frames between which it maps is `frames::Pose`, and what gives
-// one is there, over the functions here.
+// The numbers of a pose. A pose with the frames between which it maps is `frames::Pose`; the functions that return one
+// are in crate `frames`, over the functions here.
 #[derive(Clone, Copy)]
 pub struct Sim3<T> {
     pub q: Quat<T>,
@@ -102,10 +101,10 @@ impl<T: Real> Sim3<T> {
         rp.scale(up).add(self.t)
     }
 
-    // XY = (R_X R_Y, s_X R_X t_Y + t_X, sigma_X + sigma_Y); up is e^sigma of X. PERF (D111): the
-    // operations of Quat::mul and of act are written out in an order in which the compiler keeps every
-    // number in a register: p.x and p.z times q, then t, then the sums of the quaternion. PERF (D111): it is written
-    // into its callers, since a call would copy both poses.
+    // XY = (R_X R_Y, s_X R_X t_Y + t_X, sigma_X + sigma_Y); up is e^sigma of X. PERF (D111): the operations of
+    // Quat::mul and of act are written out in an order in which the compiler keeps every number in a register: p.x and
+    // p.z times q, then t, then the sums of the quaternion. PERF (D111): it is inlined into its callers, since a call
+    // would copy both poses.
     #[inline(always)]
     pub fn mul(self, o: Sim3<T>, up: T) -> Sim3<T>
         ensures { as_sim3 T.float result ≡ pose_mul T.format (as_sim3 T.float self) (as_sim3 T.float o) (T.float up) }
@@ -158,8 +157,8 @@ impl<T: Real> Sim3<T> {
         }
     }
 
-    // X^-1 = (R^-1, -e^-sigma R^-1 t, -sigma); down is e^-sigma. The sign is taken to down, which is
-    // there from the start: -(a b) and a (-b) are one number.
+    // X^-1 = (R^-1, -e^-sigma R^-1 t, -sigma); down is e^-sigma. The sign is applied to down, which is available from
+    // the start: -(a b) and a (-b) are the same number.
     pub fn inverse(self, down: T) -> Sim3<T>
         ensures { as_sim3 T.float result ≡ pose_inverse T.format (as_sim3 T.float self) (T.float down) }
     {
@@ -218,7 +217,7 @@ pub struct Three<T> {
     pub x2: T,
 }
 
-// Those of V.
+// The coefficients of V.
 impl<T: Real> From<Coeffs4<T>> for Three<T> {
     ghost from_gives = { λ c x. as_three T.float x ≡ three_of (as_coeffs4 T.float c) };
 
@@ -252,8 +251,8 @@ pub fn combine<T: Real>(x: Three<T>, a: Vec3<T>, b: Vec3<T>, c: Vec3<T>) -> Vec3
     a.scale(x.x0).add(b.scale(x.x1)).add(c.scale(x.x2))
 }
 
-// V rho at z = |phi|^2: by chi_delta / delta where b is on its exact arm (z not below b's limit),
-// else by two cross products.
+// V rho at z = |phi|^2: by chi_delta / delta if b is on its exact arm (z not below b's limit), else by two cross
+// products.
 pub fn v_apply<T: Width>(phi: Vec3<T>, sigma: T, c: Coeffs4<T>, rho: Vec3<T>) -> Vec3<T>
     ensures { as_vec3 T.float result ≡ v_apply T.format (as_vec3 T.float phi) (T.float sigma) (as_coeffs4 T.float c)
         (as_vec3 T.float rho) }

@@ -1,4 +1,4 @@
--- What the proofs of some functions unfold, by the function.
+-- For each function named here, the definitions that its proof unfolds.
 use Rattle.std.specs.Prelude.{⊤}
 use Rattle.sim3_c.specs.Calls.{act_many_call, act_call, act_each_call, mul_inv_call, inv_mul_call}
 use Rattle.point_lists.specs.Points.{points_answer, points_out}

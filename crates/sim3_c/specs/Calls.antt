@@ -1,6 +1,6 @@
--- What each function for C callers answers, but for those that records of the job have too (crate `sim3_c_entries`): 0
+-- The result of each function for C callers, except those that records of the job use too (crate `sim3_c_entries`): 0
 -- and the numbers in `out`, or the number of a refusal and `out` as it was (Written.antt of crate `to_lists`). A list
--- whose length is not the one that is due is refused by the lists' own number; lists of points by the scope's 5.
+-- of the wrong length is refused with the lists' number; lists of points with the scope's 5.
 use Rattle.std.specs.Prelude.{List, Float}
 use Rattle.std.specs.Float.{Format}
 use Rattle.linalg.specs.Answer.{Answer, answers, and_then}

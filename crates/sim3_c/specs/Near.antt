@@ -1,5 +1,5 @@
 -- How near another arm is, as whole numbers: the count, the direction, which is 0 for down and 1 for up, and the arm
--- there. Three zeros say that there is none: every permitted z has the same arm.
+-- there. Three zeros mean that there is none: every permitted z has the same arm.
 use Rattle.std.specs.Prelude.{ℕ, cond, List, [], ◌∷◌, eqb, length, Float}
 use Rattle.std.specs.Float.{Format}
 use Rattle.linalg.specs.Answer.{Answer, answers, refuses, and_then}

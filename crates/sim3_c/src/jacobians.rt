@@ -67,7 +67,7 @@ pub fn sim3_act_jacobians_left<T: Real>(
     put(out, act_jacobians_left(a, up, b))
 }
 
-// Of X Y, right: by X and by Y, which read Y alone; down is e^-sigma of Y.
+// Of X Y, right: by X and by Y; both read Y only; down is e^-sigma of Y.
 #[tactic(auto, unfolding(crate::specs::Calls::compose_jacobians_right_call, to_lists::proofs::OnLists::on_lists))]
 pub fn sim3_compose_jacobians_right<T: Real>(y: &[T], down: T, out: &mut [T]) -> Result<(), Refusal>
     ensures value { status (answer result)
@@ -80,7 +80,7 @@ pub fn sim3_compose_jacobians_right<T: Real>(y: &[T], down: T, out: &mut [T]) ->
     put(out, compose_jacobians_right(a, down))
 }
 
-// Of X Y, left: by X and by Y, which read X alone; up is e^sigma of X.
+// Of X Y, left: by X and by Y; both read X only; up is e^sigma of X.
 #[tactic(auto, unfolding(crate::specs::Calls::compose_jacobians_left_call, to_lists::proofs::OnLists::on_lists))]
 pub fn sim3_compose_jacobians_left<T: Real>(x: &[T], up: T, out: &mut [T]) -> Result<(), Refusal>
     ensures value { status (answer result)

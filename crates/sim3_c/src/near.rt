@@ -1,5 +1,5 @@
-// How near another arm is, to a list of whole numbers: the count, which can be as large as a pattern
-// and so no double, the direction, and the arm there.
+// How near another arm is, to a list of whole numbers: the count, which can be as large as a pattern and so is not a
+// double, the direction, and the arm there.
 ghost use Rattle.std.specs.Prelude.{◌≡◌};
 ghost use Rattle.linalg.specs.Answer.{answer};
 ghost use Rattle.nearest.specs.Nearest.{near_view, step_view};
@@ -12,7 +12,7 @@ use nearest::{Direction, Step};
 
 const NUMBERS: usize = 3;
 
-// The count, the direction, which is 0 for down and 1 for up, and the arm; three zeros for none.
+// The count, the direction, which is 0 for down and 1 for up, and the arm; three zeros if there is none.
 #[tactic(auto, unfolding(crate::specs::Near::near_numbers, nearest::specs::Nearest::step_view))]
 fn numbers(near: Option<Step>) -> [u64; NUMBERS]
     ensures { result ≡ near_numbers (near_view step_view near) }
@@ -36,8 +36,8 @@ fn numbers(near: Option<Step>) -> [u64; NUMBERS]
     }
 }
 
-// The least number of neighbouring values that z must move for the arm at (sigma, z) to change, the
-// direction, and the arm there; three zeros where every permitted z has the same arm.
+// The least number of neighbouring values that z must move for the arm at (sigma, z) to change, the direction, and the
+// arm there; three zeros if every permitted z has the same arm.
 #[tactic(auto, unfolding(crate::specs::Near::near_call, to_lists::proofs::OnLists::on_lists))]
 pub fn sim3_nearest_arm<T: Neighbours>(sigma: T, z: T, out: &mut [u64]) -> Result<(), Refusal>
     ensures value { status (answer result) ≡ status (near_call T.format (T.float sigma) (T.float z) out.old) }

@@ -1,5 +1,5 @@
-// The action of a pose on a list of points, three numbers each: with the bits of the Rust's act_many,
-// and each point by itself, as the job moves one.
+// The action of a pose on a list of points, three numbers each: with the bits of the Rust's act_many, and each point
+// separately, as the job moves one.
 ghost use Rattle.std.specs.Prelude.{◌≡◌};
 ghost use Rattle.linalg.specs.Answer.{answer};
 ghost use Rattle.to_lists.specs.Written.{status, written};
@@ -23,7 +23,7 @@ pub fn sim3_act_many<T: PointWidth>(x: &[T], up: T, pts: &[T], out: &mut [T]) ->
     act_many(a, up, pts, out)
 }
 
-// Every point by itself; up is e^sigma of X.
+// Every point separately; up is e^sigma of X.
 #[tactic(auto, unfolding(crate::proofs::Unfolds::sim3_act_each_unfolds))]
 pub fn sim3_act_each<T: Real>(x: &[T], up: T, pts: &[T], out: &mut [T]) -> Result<(), Refusal>
     ensures value { status (answer result)

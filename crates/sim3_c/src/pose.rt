@@ -1,5 +1,5 @@
-// Poses: quaternion w x y z, t, sigma, and in a list beside these the frames: from, to. A pose that is
-// the result has its numbers and its frames written to two lists; both or none.
+// Poses: quaternion w x y z, t, sigma, and in a second list the frames: from, to. A function that returns a pose writes
+// its numbers and its frames to two lists; both or neither.
 ghost use Rattle.std.specs.Prelude.{◌≡◌};
 ghost use Rattle.linalg.specs.Answer.{answer};
 ghost use Rattle.from_lists.specs.Lists.{pose_lists};
@@ -34,7 +34,7 @@ pub fn sim3_mul_inv<T: Real>(
     put_framed(out, out_frames, a.mul_inv(b, ds)?)
 }
 
-// Y^-1 X, where both go to one frame; down is e^-sigma of Y.
+// Y^-1 X, where both end in one frame; down is e^-sigma of Y.
 #[tactic(auto, unfolding(crate::proofs::Unfolds::sim3_inv_mul_unfolds))]
 pub fn sim3_inv_mul<T: Real>(
     x: &[T],
@@ -57,7 +57,7 @@ pub fn sim3_inv_mul<T: Real>(
     put_framed(out, out_frames, a.inv_mul(b, down)?)
 }
 
-// A Newton step towards a unit quaternion, in place. It reads no frame: X keeps those that it has.
+// A Newton step towards a unit quaternion, in place. It reads no frame: X keeps its frames.
 pub fn sim3_renormalize<T: Real>(x: &mut [T]) -> Result<(), Refusal>
     ensures value { status (answer result) ≡ status (renormalize_call T.format (T.floats x.old)) }
     ensures x_after { T.floats x.new ≡ written (renormalize_call T.format (T.floats x.old)) (T.floats x.old) }

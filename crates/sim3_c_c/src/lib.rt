@@ -1,5 +1,5 @@
-// The functions of crate sim3_c for callers in C: each under its name there, with its clauses, in a module of
-// the same name. include/sim3.h has the order of every number.
+// The functions of crate sim3_c for callers in C: each under its name there, with its clauses, in a module of the same
+// name. include/sim3.h has the order of every number.
 #![tactic(auto)]
 
 pub mod pose; // compositions with an inverse, with the frames; renormalising

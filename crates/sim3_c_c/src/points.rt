@@ -15,7 +15,7 @@ pub extern "C" fn sim3_act_many(x: &[f64], up: f64, pts: &[f64], out: &mut [f64]
     status(sim3_c::points::sim3_act_many(x, up, pts, out))
 }
 
-// Every point by itself.
+// Every point separately.
 #[unsafe(no_mangle)]
 pub extern "C" fn sim3_act_each(x: &[f64], up: f64, pts: &[f64], out: &mut [f64]) -> u32
     ensures value { result ≡ status (act_each_call binary64 x.now up pts.now out.old) }

@@ -28,7 +28,7 @@ pub extern "C" fn sim3_mul_inv(
     status(sim3_c::pose::sim3_mul_inv(x, x_frames, y, y_frames, ds, out, out_frames))
 }
 
-// Y^-1 X, where both go to one frame.
+// Y^-1 X, where both end in one frame.
 #[unsafe(no_mangle)]
 pub extern "C" fn sim3_inv_mul(
     x: &[f64],

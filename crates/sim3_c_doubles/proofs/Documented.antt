@@ -1,4 +1,4 @@
--- The documented numbers are answered by 1. Assumes nothing.
+-- The probe returns 1 for the documented numbers. Assumes nothing.
 use Rattle.environment.proofs.Documented.{documented_is-due}
 use Rattle.sim3_c_doubles.specs.Probe.{probe_call, DocumentedIsOne}
 use mathlib.Core.Path.{refl}

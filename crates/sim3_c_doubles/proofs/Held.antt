@@ -1,4 +1,4 @@
--- The lists of a running join hold what the running join of crate `running` comes to, call by call. Assumes nothing.
+-- The lists of a running join hold the running join of crate `running`, call by call. Assumes nothing.
 use Prim.Native.Nat.{ℕ}
 use mathlib.Core.Path.{◌≡◌, refl, sym, ap, subst, ◌∙◌}
 use mathlib.Core.Bool.{Bool, true, false, cond, ◌&&◌}
@@ -24,7 +24,7 @@ use Rattle.sim3_c_doubles.specs.Join.{RunLists, run_lists, state_count, start_in
 use Rattle.sim3_c_doubles.specs.Join.{joint_fitting, held_lists, zero_pose, start_call, push_call, every_call}
 use Rattle.sim3_c_doubles.specs.Join.{HeldTheorem}
 
--- ---- what is written reads as it was meant
+-- ---- what is written reads back
 held_lists_lem : (x : Pose) (n k s : ℕ) → running_from (held_lists x n k s)
     ≡ answers (record { pose = start_in x s; every = n; since = k })
 unfolding running_from pose_from sized pose_in quat_in vec_in pose_numbers quat_numbers vec_numbers
@@ -41,7 +41,7 @@ fitted out l x n k s h =
     let t = eqb (length out.numbers) pose_count && eqb (length out.state) state_count in
     ap running_from (passed t (held_lists x n k s) l wrong_length h).1 ∙ held_lists_lem x n k s
 
--- ---- an answered pose is the running pose
+-- ---- the pose in the result is the running pose
 produced_stands : (f : Format) (y p : Pose) (n k : ℕ) (t : Bool) → due n k ≡ t →
     (produced_of f y n k).answer ≡ answers p → (produced_of f y n k).running.pose ≡ Some p
 unfolding produced_of

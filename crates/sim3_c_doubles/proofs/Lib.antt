@@ -1,4 +1,4 @@
--- The laws of tangents by their patterns, of lists of poses, of the lists of a running join, of lists of zeros, and of
+-- Lemmas on tangents by their patterns, on lists of poses, on the lists of a running join, on lists of zeros, and on
 -- the documented probe.
 mod Patterns
 pub mod Unfolds

@@ -1,4 +1,4 @@
--- The numbers of an order of tangents by their patterns. Assumes nothing.
+-- The results of comparing tangents, as numbers. Assumes nothing.
 use mathlib.Core.Path.{◌≡◌, refl}
 use mir.Syntax.{w64}
 use mir.Val.{to_z, of_z}

@@ -1,5 +1,5 @@
--- Renormalising the poses of a list one after another: after i turns the first i are renormalised and the rest is as it
--- was. Assumes nothing.
+-- Renormalising the poses of a list one after another: after i turns the first i are renormalised and the rest is as
+-- before. Assumes nothing.
 use Prim.Native.Nat.{ℕ, zero, suc, ◌+◌, ◌*◌, ◌-◌, ◌≤◌, ◌<◌}
 use mathlib.Core.Path.{◌≡◌, refl, sym, ap, ◌∙◌}
 use mathlib.Core.List.{List, ◌++◌, append-nil, append_assoc}
@@ -41,7 +41,7 @@ seam p l b k e n h =
     ∙ drop-drop (length b) k l ∙ ap (λ (m : ℕ). drop (k + m) l) n in
     sets-eq b (p ++ drop k l) k whole ∙ (λ i. (front i ++ b) ++ back i)
 
--- what is not yet written is read as it was
+-- what is not yet written reads as before
 left : (p l : List Float) (k i : ℕ) → length p ≡ k → k ≤ i → get_or (p ++ drop k l) i nan ≡ get_or l i nan
 left p l k i e h =
     let n : length p + (i - k) ≡ i = omega arith in
@@ -67,7 +67,7 @@ left-pose f l i =
       left p l k (k + 7) e (omega arith),
     ) refl
 
--- one pose more
+-- one more pose
 run_more :
     (f : Format) (l : List Float) (i : ℕ) → i * 8 + 8 ≤ length l →
     sets (poses_renormalized f l i ++ drop (i * 8) l) (i * 8)
@@ -79,7 +79,7 @@ run_more f l i h =
     let n : (i + 1) * 8 ≡ i * 8 + 8 = omega arith in
     rw (n, add-one i) (seam (poses_renormalized f l i) l (pose_numbers x) (i * 8) (run_length f l i) (pose-count x) h)
 
--- ---- the part of a list in which a pose stands
+-- ---- the part of a list that holds a pose
 part-number : (l : List Float) (k i j : ℕ) → i < 8 → k + i ≡ j → get_or (take 8 (drop k l)) i nan ≡ get_or l j nan
 part-number l k i j h e = get_or-take 8 (drop k l) i nan h ∙ get_or-drop k l i nan ∙ ap (λ (m : ℕ). get_or l m nan) e
 
@@ -97,7 +97,7 @@ part-pose l k =
       part-number l k 7 (k + 7) (omega arith) (omega arith),
     ) refl
 
--- renormalised, it has the numbers of the pose that stood there
+-- renormalised, it has the numbers of the renormalised pose
 part_step :
     (f : Format) (l : List Float) (k : ℕ) → k + 8 ≤ length l →
     written (renormalize_call f (take 8 (drop k l))) (take 8 (drop k l))
@@ -110,7 +110,7 @@ part_step f l k h =
     let x = pose_renormalized f (pose_in (number_in l) k) in
     rw (sized-right p 8 (pose_in (number_in p) 0) n, part-pose l k) (fitted p (pose_numbers x) 8 n (pose-count x)).1
 
--- put back, it is a run of stores
+-- stored back, it is a run of stores
 part_back : (l b : List Float) (k : ℕ) → length b ≡ 8 → k + 8 ≤ length l →
     take k l ++ (b ++ drop 8 (drop k l)) ≡ sets l k b
 part_back l b k n h =
@@ -119,7 +119,7 @@ part_back l b k n h =
     sym (sets-eq b l k (omega arith) ∙ append_assoc (take k l) b _
     ∙ ap (λ (r : List Float). take k l ++ (b ++ r)) (sym rest))
 
--- so the pose at the seam, renormalised in its part, is one pose more
+-- so the pose at the seam, renormalised in its part, is one more pose
 pub part_more :
     (f : Format) (l m b : List Float) (i : ℕ) → i * 8 + 8 ≤ length l → length m ≡ length l →
     m ≡ poses_renormalized f l i ++ drop (i * 8) l →

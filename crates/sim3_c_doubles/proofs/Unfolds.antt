@@ -1,4 +1,4 @@
--- What the proofs of some functions unfold, by the function.
+-- For each function named here, the definitions that its proof unfolds.
 use Rattle.std.specs.Prelude.{⊤}
 use Rattle.sim3_c_doubles.specs.Join.{running_from, start_in, run_fitting, start_call, every_call, renormalize_all_call}
 use Rattle.sim3_c_doubles.specs.Join.{poses_renormalized}

@@ -1,7 +1,7 @@
--- The running join between calls, and the Newton step on a list of poses. What a call answers and what the lists then
--- hold is told as in Written.antt of crate `to_lists`. A running join stands in two lists: the eight numbers of the
--- running pose; and its frames, from and to, n, how many products there were since the last renormalisation, and 1
--- where there is a pose.
+-- The running join between calls, and the Newton step on a list of poses. The return value of a call and its lists
+-- afterwards are defined as in Written.antt of crate `to_lists`. Two lists hold a running join: the eight numbers of
+-- the running pose; and its frames, from and to, n, how many products there were since the last renormalisation, and 1
+-- if there is a pose.
 use Rattle.std.specs.Prelude.{ℕ, zero, suc, ◌*◌, ◌/◌, ◌%◌, ◌≡◌, cond, ◌&&◌, List, [], ◌∷◌, ◌++◌, eqb, get_or, set}
 use Rattle.std.specs.Prelude.{length, Float, Some, None}
 use Rattle.std.specs.Float.{Format}
@@ -40,7 +40,7 @@ running_from l =
       since = get_or l.state 3 0;
     }))
 
--- ---- written, to lists that have just these lengths
+-- ---- written, to lists that must have exactly these lengths
 abbrev pub held_lists : Pose → ℕ → ℕ → ℕ → RunLists
 held_lists x n k s = run_lists (pose_numbers x.sim3) (x.from ∷ x.to ∷ n ∷ k ∷ s ∷ [])
 
@@ -49,12 +49,12 @@ run_fitting out x n k s =
     cond (eqb (length out.numbers) pose_count && eqb (length out.state) state_count) (answers (held_lists x n k s))
     (refuses wrong_length)
 
--- the running pose that is answered, with n and the count; a refusal leaves the lists as they were
+-- the running pose of the reply, with n and the count; a refusal leaves the lists as they were
 unfoldable pub joint_fitting : RunLists → Joint → Answer RunLists
 joint_fitting out j = and_then j.answer (λ p. run_fitting out p j.running.every j.running.since 1)
 
 -- ---- the calls
--- all numbers 0: no pose yet, and none will be renormalised
+-- all numbers 0: no pose yet, and no renormalisation
 abbrev pub zero_pose : Pose
 zero_pose = framed (pose (quat f0 f0 f0 f0) (vec f0 f0 f0) f0) 0 0
 
@@ -68,7 +68,7 @@ push_call f x up out =
 unfoldable pub every_call : List ℕ → ℕ → Answer (List ℕ)
 every_call state n = sized state state_count (set state 2 n)
 
--- what the lists of a running join hold after a call
+-- the lists of a running join after a call
 abbrev pub run_written : (RunLists → Answer RunLists) → RunLists → RunLists
 run_written call out = written (call out) out
 
@@ -82,8 +82,7 @@ unfoldable pub renormalize_all_call : Format → List Float → Answer (List Flo
 renormalize_all_call f l =
     cond (eqb (length l % 8) 0) (answers (poses_renormalized f l (length l / 8))) (refuses wrong_length)
 
--- ---- the lists hold what the running join of crate `running` comes to, call by call. Proved as `held` in
--- proofs/Held.antt
+-- ---- the lists hold the running join of crate `running`, call by call. Proved as `held` in proofs/Held.antt
 pub record HeldTheorem : Type 0 where
   pub started : (out l : RunLists) → start_call out ≡ answers l → running_from l ≡ answers running_none
   pub pushed :

@@ -1,5 +1,5 @@
--- What the calls on tangents by their bit patterns answer: the order of two, and a list of them put in order in its
--- place. Numbers are patterns here, so that no NaN loses its bits.
+-- The results of the calls on tangents by their bit patterns: the order of two, and a list of them sorted in place.
+-- Numbers are patterns here, so that no NaN loses its bits.
 use Rattle.std.specs.Prelude.{ℕ, cond, List, [], ◌∷◌, eqb, ℤ, pos, negsuc, length}
 use Rattle.std.specs.Float.{binary64}
 use Rattle.linalg.specs.Answer.{Answer, answers, refuses, and_then}
@@ -9,7 +9,7 @@ use Rattle.std.specs.declared.cmp.Ordering.TheVariants.{Less, Equal, Greater}
 use Rattle.layout.specs.Layout.{tangent_count}
 use Rattle.from_lists.specs.Lists.{wrong_length, sized}
 
--- −1 where the first stands before the second, 0 where they are the same bits, 1 where it stands after
+-- −1 if the first comes before the second, 0 if they are the same bits, 1 if it comes after
 unfoldable pub order_number : Ordering → ℤ
 order_number Less = negsuc 0
 order_number Equal = pos 0

@@ -1,5 +1,5 @@
--- The square root with what is left, to three lists, since not every remainder is a double. What a call answers and
--- what the lists then hold is told as in Written.antt of crate `to_lists`.
+-- The square root with its remainder, in three lists, since not every remainder is a double. The return value of a call
+-- and its lists afterwards are defined as in Written.antt of crate `to_lists`.
 use Rattle.std.specs.Prelude.{ℕ, Bool, cond, ◌&&◌, List, [], ◌∷◌, eqb, ℤ, length, Float}
 use Rattle.linalg.specs.Answer.{Answer, answers, refuses, and_then}
 use Rattle.root.specs.declared.RootParts.{RootParts}
@@ -19,7 +19,7 @@ root_lists whole exponent nearest = record { whole = whole; exponent = exponent;
 abbrev pub root_numbers : RootParts → RootLists
 root_numbers p = root_lists (p.root ∷ p.remainder ∷ []) (p.exponent ∷ []) (p.nearest ∷ [])
 
--- whether the lists have just these lengths
+-- whether the lists have exactly these lengths
 unfoldable pub root_fits : RootLists → Bool
 root_fits out = eqb (length out.whole) 2 && eqb (length out.exponent) 1 && eqb (length out.nearest) 1
 

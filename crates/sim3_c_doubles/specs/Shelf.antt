@@ -1,5 +1,5 @@
--- The sheets between calls: bytes that the caller lends, as crate `sheets` has them. What a call answers and what the
--- lists then hold is told as in Written.antt of crate `to_lists`.
+-- The sheets between calls: bytes that the caller lends, as in crate `sheets`. The return value of a call and its lists
+-- afterwards are defined as in Written.antt of crate `to_lists`.
 use Rattle.std.specs.Prelude.{ℕ, cond, ◌&&◌, List, [], ◌∷◌, Bool, eqb, length, Float}
 use Rattle.linalg.specs.Answer.{Answer, answers, refuses, and_then}
 use Rattle.frames.specs.Floats.{Pose}
@@ -21,7 +21,7 @@ holds m = eqb (length m) size
 unfoldable pub fresh_call : List ℕ → Answer (List ℕ)
 fresh_call m = cond (holds m) (answers (fresh_bytes m)) (refuses wrong_length)
 
--- ---- a shot x of the sheet n, and a question for it: what is answered, and the store and the sheets then
+-- ---- a shot x of the sheet n, and a query for it: the result, and the store and the sheets afterwards
 unfoldable pub put_answer : List ℕ → ℕ → Shot → Answer Shelved
 put_answer m n x = cond (holds m) (shelve (sheets_of m) n x).answer (refuses wrong_length)
 
@@ -34,7 +34,7 @@ put_sheets m n x = cond (holds m) (shelve (sheets_of m) n x).sheets (sheets_of m
 unfoldable pub get_answer : List ℕ → ℕ → Answer Shot
 get_answer m n = cond (holds m) (ask (sheets_of m) n) (refuses wrong_length)
 
--- ---- on lists: 1, 2 or 3 and the take that stood before; and what is kept then
+-- ---- on lists: 1, 2 or 3 and the take kept before; and what is kept afterwards
 unfoldable pub two_fitting : List ℕ → ℕ → ℕ → Answer (List ℕ)
 two_fitting out how before = cond (eqb (length out) 2) (answers (how ∷ before ∷ [])) (refuses wrong_length)
 
@@ -46,7 +46,7 @@ put_call m n t x out =
     and_then (framed_from x) (λ a. cond (eqb (length out) 2)
     (shelved_fitting out (put_answer m n (shot t a))) (refuses wrong_length))
 
--- the store's bytes then: as they were where a list has a wrong length, or they are no store
+-- the store's bytes afterwards: as they were if a list has a wrong length, or if they are not a store
 unfoldable pub store_after : List ℕ → ℕ → ℕ → Answer Pose → List ℕ → List ℕ
 store_after m n t (answers a) out = cond (eqb (length out) 2) (put_store m n (shot t a)) m
 store_after m n t (refuses k) out = m
@@ -55,7 +55,7 @@ unfoldable pub kept_after : List ℕ → ℕ → ℕ → Answer Pose → List �
 kept_after m n t (answers a) out = cond (eqb (length out) 2) (put_sheets m n (shot t a)) (sheets_of m)
 kept_after m n t (refuses k) out = sheets_of m
 
--- ---- what is kept of a sheet: its take, and the pose with its frames
+-- ---- what is kept for a sheet: its take, and the pose with its frames
 pub record ShotLists : Type 0 where
   pub take : List ℕ
   pub pose : PoseLists

@@ -1,6 +1,6 @@
-// A running join between calls: poses are joined as they come, and what is kept stands in two lists of
-// the caller's: the eight numbers of the running pose; and from, to, n, the products since the last
-// renormalisation, and 1 where there is a pose. And the Newton step on a list of poses.
+// A running join between calls: it joins each pose that comes, and keeps its state in two lists of the caller: the
+// eight numbers of the running pose; and from, to, n, the products since the last renormalisation, and 1 if there is a
+// pose. And the Newton step on a list of poses.
 ghost use Rattle.std.specs.Prelude.{◌≡◌, ◌*◌, length};
 ghost use Rattle.std.specs.Float.{binary64};
 ghost use Rattle.linalg.specs.Answer.{answer};
@@ -40,7 +40,7 @@ fn running_from(pose: &[f64], state: &[u16]) -> Result<Running, Refusal>
     })
 }
 
-// The running pose x, n and the count k; nothing is written where a list has another length.
+// Writes the running pose x, n and the count k; it writes nothing if a list has the wrong length.
 #[tactic(auto, using(crate::proofs::PoseRuns::sizes), unfolding(crate::proofs::Unfolds::put_posed_unfolds))]
 fn put_posed(
     pose: &mut [f64],
@@ -63,7 +63,7 @@ fn put_posed(
     put_pose(pose, x.sim3)
 }
 
-// What a pose left, or the refusal and nothing written.
+// Writes the running join after a pose, or returns the refusal and writes nothing.
 #[tactic(auto, unfolding(crate::specs::Join::joint_fitting, to_lists::proofs::OnLists::on_lists))]
 fn put_joint(pose: &mut [f64], state: &mut [u16], j: Joined) -> Result<(), Refusal>
     ensures value { status (answer result) ≡ status (joint_fitting (run_lists pose.old state.old) (joint_view j)) }
@@ -75,7 +75,7 @@ fn put_joint(pose: &mut [f64], state: &mut [u16], j: Joined) -> Result<(), Refus
     put_posed(pose, state, p, r.every, r.since)
 }
 
-// No pose yet, and none will be renormalised: all numbers 0.
+// No pose yet, and no renormalisation: all numbers 0.
 #[tactic(auto, unfolding(crate::proofs::Unfolds::sim3_running_start_unfolds))]
 pub fn sim3_running_start(pose: &mut [f64], state: &mut [u16]) -> Result<(), Refusal>
     ensures value { status (answer result) ≡ status (start_call (run_lists pose.old state.old)) }
@@ -92,8 +92,8 @@ pub fn sim3_running_start(pose: &mut [f64], state: &mut [u16]) -> Result<(), Ref
     Ok(())
 }
 
-// The first pose is the running pose, its up unused; a further one is multiplied by it from the left, up
-// being e^sigma of the running pose. Where the frames do not meet (9) nothing changes.
+// The first pose becomes the running pose, and its up is not used; a further one is multiplied by the running pose from
+// the left, where up is e^sigma of the running pose. If the frames do not match (9), nothing changes.
 #[tactic(auto, unfolding(crate::specs::Join::push_call, to_lists::proofs::OnLists::on_lists))]
 pub fn sim3_running_push(
     pose: &mut [f64],
@@ -112,7 +112,7 @@ pub fn sim3_running_push(
     put_joint(pose, state, r.join(a, up))
 }
 
-// From here on the running quaternion is renormalised after every nth product, 0 for never.
+// Renormalise the running quaternion after every nth product from now on, 0 for never.
 #[tactic(auto, unfolding(crate::proofs::Unfolds::sim3_running_every_unfolds))]
 pub fn sim3_running_every(state: &mut [u16], n: u16) -> Result<(), Refusal>
     ensures value { status (answer result) ≡ status (every_call state.old n) }

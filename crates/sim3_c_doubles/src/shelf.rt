@@ -16,7 +16,7 @@ use linalg::refusal::Refusal;
 use sheets::{Shelved, Shot, Store};
 use to_lists::put_framed;
 
-// What a shot was answered: 1, 2 or 3, and the take that stood before.
+// The length of the reply to a shot: 1, 2 or 3, and the take kept before.
 const SHELVED: usize = 2;
 
 const TAKE: usize = 1;
@@ -50,7 +50,7 @@ fn put_shelved(out: &mut [u16], a: Result<Shelved, Refusal>) -> Result<(), Refus
     Ok(())
 }
 
-// `sheets::put` and `sheets::get` on lent bytes; refused where these are not as many as a store has.
+// `sheets::put` and `sheets::get` on borrowed bytes; refused if they have not the length of a store.
 fn put(store: &mut [u8], sheet: u16, shot: Shot) -> Result<Shelved, Refusal>
     ensures result_value { view shelved_of result ≡ put_answer store.old sheet shot }
     ensures store_after { store.new ≡ put_store store.old sheet shot }
@@ -69,7 +69,7 @@ fn get(store: &[u8], sheet: u16) -> Result<Shot, Refusal>
     sheets::get(store, sheet)
 }
 
-// A shot of a sheet: it is kept if none of that sheet is, or one of a lower take.
+// A shot of a sheet: it is kept if that sheet has none, or one of a lower take.
 #[tactic(auto, unfolding(crate::proofs::Unfolds::sim3_sheets_put_unfolds))]
 pub fn sim3_sheets_put(
     store: &mut [u8],
@@ -119,7 +119,7 @@ fn put_shot(
     put_framed(out, out_frames, s.pose)
 }
 
-// The take and the pose that are kept of a sheet.
+// The take and the pose that are kept for a sheet.
 #[tactic(auto, unfolding(crate::specs::Shelf::get_call, to_lists::proofs::OnLists::on_lists))]
 pub fn sim3_sheets_get(
     store: &[u8],

@@ -1,5 +1,5 @@
-// The square root of z with what is left, to three lists: r and the remainder, which no double holds
-// above 2^53; the exponent; the double nearest to the root.
+// The square root of z with its remainder, in three lists: r and the remainder, which no double holds above 2^53; the
+// exponent; the double nearest to the root.
 ghost use Rattle.std.specs.Prelude.{◌≡◌};
 ghost use Rattle.linalg.specs.Answer.{answer};
 ghost use Rattle.to_lists.specs.Written.{status};

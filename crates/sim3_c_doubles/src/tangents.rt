@@ -1,5 +1,5 @@
-// The order of tangents, and the ordering of a list of them in its place. A number is its 64-bit
-// pattern here: two NaNs with different bits differ.
+// The order of tangents, and the sorting of a list of them in place. A number is its 64-bit pattern here: two NaNs with
+// different bits differ.
 ghost use Rattle.std.specs.Prelude.{◌≡◌};
 ghost use Rattle.linalg.specs.Answer.{answer};
 ghost use Rattle.to_lists.specs.Written.{status, written};
@@ -22,8 +22,7 @@ fn order_number(o: Ordering) -> i64
     }
 }
 
-// The tangent a against the tangent b: -1 where it stands before, 0 where the bits are the same, 1
-// where it stands after.
+// Compares the tangents a and b: -1 if a comes before b, 0 if their bits are the same, 1 if it comes after.
 #[tactic(auto, unfolding(crate::proofs::Unfolds::sim3_compare_tangents_unfolds))]
 pub fn sim3_compare_tangents(a: &[u64], b: &[u64], out: &mut [i64]) -> Result<(), Refusal>
     ensures value { status (answer result) ≡ status (compare_call a.now b.now out.old) }
@@ -38,8 +37,8 @@ pub fn sim3_compare_tangents(a: &[u64], b: &[u64], out: &mut [i64]) -> Result<()
     Ok(())
 }
 
-// The tangents of the list, seven numbers each, in order, smallest first. Refusal 5 for a list longer
-// than 7,168 numbers or not a multiple of seven.
+// Sorts the tangents of the list, seven numbers each, smallest first. Refusal 5 for a list longer than 7,168 numbers or
+// not a multiple of seven.
 #[tactic(auto, unfolding(crate::proofs::Unfolds::sim3_sort_tangents_unfolds))]
 pub fn sim3_sort_tangents(list: &mut [u64]) -> Result<(), Refusal>
     ensures value { status (answer result) ≡ status (sort_call list.old) }

@@ -34,7 +34,7 @@ pub extern "C" fn sim3_running_push(
     status(sim3_c_doubles::join::sim3_running_push(pose, state, x, x_frames, up))
 }
 
-// After how many products the running quaternion is renormalised.
+// Sets after how many products the running quaternion is renormalised.
 #[unsafe(no_mangle)]
 pub extern "C" fn sim3_running_every(state: &mut [u16], n: u16) -> u32
     ensures value { result ≡ status (every_call state.old n) }

@@ -2,7 +2,7 @@
 ghost use Rattle.std.specs.Prelude.{◌≡◌};
 ghost use Rattle.sim3_c_doubles.specs.Probe.{probe_call};
 
-// 1 where the three numbers have the product that is due, else 0.
+// 1 if the three numbers have the expected product, else 0.
 #[unsafe(no_mangle)]
 pub extern "C" fn sim3_environment(probe: &[f64]) -> u32
     ensures { result ≡ probe_call probe.now }

@@ -41,7 +41,7 @@ pub extern "C" fn sim3_sheets_put(
     status(sim3_c_doubles::shelf::sim3_sheets_put(store, sheet, take, x, x_frames, out))
 }
 
-// The take and the pose that are kept of a sheet.
+// The take and the pose that are kept for a sheet.
 #[unsafe(no_mangle)]
 pub extern "C" fn sim3_sheets_get(
     store: &[u8],

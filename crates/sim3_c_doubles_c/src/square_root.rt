@@ -1,4 +1,4 @@
-// The square root with what is left.
+// The square root with its remainder.
 ghost use Rattle.std.specs.Prelude.{◌≡◌};
 ghost use Rattle.to_lists.specs.Written.{status};
 ghost use Rattle.sim3_c_doubles.specs.Root.{root_lists, root_call, root_written};

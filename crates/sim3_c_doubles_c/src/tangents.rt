@@ -5,7 +5,7 @@ ghost use Rattle.sim3_c_doubles.specs.Order.{compare_call, sort_call};
 
 use to_lists::status;
 
-// The tangent a against the tangent b.
+// Compares the tangents a and b.
 #[unsafe(no_mangle)]
 pub extern "C" fn sim3_compare_tangents(a: &[u64], b: &[u64], out: &mut [i64]) -> u32
     ensures value { result ≡ status (compare_call a.now b.now out.old) }

@@ -1,4 +1,4 @@
--- Whether a list is as long as is due for a scaled pair, told by what `put` says. Assumes nothing.
+-- Whether a list has the length of a scaled pair, from the result of `put`. Assumes nothing.
 use Rattle.std.proofs.Common.{◌≡◌, ◌<◌, ℕ, List, refl, subst, length, arith}
 use Rattle.std.specs.Prelude.{Bool, true, false, cond, eqb, Float}
 use Rattle.linalg.specs.Answer.{answers, refuses, number}

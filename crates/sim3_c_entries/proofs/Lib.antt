@@ -1,3 +1,3 @@
--- The laws of the arms.
+-- Lemmas on the arms.
 pub mod Unfolds
 pub mod Arms

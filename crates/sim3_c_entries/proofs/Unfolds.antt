@@ -1,4 +1,4 @@
--- What the proofs of some functions unfold, by the function.
+-- For each function named here, the definitions that its proof unfolds.
 use Rattle.std.specs.Prelude.{⊤}
 use Rattle.sim3_c_entries.specs.Calls.{mul_call, arms_fitting}
 use Rattle.to_lists.specs.Written.{joined_fitting, fitting}

@@ -1,5 +1,5 @@
--- What each function answers: 0 and the numbers in `out`, or the number of a refusal and `out` as it was (Written.antt
--- of crate `to_lists`). A list whose length is not the one that is due is refused by the lists' own number.
+-- The result of each function: 0 and the numbers in `out`, or the number of a refusal and `out` as it was (Written.antt
+-- of crate `to_lists`). A list of the wrong length is refused with the lists' number.
 use Rattle.std.specs.Prelude.{ℕ, cond, ◌&&◌, List, [], ◌∷◌, eqb, length, Float}
 use Rattle.std.specs.Float.{Format}
 use Rattle.linalg.specs.Answer.{Answer, answers, refuses, and_then}
@@ -59,7 +59,7 @@ pub record ArmLists : Type 0 where
 abbrev pub arm_lists : List ℕ → List Float → ArmLists
 arm_lists arms numbers = record { arms = arms; numbers = numbers }
 
--- the arm of each sign, and 1 where v₀ and w₀ of the closed arm come from series of their own, else 0
+-- the arm of each sign, and 1 if v₀ and w₀ of the closed arm come from their own series, else 0
 abbrev pub arm_bytes : ArmedPair → List ℕ
 arm_bytes p = p.pos.arm ∷ cond p.pos.ends 1 0 ∷ p.neg.arm ∷ cond p.neg.ends 1 0 ∷ []
 

@@ -1,6 +1,6 @@
-// The C functions that answer records of the job too: each is what a C caller has, and what the entry of a mark asks.
-// And two functions on lists that a mark has and C callers do not. Each writes to the lists that it is lent, or refuses
-// and leaves them as they were. include/sim3.h has the order of every number.
+// The C functions that records of the job use too, as the operations behind their marks. And two functions on lists
+// that the job uses and C callers do not. Each writes to the lists that it borrows, or refuses and leaves them as they
+// were. include/sim3.h has the order of every number.
 #![tactic(auto)]
 
 ghost use Rattle.std.specs.Prelude.{◌≡◌};
@@ -26,7 +26,7 @@ use to_lists::{put, put_framed};
 // How many bytes the arms of both signs have.
 pub const ARMS: usize = 4;
 
-// Exp of the tangent, with its ten function values and the frames that it is given.
+// Exp of the tangent, with its ten function values and the frames that the caller passes.
 #[tactic(auto, unfolding(crate::specs::Calls::exp_call, to_lists::proofs::OnLists::on_lists))]
 pub fn sim3_exp<T: Width>(
     tau: &[T],
@@ -48,7 +48,7 @@ pub fn sim3_exp<T: Width>(
     put_framed(out, out_frames, Pose::exp(t, v, frames))
 }
 
-// X Y, where X starts from the frame to which Y goes; up is e^sigma of X.
+// X Y, where X starts from the frame where Y ends; up is e^sigma of X.
 #[tactic(auto, unfolding(crate::proofs::Unfolds::sim3_mul_unfolds))]
 pub fn sim3_mul<T: Real>(
     x: &[T],
@@ -132,7 +132,7 @@ pub fn sim3_block_pair<T: Width>(
     put(out, block_pair(t, v, j, i))
 }
 
-// The inverse of a block; refusal 2 where e is a zero.
+// The inverse of a block; refusal 2 if e is a zero.
 #[tactic(auto, unfolding(crate::specs::Calls::block_inverse_call, to_lists::proofs::OnLists::on_lists))]
 pub fn sim3_block_inverse<T: Real>(j: &[T], out: &mut [T]) -> Result<(), Refusal>
     ensures value { status (answer result)
@@ -159,8 +159,8 @@ pub fn act_point<T: Real>(x: &[T], up: T, p: &[T], out: &mut [T]) -> Result<(), 
     put(out, a.act(up, v))
 }
 
-// The arms of both signs as bytes, each with 1 or 0 for whether v0 and w0 of the closed arm come from series of their
-// own, and the scaled pair to a list; both or none.
+// The arms of both signs as bytes, each with 1 or 0 for whether v0 and w0 of the closed arm come from their own series,
+// and the scaled pair to a list; both or neither.
 #[tactic(auto, using(crate::proofs::Arms::sizes), unfolding(crate::proofs::Unfolds::put_arms_unfolds))]
 fn put_arms<T: Real>(arms: &mut [u8], out: &mut [T], p: ArmedPair<T>) -> Result<(), Refusal>
     ensures value { status (answer result)

@@ -29,7 +29,7 @@ pub extern "C" fn sim3_exp(
     status(sim3_c_entries::sim3_exp(tau, values, frames, out, out_frames))
 }
 
-// X Y, where X starts from the frame to which Y goes.
+// X Y, where X starts from the frame where Y ends.
 #[unsafe(no_mangle)]
 pub extern "C" fn sim3_mul(
     x: &[f64],

@@ -1,5 +1,5 @@
-// The functions of crate sim3_c_entries for callers in C: each under its name there, with its clauses.
-// include/sim3.h has the order of every number.
+// The functions of crate sim3_c_entries at f32, for callers in C: each under its name there with the ending _f32, with
+// its clauses. include/sim3.h has the order of every number.
 #![tactic(auto)]
 
 ghost use Rattle.std.specs.Prelude.{◌≡◌};
@@ -29,7 +29,7 @@ pub extern "C" fn sim3_exp_f32(
     status(sim3_c_entries::sim3_exp(tau, values, frames, out, out_frames))
 }
 
-// X Y, where X starts from the frame to which Y goes.
+// X Y, where X starts from the frame where Y ends.
 #[unsafe(no_mangle)]
 pub extern "C" fn sim3_mul_f32(
     x: &[f32],

@@ -15,7 +15,7 @@ pub extern "C" fn sim3_act_many_f32(x: &[f32], up: f32, pts: &[f32], out: &mut [
     status(sim3_c::points::sim3_act_many(x, up, pts, out))
 }
 
-// Every point by itself.
+// Every point separately.
 #[unsafe(no_mangle)]
 pub extern "C" fn sim3_act_each_f32(x: &[f32], up: f32, pts: &[f32], out: &mut [f32]) -> u32
     ensures value { result ≡ status (act_each_call binary32 x.now up pts.now out.old) }

@@ -1,5 +1,5 @@
--- Each turn brings the end nearer: a record is begun, or a byte is read, or a byte is asks-more for. So the program
--- ends without a budget of turns. Assumes nothing.
+-- Each turn brings the end nearer: a record begins, or a byte is read, or the program will read next. So the program
+-- ends, without a bound on its turns. Assumes nothing.
 use Prim.Native.Nat.{ℕ, zero, suc, ◌+◌, ◌-◌, ◌*◌, ◌≤◌, ◌<◌}
 use mathlib.Core.Path.{◌≡◌, refl, sym, ◌∙◌}
 use mathlib.Core.Bool.{Bool, true, false}
@@ -20,7 +20,7 @@ use Rattle.job.proofs.Pieces.{sound_is}
 use Rattle.job.proofs.Progress.{feed_progress}
 use Rattle.job.proofs.Whole.{feed_sound}
 
--- ---- how far the end is: the records that may still be begun, each worth more than a whole buffer; then the room in
+-- ---- how far away the end is: the records that may still begin, each worth more than a whole buffer; then the room in
 -- the buffer; then whether a read comes next
 abbrev pub idle : Bool → ℕ
 idle true = 0

@@ -1,5 +1,5 @@
--- A run from a tape to a sink. What stands in the sink, and what the job writes for the bytes that are kept and those
--- still on the tape, is together what it writes for the whole tape; a read and a feed keep this. Assumes nothing.
+-- A run from a tape to a sink. The bytes in the sink, followed by the job's output for the bytes kept and those still
+-- on the tape, are its output for the whole tape; a read and a feed preserve this. Assumes nothing.
 use Prim.Native.Nat.{ℕ, ◌+◌, ◌≤◌, ◌<◌, min}
 use mathlib.Core.Path.{◌≡◌, refl, sym, ap, subst, ◌∙◌}
 use mathlib.Core.Bool.{Bool, true, false, not, cond}
@@ -54,14 +54,14 @@ underway_read limit tape sink j kept kept₁ last ended at n next sent p e k o =
         ∙ ap (λ (l : List ℕ). kept ++ l) (ap (λ (l : List ℕ). take n (drop at tape) ++ l) (sym (drop-drop n at tape))
         ∙ take-append-drop n (drop at tape))
 
--- the input is over for the next feed only where it was over for this one
+-- the input is over for the next feed only if it was over for this one
 pub underway_next :
     (limit : ℕ) (tape sink : List ℕ) (j : Standing) (kept : List ℕ) (last over : Bool) (at sent : ℕ) →
     Underway limit tape sink j kept last at sent → (over ≡ true → last ≡ true) →
     Underway limit tape sink j kept over at sent
 underway_next limit tape sink j kept last over at sent p h = record { same = p.same; over = λ e. p.over (h e) }
 
--- one call, of which f is told
+-- one call, with the result f
 module _
     (limit : ℕ) (tape sink : List ℕ) (j : Standing) (kept : List ℕ) (last : Bool) (at sent : ℕ)
     (p : Underway limit tape sink j kept last at sent) (s : counts_sound limit j.counts ≡ true)
@@ -112,7 +112,7 @@ module _
         rw j (sym (take-append_seam (take sent sink) (F.bytes ++ Z))),
       )
 
--- ---- what a read from the tape gives
+-- ---- a read from the tape
 pub tape_any :
     (r : Result Filled RunError) (tape : List ℕ) (at have : ℕ) (buf buf₁ : List ℕ) (last : Bool) →
     FromTape r tape at have buf buf₁ false → FromTape r tape at have buf buf₁ last
@@ -138,7 +138,7 @@ tape_read limit tape sink j f n none buf buf₁ last at have sent e g z p =
     rw (e, g) (underway_read limit tape sink j (take have buf) (take (have + count_of f) buf₁) last (ended f) at
     (count_of f) f.at sent p z.0 z.1 z.2)
 
--- how many bytes are given, and whether none are
+-- how many bytes it reads, and whether there are none
 given_by : (k : ℕ) (t : Bool) → eqb k 0 ≡ t → (unwrap_or (then_some (not t) k) 0 ≡ k)
     × (is_none (then_some (not t) k) ≡ t)
 given_by k true e = (sym (eqb-true k 0 e), refl)
@@ -150,18 +150,18 @@ given-count k = (given_by k (eqb k 0) refl).0
 pub given-ended : (k : ℕ) → is_none (given_of k) ≡ eqb k 0
 given-ended k = (given_by k (eqb k 0) refl).1
 
--- `is_none` by what it says of `is_some`
+-- `is_none` from `is_some`
 pub none_by : (f : Filled) (t : Bool) → is_some f.count ≡ not t → t ≡ ended f
 none_by f t e = rw e (sym (not-not t))
 
--- ---- what a write does
+-- ---- a write
 pub sink_short :
     (e : RunError) (bytes sink sink₁ : List ℕ) (sent : ℕ) → ToSink (Err e) bytes sink sink₁ sent →
     (e ≡ Unwritten) × ((sink₁ ≡ sink) × (length sink < sent + length bytes))
 sink_short Unread bytes sink sink₁ sent t = absurd t
 sink_short Unwritten bytes sink sink₁ sent t = (refl, t)
 
--- the front of a list whose part from i on was lent, and holds b first
+-- the front of a list after its part from i on was lent and now begins with b
 pub filled_front : (l b rest : List ℕ) (i n : ℕ) → i ≤ length l → length b ≡ n →
     take (i + n) (take i l ++ (b ++ rest)) ≡ take i l ++ b
 filled_front l b rest i n h k =
@@ -172,7 +172,7 @@ filled_front l b rest i n h k =
 pub handed : (b o o₁ : List ℕ) (w : ℕ) → w ≡ length b → o₁ ≡ b ++ drop w o → take w o₁ ≡ b
 handed b o o₁ w e q = rw (q, e) (take-append_seam b (drop (length b) o))
 
--- ---- what std answered
+-- ---- the results of std
 filled_in :
     {E : Type 0} (z : Result ℕ E) (have room most at end : ℕ) → have + room ≤ most → at ≤ end →
     Within (filled_of z room at) have most true end

@@ -1,4 +1,4 @@
--- What a write does, to any place, and to the sink.
+-- The result of a write, to anywhere, and to the sink.
 use Rattle.std.specs.Prelude.{ℕ, ◌+◌, ◌≤◌, ◌<◌, ◌≡◌, List, ◌++◌, Result, Ok, Err, length, take}
 use Rattle.sim3_job.specs.declared.RunError.{RunError}
 use Rattle.sim3_job.specs.declared.RunError.TheVariants.{Unread, Unwritten}
@@ -8,7 +8,7 @@ abbrev pub WithinSink : Result ℕ RunError → ℕ → Type 0
 WithinSink (Ok next) most = next ≤ most
 WithinSink (Err e) most = Unit {0}
 
--- to the sink: all the bytes stand behind those that stood there; or there is no room for them, and nothing changes
+-- to the sink: all the bytes follow those already there; or there is no room for them, and nothing changes
 abbrev pub ToSink : Result ℕ RunError → List ℕ → List ℕ → List ℕ → ℕ → Type 0
 ToSink (Ok next) bytes sink sink₁ sent = take next sink₁ ≡ take sent sink ++ bytes
 ToSink (Err Unread) bytes sink sink₁ sent = ⊥

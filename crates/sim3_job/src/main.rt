@@ -1,11 +1,10 @@
-// Answers a job: records from standard input, answers to standard output. All that is written comes
-// from `job::feed`; this program reads into one buffer, feeds it, and writes the other.
+// Answers a job: records from standard input, answers to standard output. All output comes from `job::feed`; this
+// program reads into one buffer, feeds it, and writes the other.
 //
-// No contract can say what the system reads and writes. So `run` takes a place to read from and one
-// to write to: either standard input and output (`live`), or a tape, which is cut in pieces in any
-// way, and a sink. It is proved that the sink then holds what the job writes for the tape. `live` goes
-// to `fill` and `put` alone: there one call of std reads where `read_tape` copies from the tape, and
-// one writes where `put` copies to the sink.
+// No contract can say what the system reads and writes. So `run` takes a place to read from and one to write to: either
+// standard input and output (`live`), or a tape, which is cut into pieces in any way, and a sink. It is proved that the
+// sink then holds the job's output for the tape. Only `fill` and `put` read `live`: there one call of std reads where
+// `read_tape` copies from the tape, and one writes where `put` copies to the sink.
 #![tactic(auto)]
 
 ghost use Rattle.std.specs.Prelude.{◌≡◌, true, false, ◌++◌, ◌+◌, ◌-◌, ◌≤◌, ◌<◌, Ok, length, take, drop, get_or};
@@ -49,8 +48,8 @@ impl fmt::Display for RunError {
     }
 }
 
-// What comes before the next feed: a read; nothing, where the last one wanted room; or nothing more,
-// where the input has ended.
+// What comes before the next feed: a read; nothing, if the last feed needed room; or nothing more, if the input has
+// ended.
 #[derive(Clone, Copy)]
 pub enum Next {
     Read,
@@ -58,15 +57,15 @@ pub enum Next {
     Ended,
 }
 
-// What a read gave: how many bytes, or None where the input has ended; and where the tape then stands.
+// The result of a read: how many bytes, or None if the input has ended; and the place on the tape afterwards.
 #[derive(Clone, Copy)]
 pub struct Filled {
     pub count: Option<usize>,
     pub at: usize,
 }
 
-// Feeds the first `have` bytes of buf, and moves those that it is not done with to the front. Where
-// it waits for more they are fewer than the longest record has. The counts are never found bad.
+// Feeds the first `have` bytes of buf, and moves those that were not used to the front. If the feed waits for more,
+// they are fewer than the longest record has. The counts are always sound.
 fn feed_once(
     buf: &mut [u8],
     have: usize,
@@ -92,7 +91,7 @@ fn feed_once(
     f
 }
 
-// What comes before the next feed, where the last one stopped for this reason and goes on.
+// What comes before the next feed, if the last one stopped for this reason and continues.
 fn next_after(reason: Reason, ended: bool) -> Next
     ensures reads { reads result ≡ asks_for reason }
     ensures over { over result ≡ true → ended ≡ true }
@@ -106,8 +105,8 @@ fn next_after(reason: Reason, ended: bool) -> Next
     }
 }
 
-// How many bytes a read from the tape gives at `at`, where it could give `most`: the cut there, if it
-// is one, else all.
+// How many bytes a read from the tape returns at `at`, with `most` available: the cut there, if it is between 1 and
+// `most`, else all.
 fn piece(cuts: &[usize], at: usize, most: usize) -> usize
     ensures upper_bound { result ≤ most }
     ensures most_value { result ≡ 0 → most ≡ 0 }
@@ -120,14 +119,14 @@ fn piece(cuts: &[usize], at: usize, most: usize) -> usize
     }
 }
 
-// So many bytes from a read that had room for one: none are the end of the input.
+// The result of reading so many bytes with room for one: 0 is the end of the input.
 fn given(count: usize) -> Option<usize>
     ensures { result ≡ given_of count }
 {
     (count != 0).then_some(count)
 }
 
-// A read from the tape, behind the bytes at hand.
+// Reads from the tape into the buffer, after the bytes at hand.
 fn read_tape(tape: &[u8], cuts: &[usize], at: usize, buf: &mut [u8], have: usize) -> Filled
     requires at_in_bounds { at ≤ length tape.now }
     requires have_in_bounds { have < length buf.old }
@@ -144,7 +143,7 @@ fn read_tape(tape: &[u8], cuts: &[usize], at: usize, buf: &mut [u8], have: usize
     }
 }
 
-// What std's read answered: an error, or how many bytes, where there was room for a byte.
+// The result of std's read, with room for a byte: an error, or how many bytes.
 fn from_read(got: io::Result<usize>, room: &[u8], at: usize) -> Result<Filled, RunError>
     ensures { result ≡ filled_of got (length room.now) at }
 {
@@ -155,7 +154,7 @@ fn from_read(got: io::Result<usize>, room: &[u8], at: usize) -> Result<Filled, R
     Ok(Filled { count, at })
 }
 
-// A read from standard input, behind the bytes at hand.
+// Reads from standard input into the buffer, after the bytes at hand.
 fn read_input(
     rt: &HostRuntime,
     tape: &[u8],
@@ -173,7 +172,7 @@ fn read_input(
     from_read(got, &buf[have..], at)
 }
 
-// Reads once behind the bytes at hand, where more are asked for.
+// Reads once into the buffer, after the bytes at hand, if `next` says so.
 fn fill(
     rt: &HostRuntime,
     live: bool,
@@ -203,8 +202,8 @@ fn fill(
     }
 }
 
-// Writes all the bytes, to standard output or behind those in the sink. Answers where the sink then
-// stands.
+// Writes all the bytes, to standard output or to the sink after those already there. Returns the place in the sink
+// after them.
 fn put(
     rt: &HostRuntime,
     live: bool,
@@ -230,18 +229,17 @@ fn put(
     Ok(end)
 }
 
-// 65,536 zeros, for a loop that moves much data. The `ensures` gives only the length, which lending
-// the array as a slice needs.
+// 65,536 zeros, for a loop that moves much data. The `ensures` states only the length, which borrowing the array as a
+// slice needs.
 fn large_buffer() -> [u8; 65536]
     ensures { 65536 ≡ length result }
 {
     [0; 65536]
 }
 
-// Reads, feeds and writes until the job ends or a read or write fails; `sent` tells how many bytes
-// stand in the sink. From a tape, however it is cut, no read fails; where the sink has room for what the
-// job writes, that is what it then holds: the replies to the records of the tape, each by what is kept
-// after those before it (`InputTheorem`).
+// Reads, feeds and writes until the job ends or a read or write fails; `sent` is the number of bytes in the sink. From
+// a tape, however it is cut, no read fails; if the sink has room for the job's output, that is what it then holds: the
+// replies to the records of the tape, each by the state after those before it (`InputTheorem`).
 fn run(
     rt: &HostRuntime,
     live: bool,

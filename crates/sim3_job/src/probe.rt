@@ -1,12 +1,12 @@
-// Whether this process computes as the proofs say, asked before anything is read: a library that is loaded
-// into it (LD_PRELOAD) can set another rounding or flushing.
+// Whether this process computes as the proofs say, tested before anything is read: a library loaded into it
+// (LD_PRELOAD) can change the rounding or flushing.
 ghost use Rattle.std.specs.Prelude.{◌≡◌, true};
 
 use ieee::Real;
 use std::io::Read;
 
-// Zero, which no compiler can know: a read from standard input is lent the list that it stands in, of
-// which it may write none. It is asked for no byte, so it takes none, and what it answers is no matter.
+// Zero, unknown to the compiler: a read from standard input borrows an empty part of the list that holds it. The read
+// takes no byte, and its result does not matter.
 fn zero(rt: &HostRuntime) -> u64
     ensures { result ≡ 0 }
 {
@@ -16,8 +16,8 @@ fn zero(rt: &HostRuntime) -> u64
     byte[0] as u64
 }
 
-// Whether the documented numbers have the product that is due. On the machine of the proofs they have, so
-// there the program reads and answers.
+// Whether the documented numbers have the documented product. On the machine of the proofs they have, so there the
+// program reads and answers.
 pub fn computes_as_proved(rt: &HostRuntime) -> bool
     ensures { result ≡ true }
 {

@@ -1,5 +1,5 @@
--- The structs over the floats that the definitions speak of, and each struct of the code as one of them: `h` gives the
--- float of a number.
+-- The structs over floats that the definitions use, and each struct of the code as one of them: `h` maps a number to
+-- its float.
 use Rattle.std.specs.Prelude.{Float}
 use Rattle.so3.specs.declared.quat.Quat as CodeQuat
 

@@ -26,7 +26,7 @@ module _ (f : Format) where
   unfoldable pub so3_inv_act : Quat → Vec3 → Vec3
   so3_inv_act q v = so3_act (quat_conjugate q) v
 
-  -- (cos(θ/2), k φ), by the circle functions of |φ|²; root, sh, ch are θ, sin(θ/2), cos(θ/2) as handed in
+  -- (cos(θ/2), k φ), by the circle functions of |φ|²; root, sh, ch are θ, sin(θ/2), cos(θ/2), which the caller passes
   unfoldable pub so3_exp : Vec3 → Float → Float → Float → Quat
   so3_exp φ root sh ch =
       let c = circle_exp f (vec_norm_sq f φ) root sh ch in

@@ -1,5 +1,5 @@
-// A quaternion w + x i + y j + z k of doubles (Hamilton: i² = j² = k² = ijk = -1), w first. A unit q
-// rotates v to q v q*. It is a value with no invariant: nothing below asks that q is unit.
+// A quaternion w + x i + y j + z k (Hamilton: i² = j² = k² = ijk = -1), w first. A unit q rotates v to q v q*. It is a
+// value with no invariant: nothing below requires that q is unit.
 ghost use Rattle.std.specs.Prelude.{◌≡◌, map};
 ghost use Rattle.so3.specs.Quat.{quat, quat_identity, quat_normalized, quat_of_xyzw, quat_to_xyzw, quat_of_jpl};
 ghost use Rattle.so3.specs.Quat.{quat_conjugate, quat_norm_sq, quat_to_matrix, quat_renormalized, quat_mul};
@@ -26,7 +26,7 @@ impl<T: Real> Quat<T> {
         Quat { w, x, y, z }
     }
 
-    // (w, x, y, z) / n, where n is the root of |q|² as the caller hands it in.
+    // (w, x, y, z) / n, where n is the root of |q|², which the caller passes.
     #[tactic(auto, unfolding(crate::specs::Quat::quat_normalized))]
     pub fn from_wxyz_normalized(w: T, x: T, y: T, z: T, n: T) -> Quat<T>
         ensures { as_quat T.float result ≡ quat_normalized T.format (T.float w) (T.float x) (T.float y) (T.float z)
@@ -161,7 +161,7 @@ impl<T: Real> Quat<T> {
     }
 }
 
-// What a Newton step brings nearer to unit length: a quaternion, and a value that holds one.
+// A quaternion, or a value with one, which a Newton step brings nearer to unit length.
 pub trait Renormalize: Copy {
     // Whether the second is the first after one step.
     ghost renormalizes: { Self → Self → Type 0 };
@@ -169,7 +169,7 @@ pub trait Renormalize: Copy {
     fn renormalized(self) -> Self
         ensures { renormalizes self result };
 
-    // `renormalized` on a value that is lent; nothing else is altered.
+    // `renormalized` in place; nothing else changes.
     fn renormalize(&mut self)
         ensures { renormalizes self.old self.new }
     {
@@ -180,8 +180,8 @@ pub trait Renormalize: Copy {
 impl<T: Real> Renormalize for Quat<T> {
     ghost renormalizes = { λ p q. as_quat T.float q ≡ quat_renormalized T.format (as_quat T.float p) };
 
-    // One Newton step towards unit length, q (3 - |q|²) / 2. It is near unit only where |q|² is
-    // near 1: it gives zero at |q|² = 3 and reverses q beyond.
+    // One Newton step towards unit length, q (3 - |q|²) / 2. The result is near unit only if |q|² is near 1: it is zero
+    // at |q|² = 3, and beyond that q is reversed.
     fn renormalized(self) -> Quat<T>
         ensures { as_quat T.float result ≡ quat_renormalized T.format (as_quat T.float self) }
     {

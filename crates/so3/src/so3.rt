@@ -1,5 +1,5 @@
-// The rotation group on unit quaternions. A rotation is its `Quat`: product, matrix and
-// renormalisation are that type's, and the hat products are linalg's.
+// The rotation group on unit quaternions. A rotation is its `Quat`: product, matrix and renormalisation are methods of
+// that type, and the hat products are linalg's.
 ghost use Rattle.std.specs.Prelude.{◌≡◌};
 ghost use Rattle.linalg.specs.Vector.{vec_norm_sq};
 ghost use Rattle.so3.specs.Quat.{quat_conjugate};
@@ -49,8 +49,8 @@ pub fn inverse<T: Real>(q: Quat<T>) -> Quat<T>
     q.conjugate()
 }
 
-// Exp(phi) = (cos(θ/2), k phi), k = sin(θ/2) / θ: root, sin_half and cos_half are θ = |phi| and the
-// sine and cosine of its half as the caller hands them in.
+// Exp(phi) = (cos(θ/2), k phi), k = sin(θ/2) / θ: root, sin_half and cos_half are θ = |phi| and the sine and cosine of
+// its half, which the caller passes.
 #[tactic(auto, unfolding(crate::specs::So3::so3_exp))]
 pub fn exp<T: Limits>(phi: Vec3<T>, root: T, sin_half: T, cos_half: T) -> Quat<T>
     ensures { as_quat T.float result ≡ so3_exp T.format (as_vec3 T.float phi) (T.float root) (T.float sin_half)

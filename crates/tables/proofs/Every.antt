@@ -77,7 +77,7 @@ table-length f t =
     eqb→eq _ _ (and_l (eqb (length (patterns f t)) (table_length t)) (right f (table_rule t) 0 (patterns f t))
     (table-holds f t))
 
--- ---- which is the statement of the definitions
+-- ---- the statement of the definitions
 pattern_at :
     (f : Format) (rule : ℕ → Rational) (i : ℕ) (bs : List ℕ) → T (right f rule i bs) → (n k : ℕ) → k < length bs →
     n ≡ i + k →
@@ -109,7 +109,7 @@ table_is f row =
     floats_are f (row_rule row) 0 (patterns f (circle_table row)) (table-right f (circle_table row))
     ∙ ap (entries f (row_rule row) 0) (table-length f (circle_table row))
 
--- what a list lends at an index is what is there
+-- what a list lends at an index is its element there
 pub item_is : {X : Type 0} (xs : List X) (i : ℕ) (r : Option (Bor X)) → IsItemAt xs i r →
     option_copied r ≡ slice_get xs i
 item_is xs i None h = sym (slice_get_past xs i (h.3))

@@ -44,6 +44,6 @@ row_table f row = entries f (table_rule (circle_table row)) 0 (table_length (cir
 unfoldable pub recip_fact : Format → ℕ → Float
 recip_fact f n = rounded f (table_rule recip_row n)
 
--- the table ends at index 32: past it there is none (02, K7)
+-- the table ends at index 32: there is no entry past it (02, K7)
 unfoldable pub recip_table : Format → ℕ → Option Float
 recip_table f n = cond (ltb n (table_length recip_row)) (Some (recip_fact f n)) None

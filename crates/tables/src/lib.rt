@@ -29,7 +29,7 @@ pub trait Tables: Real {
     fn table(row: Row) -> [Self; 16]
         ensures { map Self.float result ≡ row_table Self.format (row_named row) };
 
-    // 1/n!, or that there is none: the table ends at index 32.
+    // 1/n!, or None past the end of the table at index 32.
     fn recip_fact(n: usize) -> Option<Self>
         ensures { option_map Self.float result ≡ recip_table Self.format n };
 }

@@ -1,4 +1,4 @@
--- The flags told with the arms are the block pair's, from what the two calls ensure, at any format. Assumes nothing.
+-- The armed pair's flags are the block pair's, from what the two calls ensure, at any format. Assumes nothing.
 use mathlib.Core.Path.{◌≡◌, refl, ◌∙◌}
 use lib.Ieee.{Format}
 use Rattle.linalg.specs.Answer.{Answer, answers}

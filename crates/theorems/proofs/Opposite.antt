@@ -1,5 +1,6 @@
 -- Opposite values, vectors and matrices: negated, up to the sign of a zero. Sums and differences of opposites, and
--- products by what stays, are opposite, for every value, NaN and infinities included, at any format. Assumes nothing.
+-- their products with an unchanged factor, are opposite, for every value, NaN and infinities included, at any format.
+-- Assumes nothing.
 use mathlib.Core.Path.{◌≡◌, refl, sym, ap, ◌∙◌}
 use mathlib.Core.Logic.{◌⊎◌, inl, inr}
 use Prim.Native.Nat.{zero, suc}
@@ -18,7 +19,7 @@ use Rattle.linalg.specs.Floats.{Mat3}
 use Rattle.side_jacobians.specs.Blocks.{mat_outer}
 use Rattle.theorems.specs.RhoNegated.{Opposite, OppositeVec, OppositeMat, OppositeIs}
 
--- ---- what it says of two values
+-- ---- what `Opposite` says of two values
 zero-opposite : Opposite f0 f0
 unfolding unsigned_zero neg
 zero-opposite = refl
@@ -55,7 +56,7 @@ module _ (f : Format) where
   sub-opposite : (a b a' b' : Float) → Opposite a a' → Opposite b b' → Opposite (sub f a b) (sub f a' b')
   sub-opposite a b a' b' p q = sub_same f a' (neg a) b' (neg b) p q ∙ neg-sub f a b
 
-  -- a factor that stays
+  -- a factor that is the same
   times-opposite : (a a' k : Float) → Opposite a a' → Opposite (mul f a k) (mul f a' k)
   times-opposite a a' k p = mul-same f a' (neg a) k k p refl ∙ ap unsigned_zero (mul-neg_l f a k)
 
@@ -101,7 +102,7 @@ module _ (f : Format) where
   vec-scale a a' s p =
       record { x = times-opposite f _ _ s p.x; y = times-opposite f _ _ s p.y; z = times-opposite f _ _ s p.z }
 
-  -- a vector that stays, by an opposite number
+  -- a vector that is the same, times an opposite number
   pub scale_by : (a : Vec3) (s s' : Float) → Opposite s s' → OppositeVec (vec_scale f a s) (vec_scale f a s')
   unfolding vec_scale
   scale_by a s s' p = record { x = by_opposite f _ _ _ p; y = by_opposite f _ _ _ p; z = by_opposite f _ _ _ p }
@@ -145,7 +146,7 @@ module _ (f : Format) where
   unfolding mat_scale
   mat-scale a a' s p = record { c0 = vec-scale f _ _ s p.c0; c1 = vec-scale f _ _ s p.c1; c2 = vec-scale f _ _ s p.c2 }
 
-  -- a row that stays times a vector, and a row times a vector that stays
+  -- a row that is the same times an opposite vector, and an opposite row times a vector that is the same
   row_by : (a b c : Float) (v v' : Vec3) → OppositeVec v v' → Opposite (row_mul f a b c v) (row_mul f a b c v')
   row_by a b c v v' p =
       sum3-opposite f _ _ _ _ _ _ (by_opposite f _ _ _ p.x) (by_opposite f _ _ _ p.y) (by_opposite f _ _ _ p.z)

@@ -1,5 +1,5 @@
--- Turning the translation round: t, b and f are sums of products with exactly one factor from ρ, and no test, divisor
--- or coefficient reads ρ; the rest does not mention it. Assumes nothing.
+-- With ρ negated, t, b and f are negated: each is a sum of products with exactly one factor from ρ, and no test,
+-- divisor or coefficient reads ρ; the rest does not depend on ρ. Assumes nothing.
 use mathlib.Core.Path.{refl}
 use mathlib.Core.Bool.{Bool, true, false, cond}
 use lib.Ieee.{Float, Format, mul, lt}
@@ -71,7 +71,7 @@ module _ (f : Format) (phi r s : Vec3) (h : OppositeVec r s) where
   blocks-at_negated_rho c jl =
       record { a = refl; b = q-at_negated_rho c jl; c = refl; f = vec-neg _ _ (sums_turned c.w0 c.w1 c.w2); e = refl }
 
--- ---- each of the functions, on a tangent and on the tangent turned round
+-- ---- each of the functions, on a tangent and on the tangent with ρ negated
 module _ (f : Format) (tau : Sim3Tangent) (v : Values) (jl jlInv : Mat3) where
   exp-at_negated_rho : RhoNegatedSim3 (pose_exp f tau v) (pose_exp f (rho_negated tau) v)
   unfolding pose_exp rho_negated

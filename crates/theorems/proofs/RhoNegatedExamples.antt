@@ -1,4 +1,4 @@
--- The examples of turning round, computed from the definitions. Assumes nothing.
+-- The examples of negating ρ, computed from the definitions. Assumes nothing.
 use mathlib.Core.Path.{◌≡◌, refl, sym, ap, ◌∙◌, subst}
 use lib.Dec.{T}
 use lib.Ieee.{Float, binary32, binary64, round, of_bits, to_bits, neg, add, sub, mul, div, lt, le}
@@ -21,7 +21,7 @@ use Rattle.side_jacobians.specs.Blocks.{mat_outer, jl_q, jl_blocks, poly_matrix,
 use Rattle.theorems.specs.RhoNegated.{rho_negated}
 use Rattle.theorems.specs.RhoNegatedExamples.{StepNegated, RhoNegatedExamples}
 
--- the two zeros are apart, so a number that is the same zero both ways is not negated
+-- the two zeros are distinct, so a number that is the same zero at ρ and at −ρ is not negated
 apart : neg f0 ≡ f0 → ⊥
 unfolding neg
 apart e = subst T (ap not_minus_zero (sym e)) tt

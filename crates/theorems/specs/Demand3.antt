@@ -1,7 +1,7 @@
--- Demand 3, whole: the paired evaluation gives for both signs what the definitions for one sign give, and the
--- exponential's quaternion at the negative is the conjugate. For any seven numbers as tangent, any z, any ten values
--- and any two 3×3 matrices, related to each other or not, NaN and infinities included, at any format. The definitions
--- on the right of each equation are demand 2's, which know nothing of pairs.
+-- Demand 3, whole: for both signs the paired evaluation equals the definitions for one sign, and the exponential's
+-- quaternion at the negative is the conjugate. For any seven numbers as tangent, any z, any ten values and any two 3×3
+-- matrices, related to each other or not, NaN and infinities included, at any format. The definitions on the right of
+-- each equation are demand 2's, which do not mention pairs.
 use Rattle.std.specs.Prelude.{◌≡◌, true, false, Float}
 use Rattle.std.specs.Float.{Format}
 use Rattle.std.specs.Float.Ieee.{neg, lt}
@@ -24,7 +24,7 @@ use Rattle.side_jacobians.specs.Blocks.{jl_and_inverse}
 use Rattle.side_jacobians.specs.Floats.{JacAndInverse}
 use Rattle.side_jacobians.specs.Floats.{BlockPair}
 
--- what the eight calls answer: the pair of coefficients and each sign's, the pair of blocks and each sign's, the
+-- the results of the eight calls: the pair of coefficients and each sign's, the pair of blocks and each sign's, the
 -- exponential of the tangent and of its negative
 pub record Signs : Type 0 where
   pub pair : Answer ScaledPair
@@ -38,10 +38,10 @@ pub record Signs : Type 0 where
 
 pub record Demand3 (f : Format) (tau : Sim3Tangent) (z : Float) (v : Values) (jl jlInv : Mat3)
     (r : Signs) : Type 0 where
-  -- CO: the pair's answer is the two one-sign answers beside each other, for every z
+  -- CO: the pair's answer is the two one-sign answers side by side, for every z
   pub co : r.pair ≡ beside r.plus r.minus
-  -- where z is not below zero, a NaN included, these are the nine coefficients and the flag at σ, and those at −σ on
-  -- the mirrored values
+  -- if z is not below zero, or is a NaN, these are the nine coefficients and the flag at σ, and those at −σ on the
+  -- mirrored values
   pub co_answered :
       lt z f0 ≡ false →
       (r.pair ≡ answers (record {
@@ -51,7 +51,7 @@ pub record Demand3 (f : Format) (tau : Sim3Tangent) (z : Float) (v : Values) (jl
       }))
       × (r.plus ≡ answers (coeffs_scaled f tau.sigma z v))
       × (r.minus ≡ answers (coeffs_scaled f (neg tau.sigma) z (mirrored tau.sigma v)))
-  -- below zero all three refuse by 1
+  -- below zero all three refuse, by 1
   pub co_refused : lt z f0 ≡ true → (r.pair ≡ refuses 1) × (r.plus ≡ refuses 1) × (r.minus ≡ refuses 1)
   -- PA: left and its inverse are those of the tangent, right and its inverse those of the negative, on mirrored values
   -- and transposed matrices

@@ -1,6 +1,6 @@
--- Turning the translation round: with all of ρ negated, the exponential's t and the blocks b and f of the left Jacobian
--- are negated, and all else of both has the same bits. For any tangent, any ten values and any two 3×3 matrices,
--- related to each other or not, NaN and infinities included, at any format.
+-- With all of ρ negated, the exponential's t and the blocks b and f of the left Jacobian are negated, and all else of
+-- both has the same bits. For any tangent, any ten values and any two 3×3 matrices, related to each other or not, NaN
+-- and infinities included, at any format.
 use Rattle.std.specs.Prelude.{◌≡◌, ◌⊎◌, ℕ, Float}
 use Rattle.std.specs.Float.{Format}
 use Rattle.std.specs.Float.Ieee.{neg}
@@ -25,7 +25,7 @@ use Rattle.theorems.specs.Floats.{BothRhos, FiveCalls}
 unfoldable pub rho_negated : Sim3Tangent → Sim3Tangent
 rho_negated tau = tangent tau.phi (vec_neg tau.rho) tau.sigma
 
--- ---- y is −x: a zero of either sign matches a zero, and a NaN, of which the logic has one, a NaN
+-- ---- y is −x, where a zero of either sign matches a zero, and a NaN a NaN, of which the logic has one
 abbrev pub Opposite : Float → Float → Type 0
 Opposite x y = Same y (neg x)
 
@@ -39,13 +39,13 @@ pub record OppositeMat (a b : Mat3) : Type 0 where
   pub c1 : OppositeVec a.c1 b.c1
   pub c2 : OppositeVec a.c2 b.c2
 
--- that it says no less: y is −x, or both are zeros. Proved as `opposite-is`
+-- `Opposite` says exactly this: y is −x, or both are zeros. Proved as `opposite-is`
 pub record OppositeIs (x y : Float) : Type 0 where
   pub only : Opposite x y → (y ≡ neg x) ⊎ ((Same x f0) × (Same y f0))
   pub negated : y ≡ neg x → Opposite x y
   pub zeros : Same x f0 → Same y f0 → Opposite x y
 
--- ---- x is formed from a tangent, and y in the same way from the tangent turned round
+-- ---- x is formed from a tangent, and y in the same way from the tangent with ρ negated
 pub record RhoNegatedSim3 (x y : Sim3) : Type 0 where
   pub q : y.q ≡ x.q
   pub t : OppositeVec x.t y.t
@@ -75,7 +75,7 @@ five_calls_of f tau v jl jlInv from to =
       pair = block_pair f tau v jl jlInv;
     }
 
--- each both ways
+-- each at ρ and at −ρ
 unfoldable pub both_rhos_of : Format → Sim3Tangent → Values → Mat3 → Mat3 → ℕ → ℕ → BothRhos
 both_rhos_of f tau v jl jlInv from to =
     record {
@@ -84,7 +84,7 @@ both_rhos_of f tau v jl jlInv from to =
           five_calls_of f (rho_negated tau) v jl jlInv from to;
     }
 
--- of the inverse, and of the pair's other blocks, nothing is said
+-- the inverse and the pair's other blocks are not covered
 pub record RhoNegated (r : BothRhos) : Type 0 where
   pub exp : RhoNegatedPose r.at_rho.exp r.at_negated_rho.exp
   pub left : RhoNegatedBlock r.at_rho.left r.at_negated_rho.left

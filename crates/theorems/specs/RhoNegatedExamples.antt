@@ -1,5 +1,5 @@
--- A zero's sign is not turned with ρ, so that no more than `RhoNegated` holds: at the zero tangent t, b and f have the
--- same bits both ways. And numbers that are turned.
+-- The sign of a zero does not change with ρ, so no more than `RhoNegated` holds: at the zero tangent t, b and f have
+-- the same bits at ρ and at −ρ. And numbers that are negated.
 use Rattle.std.specs.Prelude.{◌≡◌, List, [], ◌∷◌, ℕ}
 use Rattle.std.specs.Float.{Format, binary32, binary64}
 use Rattle.std.specs.Float.Ieee.{to_bits, neg}
@@ -14,8 +14,8 @@ use Rattle.sim3.specs.Floats.{Sim3Tangent}
 use Rattle.side_jacobians.specs.Blocks.{jac_jl}
 use Rattle.theorems.specs.RhoNegated.{rho_negated}
 
--- at the zero tangent the first number of t and of b is +0 both ways, and that of f is -0 both ways, whatever the
--- values; so y ≡ −x, bit for bit, holds of none
+-- at the zero tangent the first number of t and of b is +0 at ρ and at −ρ, and that of f is -0, whatever the values; so
+-- y ≡ −x, bit for bit, holds for none of them
 pub record ZerosStay (f : Format) (v : Values) : Type 0 where
   pub t_zeros : ((pose_exp f tangent_zero v).t.x ≡ f0) × ((pose_exp f (rho_negated tangent_zero) v).t.x ≡ f0)
   pub b_zeros : ((jac_jl f tangent_zero v mat_identity).b.c0.x ≡ f0)

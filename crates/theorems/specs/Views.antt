@@ -1,4 +1,4 @@
--- What the struct of the eight calls says.
+-- The view of the struct of the eight calls.
 use Rattle.std.specs.Prelude.{Float}
 use Rattle.linalg.specs.Answer.{view}
 use Rattle.coeffs.specs.Floats.{as_scaled, as_scaled_pair}

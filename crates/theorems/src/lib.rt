@@ -1,8 +1,7 @@
-// What is said of several calls together. Each function makes the calls of which a theorem speaks, and its contract is
-// the theorem: it rests on the contracts of these functions and on nothing else of them. Proved: the paired evaluation
-// gives for both signs what the one-sign functions give, the third demand (Demand3); the flags told with the arms are
-// those by which the block pair scales (FlagsScale); with rho negated, t, b and f are negated and all else stays
-// (RhoNegated).
+// Theorems on several calls together. Each function makes the calls that a theorem is about, and its contract is the
+// theorem: it uses only the contracts of these calls. Proved: for both signs the paired evaluation equals the one-sign
+// functions, the third demand (Demand3); the armed pair's flags are those by which the block pair scales (FlagsScale);
+// with rho negated, t, b and f are negated and all else stays (RhoNegated).
 #![tactic(auto)]
 
 ghost use Rattle.std.specs.Prelude.{◌≡◌};
@@ -30,7 +29,7 @@ use side_jacobians::pair::BlockPair;
 use sim3::sim3::Sim3;
 use sim3::tangent::Sim3Tangent;
 
-pub mod rho_negated; // both ways along rho
+pub mod rho_negated; // results at rho and at -rho
 
 // What the three calls on one sign return: the coefficients, the left Jacobian with its inverse, and the
 // exponential.
@@ -41,7 +40,8 @@ pub struct OneSign<T> {
     pub exp: Sim3<T>,
 }
 
-// What the eight calls return: the pair of coefficients and the pair of blocks, and what each sign gives apart.
+// What the eight calls return: the pair of coefficients and the pair of blocks, and the results of each sign
+// separately.
 #[derive(Clone, Copy)]
 pub struct BothSigns<T> {
     pub pair: Result<ScaledPair<T>, Refusal>,
@@ -72,8 +72,8 @@ fn one_sign<T: Width>(
     }
 }
 
-// The paired functions on tau and z, and the one-sign functions on each sign: on the negative with
-// the mirrored values and the transposed matrices.
+// The paired functions on tau and z, and the one-sign functions on each sign: on the negative with the mirrored values
+// and the transposed matrices.
 pub fn both_signs<T: Width>(
     tau: Sim3Tangent<T>,
     z: T,
@@ -107,8 +107,7 @@ pub struct Flagged<T> {
     pub block: BlockPair<T>,
 }
 
-// The armed pair at tau's sigma and |phi|^2 on the values v, and the block pair of tau on any other values
-// w.
+// The armed pair at tau's sigma and |phi|^2 on the values v, and the block pair of tau on any other values w.
 pub fn same_flags<T: Width>(
     tau: Sim3Tangent<T>,
     v: Values<T>,

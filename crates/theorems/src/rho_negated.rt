@@ -1,5 +1,5 @@
-// Turning the translation round: with all of rho negated, the exponential's t and the blocks b and f of
-// the left Jacobian are negated, and all else of both has the same bits.
+// With all of rho negated, the exponential's t and the blocks b and f of the left Jacobian are negated, and all else of
+// both has the same bits.
 ghost use Rattle.std.specs.Prelude.{◌≡◌};
 ghost use Rattle.theorems.specs.RhoNegated.{rho_negated, five_calls_of, both_rhos_of, RhoNegated};
 ghost use Rattle.sim3.specs.Floats.{as_sim3_tangent};
@@ -39,7 +39,7 @@ pub struct FiveCalls<T> {
     pub pair: BlockPair<T>,
 }
 
-// The five calls on the tangent, and on the tangent turned round.
+// The five calls on the tangent, and on the tangent with rho negated.
 #[derive(Clone, Copy)]
 pub struct BothRhos<T> {
     pub at_rho: FiveCalls<T>,
@@ -66,7 +66,7 @@ fn five_calls<T: Width>(
     }
 }
 
-// Both ways along rho, with the same values, matrices and frames: none of them depends on rho.
+// Results at rho and at -rho, with the same values, matrices and frames: none of them depends on rho.
 pub fn both_rhos<T: Width>(
     tau: Sim3Tangent<T>,
     v: Values<T>,

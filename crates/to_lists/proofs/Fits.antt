@@ -1,4 +1,4 @@
--- Numbers for a list of their length: what is returned, and what the list then holds. Assumes nothing.
+-- Numbers for a list of their length: the return value, and the list afterwards. Assumes nothing.
 use Prim.Native.Nat.{ℕ}
 use mathlib.Core.Path.{◌≡◌, sym, ◌∙◌}
 use mathlib.Core.List.{List, append-nil}
@@ -14,11 +14,11 @@ use Rattle.layout.specs.Layout.{pose_count}
 use Rattle.from_lists.specs.Lists.{PoseLists, frames_count}
 use Rattle.to_lists.specs.Written.{status, written, fitting, framed_numbers, framed_written, framed_fitting}
 
--- a run of as many stores as the list has places leaves the run alone
+-- a run of as many stores as the list has elements leaves only the run
 pub sets-all : {A : Type 0} (out l : List A) → length out ≡ length l → sets out 0 l ≡ l
 sets-all out l h = rw (sets_front l out (omega arith), drop_all (length l) out (omega arith)) (append-nil l)
 
--- ---- where the length is due: 0, and the numbers
+-- ---- with the right length: 0, and the numbers
 pub fitted : (out l : List Float) (n : ℕ) → length out ≡ n → length l ≡ n →
     (status (fitting out l) ≡ 0) × (written (fitting out l) out ≡ l)
 unfolding status written fitting

@@ -1,4 +1,4 @@
--- The laws of lists that are written whole.
+-- Lemmas on lists that are written whole.
 pub mod OnLists
 pub mod Fits
 pub mod Stored

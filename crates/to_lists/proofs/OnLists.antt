@@ -1,4 +1,4 @@
--- What an answer unfolds to compute what a call returns and what the lists then hold.
+-- The definitions to unfold for the return value of a call and the lists afterwards.
 use Rattle.std.specs.Prelude.{⊤}
 use Rattle.to_lists.specs.Written.{status, written}
 

@@ -1,4 +1,4 @@
--- A list of one place and one of two, after a store at each. Assumes nothing.
+-- A list of one element and one of two, after a store at each. Assumes nothing.
 use Rattle.std.proofs.Common.{◌≡◌, List, [], ◌∷◌, length, set, refl, arith}
 
 pub one_stored : {A : Type 0} (l : List A) (x : A) → length l ≡ 1 → set l 0 x ≡ x ∷ []

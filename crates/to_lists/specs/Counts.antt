@@ -1,4 +1,4 @@
--- The coefficients with their arms have as many numbers as their lists have places.
+-- The coefficients with their arms have as many numbers as their lists have elements.
 use Rattle.std.proofs.Common.{◌≡◌, refl, length, length-append}
 use Rattle.std.specs.Float.{Format}
 use Rattle.coeffs.specs.Floats.{Armed}

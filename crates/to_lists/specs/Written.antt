@@ -1,5 +1,5 @@
--- What is returned where numbers are written to lists, and what the lists then hold: 0 and the numbers, or the number
--- of a refusal and the lists as they were. A list whose length is not the one that is due is refused.
+-- The return value of a call that writes numbers to lists, and the lists afterwards: 0 and the numbers, or the number
+-- of a refusal and the lists as before. A list of the wrong length is refused.
 use Rattle.std.specs.Prelude.{ℕ, cond, ◌&&◌, List, [], ◌∷◌, ◌++◌, eqb, length, pos, Float}
 use Rattle.std.specs.Float.{Format}
 use Rattle.std.specs.Float.Ieee.{of_int}
@@ -12,7 +12,7 @@ use Rattle.frames.specs.Floats.{Pose}
 use Rattle.layout.specs.Layout.{pose_count, pose_numbers, scaled_numbers, scaled_pair_numbers, armed_scaled}
 use Rattle.from_lists.specs.Lists.{wrong_length, pose_from, PoseLists, pose_lists, frames_count}
 
--- ---- what is returned, and what `out` then holds
+-- ---- the return value, and `out` afterwards
 unfoldable pub status : {A : Type 0} → Answer A → ℕ
 status (answers l) = 0
 status (refuses n) = n
@@ -21,7 +21,7 @@ unfoldable pub written : {A : Type 0} → Answer A → A → A
 written (answers l) out = l
 written (refuses n) out = out
 
--- numbers for an `out` that has just their length
+-- numbers for an `out` that must have exactly their length
 unfoldable pub fitting : List Float → List Float → Answer (List Float)
 fitting out l = cond (eqb (length out) (length l)) (answers l) (refuses wrong_length)
 
@@ -29,32 +29,32 @@ fitting out l = cond (eqb (length out) (length l)) (answers l) (refuses wrong_le
 abbrev pub framed_numbers : Pose → PoseLists
 framed_numbers x = pose_lists (pose_numbers x.sim3) (x.from ∷ x.to ∷ [])
 
--- what the lists of the result hold after a call
+-- the result's lists after a call
 abbrev pub framed_written : (PoseLists → Answer PoseLists) → PoseLists → PoseLists
 framed_written call out = written (call out) out
 
--- a pose for lists that have just the lengths of its numbers and of its frames
+-- a pose for lists that must have exactly the lengths of its numbers and of its frames
 unfoldable pub framed_fitting : PoseLists → Pose → Answer PoseLists
 framed_fitting out x =
     cond (eqb (length out.numbers) pose_count && eqb (length out.frames) frames_count) (answers (framed_numbers x))
     (refuses wrong_length)
 
--- where the frames do not meet that is refused, whatever lengths the lists have
+-- if the frames do not match, that is refused, whatever lengths the lists have
 unfoldable pub joined_fitting : PoseLists → Answer Pose → Answer PoseLists
 joined_fitting out a = and_then a (framed_fitting out)
 
 -- ---- the coefficients with their arms
--- the arm of one sign, and 1 where v₀ and w₀ of the closed arm come from series of their own, else 0
+-- the arm of one sign, and 1 if v₀ and w₀ of the closed arm come from series, else 0
 unfoldable pub arm_numbers : Format → Armed → List Float
 arm_numbers f a = of_int f (pos a.arm) ∷ cond a.ends f1 f0 ∷ []
 
--- before the numbers of that sign; and those of both signs before the scaled pair, as AR answers them
+-- these before the numbers of that sign; and those of both signs before the scaled pair, as in AR's answer
 unfoldable pub armed_numbers : Format → Armed → List Float
 armed_numbers f a = arm_numbers f a ++ scaled_numbers a.s
 
 unfoldable pub armed_pair_numbers : Format → ArmedPair → List Float
 armed_pair_numbers f p = arm_numbers f p.pos ++ (arm_numbers f p.neg ++ scaled_pair_numbers (armed_scaled p))
 
--- ---- the rotation's Newton step, which reads no frame: in place, the list is read and then written
+-- ---- the rotation's Newton step, which reads no frame, in place: the list is read and then written
 unfoldable pub renormalize_call : Format → List Float → Answer (List Float)
 renormalize_call f x = and_then (pose_from x) (λ a. fitting x (pose_numbers (pose_renormalized f a)))

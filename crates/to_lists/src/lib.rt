@@ -1,6 +1,6 @@
-// The numbers of a thing, written to a list that a C function is lent and that has just their length; a list of another
-// length is refused, and nothing written. Proved: every number that the list then holds (specs/Written). Rests on
-// layout.
+// The numbers of a structure, written to a list that a C function borrows and that has exactly their length; a list of
+// another length is refused, and nothing is written. Proved: every number in the list afterwards (specs/Written). Rests
+// on layout.
 #![tactic(auto)]
 
 ghost use Rattle.std.specs.Prelude.{◌≡◌, ℕ, List, Float, cond, length};
@@ -42,7 +42,7 @@ use side_jacobians::side::{ActJacobians, TwoJacobians};
 use sim3::sim3::Sim3;
 use so3::quat::{Quat, Renormalize};
 
-mod numbers; // what has numbers
+mod numbers; // structures with numbers
 pub mod whole; // a byte as a number
 
 const QUAT: usize = 4;
@@ -50,15 +50,15 @@ const QUAT: usize = 4;
 // The nine coefficients of one sign and their flag.
 const SCALED: usize = 9 + 1;
 
-// The arm of one sign and its ends, before the ten numbers of that sign; and those of both signs before
-// the scaled pair.
+// The arm of one sign and its ends, before the ten numbers of that sign; and those of both signs before the scaled
+// pair.
 const ARM: usize = 2;
 
 const ARMED: usize = ARM + SCALED;
 
 const ARMED_PAIR: usize = 2 * ARMED;
 
-// The numbers of x to a list that has just their length.
+// Writes the numbers of x to a list that must have exactly their length.
 #[tactic(auto, unfolding(crate::proofs::OnLists::on_lists, crate::specs::Written::fitting))]
 pub fn put<T: Real, X: ToNumbers<T>>(out: &mut [T], x: X) -> Result<(), Refusal>
     ensures value { status (answer result) ≡ status (fitting (T.floats out.old) (X.numbers x)) }
@@ -282,14 +282,14 @@ impl<T: Real> ToNumbers<T> for ActJacobians<T> {
     ghost count_law = { λ j. act_count_lem (as_act_jacobians T.float j) };
 }
 
-// 1 where it holds, else 0.
+// 1 if it holds, else 0.
 fn flag<T: Real>(holds: bool) -> T
     ensures { T.float result ≡ cond holds f1 f0 }
 {
     ieee::pick(holds, T::of(1.0), T::of(0.0))
 }
 
-// The arm, and 1 or 0 for whether v0 and w0 of the closed arm come from series of their own.
+// The arm, and 1 or 0 for whether v0 and w0 of the closed arm come from series.
 #[tactic(auto, unfolding(crate::specs::Written::arm_numbers))]
 fn put_arm<T: Whole>(out: &mut [T], a: Armed<T>)
     requires { length out.old ≡ 2 }
@@ -356,7 +356,7 @@ pub fn renormalize_pose<T: Real>(x: &mut [T]) -> Result<(), Refusal>
     put(x, a.renormalized())
 }
 
-// The numbers to one list and the frames, from and to, to another; both or none.
+// Writes the numbers to one list and the frames, from and to, to another; both or neither.
 #[tactic(auto, unfolding(crate::proofs::OnLists::on_lists, crate::specs::Written::framed_fitting))]
 pub fn put_framed<T: Real>(out: &mut [T], out_frames: &mut [u16], x: Pose<T>) -> Result<(), Refusal>
     ensures value { status (answer result)

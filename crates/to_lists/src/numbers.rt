@@ -1,9 +1,9 @@
-// What has numbers that a list can hold. A list's length is looked at by `put`, so only this crate can name the trait.
+// Structures whose numbers a list can hold. `put` tests a list's length, so only this crate can name the trait.
 ghost use Rattle.std.specs.Prelude.{◌≡◌, ℕ, List, Float, length};
 
 use ieee::Real;
 
-// What has a fixed number of numbers, in the order in which they stand in a list.
+// A structure of a fixed number of numbers, in the order in which a list holds them.
 pub trait ToNumbers<T: Real>: Copy {
     const COUNT: usize;
 

@@ -82,7 +82,7 @@ bytes-at b at (suc k) h =
 pub bytes-all : (b : List ℕ) (k : ℕ) → length b ≡ k → b ≡ bytes_at b 0 k
 bytes-all b k h = sym (take_all k b (omega arith)) ∙ bytes-at b 0 k (omega arith)
 
--- ---- what the bytes of a word are
+-- ---- the bytes of a word
 pub word-four : (b : List ℕ) → length b ≡ 4 → word_of b ≡ get_or b 0 0 + 0x100 * get_or b 1 0 + 0x1_0000 * get_or b 2 0
     + 0x100_0000 * get_or b 3 0
 unfolding word_of
@@ -102,7 +102,7 @@ pub word-eight :
 unfolding word_of
 word-eight b h = ap word_of (bytes-all b 8 h) ∙ omega arith
 
--- as std reads them and writes them
+-- as std reads and writes them
 pub read_two : (a b : ℕ) → from_le_bytes w16 (a ∷ b ∷ []) ≡ word_of (a ∷ b ∷ [])
 unfolding word_of
 read_two a b = omega arith

@@ -1,4 +1,4 @@
--- The laws of bytes, of bytes at a place of a list, of numbers looked through for a NaN, and of lists to and from
+-- Lemmas on bytes, on bytes at a place in a list, on the search for a NaN among numbers, and on lists to and from
 -- bytes.
 pub mod Bytes
 pub mod Lists

@@ -43,7 +43,7 @@ pub decoded_more : {A : Type 0} (at : ℕ → A) (l : List A) (i : ℕ) →
 unfolding firsts
 decoded_more at l i = rw (add-one i) (one_behind (firsts at i) l (at i) i (firsts-length at i))
 
--- ---- numbers of a type, by what each is: `float`
+-- ---- the numbers of a type, as the floats that they are
 pub read_more :
     {X : Type 0} (float : X → Float) (at : ℕ → Float) (l : List X) (x : X) (i : ℕ) → i < length l →
     take i (map float l) ≡ firsts at i → float x ≡ at i →
@@ -136,7 +136,7 @@ all_one : (a : List Float) (x : Float) → all_finite (numbers (a ++ (x ∷ []))
 unfolding all_finite numbers
 all_one a x = finite-append a (x ∷ []) ∙ ap (λ (t : Bool). all_finite (numbers a) && t) (and-true (is_finite x))
 
--- what a rounding gives equals itself
+-- a result of rounding equals itself
 one_of : (t : Bool) (x y : Float) → eq x x ≡ true → eq y y ≡ true → eq (cond t x y) (cond t x y) ≡ true
 one_of true x y h k = h
 one_of false x y h k = k
@@ -169,7 +169,7 @@ sum_itself f s a t b c =
     (one_of (ltb a b) (round f t (b - a) c) (round f (s && ltb b a) (a - b) c) (round_itself f t (b - a) c)
     (round_itself f (s && ltb b a) (a - b) c))
 
--- less itself
+-- minus itself
 view : (f : Format) (x : Float) → eq (sub f x x) (sub f x x) ≡ is_finite x
 unfolding sub add neg is_finite eq
 view f nan = refl
@@ -208,7 +208,7 @@ pub one-finite : {X : Type 0} (float : X → Float) (l : List X) (y : X) (i : �
 one-finite float l y i e h q =
     rw (of_one float l y i q) at (at_finite (map float l) (float y) i e (simp length-map (omega arith)))
 
--- ---- what is read of bytes that have just the numbers for a list
+-- ---- read from bytes that hold exactly the numbers for a list
 front_read : (f : Format) (b : List ℕ) (n k : ℕ) → n * width f ≤ length b → k < n →
     number_at f (take (n * width f) b) k ≡ number_at f b k
 front_read f b n k h g =
@@ -229,7 +229,7 @@ one_of_two false x = refl
 pub all_stored : {A : Type 0} (l a : List A) → length l ≡ length a → sets l 0 a ≡ a
 all_stored l a h = sets-eq a l 0 (omega (arith, h)) ∙ rw (drop_all (0 + length a) l (omega (arith, h))) (append-nil a)
 
--- of bytes that have just the numbers for a list
+-- from bytes that hold exactly the numbers for a list
 pub decoded :
     (f : Format) (b : List ℕ) (l : List Float) (n : ℕ) → n * width f ≤ length b → length l ≡ n →
     sets l 0 (numbers_at f (take (n * width f) b) (fewer (length (take (n * width f) b) / width f) (length l)))
@@ -240,7 +240,7 @@ decoded f b l n h e =
     rw (k, numbers_front f b n n h (omega arith)) (all_stored l (numbers_at f b n)
     (e ∙ sym (firsts-length (number_at f b) n)))
 
--- ---- as many as both have
+-- ---- as many as fit both
 pub min_fewer : (a b : ℕ) → min a b ≡ fewer a b
 min_fewer a b = grind (arith, nat_tests)
 

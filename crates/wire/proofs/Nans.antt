@@ -1,4 +1,4 @@
--- Numbers looked through for a NaN, as code does it. Assumes nothing.
+-- The search for a NaN among numbers, as the code does it. Assumes nothing.
 use Prim.Native.Nat.{ℕ, zero, suc, ◌+◌, ◌*◌, ◌/◌, ◌%◌, ◌<◌}
 use mathlib.Core.Path.{◌≡◌, sym, ap, ◌∙◌}
 use mathlib.Core.Bool.{Bool, true, false, not, cond, ◌&&◌}
@@ -23,7 +23,7 @@ abbrev pub fraction : Format → ℕ
 fraction binary32 = 0x007f_ffff
 fraction binary64 = 0x000f_ffff_ffff_ffff
 
--- the infinity's pattern; a pattern is a NaN's where it is above that, but for the sign
+-- the infinity's pattern; without its sign, a NaN's pattern is above that
 abbrev infinite : Format → ℕ
 infinite binary32 = 0x7f80_0000
 infinite binary64 = 0x7ff0_0000_0000_0000
@@ -32,7 +32,7 @@ nan_above : (f : Format) (w : ℕ) → is_nan (of_bits f w) ≡ ltb (infinite f)
 nan_above binary32 w = sym (nan_bits_is binary32 w) ∙ nan_bits_above binary32 w
 nan_above binary64 w = sym (nan_bits_is binary64 w) ∙ nan_bits_above binary64 w
 
--- the fraction's bits carry such a pattern to the bit of the sign, and no other
+-- adding all bits of the fraction to such a pattern carries into the sign bit, and to no other pattern
 carried : (f : Format) (m : ℕ) → m < sign_bit f → (m + fraction f) / sign_bit f ≡ cond (ltb (infinite f) m) 1 0
 carried binary32 m h = grind (arith, nat_tests)
 carried binary64 m h = grind (arith, nat_tests)
@@ -44,7 +44,7 @@ unsigned binary64 w = omega arith
 nan_adds : (f : Format) (w : ℕ) → (w % sign_bit f + fraction f) / sign_bit f ≡ cond (is_nan (of_bits f w)) 1 0
 nan_adds f w = carried f (w % sign_bit f) (unsigned f w) ∙ ap (λ (t : Bool). cond t 1 0) (sym (nan_above f w))
 
--- ---- one number more; of what was put together the bit of the sign is looked at
+-- ---- one more number; the sign bit of the combined word is tested
 halved : (f : Format) (n : ℕ) → high_bit_zero f n ≡ eqb (n / sign_bit f) 0
 halved binary32 n = grind (arith, nat_tests)
 halved binary64 n = grind (arith, nat_tests)
@@ -86,7 +86,7 @@ none_nan_lem f b (suc n) k e h =
     below_more (λ i. is_nan (number_at f b i) ≡ false) n (λ i. none_nan_lem f b n i p.0) (not-true _ p.1) k
     (omega arith)
 
--- of the numbers of a part from the front, of which none is a NaN, each is its bits
+-- the numbers of a part from the front, of which none is a NaN: each is its bits
 pub not_nan : (f : Format) (b : List ℕ) (n w i : ℕ) → length b ≡ n * width f → no_nan f b ≡ true → i < n →
     w ≡ word_at (width f) b (i * width f) → is_nan (of_bits f w) ≡ false
 unfolding no_nan number_at number_of word_at

@@ -1,4 +1,4 @@
--- The bytes at a place of a list, as code reads and stores them one by one. Assumes nothing.
+-- The bytes at a place in a list, as the code reads and stores them one by one. Assumes nothing.
 use Prim.Native.Nat.{ℕ, ◌+◌, ◌-◌, ◌*◌, ◌≤◌, ◌<◌}
 use mathlib.Core.Path.{◌≡◌, sym, ap, ◌∙◌}
 use mathlib.Core.List.{List, [], ◌∷◌, ◌++◌, append_assoc}
@@ -33,7 +33,7 @@ part_read binary64 b i n k h g =
     let at : i * 8 + k * 8 ≡ (i + k) * 8 = omega arith in
     ap (number_of binary64) (within b (i * 8) (k * 8) 8 ((n - k) * 8) (n * 8) (omega arith) (omega arith) ∙ rw at)
 
--- ---- written: a part of k bytes that is lent and comes back as d
+-- ---- written: a borrowed part of k bytes that ends up as d
 pub part_stored : (l d v : List ℕ) (a k : ℕ) → d ≡ v → length v ≡ k → a + k ≤ length l →
     take a l ++ (d ++ drop k (drop a l)) ≡ sets l a v
 part_stored l d v a k h e g =

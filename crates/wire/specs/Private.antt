@@ -1,11 +1,12 @@
--- What only private functions' contracts cite.
+-- Definitions for the contracts of private functions.
 use Rattle.std.specs.Prelude.{ℕ, ◌<◌, ◌*◌, ◌≡◌, List, Float, length, get_or}
 use Rattle.std.specs.Float.{Format}
 use Rattle.std.specs.Float.Ieee.{to_bits}
 use Rattle.wire.specs.Wire.{width, word_at, number_at}
 
--- ---- of a closure that reads a number from its bits, and of one that writes it to them; pre and post are what it asks
--- and what it gives it reads each of the first n numbers of the bytes
+-- ---- a closure that reads a number from its bits, and one that writes it to them; pre and post are its precondition
+-- and postcondition
+-- it reads each of the first n numbers of the bytes
 pub record Reads {W X : Type 0} (f : Format) (bits : W → ℕ) (float : X → Float) (pre : W → Type 0) (post : W → X →
     Type 0) (b : List ℕ) (n : ℕ) : Type 0 where
   pub may : (w : W) (i : ℕ) → i < n → bits w ≡ word_at (width f) b (i * width f) → pre w

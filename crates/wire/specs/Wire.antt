@@ -1,4 +1,4 @@
--- Whole numbers and those of a format as bytes, the least first. A byte is a number below 256.
+-- Whole numbers, and numbers of a format, as bytes, least significant first. A byte is a number below 256.
 use Rattle.std.specs.Prelude.{ℕ, zero, suc, ◌+◌, ◌*◌, ◌/◌, ◌%◌, List, [], ◌∷◌, ◌++◌, length, take, drop, Bool, true}
 use Rattle.std.specs.Prelude.{not, cond, ◌&&◌, ltb, Float}
 use Rattle.std.specs.Float.{Format, binary32, binary64}
@@ -10,7 +10,7 @@ unfoldable pub word_of : List ℕ → ℕ
 word_of [] = 0
 word_of (x ∷ b) = x + 256 * word_of b
 
--- the k least bytes of a number
+-- the k least significant bytes of a number
 unfoldable pub word_bytes : ℕ → ℕ → List ℕ
 word_bytes zero n = []
 word_bytes (suc k) n = n % 256 ∷ word_bytes k (n / 256)
@@ -48,7 +48,7 @@ unfoldable pub numbers_bytes : Format → List Float → List ℕ
 numbers_bytes f [] = []
 numbers_bytes f (x ∷ l) = number_bytes f x ++ numbers_bytes f l
 
--- ---- what an answer is made of: numbers of the format, and whole numbers, each with how many bytes it has
+-- ---- the items of an answer: numbers of the format, and whole numbers of so many bytes each
 pub data Item : Type 0 where
   number : Float → Item
   word : ℕ → ℕ → Item
@@ -61,7 +61,7 @@ unfoldable pub items_bytes : Format → List Item → List ℕ
 items_bytes f [] = []
 items_bytes f (i ∷ l) = item_bytes f i ++ items_bytes f l
 
--- whether every number among them is finite; a whole number is
+-- whether every number among them is finite; a whole number always is
 abbrev pub item_finite : Item → Bool
 item_finite (number x) = is_finite x
 item_finite (word k n) = true
@@ -70,7 +70,7 @@ unfoldable pub all_finite : List Item → Bool
 all_finite [] = true
 all_finite (i ∷ l) = item_finite i && all_finite l
 
--- numbers alone
+-- items that are numbers only
 unfoldable pub numbers : List Float → List Item
 numbers [] = []
 numbers (x ∷ l) = number x ∷ numbers l
@@ -79,7 +79,7 @@ numbers (x ∷ l) = number x ∷ numbers l
 unfoldable pub count_bytes : ℕ → List ℕ
 count_bytes n = word_bytes 4 n
 
--- ---- lists, to and from bytes: as far as the bytes and the list both go
+-- ---- lists, to and from bytes: up to the end of the bytes or of the list, whichever comes first
 abbrev pub fewer : ℕ → ℕ → ℕ
 fewer a b = cond (ltb a b) a b
 

@@ -1,7 +1,7 @@
-// Numbers of either width, counts and whole numbers of 16 bits as little-endian bytes: one value at a place of a list,
-// and whole lists, `decode` and `encode`. Those on lists are total: they go as far as the bytes and the list both do.
-// Proved: each is specs/Wire's, with one NaN for all patterns of NaN, and tells whether all numbers are finite. Rests
-// on ieee.
+// Numbers of either width, counts and whole numbers of 16 bits as little-endian bytes: one value at a place in a list,
+// and whole lists, `decode` and `encode`. Those on lists are total: they stop where the bytes or the list end. Proved:
+// each follows specs/Wire, with one NaN for all patterns of NaN, and `encode` returns whether all numbers are finite.
+// Rests on ieee.
 #![tactic(auto)]
 
 ghost use Rattle.std.specs.Prelude.{◌≡◌, ◌+◌, ◌*◌, ◌/◌, ◌≤◌, ◌&&◌, ℕ, true, false, not, refl, length, take, drop};
@@ -19,14 +19,15 @@ use ieee::Real;
 
 mod word; // the bits of one number in its bytes
 
-// A number that has bytes: eight for `f64`, four for `f32`.
+// A number with a fixed number of bytes: eight for `f64`, four for `f32`.
 pub trait Number: Word {
     ghost BYTES: { ℕ };
 
     const BYTES: usize;
 
-    // What is put together of words looked at for a NaN: of none, and of one more. Without its sign a NaN's pattern is
-    // above that of the infinity, so that all bits of the fraction carry it to the bit of the sign, and no other.
+    // The combination of the words tested for a NaN: of none, and of one more. Without its sign a NaN's pattern is
+    // above that of the infinity, so adding all bits of the fraction carries into the sign bit, and for no other
+    // pattern.
     fn none_seen() -> Self::Bits
         ensures { high_bit_zero Self.format (Self.bits result) ≡ true };
 
@@ -34,7 +35,7 @@ pub trait Number: Word {
         ensures { high_bit_zero Self.format (Self.bits result)
             ≡ (high_bit_zero Self.format (Self.bits before) && not (is_nan (of_bits Self.format (Self.bits word)))) };
 
-    // Whether there was no NaN among them: that bit is looked at once, so that nothing is tested word by word.
+    // Whether there was no NaN among them: the sign bit is tested once, instead of each word.
     fn no_nan_seen(seen: Self::Bits) -> bool
         ensures { result ≡ high_bit_zero Self.format (Self.bits seen) };
 
@@ -81,7 +82,7 @@ impl Number for f32 {
     ghost bytes_law = { refl };
 }
 
-// ---- one word at a place of a list
+// ---- one word at a place in a list
 fn word_at<T: Number>(b: &[u8], at: usize) -> T::Bits
     requires { at + width T.format ≤ length b.now }
     ensures { T.bits result ≡ word_at (width T.format) b.now at }
@@ -96,7 +97,7 @@ fn put_word_at<T: Number>(out: &mut [u8], at: usize, word: T::Bits)
     T::put_word(word, &mut out[at..at + T::BYTES], Here);
 }
 
-// ---- one value and an array of its bytes, the least first
+// ---- one value and an array of its bytes, least significant first
 // The double of these bytes; every NaN pattern reads as NaN.
 pub fn from_le_bytes(b: [u8; 8]) -> f64
     ensures { result ≡ number_of binary64 b }
@@ -135,7 +136,7 @@ pub fn short_to_le_bytes(n: u16) -> [u8; 2]
     n.to_le_bytes()
 }
 
-// ---- one number at a place of a list
+// ---- one number at a place in a list
 #[tactic(auto, using(crate::proofs::Places::short_read))]
 fn short_at(b: &[u8], at: usize) -> u16
     requires { at + 2 ≤ length b.now }
@@ -152,7 +153,7 @@ fn put_short(out: &mut [u8], at: usize, n: u16)
     out[at..at + 2].copy_from_slice(&short_to_le_bytes(n));
 }
 
-// ---- numbers read
+// ---- reading numbers
 // Whether none of the numbers in the bytes is a NaN.
 #[tactic(auto, unfolding(crate::specs::Wire::none_nan))]
 pub fn no_nan<T: Number>(b: &[u8]) -> bool
@@ -165,7 +166,7 @@ pub fn no_nan<T: Number>(b: &[u8]) -> bool
     T::no_nan_seen(seen)
 }
 
-// As many numbers as the list has, each read from its bits.
+// Fills the list with numbers, each read from its bits.
 #[tactic(auto, unfolding(crate::specs::Wire::firsts))]
 fn decode_by<T: Number, F: Fn(T::Bits) -> T>(b: &[u8], out: &mut [T], read: F)
     requires bytes { length out.old * width T.format ≤ length b.now }
@@ -177,8 +178,8 @@ fn decode_by<T: Number, F: Fn(T::Bits) -> T>(b: &[u8], out: &mut [T], read: F)
     }
 }
 
-// The numbers in the bytes, to a list. Where none is a NaN, which one look through all of them tells, their bits are
-// taken as they are.
+// Reads the numbers in the bytes into a list. If none is a NaN, which one pass over them finds out, it takes their bits
+// as they are.
 pub fn decode<T: Number>(b: &[u8], out: &mut [T])
     ensures { T.floats out.new
         ≡ sets (T.floats out.old) 0
@@ -194,9 +195,9 @@ pub fn decode<T: Number>(b: &[u8], out: &mut [T])
     }
 }
 
-// ---- numbers written
-// Whether all are finite: a number less itself is a zero, which equals itself; of a NaN or an infinity it is NaN, which
-// does not.
+// ---- writing numbers
+// Whether all are finite: a number minus itself is a zero, which equals itself; for a NaN or an infinity it is NaN,
+// which does not.
 fn all_finite<T: Number>(x: &[T]) -> bool
     ensures { result ≡ all_finite (numbers (T.floats x.now)) }
 {
@@ -208,7 +209,7 @@ fn all_finite<T: Number>(x: &[T]) -> bool
     finite
 }
 
-// All numbers of a list, each written by its bits.
+// Writes all numbers of a list, each by its bits.
 #[tactic(auto, unfolding(crate::specs::Wire::numbers_bytes))]
 fn encode_by<T: Number, F: Fn(T) -> T::Bits>(x: &[T], out: &mut [u8], write: F)
     requires bytes { length x.now * width T.format ≤ length out.old }
@@ -220,7 +221,8 @@ fn encode_by<T: Number, F: Fn(T) -> T::Bits>(x: &[T], out: &mut [u8], write: F)
     }
 }
 
-// The numbers of a list to bytes, and whether all of them are finite; where they are, their bits are taken as they are.
+// Writes the numbers of a list to bytes, and returns whether all of them are finite; if they are, it takes their bits
+// as they are.
 pub fn encode<T: Number>(x: &[T], out: &mut [u8]) -> bool
     ensures value { result
         ≡ all_finite (numbers (take (fewer (length x.now) (length out.old / width T.format)) (T.floats x.now))) }
@@ -240,7 +242,7 @@ pub fn encode<T: Number>(x: &[T], out: &mut [u8]) -> bool
 }
 
 // ---- whole numbers of two bytes
-// The whole numbers in the bytes, two bytes each, to a list.
+// Reads the whole numbers in the bytes, two bytes each, into a list.
 #[tactic(auto, unfolding(crate::specs::Wire::firsts))]
 pub fn decode_shorts(b: &[u8], out: &mut [u16])
     ensures { out.new ≡ sets out.old 0 (words_at 2 b.now (fewer (length b.now / 2) (length out.old))) }
@@ -251,7 +253,7 @@ pub fn decode_shorts(b: &[u8], out: &mut [u16])
     }
 }
 
-// The whole numbers of a list to bytes, two bytes each.
+// Writes the whole numbers of a list to bytes, two bytes each.
 #[tactic(auto, unfolding(crate::specs::Wire::words_bytes))]
 pub fn encode_shorts(x: &[u16], out: &mut [u8])
     ensures { out.new

@@ -1,4 +1,4 @@
-// The bits of one number in its bytes. The functions ask for what `decode` and `encode` have seen to, so each takes a
+// The bits of one number in its bytes. The functions require what `decode` and `encode` have tested, so each takes a
 // `Here`, which no other crate can make.
 ghost use Rattle.std.specs.Prelude.{◌≡◌, true, false, length};
 ghost use Rattle.std.specs.Float.Ieee.{of_bits, to_bits, is_nan};
@@ -7,7 +7,7 @@ ghost use Rattle.wire.specs.Wire.{width, word_of, word_bytes};
 
 use ieee::Real;
 
-// That a call is made in this crate.
+// Evidence that a call is made in this crate.
 #[derive(Clone, Copy)]
 pub struct Here;
 
@@ -22,12 +22,12 @@ pub trait Word: Real {
         requires { length out.old ≡ width Self.format }
         ensures { out.new ≡ word_bytes (width Self.format) (Self.bits word) };
 
-    // The number whose bits these are, taken as they are: no NaN's.
+    // The number with these bits, as they are: not a NaN.
     fn from_bits(word: Self::Bits, here: Here) -> Self
         requires { is_nan (of_bits Self.format (Self.bits word)) ≡ false }
         ensures { Self.float result ≡ of_bits Self.format (Self.bits word) };
 
-    // The bits of a number as they are: no NaN's.
+    // The bits of a number, as they are: it is finite.
     fn to_bits(self, here: Here) -> Self::Bits
         requires { is_finite (Self.float self) ≡ true }
         ensures { Self.bits result ≡ to_bits Self.format (Self.float self) };

@@ -1,4 +1,4 @@
--- `from_lists::block_from` meets its contract: what is told by its numbers is told of the thing. Assumes nothing.
+-- `from_lists::block_from` meets its contract: its numbers determine the block (`Back`). Assumes nothing.
 use Rattle.std.proofs.lemmas.List.{length-map}
 use Rattle.layout.specs.Layout.{block_in, block_numbers}
 use Rattle.from_lists.specs.Lists.{block_from, number_in}

@@ -1,4 +1,4 @@
--- `from_lists::mat_from` meets its contract: what is told by its numbers is told of the thing. Assumes nothing.
+-- `from_lists::mat_from` meets its contract: its numbers determine the matrix (`Back`). Assumes nothing.
 use Rattle.std.proofs.lemmas.List.{length-map}
 use Rattle.layout.specs.Layout.{mat_in, mat_numbers}
 use Rattle.from_lists.specs.Lists.{mat_from, number_in}

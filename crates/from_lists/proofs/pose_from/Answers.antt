@@ -1,4 +1,4 @@
--- `from_lists::pose_from` meets its contract: what is told by its numbers is told of the thing. Assumes nothing.
+-- `from_lists::pose_from` meets its contract: its numbers determine the pose (`Back`). Assumes nothing.
 use Rattle.std.proofs.lemmas.List.{length-map}
 use Rattle.layout.specs.Layout.{pose_in, pose_numbers}
 use Rattle.from_lists.specs.Lists.{pose_from, number_in}

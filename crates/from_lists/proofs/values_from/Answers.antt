@@ -1,4 +1,4 @@
--- `from_lists::values_from` meets its contract: what is told by its numbers is told of the thing. Assumes nothing.
+-- `from_lists::values_from` meets its contract: its numbers determine the values (`Back`). Assumes nothing.
 use Rattle.std.proofs.lemmas.List.{length-map}
 use Rattle.from_lists.specs.Numbers.{values_numbers}
 use Rattle.layout.specs.Layout.{values_in}

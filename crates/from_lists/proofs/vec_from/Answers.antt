@@ -1,4 +1,4 @@
--- `from_lists::vec_from` meets its contract: what is told by its numbers is told of the thing. Assumes nothing.
+-- `from_lists::vec_from` meets its contract: its numbers determine the vector (`Back`). Assumes nothing.
 use Rattle.std.proofs.lemmas.List.{length-map}
 use Rattle.linalg.specs.Vector.{vec_numbers}
 use Rattle.layout.specs.Layout.{vec_in}

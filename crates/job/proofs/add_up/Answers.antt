@@ -1,4 +1,4 @@
--- `job::add_up` meets its contract: the turns so far have taken the sum of as many first counts. Assumes nothing.
+-- `job::add_up` meets its contract: after i turns it has subtracted the sum of the first i counts. Assumes nothing.
 use native.Mathlib.Omega.{arith}
 use Rattle.job.proofs.Rows.{taken_none, taken_short, taken_more}
 use Rattle.job.proofs.add_up.Goals as goal

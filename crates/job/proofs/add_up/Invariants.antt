@@ -1,4 +1,4 @@
--- `job::add_up` meets its contract: the turns so far have taken the sum of as many first counts. Assumes nothing.
+-- `job::add_up` meets its contract: after i turns it has subtracted the sum of the first i counts. Assumes nothing.
 use mathlib.Core.Path.{◌≡◌}
 use Prim.Native.Nat.{◌+◌}
 use lib.ListN.{take}

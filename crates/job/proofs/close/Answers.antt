@@ -1,4 +1,4 @@
--- `job::close` meets its contract: for each reason the run of what it says is written.
+-- `job::close` meets its contract: for each reason it writes the run of bytes of `closing`.
 use mathlib.Core.Logic.{inl, inr}
 use mathlib.Core.Path.{refl}
 use Rattle.job.specs.Feed.{closing_of}

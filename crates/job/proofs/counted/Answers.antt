@@ -1,4 +1,4 @@
--- `job::counted` meets its contract: by how the record counts. Assumes nothing.
+-- `job::counted` meets its contract: by the cases of the disposition. Assumes nothing.
 use Rattle.job.specs.Counts.{totals_more}
 use Rattle.job.proofs.counted.Goals as goal
 

@@ -1,5 +1,5 @@
--- `job::feed` meets its contract: counts that are none of a job's are handed back; else
--- the loop and the end are put together. Assumes nothing.
+-- `job::feed` meets its contract: it returns unsound counts unchanged, and else runs the loop and writes the end.
+-- Assumes nothing.
 use borrow.Author.Rules.{rules}
 use native.Mathlib.Omega.{arith}
 use mathlib.Core.Path.{refl, sym, ◌∙◌}
@@ -11,7 +11,7 @@ use Rattle.job.proofs.Pieces.{feed_left, kept_bad, kept_good}
 use Rattle.job.proofs.feed.Goals as goal
 use Rattle.job.proofs.feed.Goals.{After-records-l}
 
--- what is known where the loop has answered
+-- what is known after the loop has returned
 looped :
     (c : After-records-l) →
     Looped job_limit (standing c.args.c (state_of c.args.state.now)) c.args.input.now c.args.last

@@ -1,4 +1,4 @@
--- `job::put_count` meets its contract: what is copied is the run of the count's bytes. Assumes nothing.
+-- `job::put_count` meets its contract: the copied bytes are the run of the count's bytes. Assumes nothing.
 use mathlib.Core.Path.{◌∙◌}
 use Rattle.wire.proofs.Bytes.{count-length}
 use Rattle.wire.proofs.Places.{lent_stored}

@@ -1,4 +1,4 @@
--- `job::put_no` meets its contract: what is copied is the run of three bytes. Assumes nothing.
+-- `job::put_no` meets its contract: the copied bytes are the run of three bytes. Assumes nothing.
 use mathlib.Core.Path.{ap, ◌∙◌}
 use Rattle.linalg.specs.Answer.{number}
 use Rattle.record_result.specs.RecordResult.{no_bytes}

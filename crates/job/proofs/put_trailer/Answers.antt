@@ -9,7 +9,7 @@ use Rattle.job.proofs.put_trailer.Goals as goal
 pub returns : goal.returns
 returns c =
     let a = c.args in
-    -- as many counts by mark as the array has
+    -- there are as many counts by mark as the array has elements
     let w : length c.args.c.by_mark ≡ row_count = search rules in
     record {
       value = sym (trailer-length a.c w);

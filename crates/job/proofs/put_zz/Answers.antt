@@ -1,4 +1,4 @@
--- `job::put_zz` meets its contract: what is copied is the run of two bytes. Assumes nothing.
+-- `job::put_zz` meets its contract: the copied bytes are the run of two bytes. Assumes nothing.
 use Rattle.record_result.specs.RecordResult.{mark_bytes}
 use Rattle.record_result.proofs.Record.{mark_length}
 use Rattle.wire.proofs.Places.{lent_stored}

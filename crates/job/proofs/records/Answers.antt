@@ -1,4 +1,4 @@
--- `job::records` meets its contract: each turn keeps the definition's value, and each way out is the definition's.
+-- `job::records` meets its contract: each turn preserves the definition's value, and each exit is the definition's.
 -- Assumes nothing.
 use native.Mathlib.Omega.{arith}
 use Prim.Native.Nat.{◌+◌, ◌-◌, ◌≤◌}
@@ -19,7 +19,7 @@ use Rattle.job.proofs.Lent.{left-from, kept_full, kept_round, kept_roomless, kep
 use Rattle.job.proofs.records.Goals as goal
 use Rattle.job.proofs.records.Goals.{After-reply-dispatched}
 
--- ---- what several answers ask of the reply to a turn's record
+-- ---- what several exits need to know of the reply to a turn's record
 turn :
     (c : After-reply-dispatched) →
     Turn job_limit c.args.input.now c.args.last (standing c.args.c0 (state_of c.args.state.now)) c.args.out.now

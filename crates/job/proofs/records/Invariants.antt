@@ -1,4 +1,4 @@
--- `job::records` meets its contract: each turn keeps the definition's value, and each way out is the definition's.
+-- `job::records` meets its contract: each turn preserves the definition's value, and each exit is the definition's.
 -- Assumes nothing.
 use Prim.Native.Nat.{◌-◌}
 use mathlib.Core.Path.{◌≡◌}

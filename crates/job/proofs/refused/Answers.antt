@@ -1,4 +1,4 @@
--- `job::refused` meets its contract: the four are counted, and one more in the mark's place. Assumes nothing.
+-- `job::refused` meets its contract: it updates the four counts and adds one in the mark's place. Assumes nothing.
 use native.Mathlib.Omega.{arith}
 use Rattle.record_result.specs.declared.Disposition.TheVariants.{Refused}
 use Rattle.job.proofs.Rows.{row_small, joined_more}

@@ -10,7 +10,7 @@ use Rattle.job.proofs.sound.Goals as goal
 pub returns-then-c-left-2 : goal.returns-then-c-left-2
 unfolding counts_sound
 returns-then-c-left-2 c =
-    -- as many counts by mark as the array has
+    -- there are as many counts by mark as the array has elements
     let w : length c.args.c.by_mark ≡ row_count = search rules in
     simp (
       le-leb _ _ c.if-c-le-LIMIT.true,

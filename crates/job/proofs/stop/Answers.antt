@@ -1,4 +1,4 @@
--- `job::stop` meets its contract: by its test, and by whether a record is lost. Assumes nothing.
+-- `job::stop` meets its contract: by its test, and by whether a refused record is counted. Assumes nothing.
 use mathlib.Core.Path.{refl, ◌∙◌}
 use borrow.Author.Tests.{lt-ltb, le-ltb}
 use Rattle.job.specs.Private.{stop_of}

@@ -1,4 +1,4 @@
--- `marks::look_up` meets its contract: by what its calls ensure. Assumes nothing.
+-- `marks::look_up` meets its contract: by the contracts of its calls. Assumes nothing.
 use native.Mathlib.Omega.{arith}
 use Prim.Native.Nat.{◌+◌, ◌*◌}
 use mathlib.Core.Path.{◌≡◌, ap, ◌∙◌}

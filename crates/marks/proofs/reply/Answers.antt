@@ -1,5 +1,5 @@
--- `marks::reply` meets its contract: by the length of the input, by its mark, and by what that asks
--- for. Assumes nothing.
+-- `marks::reply` meets its contract: by the length of the input, by its mark, and by the rule of the mark. Assumes
+-- nothing.
 use native.Mathlib.Omega.{arith}
 use mathlib.Core.Path.{refl, sym, ap, ◌∙◌}
 use lib.Ieee.{binary32, binary64}

@@ -1,5 +1,5 @@
--- `nearest::arm_at` meets its contract: it is the arm at the sum that the definition names, and the arms start at 1.
--- Assumes nothing.
+-- `nearest::arm_at` meets its contract: it is the arm at the definition's sum, and the arms start at 1. Assumes
+-- nothing.
 use mathlib.Core.Path.{◌≡◌, sym, subst}
 use Prim.Native.Nat.{ℕ, ◌≤◌}
 use Rattle.arms.specs.Limits.{coeffs_delta}

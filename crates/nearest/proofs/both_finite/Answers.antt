@@ -1,5 +1,5 @@
--- `nearest::both_finite` meets its contract: a product that begins with 0 is a zero where all its factors are finite,
--- and a NaN elsewhere. Assumes nothing.
+-- `nearest::both_finite` meets its contract: a product that begins with 0 is a zero if all its factors are finite, and
+-- a NaN if not. Assumes nothing.
 use mathlib.Core.Bool.{true, ◌&&◌}
 use mathlib.Core.Path.{refl}
 use lib.Ieee.{mul, of_bits}

@@ -1,5 +1,5 @@
--- `nearest::nearest_from` meets its contract: `low` and `high` are the ends of p's arm, and its tests say which of them
--- is nearer. Assumes nothing.
+-- `nearest::nearest_from` meets its contract: `low` and `high` are the ends of p's arm, and its tests decide which of
+-- them is nearer. Assumes nothing.
 use mathlib.Core.Path.{◌≡◌, refl, sym, subst, ◌∙◌}
 use Prim.Native.Nat.{ℕ, ◌+◌, ◌-◌, ◌≤◌, ◌<◌}
 use native.Mathlib.Omega.{arith}

@@ -1,4 +1,4 @@
--- `point_lists::each` meets its contract: after i turns the first i triples are moved and the rest is as it was.
+-- `point_lists::each` meets its contract: after i turns the first i triples are moved and the rest is as before.
 -- Assumes nothing.
 use Rattle.std.proofs.Common.{◌≡◌, ◌+◌, ◌*◌, ◌/◌, ◌<◌, ◌≤◌, ◌++◌, List, length, drop, arith, ap, refl, ◌∙◌}
 use Rattle.std.specs.Prelude.{Float}

@@ -1,4 +1,4 @@
--- `point_lists::each` meets its contract: after i turns the first i triples are moved and the rest is as it was.
+-- `point_lists::each` meets its contract: after i turns the first i triples are moved and the rest is as before.
 -- Assumes nothing.
 use Rattle.std.proofs.Common.{◌≡◌, ◌*◌, ◌++◌, length, drop}
 use Rattle.linalg.specs.Floats.{Vec3}

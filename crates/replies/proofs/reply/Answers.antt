@@ -1,5 +1,5 @@
--- `replies::reply` meets its contract: a cut record and an output without room are told; else the mark or NO is stored
--- before what the entry wrote. Assumes nothing.
+-- `replies::reply` meets its contract: it returns a cut record and an output without room as such; else it stores the
+-- mark or NO before what the operation wrote. Assumes nothing.
 use native.Mathlib.Omega.{arith}
 use Prim.Native.Nat.{ℕ, ◌+◌, ◌-◌, ◌≤◌, ◌<◌}
 use mathlib.Core.Path.{◌≡◌, ap}

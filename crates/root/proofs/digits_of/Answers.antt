@@ -1,5 +1,5 @@
--- `root::digits_of` meets its contract: a subnormal's leading zeros say how far its digits move, and any other has its
--- digits in place (`Digits`). Assumes nothing.
+-- `root::digits_of` meets its contract: a subnormal's leading zeros decide how far its digits move, and any other has
+-- its digits in place (`Digits`). Assumes nothing.
 use borrow.Author.Rules.{rules}
 use native.Mathlib.Omega.{arith}
 use Rattle.root.proofs.Digits.{lead, normal}

@@ -1,5 +1,5 @@
--- `root::positive` meets its contract: the digits' range lets every step stay in 64 bits, and `parts_are` puts the
--- answer together. Assumes nothing.
+-- `root::positive` meets its contract: the digits' range keeps every step within 64 bits, and `parts_are` assembles the
+-- answer. Assumes nothing.
 use mathlib.Core.Path.{refl}
 use Prim.Native.Nat.{◌/◌}
 use native.Mathlib.Omega.{arith}

@@ -1,5 +1,4 @@
--- `root::root` meets its contract: each return is the case of the definition that its tests leave (`Cases`). Assumes
--- nothing.
+-- `root::root` meets its contract: each return is the definition's case for its tests (`Cases`). Assumes nothing.
 use borrow.Author.Rules.{rules}
 use mathlib.Core.Path.{sym, ◌∙◌, subst}
 use Prim.Native.Nat.{ℕ, ◌<◌, ◌≤◌}

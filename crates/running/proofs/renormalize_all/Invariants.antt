@@ -4,7 +4,7 @@ use Rattle.frames.specs.Pose.{framed_renormalized}
 use Rattle.running.proofs.Each.{up_to}
 use Rattle.running.proofs.renormalize_all.Given as goal
 
--- after i turns the first i poses are renormalised and the rest is as it was
+-- after i turns the first i poses are renormalised and the rest is as before
 abbrev pub invariant-loop-p : goal.invariant-loop-p
 invariant-loop-p l = record {
   in_range : l.p-index ≤ length l.initial.poses;

@@ -1,4 +1,4 @@
--- `sheets::add` meets its contract: by whether there is a slot, and whether it is one more. Assumes nothing.
+-- `sheets::add` meets its contract: by whether there is a slot, and whether one more is in use. Assumes nothing.
 use borrow.Author.Rules.{rules}
 use native.Mathlib.Omega.{arith}
 use mathlib.Core.Path.{◌≡◌}

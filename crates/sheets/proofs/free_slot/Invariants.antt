@@ -1,4 +1,4 @@
--- `sheets::free_slot` meets its contract: all slots before the one looked at are a sheet's own. Assumes nothing.
+-- `sheets::free_slot` meets its contract: a sheet owns each slot before the current one. Assumes nothing.
 use Prim.Native.Nat.{◌-◌}
 use mathlib.Core.Path.{◌≡◌}
 use Rattle.sheets.specs.Sheets.{most}

@@ -1,4 +1,4 @@
--- `sheets::get` meets its contract: by whether the slot is the sheet's. Assumes nothing.
+-- `sheets::get` meets its contract: by whether the slot holds the sheet. Assumes nothing.
 use borrow.Author.Rules.{rules}
 use mathlib.Core.Path.{◌≡◌, sym, ap, ◌∙◌}
 use Prim.Native.Nat.{◌+◌, ◌-◌, ◌*◌}

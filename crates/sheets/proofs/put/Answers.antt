@@ -1,4 +1,4 @@
--- `sheets::put` meets its contract: by whether the slot is the sheet's. Assumes nothing.
+-- `sheets::put` meets its contract: by whether the slot holds the sheet. Assumes nothing.
 use borrow.Author.Rules.{rules}
 use mathlib.Core.Path.{◌≡◌, sym, ◌∙◌}
 use lib.ListN.{length}

@@ -1,5 +1,5 @@
--- `sim3_c_entries::put_arms` meets its contract: an `out` of the length that is due has the arms and the numbers
--- written, and with any other both are left as they were. Assumes nothing.
+-- `sim3_c_entries::put_arms` meets its contract: it writes the arms, and the numbers to an `out` of the right length;
+-- for any other it leaves both as they were. Assumes nothing.
 use Rattle.std.proofs.Common.{◌∙◌, ap}
 use borrow.Author.Tests.{eq-eqb}
 use Rattle.layout.proofs.Numbers.{scaled-pair-count}

@@ -1,4 +1,4 @@
--- `sim3_job::feed_once` meets its contract: it is what `feed` ensures, with the bytes that are left moved to the front.
+-- `sim3_job::feed_once` meets its contract: it is what `feed` ensures, with the bytes left over moved to the front.
 use native.Mathlib.Omega.{arith}
 use Prim.Native.Nat.{ℕ, ◌-◌, ◌≤◌, ◌<◌}
 use mathlib.Core.Path.{◌≡◌, sym, ap, ◌∙◌}

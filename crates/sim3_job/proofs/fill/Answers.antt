@@ -1,4 +1,4 @@
--- `sim3_job::fill` meets its contract: nothing is read where nothing is asked for. Assumes nothing.
+-- `sim3_job::fill` meets its contract: it reads only if `next` says so. Assumes nothing.
 use mathlib.Core.Bool.{false}
 use Rattle.std.specs.Prelude.{Ok}
 use Rattle.sim3_job.proofs.Underway.{tape_kept}

@@ -1,5 +1,4 @@
--- `sim3_job::from_read` meets its contract: both sides compute, once what was read is an error or a number. Assumes
--- nothing.
+-- `sim3_job::from_read` meets its contract: both sides compute, for an error and for a number. Assumes nothing.
 use mathlib.Core.Path.{refl}
 use Rattle.sim3_job.specs.Filled.{filled_of}
 use Rattle.sim3_job.proofs.from_read.Goals as goal

@@ -1,5 +1,5 @@
--- `sim3_job::read_tape` meets its contract: a piece of the tape is copied behind the bytes at hand, and there is none
--- only at the tape's end. Assumes nothing.
+-- `sim3_job::read_tape` meets its contract: it copies a piece of the tape after the bytes at hand, and the piece is
+-- empty only at the tape's end. Assumes nothing.
 use native.Mathlib.Omega.{arith}
 use borrow.Author.Tests.{eqb-true}
 use Prim.Native.Nat.{◌+◌, ◌-◌}

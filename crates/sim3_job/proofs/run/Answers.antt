@@ -1,5 +1,5 @@
--- `sim3_job::run` meets its contract. From a tape, what the sink holds and what the job still writes are together what
--- it writes for the whole tape; and each turn brings the end nearer, wherever it reads from.
+-- `sim3_job::run` meets its contract. From a tape, the bytes in the sink followed by what the job still writes are its
+-- output for the whole tape; and each turn brings the end nearer, wherever it reads from.
 use borrow.Author.Rules.{rules}
 use native.Mathlib.Omega.{arith}
 use Prim.Native.Nat.{ℕ, ◌+◌, ◌-◌, ◌≤◌, ◌<◌}

@@ -1,4 +1,4 @@
--- `sim3_job::run`: from a tape, what the sink holds and what the job still writes are together what it writes for the
+-- `sim3_job::run`: from a tape, the bytes in the sink followed by what the job still writes are its output for the
 -- whole tape; and each turn brings the end nearer, wherever it reads from.
 use Prim.Native.Nat.{◌≤◌, ◌<◌}
 use mathlib.Core.Bool.{true, false}

@@ -1,4 +1,4 @@
--- `to_lists::put_framed` meets its contract where both lists have the lengths that are due. Assumes nothing.
+-- `to_lists::put_framed` meets its contract if both lists have the right lengths. Assumes nothing.
 use Rattle.std.proofs.Common.{◌≡◌, refl, length}
 use Rattle.std.proofs.lemmas.List.{length-map}
 use borrow.Author.Tests.{eq-eqb}

@@ -1,4 +1,5 @@
--- `wire::all_finite` meets its contract: what is told so far is told of the numbers so far. Assumes nothing.
+-- `wire::all_finite` meets its contract: after i turns the flag says whether the first i numbers are finite. Assumes
+-- nothing.
 use mathlib.Core.Path.{◌∙◌}
 use Rattle.wire.proofs.Lists.{finite-none, finite_next}
 use Rattle.wire.proofs.all_finite.Goals as goal

@@ -1,4 +1,4 @@
--- `wire::decode` meets its contract: as many numbers as both have, by the look through them. Assumes nothing.
+-- `wire::decode` meets its contract: as many numbers as fit both, by whether one is a NaN. Assumes nothing.
 use borrow.Author.Rules.{rules}
 use native.Mathlib.Omega.{arith}
 use mathlib.Core.Path.{◌≡◌, sym, ap, ◌∙◌}

@@ -1,4 +1,4 @@
--- `wire::decode_by` meets its contract: the numbers so far are those of the bytes so far. Assumes nothing.
+-- `wire::decode_by` meets its contract: after i turns the first i numbers are those of the bytes. Assumes nothing.
 use native.Mathlib.Omega.{arith}
 use Prim.Native.Nat.{◌<◌}
 use mathlib.Core.Path.{◌≡◌, ◌∙◌}

@@ -1,4 +1,4 @@
--- `wire::decode_shorts` meets its contract: the list begins with the numbers of the bytes so far. Assumes nothing.
+-- `wire::decode_shorts` meets its contract: after i turns the first i numbers are those of the bytes. Assumes nothing.
 use native.Mathlib.Omega.{arith}
 use mathlib.Core.Path.{◌≡◌, ◌∙◌}
 use Prim.Native.Nat.{ℕ, ◌*◌, ◌/◌}

@@ -1,4 +1,4 @@
--- `wire::encode` meets its contract: as many numbers as both have, by the test of all of them. Assumes nothing.
+-- `wire::encode` meets its contract: as many numbers as fit both, by whether all are finite. Assumes nothing.
 use borrow.Author.Rules.{rules}
 use mathlib.Core.Path.{◌≡◌, sym, ap, ◌∙◌}
 use mathlib.Core.Bool.{true}

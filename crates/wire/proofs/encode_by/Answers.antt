@@ -1,4 +1,5 @@
--- `wire::encode_by` meets its contract: the bytes so far are those of the numbers so far. Assumes nothing.
+-- `wire::encode_by` meets its contract: after i turns the first bytes are those of the first i numbers. Assumes
+-- nothing.
 use mathlib.Core.Path.{◌∙◌}
 use Rattle.wire.proofs.Lists.{written_more}
 use Rattle.wire.proofs.encode_by.Goals as goal

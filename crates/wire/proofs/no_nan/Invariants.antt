@@ -1,4 +1,5 @@
--- `wire::no_nan` meets its contract: what was put together tells of the numbers looked at so far. Assumes nothing.
+-- `wire::no_nan` meets its contract: after i turns the sign bit says whether a NaN is among the first i numbers.
+-- Assumes nothing.
 use mathlib.Core.Path.{◌≡◌}
 use Rattle.wire.specs.Wire.{none_nan}
 use Rattle.wire.specs.Number.{high_bit_zero}

@@ -1,4 +1,4 @@
--- `wire::put_word_at` meets its contract: the part that is lent is the run of the word's bytes. Assumes nothing.
+-- `wire::put_word_at` meets its contract: the borrowed part becomes the run of the word's bytes. Assumes nothing.
 use native.Mathlib.Omega.{arith}
 use Prim.Native.Nat.{◌+◌, ◌-◌}
 use mathlib.Core.Path.{◌≡◌}

@@ -1,4 +1,4 @@
--- `arms::values::at_zero` meets its contract: what equals zero is at most zero and at least. Assumes nothing.
+-- `arms::values::at_zero` meets its contract: what equals zero is at most zero and at least zero. Assumes nothing.
 use Rattle.std.proofs.Common.{rules}
 use lib.Ieee.{of_bits}
 use Rattle.arms.specs.Values.{at_zero}

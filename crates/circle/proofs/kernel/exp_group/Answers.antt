@@ -1,4 +1,4 @@
--- `circle::kernel::exp_group` meets its contract: by what its calls ensure and its tests say; below the limit of
+-- `circle::kernel::exp_group` meets its contract: by the contracts of its calls and by its tests; below the limit of
 -- cos_half both members are on their series. Assumes nothing.
 use Rattle.tables.specs.Tables.{k_row}
 use Rattle.circle.specs.Kernel.{row_short, row_own, row_member, circle_exp}

@@ -1,5 +1,5 @@
--- `circle::kernel::group` meets its contract: by what its calls ensure and its tests say; below the limit of cos_half
--- all five members are on their series. Assumes nothing.
+-- `circle::kernel::group` meets its contract: by the contracts of its calls and by its tests; below the limit of
+-- cos_half all five members are on their series. Assumes nothing.
 use Rattle.tables.specs.Tables.{k_row, a_row, b_row, d_row}
 use Rattle.circle.specs.Kernel.{row_short, row_own, row_member, circle_sinc_abd}
 use Rattle.circle.proofs.Rows.{below_all}

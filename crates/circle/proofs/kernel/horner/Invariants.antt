@@ -1,4 +1,4 @@
--- `circle::kernel::horner` meets its contract: the terms that are left, and p after them, sum to what all terms sum to.
+-- `circle::kernel::horner` meets its contract: the terms that are left, with p after them, have the sum of all terms.
 -- Assumes nothing.
 use Rattle.std.proofs.Common.{◌≡◌, map, [], ◌∷◌, ◌++◌}
 use Rattle.circle.specs.Kernel.{horner_sum}

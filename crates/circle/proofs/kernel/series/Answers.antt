@@ -1,4 +1,4 @@
--- `circle::kernel::series` meets its contract: by what its calls ensure. Assumes nothing.
+-- `circle::kernel::series` meets its contract: by the contracts of its calls. Assumes nothing.
 use Rattle.std.proofs.lemmas.List.{take-map}
 use Rattle.circle.specs.Kernel.{row_series}
 use Rattle.circle.proofs.kernel.series.Goals as goal

@@ -1,4 +1,5 @@
--- `coeffs::closed_form::dv_from` meets its contract: operation by operation, as the definition has it. Assumes nothing.
+-- `coeffs::closed_form::dv_from` meets its contract: operation by operation, in the definition's order. Assumes
+-- nothing.
 use Rattle.std.proofs.Common.{rules}
 use Rattle.coeffs.specs.ClosedForm.{closed_dvs}
 use Rattle.arms.specs.Limits.{coeffs_delta}

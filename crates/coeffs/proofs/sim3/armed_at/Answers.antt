@@ -1,5 +1,5 @@
--- `coeffs::sim3::armed_at` meets its contract: either arm forms what is due at Δ, and is told with whether v0 and w0
--- come from series of their own. Assumes nothing.
+-- `coeffs::sim3::armed_at` meets its contract: either arm forms the definition's coefficients at Δ, and the result says
+-- which arm and whether v0 and w0 come from their own series. Assumes nothing.
 use mathlib.Core.Path.{sym, ap, ◌∙◌}
 use lib.Dec.{ltb}
 use Rattle.std.proofs.Common.{rules}

@@ -1,5 +1,5 @@
--- `coeffs::sim3::armed_pair_at` meets its contract: either arm forms what is due at Δ, and is told at both signs.
--- Assumes nothing.
+-- `coeffs::sim3::armed_pair_at` meets its contract: either arm forms the definition's coefficients at Δ, and the result
+-- has the arm for both signs. Assumes nothing.
 use mathlib.Core.Path.{sym, ap, ◌∙◌}
 use lib.Dec.{ltb}
 use Rattle.std.proofs.Common.{rules}

@@ -1,4 +1,4 @@
--- `coeffs::sim3::sim3_coeffs_armed_pair` meets its contract: below zero it is refused, else what is formed is answered.
+-- `coeffs::sim3::sim3_coeffs_armed_pair` meets its contract: below zero it refuses, else it returns what is formed.
 -- Assumes nothing.
 use Rattle.std.proofs.Common.{rules}
 use Rattle.coeffs.proofs.Even.{armed-pair-answer-is}

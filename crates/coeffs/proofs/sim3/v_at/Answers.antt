@@ -1,4 +1,4 @@
--- `coeffs::sim3::v_at` meets its contract: either arm forms what is due at Δ. Assumes nothing.
+-- `coeffs::sim3::v_at` meets its contract: either arm forms the definition's v and χΔ at Δ. Assumes nothing.
 use mathlib.Core.Path.{sym, ap, ◌∙◌}
 use lib.Dec.{ltb}
 use lib.Ieee.{of_bits}

@@ -1,10 +1,10 @@
--- `Values::from_numbers` meets its contract: ten numbers from the front on. Assumes nothing.
+-- `Values::from_numbers` meets its contract: it reads ten numbers from the front. Assumes nothing.
 use Rattle.std.proofs.Common.{◌≡◌, ℕ, ◌+◌, ◌<◌, List, ◌∷◌, length, get_or, drop, sym, ap, ◌∙◌, arith}
 use Rattle.std.proofs.lemmas.List.{drop_all, drop_more}
 use Rattle.from_lists.specs.Numbers.{values_numbers}
 use Rattle.from_lists.proofs.ValuesFromNumbers.from_numbers.Goals as goal
 
--- from place i on a list is the item there and the list from the next place on
+-- a list from place i on is its item there and then the list from the next place on
 item : {A : Type 0} (l : List A) (i : ℕ) (r : A) → i < length l → r ≡ get_or l i r → drop i l ≡ r ∷ drop (i + 1) l
 item l i r h e = drop_more l i r h ∙ ap (λ x. x ∷ drop (i + 1) l) (sym e)
 

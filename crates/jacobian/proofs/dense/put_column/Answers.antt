@@ -1,4 +1,4 @@
--- `jacobian::dense::put_column` meets its contract: the part that is lent is the run of the column. Assumes nothing.
+-- `jacobian::dense::put_column` meets its contract: the borrowed part is the run of the column. Assumes nothing.
 use native.Mathlib.Omega.{arith}
 use Prim.Native.Nat.{◌+◌, ◌-◌}
 use mathlib.Core.Path.{◌≡◌, refl, ap, ◌∙◌}

@@ -1,4 +1,4 @@
--- `job_state::bytes::framed_at` meets its contract: what stands behind the pose's bytes is not read. Assumes nothing.
+-- `job_state::bytes::framed_at` meets its contract: it does not read the bytes after the pose. Assumes nothing.
 use borrow.Author.Rules.{rules}
 use mathlib.Core.Path.{◌≡◌, ap, ◌∙◌}
 use Prim.Native.Nat.{◌-◌}

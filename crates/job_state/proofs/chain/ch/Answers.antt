@@ -1,4 +1,4 @@
--- `job_state::chain::ch` meets its contract: a record that is left changes nothing; else its own bytes are read.
+-- `job_state::chain::ch` meets its contract: a record that is not taken changes nothing; else its bytes are read.
 -- Assumes nothing.
 use native.Mathlib.Omega.{arith}
 use Rattle.job_state.specs.Chain.{ch_rule}

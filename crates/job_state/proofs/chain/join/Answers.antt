@@ -1,5 +1,4 @@
--- `job_state::chain::join` meets its contract: the pose is read and joined, and what is answered is written. Assumes
--- nothing.
+-- `job_state::chain::join` meets its contract: it reads the pose, joins it and writes the answer. Assumes nothing.
 use mathlib.Core.Path.{sym, ap, ◌∙◌}
 use lib.Seq.{sets}
 use Rattle.linalg.specs.Answer.{answer}

@@ -1,4 +1,4 @@
--- `job_state::chain::renew` meets its contract: n is kept and written. Assumes nothing.
+-- `job_state::chain::renew` meets its contract: it stores n and writes it. Assumes nothing.
 use mathlib.Core.Path.{◌∙◌}
 use Rattle.job_state.proofs.Lent.{every_replied}
 use Rattle.job_state.proofs.chain.renew.Goals as goal

@@ -1,4 +1,4 @@
--- `job_state::record::taken` meets its contract: by the three tests. Assumes nothing.
+-- `job_state::record::taken` meets its contract: by its two tests. Assumes nothing.
 use native.Mathlib.Omega.{arith}
 use Prim.Native.Nat.{ℕ, ◌+◌, ◌-◌}
 use mathlib.Core.Path.{◌≡◌, sym, ap, ◌∙◌}

@@ -1,4 +1,4 @@
--- `job_state::retakes::find` meets its contract: the sheet is read and asked for, and what is kept told. Assumes
+-- `job_state::retakes::find` meets its contract: it reads the sheet, looks it up and writes what is kept. Assumes
 -- nothing.
 use Rattle.job_state.proofs.retakes.find.Goals as goal
 

@@ -1,4 +1,4 @@
--- `job_state::retakes::sh` meets its contract: a record that is left changes nothing; else its own bytes are put.
+-- `job_state::retakes::sh` meets its contract: a record that is not taken changes nothing; else its bytes are stored.
 -- Assumes nothing.
 use native.Mathlib.Omega.{arith}
 use Rattle.job_state.specs.Retakes.{sh_rule}

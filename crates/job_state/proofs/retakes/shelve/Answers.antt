@@ -1,5 +1,5 @@
--- `job_state::retakes::shelve` meets its contract: the shot is read and put, and what became of it told. Assumes
--- nothing.
+-- `job_state::retakes::shelve` meets its contract: it reads the shot, puts it into the store and writes the result.
+-- Assumes nothing.
 use Rattle.job_state.specs.Retakes.{sh_of}
 use Rattle.job_state.proofs.Shelf.{shelf_shot}
 use Rattle.job_state.proofs.retakes.shelve.Goals as goal

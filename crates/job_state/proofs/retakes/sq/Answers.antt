@@ -1,4 +1,5 @@
--- `job_state::retakes::sq` meets its contract: a record that is left is told; else the store is asked. Assumes nothing.
+-- `job_state::retakes::sq` meets its contract: a record that is not taken returns why; else the sheet is looked up.
+-- Assumes nothing.
 use native.Mathlib.Omega.{arith}
 use Rattle.job_state.specs.Retakes.{sq_rule}
 use Rattle.job_state.proofs.Records.{handled_left, own_length}

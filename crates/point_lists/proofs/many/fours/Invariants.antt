@@ -1,5 +1,5 @@
--- `point_lists::many::fours` meets its contract: after i chunks four times i triples are moved and the rest is as it
--- was. Assumes nothing.
+-- `point_lists::many::fours` meets its contract: after i chunks 4 i triples are moved and the rest is as before.
+-- Assumes nothing.
 use Rattle.std.proofs.Common.{◌≡◌, ◌*◌, ◌++◌, length, drop}
 use Rattle.linalg.specs.Floats.{as_vec3, as_mat3}
 use Rattle.point_lists.specs.Points.{points_moved, mat_act}

@@ -1,5 +1,5 @@
--- `point_lists::many::last` meets its contract: where e is the count nothing is left, and else the one triple that is
--- left is put in its place. Assumes nothing.
+-- `point_lists::many::last` meets its contract: if e is the count, nothing is left, and else the one triple left goes
+-- to its place. Assumes nothing.
 use Rattle.std.proofs.Common.{◌≡◌, ◌+◌, ◌/◌, length, arith, ap, ◌∙◌}
 use Rattle.linalg.specs.Floats.{as_vec3, as_mat3}
 use Rattle.point_lists.specs.Points.{points_moved, mat_act}

@@ -1,4 +1,4 @@
--- `point_lists::many::less_act` meets its contract: each product that is taken away is one by the negative, added.
+-- `point_lists::many::less_act` meets its contract: subtracting each product is adding it with one factor negated.
 -- Assumes nothing.
 use Rattle.std.proofs.Common.{rules, ◌∙◌}
 use Rattle.linalg.specs.Floats.{as_vec3, as_mat3}

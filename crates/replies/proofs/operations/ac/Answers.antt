@@ -1,4 +1,4 @@
--- `replies::operations::ac` meets its contract: the call on lists is what the job asks for. Assumes nothing.
+-- `replies::operations::ac` meets its contract: the call on lists computes the job's answer (`Calls`). Assumes nothing.
 use mathlib.Core.Path.{ap, ◌∙◌}
 use mathlib.Core.List.{List}
 use lib.ListN.{get_or, drop, replicate}

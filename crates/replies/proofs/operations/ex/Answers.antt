@@ -1,4 +1,4 @@
--- `replies::operations::ex` meets its contract: the call on lists is what the job asks for. Assumes nothing.
+-- `replies::operations::ex` meets its contract: the call on lists computes the job's answer (`Calls`). Assumes nothing.
 use native.Mathlib.Omega.{arith}
 use Prim.Native.Nat.{ℕ, ◌*◌}
 use mathlib.Core.Path.{◌≡◌, refl, ap, ◌∙◌}

@@ -1,4 +1,4 @@
--- `replies::operations::ji` meets its contract: the call on lists is what the job asks for. Assumes nothing.
+-- `replies::operations::ji` meets its contract: the call on lists computes the job's answer (`Calls`). Assumes nothing.
 use mathlib.Core.Path.{ap, ◌∙◌}
 use mathlib.Core.List.{List}
 use lib.ListN.{replicate}

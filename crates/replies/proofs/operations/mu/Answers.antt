@@ -1,4 +1,4 @@
--- `replies::operations::mu` meets its contract: the call on lists is what the job asks for. Assumes nothing.
+-- `replies::operations::mu` meets its contract: the call on lists computes the job's answer (`Calls`). Assumes nothing.
 use native.Mathlib.Omega.{arith}
 use Prim.Native.Nat.{◌+◌, ◌*◌}
 use mathlib.Core.Path.{◌≡◌, refl, ap, ◌∙◌}

@@ -1,4 +1,4 @@
--- `replies::operations::pa` meets its contract: the call on lists is what the job asks for. Assumes nothing.
+-- `replies::operations::pa` meets its contract: the call on lists computes the job's answer (`Calls`). Assumes nothing.
 use Prim.Native.Nat.{ℕ}
 use mathlib.Core.Path.{◌≡◌, ap, ◌∙◌}
 use mathlib.Core.List.{List}

@@ -1,4 +1,4 @@
--- `replies::operations::read` meets its contract: the bytes that are read have just the numbers. Assumes nothing.
+-- `replies::operations::read` meets its contract: the bytes hold exactly the numbers. Assumes nothing.
 use mathlib.Core.Path.{◌≡◌, refl, ◌∙◌}
 use Prim.Native.Nat.{◌*◌}
 use lib.ListN.{length-replicate, replicate}

@@ -1,5 +1,5 @@
--- `series::sim3::series_v_at` meets its contract: v1 and v2 are the full sums, and v0 and chi times delta are formed
--- alike. Assumes nothing.
+-- `series::sim3::series_v_at` meets its contract: v1 and v2 are the full sums, and v0 and chi times delta are formed in
+-- the same way. Assumes nothing.
 use Rattle.series.proofs.Solo.{v1-is, v2-is}
 use Rattle.series.specs.Series.{series_v, series_full, coeffs4, series_coeffs}
 use Rattle.series.proofs.sim3.series_v_at.Goals as goal

@@ -1,5 +1,4 @@
--- `sheets::bytes::framed_of` meets its contract: the numbers stand one behind another, and behind them the frames.
--- Assumes nothing.
+-- `sheets::bytes::framed_of` meets its contract: the numbers follow one another, and then the frames. Assumes nothing.
 use native.Mathlib.Omega.{arith}
 use mathlib.Core.Path.{refl, ◌∙◌}
 use lib.Ieee.{binary64, of_bits}

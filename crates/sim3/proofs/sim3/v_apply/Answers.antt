@@ -1,4 +1,4 @@
--- `sim3::sim3::v_apply` meets its contract: by what its calls ensure and its tests say. Assumes nothing.
+-- `sim3::sim3::v_apply` meets its contract: by the contracts of its calls and by its tests. Assumes nothing.
 use borrow.Author.Tests.{not-true, not-false}
 use mathlib.Core.Path.{◌≡◌, sym, ◌∙◌}
 use mathlib.Core.Bool.{true, false}

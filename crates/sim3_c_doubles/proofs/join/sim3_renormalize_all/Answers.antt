@@ -1,5 +1,5 @@
--- `sim3_c_doubles::join::sim3_renormalize_all` meets its contract: a list of whole poses is renormalised, and any other
--- is left as it was. Assumes nothing.
+-- `sim3_c_doubles::join::sim3_renormalize_all` meets its contract: it renormalises a list of whole poses, and leaves
+-- any other as it was. Assumes nothing.
 use Prim.Native.Nat.{◌+◌, ◌*◌, ◌-◌}
 use mathlib.Core.Path.{◌≡◌, ◌∙◌}
 use native.Mathlib.Omega.{arith}

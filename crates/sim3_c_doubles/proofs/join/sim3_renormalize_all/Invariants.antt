@@ -1,5 +1,5 @@
 -- `sim3_c_doubles::join::sim3_renormalize_all` meets its contract: after i turns the first i poses are renormalised and
--- the rest is as it was. Assumes nothing.
+-- the rest is as before. Assumes nothing.
 use Prim.Native.Nat.{◌*◌}
 use mathlib.Core.Path.{◌≡◌}
 use mathlib.Core.List.{◌++◌}

@@ -1,5 +1,5 @@
--- `sim3_c_doubles::join::sim3_running_push` meets its contract: the lists are read, the pose is joined, and the running
--- pose is written or the refusal handed on. Assumes nothing.
+-- `sim3_c_doubles::join::sim3_running_push` meets its contract: it reads the lists, joins the pose, and writes the
+-- running pose or returns the refusal. Assumes nothing.
 use borrow.Author.Rules.{rules}
 use mathlib.Core.Path.{◌≡◌}
 use Rattle.linalg.specs.Answer.{answers}

@@ -1,4 +1,4 @@
--- `sim3_c_doubles::join::sim3_running_start` meets its contract: zeros are written, or a wrong length is told. Assumes
+-- `sim3_c_doubles::join::sim3_running_start` meets its contract: it writes zeros, or refuses a wrong length. Assumes
 -- nothing.
 use borrow.Author.Tests.{eq-eqb}
 use lib.Ieee.{of_bits}

@@ -1,5 +1,5 @@
--- `sim3_c_doubles::shelf::put_shot` meets its contract: lists of the lengths that are due have take, numbers and frames
--- written, and any other three are left as they were. Assumes nothing.
+-- `sim3_c_doubles::shelf::put_shot` meets its contract: it writes take, numbers and frames to lists of the right
+-- lengths, and leaves any other three as they were. Assumes nothing.
 use borrow.Author.Tests.{eq-eqb}
 use mathlib.Core.Path.{◌∙◌}
 use mathlib.Core.List.{[], ◌∷◌}

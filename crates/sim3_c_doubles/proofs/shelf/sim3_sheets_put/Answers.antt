@@ -1,5 +1,5 @@
--- `sim3_c_doubles::shelf::sim3_sheets_put` meets its contract: the lists are read, the shot is handed to the store, and
--- its answer is written or the refusal handed on. Assumes nothing.
+-- `sim3_c_doubles::shelf::sim3_sheets_put` meets its contract: it reads the lists, passes the shot to the store, and
+-- writes the result or returns the refusal. Assumes nothing.
 use borrow.Author.Rules.{rules}
 use borrow.Author.Tests.{eq-eqb}
 use mathlib.Core.Path.{◌≡◌}

@@ -1,5 +1,5 @@
--- `sim3_c_doubles::square_root::sim3_root` meets its contract: a refusal is handed on; lists of the lengths that are
--- due have the parts of the root written, and any other three are left as they were. Assumes nothing.
+-- `sim3_c_doubles::square_root::sim3_root` meets its contract: it returns a refusal as it is; it writes the parts of
+-- the root to lists of the right lengths, and leaves any other three as they were. Assumes nothing.
 use borrow.Author.Rules.{rules}
 use borrow.Author.Tests.{eq-eqb}
 use mathlib.Core.Path.{◌≡◌, ap, ◌∙◌}

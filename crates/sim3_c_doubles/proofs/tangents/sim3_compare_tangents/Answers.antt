@@ -1,5 +1,5 @@
--- `sim3_c_doubles::tangents::sim3_compare_tangents` meets its contract: lists of the lengths that are due have the
--- order's number written, and any other leaves `out` as it was. Assumes nothing.
+-- `sim3_c_doubles::tangents::sim3_compare_tangents` meets its contract: for lists of the right lengths it writes the
+-- order's number, and for any others it leaves `out` as it was. Assumes nothing.
 use borrow.Author.Rules.{rules}
 use borrow.Author.Tests.{eq-eqb}
 use mathlib.Core.Path.{◌≡◌, ap, ◌∙◌}

@@ -1,5 +1,5 @@
--- `sim3_job::probe::computes_as_proved` meets its contract: zero changes none of the three bit patterns, which are the
--- documented numbers'. Assumes nothing.
+-- `sim3_job::probe::computes_as_proved` meets its contract: adding zero changes none of the three bit patterns, which
+-- are those of the documented numbers. Assumes nothing.
 use Rattle.environment.proofs.Documented.{documented_is-due}
 use Rattle.sim3_job.proofs.probe.computes_as_proved.Goals as goal
 

@@ -1,5 +1,5 @@
--- `theorems::rho_negated::both_rhos` meets its contract: both answers are the definitions' by what the calls ensure,
--- and so they are turned, as the theorem says.
+-- `theorems::rho_negated::both_rhos` meets its contract: both results are the definitions' by what the calls ensure,
+-- and so they are related as the theorem says.
 use mathlib.Core.Path.{◌≡◌, sym, ◌∙◌, subst}
 use Rattle.linalg.specs.Floats.{as_mat3}
 use Rattle.arms.specs.Floats.{as_values}

@@ -1,4 +1,4 @@
--- `theorems::rho_negated::five_calls` meets its contract: each answer is the definition's by what its call ensures.
+-- `theorems::rho_negated::five_calls` meets its contract: each result is the definition's by what its call ensures.
 use Rattle.theorems.specs.RhoNegated.{five_calls_of}
 use Rattle.theorems.proofs.rho_negated.five_calls.Goals as goal
 

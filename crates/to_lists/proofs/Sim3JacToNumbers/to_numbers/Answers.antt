@@ -1,4 +1,4 @@
--- `Sim3Jac::to_numbers` meets its contract: the five parts, each to its part of the list. Assumes nothing.
+-- `Sim3Jac::to_numbers` meets its contract: each of the five parts goes to its part of the list. Assumes nothing.
 use Rattle.std.proofs.Common.{arith}
 use Rattle.std.proofs.lemmas.List.{map-append}
 use Rattle.layout.specs.Layout.{block_numbers}

@@ -1,4 +1,4 @@
--- `Sim3::to_numbers` meets its contract: the quaternion, the translation and the log scale, each to its part of the
+-- `Sim3::to_numbers` meets its contract: the quaternion, the translation and the log scale each go to their part of the
 -- list. Assumes nothing.
 use Rattle.std.proofs.Common.{arith}
 use Rattle.std.proofs.lemmas.List.{map-append}

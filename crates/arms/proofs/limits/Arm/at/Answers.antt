@@ -1,5 +1,5 @@
--- `arms::limits::Arm::at` meets its contract: each test says which arm is due, and what is not below the last limit is
--- below none. Assumes nothing.
+-- `arms::limits::Arm::at` meets its contract: each test selects the definition's arm, and what is not below the last
+-- limit is below none. Assumes nothing.
 use mathlib.Core.Path.{sym}
 use Rattle.arms.specs.Arm.{coeffs_arm}
 use Rattle.arms.proofs.Rising.{closed-arm}

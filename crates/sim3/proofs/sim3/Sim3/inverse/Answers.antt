@@ -1,5 +1,5 @@
--- `sim3::sim3::Sim3::inverse` meets its contract: by what its calls ensure, the sign taken out of each product. Assumes
--- nothing.
+-- `sim3::sim3::Sim3::inverse` meets its contract: by the contracts of its calls, with the sign taken out of each
+-- product. Assumes nothing.
 use mathlib.Core.Path.{◌≡◌}
 use lib.Ieee.{Float, Format, neg}
 use Rattle.ieee.proofs.Sign.{mul-neg_r}

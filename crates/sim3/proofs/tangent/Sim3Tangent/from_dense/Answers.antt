@@ -1,4 +1,4 @@
--- `sim3::tangent::Sim3Tangent::from_dense` meets its contract: each number is the entry of its place, and every place
+-- `sim3::tangent::Sim3Tangent::from_dense` meets its contract: each number is the entry at its place, and every place
 -- is below 7. Assumes nothing.
 use Rattle.std.proofs.Common.{arith}
 use Rattle.so3.proofs.Entry.{number_at}

@@ -1,4 +1,4 @@
--- `so3::quat::Quat::from_jpl` meets its contract: each component is the entry of its place, negated but for w, and
+-- `so3::quat::Quat::from_jpl` meets its contract: each component is the entry at its place, negated except for w, and
 -- every place is below 4. Assumes nothing.
 use Rattle.std.proofs.Common.{arith}
 use Rattle.so3.proofs.Entry.{number_at}
