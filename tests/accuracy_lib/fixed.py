@@ -1,4 +1,6 @@
 """Exact arithmetic as whole numbers of 2^-280: more than 60 digits behind the point of every number of the tests."""
+import math
+
 PLACES = 280
 ONE = 1 << PLACES
 
@@ -27,9 +29,15 @@ def rotated(q, v):
     return [v[i] + 2 * mul(q[0], uv[i]) + 2 * uuv[i] for i in range(3)]
 
 
-def moved(q, t, scale, p):
+def truly_rotated(q, v):
+    """q v q̄ / |q|², the true rotation whatever the length of q: rotated has q v q̄ + (1 - |q|²) v."""
+    square = sum(mul(c, c) for c in q)
+    return [((c - d + mul(square, d)) << PLACES) // square for c, d in zip(rotated(q, v), v, strict=True)]
+
+
+def moved(q, t, scale, p, rotate=rotated):
     """s R p + t"""
-    return [mul(scale, c) + d for c, d in zip(rotated(q, p), t, strict=True)]
+    return [mul(scale, c) + d for c, d in zip(rotate(q, p), t, strict=True)]
 
 
 def hamilton(p, q):
@@ -77,6 +85,21 @@ def circle(z):
         if n > 120:
             break
     return cosine, k >> 1
+
+
+def root(z):
+    return math.isqrt(z << PLACES)
+
+
+def exponential(x):
+    """e^x, by its series at x / 16."""
+    term, total, n = ONE, 0, 0
+    while term:
+        total, n = total + term, n + 1
+        term = mul(term, x >> 4) // n
+    for _ in range(4):
+        total = mul(total, total)
+    return total
 
 
 def translation(phi, rho, v0, v1, v2):

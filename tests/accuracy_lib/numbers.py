@@ -37,8 +37,8 @@ def numbers_of_binding(accuracy):
         found[f"product-{kind}"] = accuracy.product(width=width) * units
         found[f"renormalized-{kind}"] = accuracy.renormalized(width=width) * units
         found[f"inverse-{kind}"] = accuracy.inverse(2 ** 20, 16, width=width) * units
-        found[f"exponential-{kind}"] = accuracy.exponential(2 ** 16, width=width) * units
-        found[f"unit-exponential-{kind}"] = accuracy.exponential(1, width=width) * units
+        found[f"exponential-{kind}"] = accuracy.rounded_exponential(2 ** 16, width).error
+        found[f"unit-exponential-{kind}"] = accuracy.rounded_exponential(1, width).error
     one, near, square = 2 ** 100, 2 ** 100 + 2 ** 60, 2 ** 61 + 2 ** 21
     boxes = {  # box_doubles, box_singles and page_box of crates/running_accuracy/specs/Running.antt
         "doubles": (64, (near, square, 2 ** 110, 2 ** 101, 2 ** 48, one + 2 ** 77, 2 ** 61 + 2 ** 50, 65535)),
@@ -59,10 +59,44 @@ def corollary_errors(accuracy):
            "RunningTheorem.singles": (accuracy.running(100, 16, 2 ** 10, 2, 2.0 ** -23, width=32), (-11, 10)),
            "RunningTheorem.page_hundred": ((accuracy.page(100, 16, 2 ** 16, 2 ** 16, 4, 2.0 ** -50),), (-12,)),
            "RunningTheorem.page_thousand": ((accuracy.page(1000, 16, 2 ** 16, 2 ** 16, 4, 2.0 ** -50),), (-5,))}
+    for width, kind, near, exponents in ((64, "doubles", 2.0 ** -50, (-26, -46, -22, -47, -27, -43)),
+                                         (32, "singles", 2.0 ** -21, (3, -17, 7, -18, 2, -14))):
+        big, one, translation, norm, page, small = exponents
+        boxes = (("", (2 ** 16, 16, 2 ** 20), big), ("unit_", (1, 1, 1), one))
+        for unit, box, exponent in boxes:
+            log[f"RotationTheorem.{unit}{kind}"] = ((accuracy.action(*box, width=width, square=near),), (exponent,))
+            log[f"ManyPointsTheorem.{unit}{kind}"] = ((accuracy.action_by_matrix(*box, width=width),), (exponent,))
+        log[f"RotationTheorem.inverse_{kind}"] = ((accuracy.inverse(2 ** 20, 16, width=width, square=near),),
+                                                  (translation,))
+        log[f"NormTheorem.{kind}"] = ((accuracy.norm_sq(2.5, width=width),), (norm,))
+        for field, rho, exponent in (("page", 2 ** 16, page), ("unit", 1, small)):
+            log[f"ExponentialTheorem.{field}_{kind}"] = ((accuracy.exponential(rho, width=width),), (exponent,))
+    log["SigmaTheorem.doubles"] = ((accuracy.sigma(1000, 2),), (-42,))
+    log["SigmaTheorem.singles"] = ((accuracy.sigma(100, 2, width=32),), (-16,))
+    log["ScaleTheorem.hundred"] = ((accuracy.scale_of_joins(100, 1.5),), (-42,))
+    log["ScaleTheorem.thousand"] = ((accuracy.scale_of_joins(1000, 1.5),), (-39,))
+    log["ScaleTheorem.singles"] = ((accuracy.scale_of_joins(100, 1.5, width=32),), (-13,))
+    for joins, name, exponent, close in ((100, "hundred", -8, -12), (1000, "thousand", -4, -5)):
+        box = (joins, 16, 2 ** 16, 2 ** 16, 4)
+        log[f"SimilarityTheorem.page_{name}"] = ((accuracy.similarity(*box, 2.0 ** -50),), (exponent,))
+        log[f"SimilarityTheorem.close_{name}"] = ((accuracy.similarity(*box, 2.0 ** -42, 1 + 2.0 ** -50),), (close,))
     for name, (bounds, exponents) in log.items():
         for bound, exponent in zip(bounds, exponents, strict=True):
             if not 2.0 ** (exponent - 1) < bound <= 2.0 ** exponent:
                 yield f"{name}: the binding's bound {float(bound)} is not the corollary's 2^{exponent}"
+
+
+def closed_errors():
+    """Whether the exponents of the closed arm's rows are those of specs/ClosedArm.antt."""
+    text = (TOP / "crates/accuracy/specs/ClosedArm.antt").read_text(encoding="utf-8")
+    for width in (32, 64):
+        for box in rows.BOXES:
+            body = re.search(rf"^{box}_errors binary{width} =\n(.*)$", text, re.M).group(1)
+            chi = re.search(rf"^{box}_chi binary{width} = (.*)$", text, re.M).group(1)
+            expected = tuple(int(x) - 100 for x in re.findall(r"2 \^ (\d+)", body + chi))
+            if expected != rows.CLOSED[width][box]:
+                yield (f"the closed arm, {box}, at {width} bits is {rows.CLOSED[width][box]}, and the statement has "
+                       f"{expected}")
 
 
 def exponent_errors():
@@ -83,7 +117,7 @@ def agree():
     """Whether all of it agrees; each difference is a line."""
     accuracy = load_binding()
     expected, found = numbers_of_specs(), numbers_of_binding(accuracy)
-    wrong = [*exponent_errors(), *corollary_errors(accuracy)]
+    wrong = [*exponent_errors(), *closed_errors(), *corollary_errors(accuracy)]
     wrong += [f"{name} is {found.get(name)} in the binding and {expected.get(name)} in the specs"
               for name in sorted({*expected, *found}) if expected.get(name) != found.get(name)]
     for line in wrong:

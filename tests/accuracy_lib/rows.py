@@ -24,6 +24,12 @@ COEFFICIENTS = {
          "mid": (-22, -21, -22, -23, -22, -24, -24, -26, -22),
          "upper": (-21, -20, -21, -23, -22, -23, -23, -25, -19),
          "series": (-19, -18, -20, -22, -21, -22, -21, -24, -15)}}
+# The same of half_turn_errors, half_turn_chi, turn_errors and turn_chi of crates/accuracy/specs/ClosedArm.antt.
+CLOSED = {64: {"half_turn": (-49, -46, -47, -48, -45, -45, -47, -47, -44),
+               "turn": (-49, -42, -45, -44, -40, -42, -43, -45, -41)},
+          32: {"half_turn": (-20, -17, -18, -19, -16, -17, -18, -19, -15),
+               "turn": (-20, -14, -16, -15, -11, -13, -14, -16, -12)}}
+BOXES = {"half_turn": (1.0, 10.0), "turn": (4.0, 40.0)}  # the greatest |σ| and z
 
 
 def rounded(width, x):
@@ -109,16 +115,25 @@ def fixes(numbers):
     return [fixed.of(x) for x in numbers]
 
 
+def near_unit(width, q):
+    """Whether |q|² is within 2^-50 of 1, at singles 2^-21."""
+    square = sum(fixed.mul(c, c) for c in fixes(q))
+    return abs(square - fixed.ONE) <= fixed.ONE >> (50 if width == 64 else 21)
+
+
 def action(run, width, count, box, field, exponent):
-    """s R p + t"""
+    """s R p + t, by the formula's R, and by the true rotation where q has length 1 but for its rounding"""
     row = Row(f"ActionTheorem.{field}", width, exponent, "a moved coordinate")
+    true = Row(f"RotationTheorem.{field}", width, exponent, "the same, true rotation")
     draw, mark = Draw(width, field), mark_of(width, "AC")
     point, scale, shift = box
     cases = [(draw.quaternion(), draw.vector(shift), abs(draw.within(scale)), draw.vector(point)) for _ in range(count)]
     data = run(b"".join(record(mark, *q, *t, 0.0, 1, 2, s, *p) for q, t, s, p in cases))
     for (q, t, s, p), actual in zip(cases, answers(data, mark, count), strict=True):
         row.worst.add(actual, fixed.moved(fixes(q), fixes(t), fixed.of(s), fixes(p)))
-    return [row]
+        if near_unit(width, q):
+            true.worst.add(actual, fixed.moved(fixes(q), fixes(t), fixed.of(s), fixes(p), fixed.truly_rotated))
+    return [row, true]
 
 
 def product(run, width, count, exponent):
@@ -137,14 +152,18 @@ def inverse(run, width, count, exponent):
     """The translation of an inverse."""
     field = "doubles" if width == 64 else "singles"
     row = Row(f"QuaternionTheorem.inverse-{field}", width, exponent, "an inverse's translation")
+    true = Row(f"RotationTheorem.inverse-{field}", width, exponent, "the same, true rotation")
     draw, mark = Draw(width, "inverse"), mark_of(width, "IN")
     cases = [(draw.quaternion(), draw.vector(2.0 ** 20), abs(draw.within(16.0))) for _ in range(count)]
     data = run(b"".join(record(mark, *q, *t, 0.0, 1, 2, s) for q, t, s in cases))
     for (q, t, s), actual in zip(cases, answers(data, mark, count), strict=True):
         w, *u = fixes(q)
-        expected = fixed.moved([w, *(-c for c in u)], [0, 0, 0], fixed.of(s), fixes(t))
-        row.worst.add(actual[4:7], [-c for c in expected])
-    return [row]
+        conjugate = [w, *(-c for c in u)]
+        for which, rotate in ((row, fixed.rotated), (true, fixed.truly_rotated)):
+            if which is row or near_unit(width, q):
+                expected = fixed.moved(conjugate, [0, 0, 0], fixed.of(s), fixes(t), rotate)
+                which.worst.add(actual[4:7], [-c for c in expected])
+    return [row, true]
 
 
 def renormalized(run, width, count, exponent):
@@ -191,8 +210,37 @@ def coefficients(run, width, count, arm):
     return rows
 
 
+def value_of(width, x):
+    """The float nearest to x units."""
+    return rounded(width, x / fixed.ONE)
+
+
+def closed(run, width, count, box):
+    """The nine coefficients on the closed arm, with the function values of σ and z rounded once."""
+    draw, mark = Draw(width, box), mark_of(width, "CO")
+    most_sigma, most_z = BOXES[box]
+    cases = []
+    while len(cases) < count:
+        sigma, z = draw.within(most_sigma), abs(draw.within(most_z))
+        if rounded(width, rounded(width, sigma * sigma) + z) < LIMITS[width][3]:
+            continue
+        if (sigma == 0.0 or abs(sigma) > 2.0 ** -40) and (z == 0.0 or z > 2.0 ** -60):
+            theta, (cosine, k) = fixed.root(fixed.of(z)), fixed.circle(fixed.of(z))
+            sine, e = fixed.mul(k, theta), fixed.exponential(-abs(fixed.of(sigma)))
+            values = (theta, sine, cosine, 2 * fixed.mul(sine, cosine), e, e - fixed.ONE)
+            cases.append((sigma, z, [value_of(width, x) for x in values]))
+    data = run(b"".join(record(mark, sigma, z, *values, *[0.0] * 4) for sigma, z, values in cases))
+    rows = [Row(f"ClosedArmTheorem.{box}", width, exponent, f"{which}, closed arm")
+            for which, exponent in zip(NAMES, CLOSED[width][box], strict=True)]
+    for (sigma, z, _), actual in zip(cases, answers(data, mark, count), strict=True):
+        scale = fixed.exponential(-fixed.of(max(sigma, 0.0)))
+        for row, x, y in zip(rows, actual[:9], fixed.coefficients(fixed.of(sigma), fixed.of(z)), strict=True):
+            row.worst.add([x], [fixed.mul(scale, y)])
+    return rows
+
+
 def exponential(run, width, count, rho, field, exponent, rotation_exponent):
-    """The translation and the quaternion below the limits; z is the computed |φ|²."""
+    """The translation and the quaternion below the limits, beside those at the exact |φ|²."""
     draw, mark = Draw(width, field), mark_of(width, "EX")
     row = Row(f"ExponentialTheorem.{field}", width, exponent, "an exponential's translation")
     rotation = Row("ExponentialTheorem.exponential", width, rotation_exponent, "an exponential's quaternion")
@@ -203,10 +251,11 @@ def exponential(run, width, count, rho, field, exponent, rotation_exponent):
         z = rounded(width, rounded(width, x + y) + w)
         delta = rounded(width, rounded(width, sigma * sigma) + z)
         if delta < LIMITS[width][3] and z < 1.4 and all(c == 0 or abs(c) > 2.0 ** -40 for c in [*phi, sigma]):
-            cases.append((phi, draw.vector(rho), sigma, z))
-    data = run(b"".join(record(mark, *phi, *r, sigma, *[0.0] * 10, 1, 2) for phi, r, sigma, z in cases))
-    for (phi, r, sigma, z), actual in zip(cases, answers(data, mark, count), strict=True):
-        exact, z = fixes(phi), fixed.of(z)
+            cases.append((phi, draw.vector(rho), sigma))
+    data = run(b"".join(record(mark, *phi, *r, sigma, *[0.0] * 10, 1, 2) for phi, r, sigma in cases))
+    for (phi, r, sigma), actual in zip(cases, answers(data, mark, count), strict=True):
+        exact = fixes(phi)
+        z = sum(fixed.mul(c, c) for c in exact)
         v = fixed.coefficients(fixed.of(sigma), z)
         row.worst.add(actual[4:7], fixed.translation(exact, fixes(r), *v[:3]))
         cosine, k = fixed.circle(z)
@@ -215,24 +264,31 @@ def exponential(run, width, count, rho, field, exponent, rotation_exponent):
 
 
 def running(run, count, joins, every, box, rows_of):
-    """The running join against the same history in exact arithmetic, and its action; `count` histories. `wanted` has
-    the rows of its rotation, of its translation and of a point that it moves, by 0, 1 and 2."""
+    """The running join against the same history in exact arithmetic, its action, that of the product of the true
+    similarities, and σ against the sum; `count` histories. `rows_of` has the rows by their names in `found`."""
     most, scale, point = box
     draw = Draw(64, f"running {joins} {every} {most}")
     size, rn_size = 2 + ANSWER[b"CH"].numbers.size, 2 + ANSWER[b"RN"].numbers.size
     for _ in range(count):
-        poses = [(draw.unit(), draw.vector(most), abs(draw.within(scale))) for _ in range(joins + 1)]
-        data = run(record(b"RN", every) + b"".join(record(b"CH", *q, *t, 0.0, 1, 1, s) for q, t, s in poses))
+        poses = [(draw.unit(), draw.vector(most), draw.within(1.0 / joins), abs(draw.within(scale)))
+                 for _ in range(joins + 1)]
+        data = run(record(b"RN", every) + b"".join(record(b"CH", *q, *t, sigma, 1, 1, s) for q, t, sigma, s in poses))
         actual = ANSWER[b"CH"].numbers.unpack_from(data, rn_size + joins * size + 2)
         exact, shift = fixes(poses[0][0]), fixes(poses[0][1])
-        for number, (q, t, s) in enumerate(poses[1:], 1):
-            shift, exact = fixed.moved(exact, shift, fixed.of(s), fixes(t)), fixed.hamilton(exact, fixes(q))
+        true, true_shift = exact, shift
+        for number, (q, t, _, s) in enumerate(poses[1:], 1):
+            s, q, t = fixed.of(s), fixes(q), fixes(t)
+            shift, exact = fixed.moved(exact, shift, s, t), fixed.hamilton(exact, q)
+            true_shift, true = fixed.moved(true, true_shift, s, t, fixed.truly_rotated), fixed.hamilton(true, q)
             if number % every == 0:
                 exact = fixed.newton(exact)
         p, s = draw.vector(point), abs(draw.within(scale))
         moved = ANSWER[b"AC"].numbers.unpack_from(run(record(b"AC", *actual[:7], 0.0, 1, 2, s, *p)), 2)
-        expected = fixed.moved(exact, shift, fixed.of(s), fixes(p))
-        pairs = ((actual[:4], exact), (actual[4:7], shift), (moved, expected))
+        p, s = fixes(p), fixed.of(s)
+        found = {"rotation": (actual[:4], exact), "translation": (actual[4:7], shift),
+                 "sigma": (actual[7:8], [sum(fixed.of(pose[2]) for pose in poses)]),
+                 "moved": (moved, fixed.moved(exact, shift, s, p)),
+                 "true": (moved, fixed.moved(true, true_shift, s, p, fixed.truly_rotated))}
         for which, row in rows_of.items():
-            row.worst.add(*pairs[which])
+            row.worst.add(*found[which])
     return list(rows_of.values())

@@ -10,11 +10,14 @@ def boxes():
     """The rows of docs/ACCURACY.md."""
     lines = lines_of("--point", "2^16", "--scale", "16", "--translation", "2^20", "--rho", "65536")
     holds(lines[0], "a moved coordinate", "2^-26.34", "ActionTheorem")
-    holds(lines[3], "an inverse's translation", "2^-22.56")
-    holds(lines[5], "an exponential's translation", "2^-27.83")
+    holds(lines[1], "the same, by act_many", "2^-26.", "ManyPointsTheorem")
+    holds(lines[2], "by the true rotation, |q|² 2^-50 from 1", "2^-26.", "RotationTheorem")
+    holds(lines[5], "an inverse's translation", "2^-22.56")
+    holds(lines[7], "an exponential's translation", "2^-27.68")
     holds(lines_of("--single", "--point", "2^16", "--scale", "16", "--translation", "2^20")[0], "2^2.66")
     page = lines_of("--point", "65536", "--scale", "4", "--translation", "65536", "--joins", "1000", "--every", "16")
-    holds(page[-1], "after 1,000 joins: a coordinate", "2^-5.56", "RunningTheorem")
+    holds(page[-2], "after 1,000 joins: a coordinate", "2^-5.56", "RunningTheorem")
+    holds(page[-1], "the same, by true similarities", "2^-4.", "SimilarityTheorem")
 
 
 def what_is_no_box():

@@ -9,6 +9,8 @@ from sim3 import accuracy
 
 assert host
 
+NEAR_UNIT = {64: "2^-50", 32: "2^-21"}  # how far a quaternion that was rounded once can have |q|² from 1
+
 
 def size(word):
     """A size as it is written: a decimal, or a power as 2^16."""
@@ -23,13 +25,17 @@ def size(word):
 
 
 def line(what, bound, statement):
-    return f"{what:34} {float(bound):10.3g}  2^{math.log2(bound):<8.2f} {statement}"
+    return f"{what:42} {float(bound):10.3g}  2^{math.log2(bound):<8.2f} {statement}"
 
 
 def bounds(point, scale, translation, rho, joins, every, width):
     """A line for each answer."""
     at = {"width": width}
+    near = NEAR_UNIT[width]
     yield line("a moved coordinate", accuracy.action(point, scale, translation, **at), "ActionTheorem")
+    yield line("the same, by act_many", accuracy.action_by_matrix(point, scale, translation, **at), "ManyPointsTheorem")
+    yield line(f"by the true rotation, |q|² {near} from 1", accuracy.action(
+        point, scale, translation, square=size(near), **at), "RotationTheorem")
     yield line("a product's quaternion", accuracy.product(**at), "QuaternionTheorem")
     yield line("a product's translation", accuracy.action(translation, scale, translation, **at), "ActionTheorem")
     yield line("an inverse's translation", accuracy.inverse(translation, scale, **at), "QuaternionTheorem")
@@ -41,6 +47,8 @@ def bounds(point, scale, translation, rho, joins, every, width):
         yield line(f"after {joins:,} joins: the translation", shift, "RunningTheorem")
         moved = accuracy.page(joins, every, point, translation, scale, **at)
         yield line(f"after {joins:,} joins: a coordinate", moved, "RunningTheorem")
+        true = accuracy.similarity(joins, every, point, translation, scale, **at)
+        yield line("the same, by true similarities", true, "SimilarityTheorem")
 
 
 def report(arguments):

@@ -439,7 +439,7 @@ def add_accuracy(subparser):
                                help=f"the greatest number {about}; 1 if not given")
     subparser.add_argument("--joins", type=limit, default=0, metavar="N", help="after at most N joins")
     subparser.add_argument("--every", type=steps, default=1, metavar="n",
-                     help="renormalised after every nth product; 1 if not given")
+                           help="renormalised after every nth product; 1 if not given")
 
 
 def run_accuracy(arguments):

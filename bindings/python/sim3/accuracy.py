@@ -105,10 +105,40 @@ def fraction(error):
     return Fraction(error, UNIT)
 
 
-def action(point: Size, scale: Size, translation: Size, quaternion: Optional[Size] = None, width: int = 64) -> Fraction:
-    """Of each coordinate of X p (ActionTheorem), for a scale e^sigma as it is handed in."""
-    q = leaf(width, LENGTHS[check_width(width)] if quaternion is None else quaternion)
-    return fraction(moved(q, leaf(width, point), leaf(width, scale), leaf(width, translation)).error)
+def rotation_leaf(width, quaternion):
+    """A quaternion whose numbers are at most `quaternion`."""
+    return leaf(width, LENGTHS[check_width(width)] if quaternion is None else quaternion)
+
+
+def true_error(away: int, point: int, scale: int) -> int:
+    """How far the formula's rotation can be from the true one, where |q|² is within `away` of 1: `true_error` of
+    crates/accuracy/specs/Rotation.antt."""
+    return upward(UNIT, upward(UNIT, 3 * away * point) * scale)
+
+
+def action(point: Size, scale: Size, translation: Size, quaternion: Optional[Size] = None, width: int = 64,
+           square: Optional[Size] = None) -> Fraction:
+    """Of each coordinate of X p (ActionTheorem), for the scale e^sigma that is passed. With `square`, how far |q|² is
+    from 1 at most, it is the distance from the action by the true rotation, q p q̄ / |q|² (RotationTheorem)."""
+    q = rotation_leaf(width, quaternion)
+    error = moved(q, leaf(width, point), leaf(width, scale), leaf(width, translation)).error
+    return fraction(error if square is None else error + true_error(units(square), units(point), units(scale)))
+
+
+def action_by_matrix(point: Size, scale: Size, translation: Size, quaternion: Optional[Size] = None,
+                     width: int = 64) -> Fraction:
+    """Of each coordinate of a point that act_many moves, by the matrix s R (ManyPointsTheorem)."""
+    q, p, s, t = rotation_leaf(width, quaternion), leaf(width, point), leaf(width, scale), leaf(width, translation)
+    twice = Bound(width, 2 * UNIT) * q
+    off = (twice * q + twice * q) * s * p
+    on = (Bound(width, UNIT) - (twice * q + twice * q)) * s * p
+    return fraction(max((on + off + off + t).error, (off + off + on + t).error))
+
+
+def norm_sq(phi: Size, width: int = 64) -> Fraction:
+    """Of |phi|², for numbers of phi up to this (NormTheorem)."""
+    x = leaf(width, phi)
+    return fraction((x * x + x * x + x * x).error)
 
 
 def product(left: Optional[Size] = None, right: Optional[Size] = None, width: int = 64) -> Fraction:
@@ -122,10 +152,13 @@ def renormalized(quaternion: Optional[Size] = None, width: int = 64) -> Fraction
     return fraction(newton(leaf(width, LENGTHS[check_width(width)] if quaternion is None else quaternion)).error)
 
 
-def inverse(translation: Size, scale: Size, quaternion: Optional[Size] = None, width: int = 64) -> Fraction:
-    """Of each number of the translation of X^-1, scale being e^-sigma as it is handed in (QuaternionTheorem)."""
-    q = leaf(width, LENGTHS[check_width(width)] if quaternion is None else quaternion)
-    return fraction((rotated(Bound(width, 2 * UNIT), q, leaf(width, translation)) * leaf(width, scale)).error)
+def inverse(translation: Size, scale: Size, quaternion: Optional[Size] = None, width: int = 64,
+            square: Optional[Size] = None) -> Fraction:
+    """Of each number of the translation of X^-1, for the scale e^-sigma that is passed (QuaternionTheorem); with
+    `square`, as in `action`, the distance from that by the true rotation (RotationTheorem)."""
+    q = rotation_leaf(width, quaternion)
+    error = (rotated(Bound(width, 2 * UNIT), q, leaf(width, translation)) * leaf(width, scale)).error
+    return fraction(error if square is None else error + true_error(units(square), units(translation), units(scale)))
 
 
 # By the width: the greatest number of phi, and v0, v1, v2 below the limit of the series.
@@ -133,15 +166,24 @@ EXPONENTIAL = {64: (3 * 2 ** 99, ((9 * 2 ** 98, 2 ** 51), (7 * 2 ** 98, 2 ** 53)
                32: (13 * 2 ** 97, ((5 * 2 ** 99, 2 ** 81), (2 ** 101, 2 ** 82), (3 * 2 ** 98, 2 ** 80)))}
 
 
-def exponential(rho: Size, width: int = 64) -> Fraction:
-    """Of each number of the translation of Exp(tau), where the numbers of phi are at most 3/2 (13/8 at singles) and the
-    series give the coefficients (ExponentialTheorem)."""
+def rounded_exponential(rho, width):
+    """The bound of each number of the translation of Exp(tau) beside the exact one at the computed |phi|²."""
     most, coefficients = EXPONENTIAL[check_width(width)]
     phi, v = Bound(width, most), leaf(width, rho)
     x0, x1, x2 = (Bound(width, UNIT) * Bound(width, size, error) for size, error in coefficients)
     mu = phi * v - phi * v
     nu = phi * mu - phi * mu
-    return fraction((v * x0 + mu * x1 + nu * x2).error)
+    return v * x0 + mu * x1 + nu * x2
+
+
+NORM_MOVES = {64: 2 ** 53, 32: 2 ** 82}  # `norm_moves` of crates/accuracy/specs/Exponential.antt: by the size of rho
+
+
+def exponential(rho: Size, width: int = 64) -> Fraction:
+    """Of each number of the translation of Exp(tau), where the numbers of phi are at most 3/2 (13/8 at singles) and the
+    series give the coefficients (ExponentialTheorem)."""
+    error = rounded_exponential(rho, width).error
+    return fraction(error + upward(UNIT, NORM_MOVES[width] * units(rho)))
 
 
 class JoinBox(NamedTuple):
@@ -232,3 +274,41 @@ def page(joins: int, every: int, point: Size, translation: Size, scale: Size, sc
     """Of each coordinate of a point that the running pose moves after at most `joins` joins (RunningTheorem)."""
     state = after_joins(joins, every, width, translation, scale, scale_error, length)
     return fraction(state.moved(leaf(width, point)).error)
+
+
+def similarity(joins: int, every: int, point: Size, translation: Size, scale: Size,
+               scale_error: Optional[Size] = None, length: Optional[Size] = None, width: int = 64) -> Fraction:
+    """The same beside the product of the poses as similarities with true rotations (SimilarityTheorem)."""
+    state = after_joins(joins, every, width, translation, scale, scale_error, length)
+    away, box = state.box.away(), state.box
+    formulas = true_error(away, units(point), box.scale) + joins * true_error(away, box.translation, box.scale)
+    return fraction(state.moved(leaf(width, point)).error + formulas)
+
+
+def sigma_units(joins, most, width):
+    """The least error that so many roundings of a sum of `most` and it come to."""
+    error = 0
+    while True:
+        found = joins * Bound(check_width(width), 0).rounding(most + error)
+        if found == error:
+            return error
+        error = found
+
+
+def sigma(joins: int, most: Size, width: int = 64) -> Fraction:
+    """Of sigma of the running pose after at most `joins` joins, whose sums of sigma are at most `most`
+    (SigmaTheorem)."""
+    return fraction(sigma_units(joins, units(most), width))
+
+
+def scale_of_joins(joins: int, most: Size, width: int = 64) -> Fraction:
+    """How much farther than the host's own error its e^sigma of the running pose is from the product of the poses'
+    scales, in such a history (ScaleTheorem)."""
+    most = units(most)
+    error = sigma_units(joins, most, width)
+    twice, power, largest, j = Fraction(2 * (most + error), UNIT), Fraction(1), Fraction(1), 0
+    while j <= twice:  # (2 x)^j / j! falls from there on
+        j += 1
+        power = power * twice / j
+        largest = max(largest, power)
+    return fraction(2 * error * -(-largest.numerator // largest.denominator))

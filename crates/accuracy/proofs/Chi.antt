@@ -1,7 +1,6 @@
 -- χΔ on the series arms: rounding and truncation together. Assumes nothing.
-use mathlib.Core.Path.{◌≡◌, ap, ◌∙◌}
 use Prim.Native.Nat.{ℕ, suc, ◌+◌, ◌*◌, ◌^◌, ◌≤◌, ◌<◌}
-use native.Mathlib.Nat.{le_trans, le_of_eq, mul-add, mul-zero, zero-add, mul-pos, mul-le-mul_left}
+use native.Mathlib.Nat.{mul-pos, mul-le-mul_left}
 use native.Mathlib.Numerals.{add-two}
 use native.Mathlib.Omega.{arith}
 use mathlib.Core.Bool.{false, not}
@@ -21,7 +20,7 @@ use Rattle.accuracy.specs.Series.{chi_errors, of_level, zeta_part, part, exact_t
 use Rattle.accuracy.specs.Series.{exact_chi, total_holds, horner_holds, chi_holds, ChiAccurate}
 use Rattle.rounding.specs.Leaves.{errorless}
 use Rattle.rounding.proofs.Differences.{expand}
-use Rattle.rounding.proofs.Fractions.{near-opposite, near-plus, near_times}
+use Rattle.rounding.proofs.Fractions.{near-opposite, near-plus, near-right}
 use Rattle.rounding.proofs.Forward.{error_trans, error_wider, upward_enough}
 use Rattle.accuracy.proofs.HornerTail.{near_factor, near_convert, most_convert}
 use Rattle.accuracy.proofs.Series.{total-close, horner_close, chi-close}
@@ -29,22 +28,6 @@ use Rattle.rounding.proofs.Leaves.{leaf_forward}
 use Rattle.accuracy.proofs.Truncation.{Rest, tail-v2, tail_horner}
 use Rattle.accuracy.proofs.Domain.{domain}
 use Rattle.accuracy.proofs.Arms.{value_pos, value-signed, near_turn}
-
--- every value has some size
-most_any : (w : ℕ) (x : Value) → 0 < x.d → AtMost w x (w * (x.p + x.n))
-most_any w x z =
-    let h : w * (x.p + x.n) * 1 ≤ w * (x.p + x.n) * x.d = mul-le-mul_left (w * (x.p + x.n)) z in
-    let k : w * (x.p + x.n) ≡ w * x.p + w * x.n = mul-add w x.p x.n in
-    record { above = omega arith; below = omega arith }
-
--- a common factor on the right
-near-right : (w : ℕ) (x y d : Value) (e b : ℕ) → 0 < w → 0 < y.d → 0 < d.d → Near w x y e → AtMost w d b →
-    Near w (times x d) (times y d) (upward w (e * b))
-near-right w x y d e b wp yp dp h k =
-    near_times w x y d d (w * (y.p + y.n)) b e 0 (upward w (e * b)) wp dp yp h
-    (record { above = omega arith; below = omega arith }) (most_any w y yp) k
-    (le_trans (le_of_eq (ap (λ (i : ℕ). i + e * b) (mul-zero (w * (y.p + y.n) + e)) ∙ zero-add (e * b)))
-    (upward_enough w (e * b) wp))
 
 unit-le : (w a c : ℕ) → a ≤ c * w → w * a ≤ c * (w * w)
 unit-le w a c h = let x = mul-le-mul_left w h in simp expand (omega (arith, simp expand at x))
@@ -67,10 +50,12 @@ near-chi w r y a b sigma z v0 v0' v2 v2' wp p0 p2 pz ps hz hd h0 h2 =
     near-plus w v0 v0' (opposite (times z v2)) (opposite (times z v2')) (2 * a) (upward w (y * (2 * b))) h0
     (near-opposite w (times z v2) (times z v2') (upward w (y * (2 * b))) zv) in
     near-right w (minus v0 (times z v2)) (minus v0' (times z v2')) (plus (times sigma sigma) z)
-    (2 * a + upward w (y * (2 * b))) (upward w (r * r)) wp
+    (2 * a + upward w (y * (2 * b))) (upward w (r * r))
+    (upward w ((2 * a + upward w (y * (2 * b))) * upward w (r * r))) wp
     (mul-pos p0 (mul-pos pz p2)) (mul-pos (mul-pos ps ps) pz) d
     (most_convert w (w * w) (plus (times sigma sigma) z) (upward w (r * r)) (r * r) (mul-pos wp wp)
     (unit-le w (r * r) (upward w (r * r)) (upward_enough w (r * r) wp)) hd)
+    (upward_enough w ((2 * a + upward w (y * (2 * b))) * upward w (r * r)) wp)
 
 chi-above : (sigma z v0 v2 : Value) → 0 < v0.d → 0 < v2.d → 0 < z.d → 0 < sigma.d → 0 < (exact_chi sigma z v0 v2).d
 unfolding exact_chi

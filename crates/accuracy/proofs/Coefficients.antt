@@ -74,7 +74,7 @@ chi-from w x s t k l i j m e g p q b h =
     }
 
 -- ---- by the arm
-abbrev coeffs_at : Format → Float → Float → Values → ℕ → Sim3Coeffs
+abbrev pub coeffs_at : Format → Float → Float → Values → ℕ → Sim3Coeffs
 coeffs_at f sigma z v arm =
     (cond (ltb arm 5)
     (record { c = series_full f sigma z (arm_terms f arm); scaled = false })

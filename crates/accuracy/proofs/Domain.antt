@@ -260,7 +260,7 @@ z_fin w x (fin s m e) nan h = absurd h
 z_fin w x (fin s m e) (inf t) h = absurd h
 z_fin w x (fin s m e) (fin t n d) h = tt
 
-root-whole : (w x r a c : ℕ) → w * (a * a) ≤ x * (c * c) → w * x ≤ r * r → w * a ≤ r * c
+pub root-whole : (w x r a c : ℕ) → w * (a * a) ≤ x * (c * c) → w * x ≤ r * r → w * a ≤ r * c
 root-whole w x r a c h k =
     square_le (w * a) (r * c) (squares w x r a c (mul-le-mul_left w h) (mul-le-mul_right (c * c) k))
   where

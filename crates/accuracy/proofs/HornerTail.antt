@@ -80,7 +80,7 @@ most_factor w u x y a b h k =
           (b * y.d) h.above h.below k.below k.above);
     }
 
-recip_most : (l : ℕ) → AtMost (factorial l) (exact_recip l) 1
+pub recip_most : (l : ℕ) → AtMost (factorial l) (exact_recip l) 1
 recip_most l = record { above = omega arith; below = omega arith }
 
 zero-most : (u b : ℕ) → AtMost u (value_of f0) b
@@ -118,7 +118,7 @@ near_none u x e h =
 near_same : (u : ℕ) (x : Value) → Near u x x 0
 near_same u x = record { above = omega arith; below = omega arith }
 
-near_front : (u : ℕ) (a x y : Value) (e : ℕ) → Near u x y e → Near u (plus a x) (plus a y) e
+pub near_front : (u : ℕ) (a x y : Value) (e : ℕ) → Near u x y e → Near u (plus a x) (plus a y) e
 near_front u a x y e h = rw zero-add at (near-plus u a a x y 0 e (near_same u a) h)
 
 late : (r w k l : ℕ) → 2 * r ≤ suc (suc k + l) * w → 2 * r ≤ suc (k + suc l) * w

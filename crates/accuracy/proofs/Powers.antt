@@ -144,7 +144,7 @@ twice_pairs (suc j) = let i = twice_pairs j in simp expand (omega (
 x-step : (j r k : ℕ) → r * (suc j * k) + k * r ≡ suc (suc j) * (k * r)
 x-step j r k = rw (suc-mul (suc j) (k * r)) (simp expand)
 
-z-step : (c j r k : ℕ) → r * (c * k) + suc (suc j) * (k * r) ≡ (c + suc (suc j)) * (k * r)
+pub z-step : (c j r k : ℕ) → r * (c * k) + suc (suc j) * (k * r) ≡ (c + suc (suc j)) * (k * r)
 z-step c j r k = simp expand (omega arith)
 
 module _ (s s' y t r : ℕ) (e : s * s + s' * s' + y ≡ t + 2 * (s * s')) (b : t ≤ r * r) where

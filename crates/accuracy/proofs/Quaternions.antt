@@ -37,7 +37,7 @@ module _ (f : Format) (w : ℕ) (bs : List ℕ) (e : ℕ) where
       let s : T (c && d) = and_r b (c && d) r in
       (and_l a (b && (c && d)) k, and_l b (c && d) r, and_l c d s, and_r c d s)
 
-  three-parts : (t : Three Term) → T (all_three f w bs t e) →
+  pub three-parts : (t : Three Term) → T (all_three f w bs t e) →
       T (error_at_most f w bs t.x e) × T (error_at_most f w bs t.y e) × T (error_at_most f w bs t.z e)
   three-parts t k =
       let b = error_at_most f w bs t.x e in

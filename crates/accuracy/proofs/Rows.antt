@@ -20,9 +20,11 @@ use Rattle.rounding.specs.Tree.{Bound, sum_reach, prod_reach, prod_bound, in_ran
 use Rattle.linalg.specs.Vector.{vec_norm_sq}
 use Rattle.linalg.specs.Floats.{Vec3}
 use Rattle.so3.specs.So3.{so3_exp}
+use Rattle.so3.specs.Floats.{Quat}
+use Rattle.accuracy.specs.Box.{VecIn, QuatError, exact_vec}
 use Rattle.rounding.specs.Leaves.{Bounded, errorless}
 use Rattle.circle.proofs.Angle.{norm_not_below}
-use Rattle.accuracy.specs.Exponential.{CircleAccurate, RotationAccurate}
+use Rattle.accuracy.specs.Exponential.{CircleAccurate, row_terms, cos_error}
 use Rattle.accuracy.specs.Rows.{rule_value, exact_row, entry_size, entry_bound, row_bound, row_no_overflow, rest_unit}
 use Rattle.accuracy.specs.Rows.{rest_most, longer, exact_rotation}
 use Rattle.rounding.proofs.Differences.{expand}
@@ -100,7 +102,7 @@ module _ (w y : ℕ) (rule : ℕ → Rational) (ones : (i : ℕ) → (rule i).nu
       one : (d : ℕ) → d * 1 ≡ 1 * d
       one d = omega arith
 
-  row-most : (n i : ℕ) → AtMost (rule (suc i)).den (exact_row rule z (suc i) (suc n)) 2
+  pub row-most : (n i : ℕ) → AtMost (rule (suc i)).den (exact_row rule z (suc i) (suc n)) 2
   unfolding exact_row
   row-most zero i = most_wider (rule (suc i)).den (rule_value rule (suc i)) 1 2 (lit≤ tt) (entry-most (suc i))
   row-most (suc n) i =
@@ -161,7 +163,7 @@ row-close f w y k c g rule ones dens ratio wp x h t r m n =
     subst (λ (j : ℕ). AbsoluteError w X (exact_row rule z 0 (suc j)) g) (longer-is k n)
     (error_wider w X long (E + c) g m (error_trans w X short long E c a.above a.close (near_turn w long short c tl)))
 
-row-above : (rule : ℕ → Rational) (dens : (i : ℕ) → 0 < (rule i).den) (z : Value) → 0 < z.d → (n i : ℕ) →
+pub row-above : (rule : ℕ → Rational) (dens : (i : ℕ) → 0 < (rule i).den) (z : Value) → 0 < z.d → (n i : ℕ) →
     0 < (exact_row rule z i (suc n)).d
 unfolding exact_row
 row-above rule dens z h zero i = dens i
@@ -194,7 +196,7 @@ row_in f w y k c g b rule ones dens ratio wp x h t r m l n =
     }
 
 -- ---- the two rows of an exponential
-one-num : (row : Row) (i : ℕ) → (row_rule row i).num ≡ 1
+pub one-num : (row : Row) (i : ℕ) → (row_rule row i).num ≡ 1
 unfolding row_rule
 one-num cos_half_row i = refl
 one-num k_row i = refl
@@ -202,7 +204,7 @@ one-num a_row i = refl
 one-num b_row i = refl
 one-num d_row i = refl
 
-row_dens : (row : Row) (i : ℕ) → 0 < (row_rule row i).den
+pub row_dens : (row : Row) (i : ℕ) → 0 < (row_rule row i).den
 unfolding row_rule
 row_dens cos_half_row i = mul-pos (one-le-pow i 4 (lit< tt)) (factorial_pos (2 * i))
 row_dens k_row i = mul-pos (lit< tt) (mul-pos (one-le-pow i 4 (lit< tt)) (factorial_pos (2 * i + 1)))
@@ -220,7 +222,7 @@ ratio_of w y P F a b h ha hb =
 two_more : (i : ℕ) → 2 * suc (suc i) ≡ suc (suc (2 * suc i))
 two_more i = omega arith
 
-cos_ratio : (w y : ℕ) → y ≤ 24 * w → (i : ℕ) → (row_rule cos_half_row (suc i)).den * (y * 2)
+pub cos_ratio : (w y : ℕ) → y ≤ 24 * w → (i : ℕ) → (row_rule cos_half_row (suc i)).den * (y * 2)
     ≤ w * (row_rule cos_half_row (suc (suc i))).den
 unfolding row_rule factorial
 cos_ratio w y h i =
@@ -239,7 +241,7 @@ cos_ratio w y h i =
 two_more' : (i : ℕ) → 2 * suc (suc i) + 1 ≡ suc (suc (2 * suc i + 1))
 two_more' i = omega arith
 
-k_ratio : (w y : ℕ) → y ≤ 24 * w → (i : ℕ) → (row_rule k_row (suc i)).den * (y * 2)
+pub k_ratio : (w y : ℕ) → y ≤ 24 * w → (i : ℕ) → (row_rule k_row (suc i)).den * (y * 2)
     ≤ w * (row_rule k_row (suc (suc i))).den
 unfolding row_rule factorial
 k_ratio w y h i =
@@ -262,7 +264,7 @@ k_ratio w y h i =
     twice w y P F a b h = let x = mul-le-mul_left 2 h in simp expand (omega (arith, simp expand at x))
 
 -- ---- z from 0 to a limit
-bounded_below : (w x : ℕ) (z : Float) (n : ℕ) (d : ℤ) → T (lt z (fin false n d)) → T (not (lt z f0)) →
+pub bounded_below : (w x : ℕ) (z : Float) (n : ℕ) (d : ℤ) → T (lt z (fin false n d)) → T (not (lt z f0)) →
     w * (n * up d) ≤ x * down d → Bounded w z x
 unfolding lt
 bounded_below w x nan n d t p h = absurd t
@@ -299,7 +301,7 @@ pub norm_plain : (f : Format) (phi : Vec3) → T (not (lt (vec_norm_sq f phi) f0
 norm_plain f phi = subst (λ (b : Bool). T (not b)) (sym (norm_not_below f phi)) tt
 
 -- binary64: of every sum of 11 terms or more
-circle_in64 : (z root sh ch : Float) → T (lt z (row_limit binary64 cos_half_row)) →
+pub circle_in64 : (z root sh ch : Float) → T (lt z (row_limit binary64 cos_half_row)) →
     T (lt z (row_limit binary64 k_row)) → T (not (lt z f0)) → (n : ℕ)
     → ForwardError (2 ^ 100) (circle_exp binary64 z root sh ch).cos_half
     (exact_row (row_rule cos_half_row) (value_of z) 0 (suc (10 + n)))
@@ -352,9 +354,14 @@ circle_in64 z root sh ch tc tk p n =
 pub circle_binary64 : (z root sh ch : Float) → CircleAccurate binary64 z (circle_exp binary64 z root sh ch)
 circle_binary64 z root sh ch tc tk p n = let h = circle_in64 z root sh ch tc tk p n in (h.0.close, h.1.close)
 
--- the rotation of an exponential: φ of numbers up to 5 / 2
-pub rotation_binary64 : (phi : Vec3) (root sh ch : Float) → RotationAccurate binary64 phi
-    (so3_exp binary64 phi root sh ch)
+-- the rotation of an exponential: φ of numbers up to 5 / 2, with the exact sums at the computed |φ|²
+abbrev pub RotationAt : Format → Vec3 → Quat → Type 0
+RotationAt f phi q =
+    let z = vec_norm_sq f phi in
+    T (lt z (row_limit f cos_half_row)) → T (lt z (row_limit f k_row)) → VecIn (2 ^ 100) (5 * 2 ^ 99) phi → (n : ℕ) →
+    QuatError (2 ^ 100) q (exact_rotation (value_of z) (exact_vec phi) (suc (row_terms f + n))) (cos_error f)
+
+pub rotation_binary64 : (phi : Vec3) (root sh ch : Float) → RotationAt binary64 phi (so3_exp binary64 phi root sh ch)
 unfolding so3_exp exact_rotation
 rotation_binary64 phi root sh ch tc tk hp n =
     let w = 2 ^ 100 in
@@ -380,7 +387,7 @@ rotation_binary64 phi root sh ch tc tk hp n =
     }
 
 -- binary32: of every sum of 7 terms or more
-circle_in32 : (z root sh ch : Float) → T (lt z (row_limit binary32 cos_half_row)) →
+pub circle_in32 : (z root sh ch : Float) → T (lt z (row_limit binary32 cos_half_row)) →
     T (lt z (row_limit binary32 k_row)) → T (not (lt z f0)) → (n : ℕ)
     → ForwardError (2 ^ 100) (circle_exp binary32 z root sh ch).cos_half
     (exact_row (row_rule cos_half_row) (value_of z) 0 (suc (6 + n)))
@@ -432,8 +439,7 @@ pub circle_binary32 : (z root sh ch : Float) → CircleAccurate binary32 z (circ
 circle_binary32 z root sh ch tc tk p n = let h = circle_in32 z root sh ch tc tk p n in (h.0.close, h.1.close)
 
 -- the rotation of an exponential: φ of numbers up to 5 / 2
-pub rotation_binary32 : (phi : Vec3) (root sh ch : Float) → RotationAccurate binary32 phi
-    (so3_exp binary32 phi root sh ch)
+pub rotation_binary32 : (phi : Vec3) (root sh ch : Float) → RotationAt binary32 phi (so3_exp binary32 phi root sh ch)
 unfolding so3_exp exact_rotation
 rotation_binary32 phi root sh ch tc tk hp n =
     let w = 2 ^ 100 in

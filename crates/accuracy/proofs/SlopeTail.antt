@@ -86,7 +86,7 @@ module _ (s s' y t r : ℕ) (e : s * s + s' * s' + y ≡ t + 2 * (s * s')) (b : 
 regroup_dxi : (a b c e p f : ℕ) → 6 * p ≡ a * (b * c) → e * (c * (b * (a * f))) ≡ p * (6 * e) * f
 regroup_dxi a b c e p f h = let k = ap (λ (i : ℕ). i * (e * f)) h in simp expand (omega (arith, simp expand at k))
 
-fact_dxi : (m : ℕ) → factorial (suc (suc (suc m)) + 1) ≡ triples m * (6 * suc (suc (suc (suc m)))) * factorial m
+pub fact_dxi : (m : ℕ) → factorial (suc (suc (suc m)) + 1) ≡ triples m * (6 * suc (suc (suc (suc m)))) * factorial m
 unfolding factorial
 fact_dxi m =
     rw add-one (regroup_dxi (suc m) (suc (suc m)) (suc (suc (suc m))) (suc (suc (suc (suc m)))) (triples m)
@@ -95,7 +95,7 @@ fact_dxi m =
 regroup_dzeta : (a b c e g p f : ℕ) → 24 * p ≡ a * (b * (c * e)) → g * (e * (c * (b * (a * f)))) ≡ p * (24 * g) * f
 regroup_dzeta a b c e g p f h = let k = ap (λ (i : ℕ). i * (g * f)) h in simp expand (omega (arith, simp expand at k))
 
-fact_dzeta : (m : ℕ) → factorial (suc (suc (suc (suc m))) + 1)
+pub fact_dzeta : (m : ℕ) → factorial (suc (suc (suc (suc m))) + 1)
     ≡ fours m * (24 * suc (suc (suc (suc (suc m))))) * factorial m
 unfolding factorial
 fact_dzeta m =

@@ -115,7 +115,7 @@ halved g g' m c r e h =
 swap : (p n b : ℕ) → Size p n b → Size n p b
 swap p n b h = record { above = h.below; below = h.above }
 
-regroup_size : (p q x p' q' x' c : ℕ) → Size (p + (q + x)) (p' + (q' + x')) c → Size (p + q + x) (p' + q' + x') c
+pub regroup_size : (p q x p' q' x' c : ℕ) → Size (p + (q + x)) (p' + (q' + x')) c → Size (p + q + x) (p' + q' + x') c
 regroup_size p q x p' q' x' c h =
     let i = h.above in let k = h.below in record { above = omega arith; below = omega arith }
 
@@ -148,7 +148,7 @@ four_fours (suc j) =
     (four_fours j) (six_triples (suc j))
     ∙ turn4 (suc (suc (suc (suc (suc j))))) (suc (suc j)) (suc (suc (suc j))) (suc (suc (suc (suc j))))
 
-grow : (c d r k : ℕ) → r * (c * k) + d * (k * r) ≡ (c + d) * (k * r)
+pub grow : (c d r k : ℕ) → r * (c * k) + d * (k * r) ≡ (c + d) * (k * r)
 grow c d r k = simp expand (omega arith)
 
 module _ (s s' y t r : ℕ) (e : s * s + s' * s' + y ≡ t + 2 * (s * s')) (b : t ≤ r * r) where

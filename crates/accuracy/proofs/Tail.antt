@@ -9,7 +9,7 @@ use Rattle.ieee.specs.Table.{factorial}
 use Rattle.rounding.specs.Value.{Value, opposite, plus, minus, times, value_of, AtMost, Near}
 use Rattle.accuracy.specs.Series.{Five, exact_first, exact_next, exact_level, exact_recip, exact_total}
 use Rattle.rounding.proofs.Differences.{expand, zeros}
-use Rattle.rounding.proofs.Fractions.{near_wider}
+use Rattle.rounding.proofs.Fractions.{near_wider, near-plus}
 use Rattle.accuracy.proofs.Powers.{State, start, step, state, h_is}
 use Rattle.accuracy.proofs.Series.{factorial_pos}
 use Rattle.rounding.proofs.Squares.{Size}
@@ -157,7 +157,7 @@ scale-le w k a b c g h = let x = mul-le-mul_left k h in simp expand (omega (arit
 unscale_le : (w k a b c g : ℕ) → 0 < k → w * k * a ≤ w * k * b + k * c * g → w * a ≤ w * b + c * g
 unscale_le w k a b c g z h = le_of_mul-le-mul_right {k = k} (simp expand (omega (arith, simp expand at h))) z
 
-near-scale : (w k : ℕ) (x y : Value) (e : ℕ) → Near w x y e → Near (w * k) x y (k * e)
+pub near-scale : (w k : ℕ) (x y : Value) (e : ℕ) → Near w x y e → Near (w * k) x y (k * e)
 near-scale w k x y e h = record { above = scale-le w k _ _ e _ h.above; below = scale-le w k _ _ e _ h.below }
 
 pub near_unscale : (w k : ℕ) (x y : Value) (e : ℕ) → 0 < k → Near (w * k) x y (k * e) → Near w x y e
@@ -190,3 +190,24 @@ module _ (t : ℕ → Value) (w c k : ℕ) (h : (i : ℕ) → AtMost (w * 2 ^ i)
       near_unscale w (2 ^ n) (exact_total t (k + n)) (exact_total t k) (2 * c) (pow_pos n)
       (near_wider (w * 2 ^ n) (exact_total t (k + n)) (exact_total t k) (grown c n) (2 ^ n * (2 * c)) (omega arith)
       (tail_grown n))
+
+-- ---- two sums: where they are the same up to o terms, and each later term of one near that of the other, by halves
+module _ (t v : ℕ → Value) (w c o : ℕ) (z : Near w (exact_total t o) (exact_total v o) 0)
+    (h : (i : ℕ) → Near (w * 2 ^ i) (t (o + i)) (v (o + i)) c) where
+  both_grown : (n : ℕ) → Near (w * 2 ^ n) (exact_total t (o + n)) (exact_total v (o + n)) (grown c n)
+  unfolding exact_total grown
+  both_grown zero = rw (add-zero, pow-zero, mul-one) z
+  both_grown (suc n) =
+      let T = exact_total t (o + n) in
+      let S = exact_total v (o + n) in
+      rw (add-suc, pow-suc, ← mul_assoc w (2 ^ n) 2) (near-scale (w * 2 ^ n) 2 (plus T (t (o + n)))
+      (plus S (v (o + n))) (grown c n + c)
+      (near-plus (w * 2 ^ n) T S (t (o + n)) (v (o + n)) (grown c n) c (both_grown n) (h n)))
+
+  pub totals-near : (n : ℕ) → Near w (exact_total t (o + n)) (exact_total v (o + n)) (2 * c)
+  totals-near n =
+      let g = grown_is c n in
+      let T = exact_total t (o + n) in
+      let S = exact_total v (o + n) in
+      near_unscale w (2 ^ n) T S (2 * c) (pow_pos n) (near_wider (w * 2 ^ n) T S (grown c n) (2 ^ n * (2 * c))
+      (omega arith) (both_grown n))

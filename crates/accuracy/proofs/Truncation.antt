@@ -82,7 +82,7 @@ delta-whole w r sp sn sd zp zd k h l =
         ≤ r * (sd * zd) * (r * (sd * zd))
     whole w r sp sn sd zp zd b = simp expand (omega (arith, simp expand at b))
 
-two_powers : (d m : ℕ) → d ^ suc (suc m) ≡ d * d * d ^ m
+pub two_powers : (d m : ℕ) → d ^ suc (suc m) ≡ d * d * d ^ m
 two_powers d m = rw (pow-suc d (suc m), pow-suc d m) (simp expand)
 
 half-whole : (r k w g : ℕ) → 2 * r ≤ k * w → 2 * (r * g) ≤ k * (g * w)

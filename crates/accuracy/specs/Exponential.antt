@@ -1,5 +1,5 @@
 -- The exponential below the limits of the series: the translation, v₀ ρ + v₁ φ×ρ + v₂ φ×(φ×ρ), once as formulas; and
--- what is proved of its error and of the quaternion's. z is the computed |φ|², in the exact sums as well.
+-- what is proved of its error and of the quaternion's. The exact sums are at the exact |φ|²; z is the computed one.
 use Rattle.std.specs.Prelude.{Bool, not, ◌&&◌, List, [], ◌∷◌, ℕ, suc, ◌+◌, ◌*◌, ◌^◌, T, leb, Float}
 use Rattle.std.specs.Float.{Format, binary32, binary64}
 use Rattle.std.specs.Float.Ieee.{lt}
@@ -17,11 +17,12 @@ use Rattle.sim3.specs.Exp.{pose_exp}
 use Rattle.sim3.specs.Floats.{Sim3}
 use Rattle.sim3.specs.Floats.{Sim3Tangent}
 use Rattle.rounding.specs.Value.{Value, value_of, AbsoluteError}
-use Rattle.rounding.specs.Tree.{Term, leaf, Bound, prod_bound, bound, no_overflow}
+use Rattle.rounding.specs.Tree.{Term, leaf, Bound, upward, prod_bound, bound, no_overflow}
 use Rattle.rounding.specs.Arithmetic.{Arithmetic, trees, exactly}
 use Rattle.rounding.specs.Leaves.{nth, no_bound, errorless}
 use Rattle.accuracy.specs.Box.{Three, exact_vec, VecIn, VecError, QuatError}
 use Rattle.accuracy.specs.Action.{sum3, scale3, cross3, leaves}
+use Rattle.accuracy.specs.Norm.{exact_norm_sq}
 use Rattle.accuracy.specs.Series.{xi_part, zeta_part, exact_term, exact_total, exact_horner, most_terms}
 use Rattle.accuracy.specs.Rows.{exact_row, exact_rotation}
 
@@ -53,11 +54,11 @@ poly_holds f w a b x y z e =
 abbrev pub sum0 : Float → ℕ → Value
 sum0 sigma n = exact_horner (value_of sigma) 1 n
 
-abbrev pub sum1 : Float → Float → ℕ → Value
-sum1 sigma z n = exact_total (exact_term (value_of sigma) (value_of z) xi_part 1) n
+abbrev pub sum1 : Float → Value → ℕ → Value
+sum1 sigma z n = exact_total (exact_term (value_of sigma) z xi_part 1) n
 
-abbrev pub sum2 : Float → Float → ℕ → Value
-sum2 sigma z n = exact_total (exact_term (value_of sigma) (value_of z) zeta_part 1) n
+abbrev pub sum2 : Float → Value → ℕ → Value
+sum2 sigma z n = exact_total (exact_term (value_of sigma) z zeta_part 1) n
 
 -- ---- what is proved, in units of 2^-100
 -- the numbers of φ are at most 3 / 2, and at singles 13 / 8
@@ -87,16 +88,22 @@ exp_bounds binary64 =
 abbrev pub exp_holds : Format → ℕ → ℕ → Bool
 exp_holds f b e = poly_holds f (2 ^ 100) (phi_most f) b (exp_bounds f).x (exp_bounds f).y (exp_bounds f).z e
 
+-- how far the rounding of |φ|² moves the exact translation: by 2^-18 b at singles, and 2^-47 b at doubles
+abbrev pub norm_moves : Format → ℕ → ℕ
+norm_moves binary32 b = upward (2 ^ 100) (2 ^ 82 * b)
+norm_moves binary64 b = upward (2 ^ 100) (2 ^ 53 * b)
+
 -- t is the translation of the exponential of τ: where the computed Δ and z are below the limits of the series and of b,
 -- and ρ's numbers at most b, each of its numbers is within e of V ρ with every exact sum of `most_terms` terms or more
 abbrev pub TranslationIn : Format → ℕ → ℕ → Sim3Tangent → Vec3 → Type 0
 TranslationIn f b e tau t =
     let z = vec_norm_sq f tau.phi in
+    let exact = exact_norm_sq (exact_vec tau.phi) in
     T (lt (coeffs_delta f tau.sigma z) (series_below f)) → T (lt z (row_limit f b_row)) →
     VecIn (2 ^ 100) (phi_most f) tau.phi → VecIn (2 ^ 100) b tau.rho → (n : ℕ) →
     VecError (2 ^ 100) t
-    (exact_poly (exact_vec tau.phi) (sum0 tau.sigma (most_terms f + n)) (sum1 tau.sigma z (most_terms f + n))
-    (sum2 tau.sigma z (most_terms f + n)) (exact_vec tau.rho)) e
+    (exact_poly (exact_vec tau.phi) (sum0 tau.sigma (most_terms f + n)) (sum1 tau.sigma exact (most_terms f + n))
+    (sum2 tau.sigma exact (most_terms f + n)) (exact_vec tau.rho)) e
 
 -- how many terms of the rows behind the first, and the bounds of cos(θ/2) and of sin(θ/2)/θ
 abbrev pub row_terms : Format → ℕ
@@ -120,18 +127,24 @@ CircleAccurate f z c =
     (cos_error f)
     × AbsoluteError (2 ^ 100) c.k (exact_row (row_rule k_row) (value_of z) 0 (suc (row_terms f + n))) (k_error f)
 
+-- of the quaternion's numbers, with the rounding of |φ|²
+abbrev pub turn_error : Format → ℕ
+turn_error binary32 = 2 ^ 80
+turn_error binary64 = 2 ^ 51
+
 -- q is the quaternion of the exponential of φ: where z is below the limits of both rows and φ's numbers at most 5 / 2,
 -- each of its numbers is within the bound of the exact one with every sum of as many terms or more
 abbrev pub RotationAccurate : Format → Vec3 → Quat → Type 0
 RotationAccurate f phi q =
     let z = vec_norm_sq f phi in
     T (lt z (row_limit f cos_half_row)) → T (lt z (row_limit f k_row)) → VecIn (2 ^ 100) (5 * 2 ^ 99) phi → (n : ℕ) →
-    QuatError (2 ^ 100) q (exact_rotation (value_of z) (exact_vec phi) (suc (row_terms f + n))) (cos_error f)
+    QuatError (2 ^ 100) q
+    (exact_rotation (exact_norm_sq (exact_vec phi)) (exact_vec phi) (suc (row_terms f + n))) (turn_error f)
 
--- x is the exponential of τ: its translation for every box of ρ whose bound is computed to be at most e, and its
--- quaternion
+-- x is the exponential of τ: its translation for every box of ρ whose error at the computed |φ|² is computed to be at
+-- most e, and its quaternion
 pub record ExponentialAccurate (f : Format) (tau : Sim3Tangent) (x : Sim3) : Type 0 where
-  pub translation : (b e : ℕ) → T (exp_holds f b e) → TranslationIn f b e tau x.t
+  pub translation : (b e : ℕ) → T (exp_holds f b e) → TranslationIn f b (e + norm_moves f b) tau x.t
   pub rotation : RotationAccurate f tau.phi x.q
 
 -- ρ up to 2^16, and up to 1: within 2^2 and 2^-14 at singles, 2^-27 and 2^-43 at doubles

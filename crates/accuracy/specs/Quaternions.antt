@@ -1,6 +1,6 @@
 -- The product of quaternions, the Newton step of a renormalisation, and the translation of an inverse: once as
 -- formulas, and what is proved of their errors.
-use Rattle.std.specs.Prelude.{Bool, ◌&&◌, List, [], ◌∷◌, ℕ, ◌+◌, ◌*◌, ◌/◌, ◌^◌, ◌<◌, T, Float}
+use Rattle.std.specs.Prelude.{Bool, ◌&&◌, List, [], ◌∷◌, ℕ, ◌+◌, ◌*◌, ◌/◌, ◌^◌, ◌≤◌, ◌<◌, T, Float}
 use Rattle.std.specs.Float.{Format, binary32, binary64}
 use Rattle.ieee.specs.Numbers.{f2, f3, half}
 use Rattle.linalg.specs.Floats.{Vec3}
@@ -49,6 +49,14 @@ module _ {A : Type 0} (arithmetic : Arithmetic A) where
 -- ---- exactly
 unfoldable pub exact_hamilton : Four Value → Four Value → Four Value
 exact_hamilton p q = hamilton exactly p q
+
+abbrev pub exact_squared : Four Value → Value
+exact_squared q = squared exactly q
+
+-- |q|² is within c / u of 1
+pub record Normal (u c : ℕ) (q : Four Value) : Type 0 where
+  pub above : u * (exact_squared q).p ≤ u * (exact_squared q).n + (u + c) * (exact_squared q).d
+  pub below : u * (exact_squared q).d + u * (exact_squared q).n ≤ u * (exact_squared q).p + c * (exact_squared q).d
 
 unfoldable pub exact_newton : Four Value → Four Value
 exact_newton q = newton exactly (value_of f3) (value_of half) q

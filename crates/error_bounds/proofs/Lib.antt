@@ -1,1 +1,4 @@
 pub mod Holds
+pub mod ManyPoints
+pub mod Blocks
+pub mod InverseBlocks

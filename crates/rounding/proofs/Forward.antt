@@ -2,20 +2,21 @@
 -- nothing.
 use mathlib.Core.Path.{◌≡◌, sym, subst}
 use Prim.Native.Nat.{ℕ, suc, ◌+◌, ◌-◌, ◌*◌, ◌/◌, ◌%◌, ◌^◌, ◌≤◌, ◌<◌}
-use native.Mathlib.Nat.{mul-pos, suc-mul, div-add-mod', mod-lt}
+use native.Mathlib.Nat.{le_trans, mul-pos, suc-mul, div-add-mod', mod-lt}
 use native.Mathlib.Omega.{arith}
 use mathlib.Core.Bool.{Bool, true, false, not, ◌&&◌, cond}
 use lib.Dec.{T, ltb, ltb→lt, nltb→le}
 use lib.Ieee.{Float, nan, inf, fin, Format, emax, unlike, up, down, round, neg, add, mul}
 use lib.Ieee as I
 use lib.Ieee.Fits.{down_pos, and_l, and_r}
-use Rattle.rounding.specs.Value.{Value, opposite, plus, times, Near, AtMost, signed, AbsoluteError}
+use Rattle.rounding.specs.Value.{Value, opposite, plus, times, Near, AtMost, signed, value_of, AbsoluteError}
 use Rattle.rounding.specs.Roundoff.{rounding_error}
 use Rattle.rounding.specs.Tree.{Term, leaf, opp, sum, prod, quot, computed, exact, Bound, upward, sum_reach, prod_reach}
 use Rattle.rounding.specs.Tree.{sum_bound, prod_bound, bound, in_range, no_overflow, ForwardError}
+use Rattle.rounding.specs.Leaves.{Bounded}
 use Rattle.rounding.proofs.Differences.{expand, zeros}
-use Rattle.rounding.proofs.Fractions.{near-opposite, most-opposite, near_wider, near-plus, most-plus, near_trans}
-use Rattle.rounding.proofs.Fractions.{most-near, most-times, near_times}
+use Rattle.rounding.proofs.Fractions.{near-opposite, most-opposite, most_wider, near_wider, near-plus, most-plus}
+use Rattle.rounding.proofs.Fractions.{near_trans, most-near, most-times, near_times}
 use Rattle.rounding.proofs.Roundoff.{rounding-error}
 
 -- ---- num with the sign s is p - n
@@ -138,6 +139,35 @@ error-add f w (fin s i j) (fin r l o) x' y' a b e g z c d h k m n t =
     (e + g + rounding_error f w u) (omega arith)
     (error_trans w (add f (fin s i j) (fin r l o)) (plus x y) (plus x' y') (rounding_error f w u) (e + g) q v
     (near-plus w x x' y y' e g h k))
+
+-- a float within e of x', and one more: where the exact sum is at most m, what is rounded is at most m and e
+pub error-sum : (f : Format) (w : ℕ) (x y : Float) (x' : Value) (m e u b : ℕ) → 0 < x'.d → AbsoluteError w x x' e →
+    Bounded w y b →
+    AtMost w (plus x' (value_of y)) m → m + e ≤ u → T (in_range f w u) → AbsoluteError w (add f x y)
+    (plus x' (value_of y)) (e + rounding_error f w u)
+unfolding add value_of
+error-sum f w nan y x' m e u b c h k n l t = absurd h
+error-sum f w (inf s) y x' m e u b c h k n l t = absurd h
+error-sum f w (fin s i j) nan x' m e u b c h k n l t = absurd k
+error-sum f w (fin s i j) (inf r) x' m e u b c h k n l t = absurd k
+error-sum f w (fin s i j) (fin r q o) x' m e u b c h k n l t =
+    let x : Value = signed s (i * up j) (down j) in
+    let y : Value = signed r (q * up o) (down o) in
+    let d : 0 < down j * down o = mul-pos (down_pos j) (down_pos o) in
+    let near : Near w (plus x y) (plus x' y) (e + 0) = near-plus w x x' y y e 0 h
+    (record { above = omega arith; below = omega arith }) in
+    let v : AbsoluteError w (add f (fin s i j) (fin r q o)) (plus x y) (rounding_error f w u) =
+    rounded-sum f w u s (i * up j * down o) r (q * up o * down j) (down j * down o) (x.p * down o) (x.n * down o) d
+    (scaled s (i * up j) (down j) (down o))
+    (y.p * down j) (y.n * down j) (scaled r (q * up o) (down o) (down j))
+    (most_wider w (plus x y) (m + (e + 0)) u (le_trans (zero-last m e) l)
+    (most-near w (plus x y) (plus x' y) m (e + 0) (mul-pos c (down_pos o)) near n)) t in
+    error_wider w (add f (fin s i j) (fin r q o)) (plus x' y) (rounding_error f w u + (e + 0))
+    (e + rounding_error f w u) (omega arith)
+    (error_trans w (add f (fin s i j) (fin r q o)) (plus x y) (plus x' y) (rounding_error f w u) (e + 0) d v near)
+  where
+    zero-last : (m e : ℕ) → m + (e + 0) ≤ m + e
+    zero-last m e = omega arith
 
 -- ---- the exact product of two floats, rounded
 pub signs : (s t : Bool) (a c b d : ℕ) → IsDifference (unlike s t) (a * b) (times (signed s a c) (signed t b d)).p

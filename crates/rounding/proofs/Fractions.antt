@@ -1,6 +1,8 @@
 -- How far sums and products of fractions are from one another. Assumes nothing.
+use mathlib.Core.Path.{◌≡◌, ap, ◌∙◌}
 use Prim.Native.Nat.{ℕ, ◌+◌, ◌*◌, ◌≤◌, ◌<◌}
-use native.Mathlib.Nat.{le_trans, mul-le-mul_right, le_of_mul-le-mul_right}
+use native.Mathlib.Nat.{le_trans, le_of_eq, mul-add, mul-zero, zero-add, mul-le-mul_left, mul-le-mul_right}
+use native.Mathlib.Nat.{le_of_mul-le-mul_right}
 use native.Mathlib.Omega.{arith}
 use Rattle.rounding.specs.Value.{Value, opposite, plus, times, Exceeds, Near, AtMost}
 use Rattle.rounding.proofs.Differences.{expand, product, products}
@@ -158,3 +160,17 @@ near_times w x x' y y' a b e g k z yd xd hx hy sx sy l =
           (near-opposite w x x' e hx) hy
           (most-opposite w x (a + e) (most-near w x x' a e xd hx sx)) sy l);
     }
+
+-- ---- a common factor on the right
+most_any : (w : ℕ) (x : Value) → 0 < x.d → AtMost w x (w * (x.p + x.n))
+most_any w x z =
+    let h : w * (x.p + x.n) * 1 ≤ w * (x.p + x.n) * x.d = mul-le-mul_left (w * (x.p + x.n)) z in
+    let k : w * (x.p + x.n) ≡ w * x.p + w * x.n = mul-add w x.p x.n in
+    record { above = omega arith; below = omega arith }
+
+pub near-right : (w : ℕ) (x y d : Value) (e b k : ℕ) → 0 < w → 0 < y.d → 0 < d.d → Near w x y e → AtMost w d b →
+    e * b ≤ k * w → Near w (times x d) (times y d) k
+near-right w x y d e b k wp yp dp h g l =
+    near_times w x y d d (w * (y.p + y.n)) b e 0 k wp dp yp h (record { above = omega arith; below = omega arith })
+    (most_any w y yp) g
+    (le_trans (le_of_eq (ap (λ (i : ℕ). i + e * b) (mul-zero (w * (y.p + y.n) + e)) ∙ zero-add (e * b))) l)

@@ -87,3 +87,18 @@ unfolding value_of
 value-above nan = zero-lt-suc 0
 value-above (inf s) = zero-lt-suc 0
 value-above (fin s m e) = down_pos e
+
+-- ---- the value of a float that has an error
+pub error-near : (w : ℕ) (x : Float) (y : Value) (e : ℕ) → AbsoluteError w x y e → Near w (value_of x) y e
+unfolding value_of
+error-near w nan y e h = absurd h
+error-near w (inf s) y e h = absurd h
+error-near w (fin s m k) y e h = h
+
+pub bounded_from : (w : ℕ) (x : Float) (y : Value) (e b : ℕ) → AbsoluteError w x y e → AtMost w (value_of x) b →
+    Bounded w x b
+unfolding value_of
+bounded_from w nan y e b h k = absurd h
+bounded_from w (inf s) y e b h k = absurd h
+bounded_from w (fin true m j) y e b h k = let q = k.below in omega arith
+bounded_from w (fin false m j) y e b h k = let q = k.above in omega arith

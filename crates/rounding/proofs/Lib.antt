@@ -6,5 +6,7 @@ pub mod Forward
 pub mod Leaves
 pub mod Quotients
 pub mod Ring
+pub mod EqualValues
+pub mod Divisors
 pub mod Denominators
 pub mod Theorem

@@ -34,7 +34,7 @@ by_sign false p n c D E h k e z q = ap (λ (i : ℕ). signed false c i) (same p 
     same : (p n D E : ℕ) → p ≡ n + D → p - n + (n - p) ≡ E → E ≡ D
     same p n D E e q = omega arith
 
-inverse-up : (y : Value) (D : ℕ) → y.p ≡ y.n + D → 0 < D → inverse y ≡ signed false y.d D
+pub inverse-up : (y : Value) (D : ℕ) → y.p ≡ y.n + D → 0 < D → inverse y ≡ signed false y.d D
 unfolding inverse
 inverse-up y D e z =
     by_sign (ltb y.p y.n) y.p y.n y.d D (y.p - y.n + (y.n - y.p)) (ltb→lt y.p y.n) (nltb→le y.p y.n) e z refl

@@ -15,7 +15,7 @@ pub record Gap : Type 0 where
   pub p : ℕ
   pub n : ℕ
 
-same : {a b : Gap} → a.p ≡ b.p → a.n ≡ b.n → a ≡ b
+pub same : {a b : Gap} → a.p ≡ b.p → a.n ≡ b.n → a ≡ b
 same h k = λ i. record { p = h i; n = k i }
 
 infixl 6 ◌⊕◌
@@ -84,12 +84,14 @@ mul_mul_mul_comm a b c d =
 
 pub data Ex : Type 0 where
   var : ℕ → Ex
+  const : ℕ → Ex
   minus : Ex → Ex
   plus : Ex → Ex → Ex
   times : Ex → Ex → Ex
 
 abbrev pub ev : (ℕ → Gap) → Ex → Gap
 ev r (var i) = r i
+ev r (const k) = whole k
 ev r (minus a) = opp (ev r a)
 ev r (plus a b) = ev r a ⊕ ev r b
 ev r (times a b) = ev r a ⊗ ev r b
@@ -212,6 +214,7 @@ mul_p_ev r (x ∷ p) q =
 unfoldable pub normal : Ex → List Item
 unfolding minus_one
 normal (var i) = item (whole 1) (i ∷ []) ∷ []
+normal (const k) = item (whole k) [] ∷ []
 normal (minus a) = mul_p (item minus_one [] ∷ []) (normal a)
 normal (plus a b) = add_p (normal a) (normal b)
 normal (times a b) = mul_p (normal a) (normal b)
@@ -219,6 +222,7 @@ normal (times a b) = mul_p (normal a) (normal b)
 normal_ev : (r : ℕ → Gap) (a : Ex) → ev_p r (normal a) ≡ ev r a
 unfolding normal
 normal_ev r (var i) = add-zero (whole 1 ⊗ (r i ⊗ whole 1)) ∙ one-mul (r i ⊗ whole 1) ∙ mul-one (r i)
+normal_ev r (const k) = add-zero (whole k ⊗ whole 1) ∙ mul-one (whole k)
 normal_ev r (minus a) =
     mul_p_ev r (item minus_one [] ∷ []) (normal a)
     ∙ ap₂ (λ (x y : Gap). x ⊗ y) (add-zero (minus_one ⊗ whole 1) ∙ mul-one minus_one) (normal_ev r a)

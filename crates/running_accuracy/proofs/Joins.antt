@@ -19,16 +19,17 @@ use Rattle.rounding.specs.Tree.{Term, computed, exact, Bound, bound, no_overflow
 use Rattle.rounding.specs.Leaves.{sizes, nth, no_bound}
 use Rattle.accuracy.specs.Box.{VecIn, Three, VecError, Four, QuatError, exact_quat}
 use Rattle.accuracy.specs.Action.{tree_act}
-use Rattle.accuracy.specs.Quaternions.{exact_hamilton, tree_quat_mul, quat_mul_sizes}
+use Rattle.accuracy.specs.Quaternions.{tree_quat_mul, quat_mul_sizes}
 use Rattle.running_accuracy.specs.Products.{next_rotation}
 use Rattle.running_accuracy.specs.Joins.{first_bound, JoinedIn, JoinedTheorem, Join, joined, Exact, exact_join}
 use Rattle.running_accuracy.specs.Joins.{exact_joined, exact_pose, JoinIn, AllJoinsIn, PoseBound, join_bounds}
 use Rattle.running_accuracy.specs.Joins.{next_pose, join_no_overflow, joins_hold}
 use Rattle.rounding.proofs.Forward.{forward_error, error_wider}
 use Rattle.rounding.proofs.Denominators.{is-most}
-use Rattle.running_accuracy.proofs.Length.{long_w, long_x, long_y, long_z}
+use Rattle.accuracy.proofs.Hamilton.{Above, hamilton-above}
+use Rattle.accuracy.proofs.Length.{long_w, long_x, long_y, long_z}
 use Rattle.rounding.proofs.Leaves.{leaf_forward, two_bounded, AllForwardError, nth_forward, value-above}
-use Rattle.running_accuracy.proofs.Products.{Run, one_more, run_close, first, pos4}
+use Rattle.running_accuracy.proofs.Products.{Run, one_more, run_close, first}
 
 -- ---- the translation
 abbrev floats : Sim3 → Float → Vec3 → List Float
@@ -93,24 +94,8 @@ join_shift f u b s h x X j p z hq ht hb hu hs ha t =
     record { x = go tree_act.x t; y = go tree_act.y t; z = go tree_act.z t }
 
 -- ---- the running pose
-pub record Above (q : Four Value) : Type 0 where
-  pub w : 0 < q.w.d
-  pub x : 0 < q.x.d
-  pub y : 0 < q.y.d
-  pub z : 0 < q.z.d
-
 pub quat_values : (q : Quat) → Above (exact_quat q)
 quat_values q = record { w = value-above q.w; x = value-above q.x; y = value-above q.y; z = value-above q.z }
-
-pub hamilton-above : (p q : Four Value) → Above p → Above q → Above (exact_hamilton p q)
-unfolding exact_hamilton
-hamilton-above p q h k =
-    record {
-      w = pos4 _ _ _ _ _ _ _ _ h.w k.w h.x k.x h.y k.y h.z k.z;
-      x = pos4 _ _ _ _ _ _ _ _ h.w k.x h.x k.w h.y k.z h.z k.y;
-      y = pos4 _ _ _ _ _ _ _ _ h.w k.y h.x k.z h.y k.w h.z k.x;
-      z = pos4 _ _ _ _ _ _ _ _ h.w k.z h.x k.y h.y k.x h.z k.w;
-    }
 
 pub record PoseRun (u : ℕ) (p : PoseBound) (x : Sim3) (X : Exact) : Type 0 where
   pub rotation : Run u p.rotation.magnitude p.rotation.error x.q X.q

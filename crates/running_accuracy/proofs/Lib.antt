@@ -1,9 +1,11 @@
-pub mod Euler
-pub mod Length
+pub mod Choice
 pub mod Products
 pub mod Newton
 pub mod Joins
 pub mod Running
 pub mod Page
+pub mod Similarity
+pub mod Sigma
+pub mod Scale
 pub mod OneMore
 pub mod Numbers

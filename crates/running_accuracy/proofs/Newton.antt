@@ -12,8 +12,10 @@ use Rattle.rounding.proofs.Differences.{expand, zeros}
 use Rattle.rounding.proofs.Squares.{twice-le}
 use Rattle.rounding.proofs.Ring.{Gap, ◌⊕◌, ◌⊗◌, opp, whole, Ex, var, ev, normal, ring}
 use Rattle.rounding.proofs.Ring as R
-use Rattle.running_accuracy.proofs.Euler.{Quad, ◌⊖◌, hamilton, squared, euler}
-use Rattle.running_accuracy.proofs.Length.{Long, Level, squared-up, long_shift, scaled, long_scaled}
+use Rattle.accuracy.proofs.Hamilton.{Even, value-is, even_above, even_below}
+use Rattle.accuracy.proofs.Euler.{Quad, ◌⊖◌, hamilton, squared, squared_x, euler}
+use Rattle.accuracy.proofs.Length.{Long, Level, level_trans, to_whole, level-add, level-sub, level-mul, long_shift}
+use Rattle.accuracy.proofs.Length.{scaled, long_scaled}
 use Rattle.running_accuracy.proofs.Products.{sub4, sub_x, quad_x, sub_x4, entries, nth_gap}
 
 -- over e (e² 2)
@@ -26,9 +28,6 @@ newton_gap r e = record { w = r.w ⊗ factor r e; x = r.x ⊗ factor r e; y = r.
 -- c a - h r
 abbrev combo : Gap → Gap → Quad Gap → Quad Gap → Quad Gap
 combo c h a r = record { w = c ⊗ a.w ⊖ h ⊗ r.w; x = c ⊗ a.x ⊖ h ⊗ r.x; y = c ⊗ a.y ⊖ h ⊗ r.y; z = c ⊗ a.z ⊖ h ⊗ r.z }
-
-abbrev squared_x : Quad Ex → Ex
-squared_x q = R.plus (R.plus (R.plus (R.times q.w q.w) (R.times q.x q.x)) (R.times q.y q.y)) (R.times q.z q.z)
 
 -- ---- the difference of two Newton steps
 abbrev split_x : (Quad Ex → Ex) → Ex
@@ -92,32 +91,6 @@ combo_square : (c h : Gap) (r s : Quad Gap) → Level (squared (combo c h (sub4 
 unfolding Level normal
 combo_square c h r s = ring combo_x tt (nth_gap (c ∷ h ∷ entries r (entries s [])))
 
--- ---- differences that are equal
-level_trans : (a b c : Gap) → Level a b → Level b c → Level a c
-unfolding Level
-level_trans a b c h k = omega arith
-
-level-add : (a a' b b' : Gap) → Level a a' → Level b b' → Level (a ⊕ b) (a' ⊕ b')
-unfolding Level
-level-add a a' b b' h k = omega arith
-
-level-sub : (a a' b b' : Gap) → Level a a' → Level b b' → Level (a ⊖ b) (a' ⊖ b')
-unfolding Level
-level-sub a a' b b' h k = omega arith
-
-mul-whole : (p n p' n' q m q' m' : ℕ) → p + n' ≡ n + p' → q + m' ≡ m + q' →
-    p * q + n * m + (p' * m' + n' * q') ≡ p * m + n * q + (p' * q' + n' * m')
-mul-whole p n p' n' q m q' m' h k =
-    let a = ap (λ (i : ℕ). i * q) h in
-    let b = ap (λ (i : ℕ). i * m) h in
-    let c = ap (λ (i : ℕ). p' * i) k in
-    let d = ap (λ (i : ℕ). n' * i) k in
-    omega (arith, simp expand at a, simp expand at b, simp expand at c, simp expand at d)
-
-level-mul : (a a' b b' : Gap) → Level a a' → Level b b' → Level (a ⊗ b) (a' ⊗ b')
-unfolding Level
-level-mul a a' b b' h k = mul-whole a.p a.n a'.p a'.n b.p b.n b'.p b'.n h k
-
 level_rest : (c c' h h' x x' p p' l l' : Gap) → Level c c' → Level h h' → Level x x' → Level p p' → Level l l' →
     Level (rest c h x p l) (rest c' h' x' p' l')
 level_rest c c' h h' x x' p p' l l' cc hh xx pp ll =
@@ -164,11 +137,7 @@ canon_beyond : (C X P L k : ℕ) → ((rest (whole C) (whole k) (whole X) (whole
     ((rest (whole C) (whole k) (whole X) (whole P) (whole L)).n ≡ C * k * (P + X))
 canon_beyond C X P L k = (simp zeros (omega arith), simp zeros (omega arith))
 
-to_whole : (a : Gap) (v : ℕ) → a.p ≡ a.n + v → Level a (whole v)
-unfolding Level
-to_whole a v h = omega arith
-
-factor_whole : (t : ℕ) (l : Gap) (L C : ℕ) → Level l (whole L) → L + C ≡ t → Level (whole t ⊖ l) (whole C)
+pub factor_whole : (t : ℕ) (l : Gap) (L C : ℕ) → Level l (whole L) → L + C ≡ t → Level (whole t ⊖ l) (whole C)
 unfolding Level
 factor_whole t l L C h e = omega arith
 
@@ -332,30 +301,10 @@ final u c d g d' E C X sp sn uz ez hx hc hg hd h =
 den-square : (e : ℕ) → 4 * (e * e * (e * e * (e * e))) ≡ e * (e * e * 2) * (e * (e * e * 2))
 den-square e = simp expand (omega arith)
 
--- the length of a / e, squared, is within c / u of 1
-pub record Even (u c : ℕ) (a : Quad Gap) (e : ℕ) : Type 0 where
-  pub above : u * (squared a).p ≤ u * (squared a).n + (u + c) * (e * e)
-  pub below : u * (e * e) + u * (squared a).n ≤ u * (squared a).p + c * (e * e)
-
-value-is : (a : Quad Gap) → (squared a).p ≡ (squared a).n + ((squared a).p - (squared a).n)
-value-is a = go (squared a).p (squared a).n (squared-up a)
-  where
-    go : (p n : ℕ) → n ≤ p → p ≡ n + (p - n)
-    go p n h = omega arith
-
--- u L against E, for the number L
-even_above : (u c p n L E : ℕ) → p ≡ n + L → u * p ≤ u * n + (u + c) * E → u * L ≤ (u + c) * E
-even_above u c p n L E e h =
-    let k = subst (λ (x : ℕ). u * x ≤ u * n + (u + c) * E) e h in omega (arith, simp mul-add at k)
-
-even_below : (u c p n L E : ℕ) → p ≡ n + L → u * E + u * n ≤ u * p + c * E → u * E ≤ u * L + c * E
-even_below u c p n L E e h =
-    let k = subst (λ (x : ℕ). u * E + u * n ≤ u * x + c * E) e h in omega (arith, simp mul-add at k)
-
 long_number : (v p n X b : ℕ) → p ≡ n + X → v * p ≤ v * n + b → v * X ≤ b
 long_number v p n X b e h = let k = subst (λ (x : ℕ). v * x ≤ v * n + b) e h in omega (arith, simp mul-add at k)
 
-five : (u c L E : ℕ) → 0 < u → 4 * c ≤ u → u * L ≤ (u + c) * E → 4 * L ≤ 5 * E
+pub five : (u c L E : ℕ) → 0 < u → 4 * c ≤ u → u * L ≤ (u + c) * E → 4 * L ≤ 5 * E
 five u c L E z k h =
     let a = mul-le-mul_right E k in
     le_of_mul-le-mul_right {k = u} (simp expand (omega (arith, simp expand at h, simp expand at a))) z
@@ -420,7 +369,7 @@ times-square : (s : Quad Gap) (f : Gap) → Level (squared (times_by s f)) (squa
 unfolding Level normal
 times-square s f = ring times_x tt (nth_gap (f ∷ entries s []))
 
-one-level : (a : Gap) (C : ℕ) → Level a (whole C) → Level (a ⊗ whole 1) (whole C)
+pub one-level : (a : Gap) (C : ℕ) → Level a (whole C) → Level (a ⊗ whole 1) (whole C)
 unfolding Level
 one-level a C h = omega arith
 

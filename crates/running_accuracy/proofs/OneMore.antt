@@ -10,7 +10,13 @@ use Rattle.running.specs.declared.Running.{Running}
 use Rattle.rounding.specs.Value.{Value}
 use Rattle.running_accuracy.specs.Running.{Step, joins, renews, events, history_of, pose_after, RunningAccurate}
 use Rattle.running_accuracy.specs.Running.{PageAccurate}
+use Rattle.running_accuracy.specs.Similarity.{SimilarityAccurate}
+use Rattle.running_accuracy.specs.Sigma.{SigmaAccurate}
+use Rattle.running_accuracy.specs.Scale.{ScaleAccurate}
 use Rattle.running_accuracy.specs.Join.{JoinAccurate}
+use Rattle.running_accuracy.proofs.Similarity.{similarity_accurate}
+use Rattle.running_accuracy.proofs.Sigma.{sigma_accurate}
+use Rattle.running_accuracy.proofs.Scale.{scale_accurate}
 use Rattle.running_accuracy.proofs.Running.{running_accurate, page_accurate}
 
 events_more : (l : List Step) (x : Pose) (up : Float) (s : Value) →
@@ -50,4 +56,16 @@ join-holds r x up r' k =
           subst (λ (q : Start). PageAccurate binary64 n p (l ++ (joins x up s ∷ [])) q)
           (one_more binary64 n p first l x up s r r' h k)
           (page_accurate binary64 n p first (l ++ (joins x up s ∷ [])));
+      similarity = λ n p first l s h.
+          subst (λ (q : Start). SimilarityAccurate binary64 n p (l ++ (joins x up s ∷ [])) q)
+          (one_more binary64 n p first l x up s r r' h k)
+          (similarity_accurate binary64 n p first (l ++ (joins x up s ∷ [])));
+      sigma = λ n p first l s h.
+          subst (λ (q : Start). SigmaAccurate binary64 n p first (l ++ (joins x up s ∷ [])) q)
+          (one_more binary64 n p first l x up s r r' h k)
+          (sigma_accurate binary64 n p first (l ++ (joins x up s ∷ [])));
+      scale = λ n p first l s h.
+          subst (λ (q : Start). ScaleAccurate binary64 n p first (l ++ (joins x up s ∷ [])) q)
+          (one_more binary64 n p first l x up s r r' h k)
+          (scale_accurate binary64 n p first (l ++ (joins x up s ∷ [])));
     }

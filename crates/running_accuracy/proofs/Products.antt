@@ -5,132 +5,32 @@ use Prim.Native.Nat.{ℕ, zero, suc, ◌+◌, ◌*◌, ◌≤◌, ◌<◌}
 use native.Mathlib.Nat.{le_refl, le_trans, le_of_eq, mul-add, add-mul, mul_comm, mul-pos, zero-mul, add-zero, add_comm}
 use native.Mathlib.Nat.{zero-lt-suc, mul-le-mul_right, le_of_mul-le-mul_right}
 use native.Mathlib.Omega.{arith}
-use mathlib.Core.Bool.{true, false, ◌&&◌}
+use mathlib.Core.Bool.{◌&&◌}
 use lib.Dec.{T, leb, le→leb}
-use lib.Ieee.{Float, nan, inf, fin, Format, up}
+use lib.Ieee.{Float, nan, inf, fin, Format}
 use lib.Ieee.Fits.{and_i}
-use lib.ListN.{length}
 use Rattle.so3.specs.Quat.{quat_mul}
 use Rattle.so3.specs.Floats.{Quat}
-use Rattle.rounding.specs.Value.{Value, opposite, plus, minus, times, value_of, AtMost, Near, AbsoluteError}
+use Rattle.rounding.specs.Value.{Value, value_of, AtMost, Near, AbsoluteError}
 use Rattle.rounding.specs.Tree.{upward, bound, no_overflow}
 use Rattle.rounding.specs.Leaves.{Bounded, sizes, error_at_most}
 use Rattle.accuracy.specs.Box.{QuatIn, Four, QuatError, exact_quat}
-use Rattle.accuracy.specs.Quaternions.{exact_hamilton, tree_quat_mul, quat_mul_sizes, all_four}
-use Rattle.running_accuracy.specs.Products.{exact_squared, LengthAtMost, product_error}
+use Rattle.accuracy.specs.Quaternions.{exact_squared, exact_hamilton, tree_quat_mul, quat_mul_sizes, all_four}
+use Rattle.running_accuracy.specs.Products.{LengthAtMost, product_error}
 use Rattle.rounding.proofs.Differences.{expand}
 use Rattle.rounding.proofs.Forward.{upward_enough}
-use Rattle.rounding.proofs.Denominators.{Is, is_shift, is-opposite, is-scaled, is-plus, is-times, is-most}
+use Rattle.rounding.proofs.Denominators.{Is, is-most}
 use Rattle.rounding.proofs.Ring.{Gap, ◌⊕◌, ◌⊗◌, whole, Ex, var, normal, ring}
 use Rattle.rounding.proofs.Ring as R
-use Rattle.running_accuracy.proofs.Euler.{Quad, ◌⊖◌, hamilton, hamilton_x, squared}
-use Rattle.running_accuracy.proofs.Length.{Long, Tall, Level, long_product, long_shift, scaled, long_scaled, tall_long}
-use Rattle.running_accuracy.proofs.Length.{long_w, long_x, long_y, long_z, sum4, long_sum}
-use Rattle.rounding.proofs.Leaves.{value-above}
+use Rattle.accuracy.proofs.Hamilton.{Is4, den, clear, clear_is, is_mul, is-add, scaled-is, hamilton-is, side_least}
+use Rattle.accuracy.proofs.Hamilton.{pos4, tall_near}
+use Rattle.accuracy.proofs.Euler.{Quad, ◌⊖◌, hamilton, hamilton_x, squared}
+use Rattle.accuracy.proofs.Length.{Long, Tall, Level, long_product, long_shift, scaled, long_scaled, tall_long, long_w}
+use Rattle.accuracy.proofs.Length.{long_x, long_y, long_z, sum4, long_sum}
+use Rattle.rounding.proofs.Leaves.{value-above, error-near, bounded_from}
 use Rattle.accuracy.proofs.Quaternions.{product_accurate}
 
--- ---- four values over one denominator
-pub record Is4 (q : Four Value) (a : Quad Gap) (e : ℕ) : Type 0 where
-  pub w : Is q.w a.w.p a.w.n e
-  pub x : Is q.x a.x.p a.x.n e
-  pub y : Is q.y a.y.p a.y.n e
-  pub z : Is q.z a.z.p a.z.n e
-
-own : (x : Value) (k : ℕ) → Is x (x.p * k) (x.n * k) (x.d * k)
-own x k = record { equal = go x.p x.n x.d k }
-  where
-    go : (p n d k : ℕ) → p * (d * k) + n * k * d ≡ n * (d * k) + p * k * d
-    go p n d k = simp expand (omega arith)
-
-own_as : (x : Value) (k e : ℕ) → x.d * k ≡ e → Is x (x.p * k) (x.n * k) e
-own_as x k e h = subst (λ (i : ℕ). Is x (x.p * k) (x.n * k) i) h (own x k)
-
-abbrev gap : Value → ℕ → Gap
-gap x k = record { p = x.p * k; n = x.n * k }
-
-abbrev pub den : Four Value → ℕ
-den q = q.w.d * (q.x.d * (q.y.d * q.z.d))
-
-abbrev pub clear : Four Value → Quad Gap
-clear q = record {
-  w = gap q.w (q.x.d * (q.y.d * q.z.d));
-  x = gap q.x (q.w.d * (q.y.d * q.z.d));
-  y = gap q.y
-      (q.w.d * (q.x.d * q.z.d));
-  z = gap q.z (q.w.d * (q.x.d * q.y.d));
-}
-
-swap_x : (a b c d : ℕ) → b * (a * (c * d)) ≡ a * (b * (c * d))
-swap_x a b c d = simp expand
-
-swap_y : (a b c d : ℕ) → c * (a * (b * d)) ≡ a * (b * (c * d))
-swap_y a b c d = simp expand
-
-swap_z : (a b c d : ℕ) → d * (a * (b * c)) ≡ a * (b * (c * d))
-swap_z a b c d = simp expand
-
-pub clear_is : (q : Four Value) → Is4 q (clear q) (den q)
-clear_is q =
-    record {
-      w = own q.w (q.x.d * (q.y.d * q.z.d));
-      x = own_as q.x (q.w.d * (q.y.d * q.z.d)) (den q) (swap_x q.w.d q.x.d q.y.d q.z.d);
-      y = own_as q.y (q.w.d * (q.x.d * q.z.d)) (den q) (swap_y q.w.d q.x.d q.y.d q.z.d);
-      z = own_as q.z (q.w.d * (q.x.d * q.y.d)) (den q) (swap_z q.w.d q.x.d q.y.d q.z.d);
-    }
-
--- ---- the Hamilton product of such
-pub is_mul : (x y : Value) (a b : Gap) (e g : ℕ) → Is x a.p a.n e → Is y b.p b.n g →
-    Is (times x y) (a ⊗ b).p (a ⊗ b).n (e * g)
-is_mul x y a b e g h k = is-times x y a.p a.n b.p b.n e g h k
-
-pub is-add : (x y : Value) (a b : Gap) (e : ℕ) → Is x a.p a.n e → Is y b.p b.n e → Is (plus x y) (a ⊕ b).p (a ⊕ b).n e
-is-add x y a b e h k = is-plus x y a.p a.n b.p b.n e h k
-
-pub is-sub : (x y : Value) (a b : Gap) (e : ℕ) → Is x a.p a.n e → Is y b.p b.n e → Is (minus x y) (a ⊖ b).p (a ⊖ b).n e
-is-sub x y a b e h k = is-plus x (opposite y) a.p a.n b.n b.p e h (is-opposite y b.p b.n e k)
-
-pub hamilton-is : (p q : Four Value) (a b : Quad Gap) (e g : ℕ) → Is4 p a e → Is4 q b g →
-    Is4 (exact_hamilton p q) (hamilton a b) (e * g)
-unfolding exact_hamilton
-hamilton-is p q a b e g h k =
-    record {
-      w = is-sub _ _ _ _ (e * g) (is-sub _ _ _ _ (e * g) (is-sub _ _ _ _ (e * g) (is_mul p.w q.w a.w b.w e g h.w k.w)
-          (is_mul p.x q.x a.x b.x e g h.x k.x)) (is_mul p.y q.y a.y b.y e g h.y k.y))
-          (is_mul p.z q.z a.z b.z e g h.z k.z);
-      x = is-sub _ _ _ _ (e * g) (is-add _ _ _ _ (e * g) (is-add _ _ _ _ (e * g) (is_mul p.w q.x a.w b.x e g h.w k.x)
-          (is_mul p.x q.w a.x b.w e g h.x k.w)) (is_mul p.y q.z a.y b.z e g h.y k.z))
-          (is_mul p.z q.y a.z b.y e g h.z k.y);
-      y = is-add _ _ _ _ (e * g) (is-add _ _ _ _ (e * g) (is-sub _ _ _ _ (e * g) (is_mul p.w q.y a.w b.y e g h.w k.y)
-          (is_mul p.x q.z a.x b.z e g h.x k.z)) (is_mul p.y q.w a.y b.w e g h.y k.w))
-          (is_mul p.z q.x a.z b.x e g h.z k.x);
-      z = is-add _ _ _ _ (e * g) (is-sub _ _ _ _ (e * g) (is-add _ _ _ _ (e * g) (is_mul p.w q.z a.w b.z e g h.w k.z)
-          (is_mul p.x q.y a.x b.y e g h.x k.y)) (is_mul p.y q.x a.y b.x e g h.y k.x))
-          (is_mul p.z q.w a.z b.w e g h.z k.w);
-    }
-
--- ---- over another denominator
-is_whole : (x : Value) (a : Gap) (e k : ℕ) → Is x a.p a.n e → Is x (whole k ⊗ a).p (whole k ⊗ a).n (k * e)
-is_whole x a e k h =
-    is_shift x (k * a.p) (k * a.n) (whole k ⊗ a).p (whole k ⊗ a).n (k * e) (omega arith) (is-scaled x a.p a.n e k h)
-
-pub scaled-is : (q : Four Value) (a : Quad Gap) (e k : ℕ) → Is4 q a e → Is4 q (scaled k a) (k * e)
-scaled-is q a e k h =
-    record {
-      w = is_whole q.w a.w e k h.w;
-      x = is_whole q.x a.x e k h.x;
-      y = is_whole q.y a.y e k h.y;
-      z =
-          is_whole q.z a.z e k h.z;
-    }
-
 -- ---- from the values to the numbers
-pub side_least : (u b xp xn xd p n e : ℕ) → 0 < xd → xp * e + n * xd ≡ xn * e + p * xd → u * xp ≤ u * xn + b * xd →
-    u * p ≤ u * n + b * e
-side_least u b xp xn xd p n e z h k =
-    let a = ap (λ (i : ℕ). u * i) h in
-    let c = mul-le-mul_right e k in
-    le_of_mul-le-mul_right {k = xd} (simp expand (omega (arith, simp expand at a, simp expand at c))) z
-
 short_long : (u v : ℕ) (q : Four Value) (a : Quad Gap) (e : ℕ) → 0 < (exact_squared q).d → Is4 q a e →
     AtMost (u * u) (exact_squared q) (v * v) → Long u a e v
 short_long u v q a e z h k =
@@ -198,31 +98,12 @@ one_test f u v a t =
     (and_i (error_at_most f u bs tree_quat_mul.y e) (error_at_most f u bs tree_quat_mul.z e) h h))
 
 -- ---- the numbers of a float
-pub error-near : (w : ℕ) (x : Float) (y : Value) (e : ℕ) → AbsoluteError w x y e → Near w (value_of x) y e
-unfolding value_of
-error-near w nan y e h = absurd h
-error-near w (inf s) y e h = absurd h
-error-near w (fin s m k) y e h = h
-
 near-error : (w : ℕ) (x : Float) (b : ℕ) (y : Value) (e : ℕ) → Bounded w x b → Near w (value_of x) y e →
     AbsoluteError w x y e
 unfolding value_of
 near-error w nan b y e s h = absurd s
 near-error w (inf t) b y e s h = absurd s
 near-error w (fin t m k) b y e s h = h
-
-bounded_from : (w : ℕ) (x : Float) (y : Value) (e b : ℕ) → AbsoluteError w x y e → AtMost w (value_of x) b →
-    Bounded w x b
-unfolding value_of
-bounded_from w nan y e b h k = absurd h
-bounded_from w (inf s) y e b h k = absurd h
-bounded_from w (fin true m j) y e b h k = let q = k.below in omega arith
-bounded_from w (fin false m j) y e b h k = let q = k.above in omega arith
-
-pub pos4 : (a a' b b' c c' d d' : ℕ) → 0 < a → 0 < a' → 0 < b → 0 < b' → 0 < c → 0 < c' → 0 < d → 0 < d' →
-    0 < a * a' * (b * b') * (c * c') * (d * d')
-pos4 a a' b b' c c' d d' ha ha' hb hb' hc hc' hd hd' =
-    mul-pos (mul-pos (mul-pos (mul-pos ha ha') (mul-pos hb hb')) (mul-pos hc hc')) (mul-pos hd hd')
 
 -- ---- the difference of the products
 abbrev pub sub4 : Quad Gap → Quad Gap → Quad Gap
@@ -433,34 +314,6 @@ module _ (f : Format) (u v : ℕ) (up : 0 < u) where
       }
 
 -- ---- what it says of the numbers
-tall_near : (w c : ℕ) (x y : Value) (a b : Gap) (e : ℕ) → 0 < e → Is x a.p a.n e → Is y b.p b.n e →
-    Tall w (a ⊖ b) (c * e) → Near w x y c
-tall_near w c x y a b e z h k t =
-    record {
-      above = go w c x.p x.n x.d y.p y.n y.d a.p a.n b.p b.n e z h.equal k.equal t.above;
-      below =
-          rotation w x.n y.d y.p x.d x.p y.n c (go w c x.n x.p x.d y.n y.p y.d a.n a.p b.n b.p e z (sym h.equal)
-          (sym k.equal) t.below);
-    }
-  where
-    go : (w c xp xn xd yp yn yd p n q m e : ℕ) → 0 < e → xp * e + n * xd ≡ xn * e + p * xd →
-        yp * e + m * yd ≡ yn * e + q * yd → w * (p + m) ≤ w *
-        (n + q) + c * e → w * (xp * yd + yn * xd) ≤ w * (xn * yd + yp * xd) + c * (xd * yd)
-    go w c xp xn xd yp yn yd p n q m e z h k l =
-        le_of_mul-le-mul_right {k = e} (last w c xp xn xd yp yn yd p n q m e (ap (λ (i : ℕ). w * yd * i) h)
-        (ap (λ (i : ℕ). w * xd * i) k) (mul-le-mul_right (xd * yd) l)) z
-      where
-        last : (w c xp xn xd yp yn yd p n q m e : ℕ) → w * yd * (xp * e + n * xd) ≡ w * yd * (xn * e + p * xd) →
-            w * xd * (yp * e + m * yd) ≡ w * xd *
-            (yn * e + q * yd) → w * (p + m) * (xd * yd) ≤ (w * (n + q) + c * e) * (xd * yd)
-            → w * (xp * yd + yn * xd) * e ≤ (w * (xn * yd + yp * xd) + c * (xd * yd)) * e
-        last w c xp xn xd yp yn yd p n q m e h k l =
-            simp expand (omega (arith, simp expand at h, simp expand at k, simp expand at l))
-
-    rotation : (u a b c d e f g : ℕ) → u * (a * b + c * d) ≤ u * (e * b + f * d) + g * (d * b) →
-        u * (c * d + a * b) ≤ u * (f * d + e * b) + g * (b * d)
-    rotation u a b c d e f g h = simp expand (omega (arith, simp expand at h))
-
 pub run_close : (u m d : ℕ) (R : Quat) (Q : Four Value) → Run u m d R Q → QuatError u R Q d
 run_close u m d R Q k =
     let a = k.r in

@@ -6,7 +6,7 @@ use Prim.Native.Nat.{ℕ, zero, suc, ◌+◌, ◌*◌, ◌≤◌, ◌<◌}
 use native.Mathlib.Nat.{le_refl, le_trans, le_of_eq, mul-add, add-mul, mul_comm, mul-pos, add_comm, zero-lt-suc}
 use native.Mathlib.Nat.{mul-le-mul, mul-le-mul_left, mul-le-mul_right, le_of_mul-le-mul_right}
 use native.Mathlib.Omega.{arith}
-use mathlib.Core.Bool.{Bool, true, false, not, cond, ◌&&◌}
+use mathlib.Core.Bool.{Bool, true, false, not, ◌&&◌}
 use lib.Dec.{T, leb, ltb, eqb, leb→le, nleb→lt, ltb→lt, nltb→le}
 use lib.Ieee.{Float, Format}
 use lib.Ieee.Fits.{and_l, and_r, and_i}
@@ -26,65 +26,39 @@ use Rattle.rounding.specs.Tree.{Bound, upward, bound, no_overflow}
 use Rattle.rounding.specs.Leaves.{sizes, error_at_most, nth, no_bound, errorless}
 use Rattle.accuracy.specs.Box.{VecIn, Four, QuatError, exact_quat}
 use Rattle.accuracy.specs.Action.{tree_act}
-use Rattle.accuracy.specs.Quaternions.{exact_hamilton, exact_newton, tree_quat_mul, tree_newton, quat_mul_sizes}
-use Rattle.accuracy.specs.Quaternions.{newton_sizes, all_four}
-use Rattle.running_accuracy.specs.Products.{exact_squared, LengthAtMost, product_error}
+use Rattle.accuracy.specs.Quaternions.{exact_squared, Normal, exact_hamilton, exact_newton, tree_quat_mul, tree_newton}
+use Rattle.accuracy.specs.Quaternions.{quat_mul_sizes, newton_sizes, all_four}
+use Rattle.running_accuracy.specs.Products.{LengthAtMost, product_error}
 use Rattle.running_accuracy.specs.Joins.{Join, Exact, exact_join, exact_pose, PoseBound, join_bounds, join_no_overflow}
-use Rattle.running_accuracy.specs.Running.{RunningAccurate, PageAccurate, pose_after, FirstIn, history_of, Normal, Step}
-use Rattle.running_accuracy.specs.Running.{joins, renews, events, count, join_at, exact_renormalized, exact_ran}
-use Rattle.running_accuracy.specs.Running.{JoinBox, away, StepIn, AllStepsIn, box_holds, newton_error, cube, newton_far}
-use Rattle.running_accuracy.specs.Running.{product_far, step_bound, newton_no_overflow, step_no_overflow, run_holds}
-use Rattle.running_accuracy.specs.Running.{close_test, act_test, bound_at, RunningError, exact_act_by, ActionError}
+use Rattle.running_accuracy.specs.Running.{RunningAccurate, PageAccurate, pose_after, FirstIn, history_of, Step, joins}
+use Rattle.running_accuracy.specs.Running.{renews, events, count, join_at, exact_renormalized, exact_ran, JoinBox, away}
+use Rattle.running_accuracy.specs.Running.{StepIn, AllStepsIn, box_holds, newton_error, cube, newton_far, product_far}
+use Rattle.running_accuracy.specs.Running.{step_bound, newton_no_overflow, step_no_overflow, run_holds, close_test}
+use Rattle.running_accuracy.specs.Running.{act_test, bound_at, RunningError, exact_act_by, ActionError}
 use Rattle.rounding.proofs.Differences.{expand}
 use Rattle.rounding.proofs.Forward.{upward_enough, error_wider}
-use Rattle.rounding.proofs.Leaves.{leaf_forward, value-above}
+use Rattle.rounding.proofs.Leaves.{leaf_forward, value-above, error-near}
 use Rattle.rounding.proofs.Denominators.{Is, side_most}
 use Rattle.rounding.proofs.Ring.{Gap, ◌⊕◌, ◌⊗◌, whole}
-use Rattle.running_accuracy.proofs.Euler.{Quad, ◌⊖◌, hamilton, squared}
-use Rattle.running_accuracy.proofs.Length.{Long, Level, long_shift, scaled, long_scaled, tall_long, long_w, long_x}
-use Rattle.running_accuracy.proofs.Length.{long_y, long_z, sum4, long_sum}
+use Rattle.accuracy.proofs.Hamilton.{Is4, den, clear, clear_is, is_mul, is-sub, scaled-is, hamilton-is, Above}
+use Rattle.accuracy.proofs.Hamilton.{hamilton-above, Even, squared-is, square_positive, normal_even}
+use Rattle.accuracy.proofs.Euler.{Quad, ◌⊖◌, hamilton, squared}
+use Rattle.accuracy.proofs.Length.{Long, Level, long_shift, scaled, long_scaled, tall_long, long_w, long_x, long_y}
+use Rattle.accuracy.proofs.Length.{long_z, sum4, long_sum}
 use Rattle.accuracy.proofs.Quaternions.{renormalized_accurate}
-use Rattle.running_accuracy.proofs.Products.{Is4, is_mul, is-add, is-sub, hamilton-is, scaled-is, side_least, near_tall}
-use Rattle.running_accuracy.proofs.Products.{error-near, tall_both, tall_bounded, quat-above, clear, den, clear_is}
-use Rattle.running_accuracy.proofs.Products.{le_leb, sub4, Run, one_more, run_close, first, pos4, error-above}
-use Rattle.running_accuracy.proofs.Newton.{factor, newton_gap, Even, newton-apart, newton_even, even_hamilton}
-use Rattle.running_accuracy.proofs.Newton.{even_long}
-use Rattle.running_accuracy.proofs.Joins.{VecForwardError, join_shift, Above, quat_values, hamilton-above, run_forward}
-use Rattle.running_accuracy.proofs.Joins.{ends'}
+use Rattle.running_accuracy.proofs.Choice.{both}
+use Rattle.running_accuracy.proofs.Products.{near_tall, tall_both, tall_bounded, quat-above, le_leb, sub4, Run}
+use Rattle.running_accuracy.proofs.Products.{one_more, run_close, first, error-above}
+use Rattle.running_accuracy.proofs.Newton.{factor, newton_gap, newton-apart, newton_even, even_hamilton, even_long}
+use Rattle.running_accuracy.proofs.Joins.{VecForwardError, join_shift, quat_values, run_forward, ends'}
 
 -- ---- the length of values, and over a denominator
-squared-is : (q : Four Value) (a : Quad Gap) (e : ℕ) → Is4 q a e →
-    Is (exact_squared q) (squared a).p (squared a).n (e * e)
-squared-is q a e h =
-    is-add _ _ _ _ (e * e) (is-add _ _ _ _ (e * e) (is-add _ _ _ _ (e * e) (is_mul q.w q.w a.w a.w e e h.w h.w)
-    (is_mul q.x q.x a.x a.x e e h.x h.x)) (is_mul q.y q.y a.y a.y e e h.y h.y))
-    (is_mul q.z q.z a.z a.z e e h.z h.z)
-
-square_positive : (q : Four Value) → Above q → 0 < (exact_squared q).d
-square_positive q a = pos4 _ _ _ _ _ _ _ _ a.w a.w a.x a.x a.y a.y a.z a.z
-
-below-least : (u c xp xn xd p n E : ℕ) → 0 < xd → xp * E + n * xd ≡ xn * E + p * xd →
-    u * xd + u * xn ≤ u * xp + c * xd → u * E + u * n ≤ u * p + c * E
-below-least u c xp xn xd p n E z h k =
-    let a = ap (λ (i : ℕ). u * i) h in
-    let b = mul-le-mul_right E k in
-    le_of_mul-le-mul_right {k = xd} (simp expand (omega (arith, simp expand at a, simp expand at b))) z
-
 below-most : (u c xp xn xd p n E : ℕ) → 0 < E → xp * E + n * xd ≡ xn * E + p * xd → u * E + u * n ≤ u * p + c * E →
     u * xd + u * xn ≤ u * xp + c * xd
 below-most u c xp xn xd p n E z h k =
     let a = ap (λ (i : ℕ). u * i) h in
     let b = mul-le-mul_right xd k in
     le_of_mul-le-mul_right {k = E} (simp expand (omega (arith, simp expand at a, simp expand at b))) z
-
-normal_even : (u c : ℕ) (q : Four Value) (a : Quad Gap) (e : ℕ) → Above q → Is4 q a e → Normal u c q → Even u c a e
-normal_even u c q a e z h k =
-    let S = exact_squared q in
-    let i = (squared-is q a e h).equal in
-    record {
-      above = side_least u (u + c) S.p S.n S.d (squared a).p (squared a).n (e * e) (square_positive q z) i k.above;
-      below = below-least u c S.p S.n S.d (squared a).p (squared a).n (e * e) (square_positive q z) i k.below;
-    }
 
 even_normal : (u c : ℕ) (q : Four Value) (a : Quad Gap) (e : ℕ) → 0 < e → Is4 q a e → Even u c a e → Normal u c q
 even_normal u c q a e z h k =
@@ -104,7 +78,7 @@ half_is : Is (value_of half) 1 0 2
 unfolding value_of
 half_is = record { equal = refl }
 
-newton_is : (q : Four Value) (a : Quad Gap) (e : ℕ) → Is4 q a e →
+pub newton_is : (q : Four Value) (a : Quad Gap) (e : ℕ) → Is4 q a e →
     Is4 (exact_newton q) (newton_gap a e) (e * (e * e * 2))
 unfolding exact_newton
 newton_is q a e h =
@@ -121,7 +95,7 @@ newton_is q a e h =
 newton_factor_above : (q : Four Value) → Above q → 0 < (times (minus (value_of f3) (exact_squared q)) (value_of half)).d
 newton_factor_above q a = mul-pos (mul-pos (value-above f3) (square_positive q a)) (value-above half)
 
-newton_above : (q : Four Value) → Above q → Above (exact_newton q)
+pub newton_above : (q : Four Value) → Above q → Above (exact_newton q)
 unfolding exact_newton
 newton_above q a =
     let k = newton_factor_above q a in
@@ -144,7 +118,7 @@ long_wider u a e d d' l h =
     more : (a b c : ℕ) → b ≤ c → a + b ≤ a + c
     more a b c h = omega arith
 
-normal_wider : (u c k : ℕ) (q : Four Value) → c ≤ k → Normal u c q → Normal u k q
+pub normal_wider : (u c k : ℕ) (q : Four Value) → c ≤ k → Normal u c q → Normal u k q
 normal_wider u c k q l h =
     let S = exact_squared q in
     record {
@@ -199,8 +173,8 @@ reset u m m' d d' c R Q l h a n k =
     }
 
 -- ---- one product
-normal-product : (u c t o : ℕ) (Q P : Four Value) (a : Quad Gap) (e : ℕ) → 0 < u → 0 < e → c * t ≤ o * u → Is4 Q a e →
-    Above Q → Above P
+pub normal-product : (u c t o : ℕ) (Q P : Four Value) (a : Quad Gap) (e : ℕ) → 0 < u → 0 < e → c * t ≤ o * u →
+    Is4 Q a e → Above Q → Above P
     → Normal u c Q → Normal u t P → Normal u (c + t + 3 * o) (exact_hamilton Q P)
 normal-product u c t o Q P a e uz ez ho h aq ap' nq np =
     let b = clear P in
@@ -263,6 +237,16 @@ back : (a b : Gap) → Level ((a ⊖ b) ⊕ b) a
 unfolding Level
 back a b = omega arith
 
+pub normal-newton : (u c k : ℕ) (Q : Four Value) (s : Quad Gap) (e : ℕ) → 0 < u → 0 < e → 4 * c ≤ u →
+    upward u (c * c) ≤ k →
+    Is4 Q s e → Above Q → Normal u c Q → Normal u k (exact_newton Q)
+normal-newton u c k Q s e uz ez hc hk h a n =
+    let d = upward u (c * c) in
+    normal_wider u d k (exact_newton Q) hk
+    (even_normal u d (exact_newton Q) (newton_gap s e) (e * (e * e * 2))
+    (mul-pos ez (mul-pos (mul-pos ez ez) (zero-lt-suc 1)))
+    (newton_is Q s e h) (newton_even u c d e s uz hc (upward_enough u (c * c) uz) (normal_even u c Q s e a h n)))
+
 turn_newton : (f : Format) (u m d c k : ℕ) (R : Quat) (Q : Four Value) → 0 < u → 0 < m → 0 < d → T
     (no_overflow f u (sizes (newton_sizes u (m + d))) tree_newton.w) → 4 * c ≤ u →
     4 * ((m + d) * (m + d)) ≤ 7 * (u * u) → upward u (c * c) ≤ k → u *
@@ -324,10 +308,7 @@ turn_newton f u m d c k R Q uz mz dz st hc hb hk hm h =
     (bridge E2 e' n.w Nr.w Ns.w) (bridge E2 e' n.x Nr.x Ns.x) (bridge E2 e' n.y Nr.y Ns.y) (bridge E2 e' n.z Nr.z Ns.z)
     (long_sum u (sub4 n' (scaled e' Nr)) (scaled e' (sub4 Nr Ns)) E (2 * err) D2 (newton-error-above f u (m + d))
     (zero-lt-suc _) one two) in
-    let evn : Even u (upward u (c * c)) Ns E2 = newton_even u c (upward u (c * c)) e s uz hc
-    (upward_enough u (c * c) uz) ev in
-    let nrm : Normal u k (exact_newton Q) = normal_wider u (upward u (c * c)) k (exact_newton Q) hk
-    (even_normal u (upward u (c * c)) (exact_newton Q) Ns E2 E2z hs evn) in
+    let nrm : Normal u k (exact_newton Q) = normal-newton u c k Q s e uz ez hc hk K.exact h.above h.normal in
     let aq = newton_above Q h.above in
     let lng : Long u s' E m = even_long u k m s' E hm (normal_even u k (exact_newton Q) s' E aq si nrm) in
     record {
@@ -371,16 +352,16 @@ pub record PoseTurn (L : JoinBox) (d : ℕ) (w : Bound) (c : ℕ) (x : Sim3) (X 
   pub translation : VecForwardError L.unit x.t X.t w
 
 -- what the test of the limits says
-record Fine (L : JoinBox) : Type 0 where
-  positive : 0 < L.unit
-  some : 0 < L.longest
-  step : L.square + 3 * upward L.unit (L.drift * L.every * L.square) ≤ L.drift
-  again : upward L.unit (away L * away L) ≤ L.drift
-  start : L.square ≤ L.drift
-  length : L.unit * (L.unit + away L) ≤ L.longest * L.longest
-  quarter : 4 * away L ≤ L.unit
+pub record Fine (L : JoinBox) : Type 0 where
+  pub positive : 0 < L.unit
+  pub some : 0 < L.longest
+  pub step : L.square + 3 * upward L.unit (L.drift * L.every * L.square) ≤ L.drift
+  pub again : upward L.unit (away L * away L) ≤ L.drift
+  pub start : L.square ≤ L.drift
+  pub length : L.unit * (L.unit + away L) ≤ L.longest * L.longest
+  pub quarter : 4 * away L ≤ L.unit
 
-fine : (L : JoinBox) → T (box_holds L) → Fine L
+pub fine : (L : JoinBox) → T (box_holds L) → Fine L
 fine L t =
     let a = leb 1 L.unit in
     let b = leb 1 L.longest in
@@ -418,12 +399,12 @@ module _ (f : Format) (L : JoinBox) (F : Fine L) where
       up : (k m : ℕ) → k ≤ m → suc k ≤ suc m
       up k m h = omega arith
 
-  small : (k : ℕ) → k < L.every → L.drift * suc k * L.square ≤ upward L.unit (L.drift * L.every * L.square) * L.unit
+  pub small : (k : ℕ) → k < L.every → L.drift * suc k * L.square ≤ upward L.unit (L.drift * L.every * L.square) * L.unit
   small k h =
       le_trans (mul-le-mul_right L.square (mul-le-mul_left L.drift h))
       (upward_enough L.unit (L.drift * L.every * L.square) F.positive)
 
-  one-step : (k : ℕ) → L.drift * suc k + L.square + 3 * upward L.unit (L.drift * L.every * L.square)
+  pub one-step : (k : ℕ) → L.drift * suc k + L.square + 3 * upward L.unit (L.drift * L.every * L.square)
       ≤ L.drift * suc (suc k)
   one-step k = go L.drift L.square (3 * upward L.unit (L.drift * L.every * L.square)) k F.step
     where
@@ -536,12 +517,7 @@ module _ (f : Format) (L : JoinBox) (F : Fine L) where
         zero-le m = omega arith
 
 -- ---- all of them
-pick : (P : Start → Exact → Type 0) (t : Bool) (a b : Start) (a' b' : Exact) → (T t → P a a') → (T (not t) → P b b') →
-    P (cond t a b) (cond t a' b')
-pick P true a b a' b' h k = h tt
-pick P false a b a' b' h k = k tt
-
-not_due : (n j : ℕ) → 0 < n → T (not (due n j)) → j < n
+pub not_due : (n j : ℕ) → 0 < n → T (not (due n j)) → j < n
 unfolding due
 not_due n j z h = go (ltb 0 n) (leb n j) (nltb→le 0 n) (nleb→lt n j) h
   where
@@ -586,8 +562,8 @@ module _ (f : Format) (L : JoinBox) (F : Fine L) (e : PoseBound → Bool) (P : S
         let ts : T st = and_l st rest r in
         let tr : T rest = and_r st rest r in
         let cl : count l ≤ N = lower (count l) N h in
-        pick P (eqb p.from x.to) _ _ _ _
-        (λ yes. pick P (due n (k + 1)) _ _ _ _
+        both P (eqb p.from x.to) _ _ _ _
+        (λ yes. both P (due n (k + 1)) _ _ _ _
         (λ is. running l N n 0 (newton_far f L (product_far f L d)) _ _ _ cl tr a.1 nz nm (pos_of k L.every km)
         (joined-renormalized f L F d w p.sim3 X x up s k km q a.0 ts))
         (λ not. running l N n (k + 1) (newton_far f L (product_far f L d)) _ _ _ cl tr a.1 nz nm

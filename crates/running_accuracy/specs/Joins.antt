@@ -6,7 +6,7 @@ use Rattle.sim3.specs.Pose.{pose_mul}
 use Rattle.sim3.specs.Floats.{Sim3}
 use Rattle.rounding.specs.Value.{Value, AtMost, AbsoluteError}
 use Rattle.rounding.specs.Tree.{Bound, bound, no_overflow}
-use Rattle.accuracy.specs.Box.{VecIn, VecError, QuatError, Three, exact_vec, Four, exact_quat}
+use Rattle.accuracy.specs.Box.{VecIn, VecError, QuatError, Three, exact_vec, Four, exact_quat, vector_part}
 use Rattle.accuracy.specs.Action.{exact_scaled_sum, exact_rotate, tree_act}
 use Rattle.accuracy.specs.Quaternions.{exact_hamilton, tree_quat_mul, quat_mul_sizes}
 use Rattle.rounding.specs.Leaves.{sizes, nth, no_bound, errorless}
@@ -26,9 +26,6 @@ joined f x (j ∷ l) = joined f (pose_mul f x j.pose j.up) l
 pub record Exact : Type 0 where
   pub q : Four Value
   pub t : Three Value
-
-abbrev pub vector_part : Four Value → Three Value
-vector_part q = record { x = q.x; y = q.y; z = q.z }
 
 unfoldable pub exact_join : Exact → Join → Exact
 unfolding exact_hamilton exact_rotate

@@ -2,5 +2,8 @@
 pub mod Products
 pub mod Joins
 pub mod Running
+pub mod Similarity
+pub mod Sigma
+pub mod Scale
 pub mod Join
 pub mod Numbers

@@ -3,15 +3,11 @@
 use Rattle.std.specs.Prelude.{ℕ, ◌+◌, ◌*◌}
 use Rattle.std.specs.Float.{Format}
 use Rattle.so3.specs.Floats.{Quat}
-use Rattle.rounding.specs.Value.{Value, AtMost}
-use Rattle.rounding.specs.Arithmetic.{exactly}
+use Rattle.rounding.specs.Value.{AtMost}
 use Rattle.rounding.specs.Tree.{Bound, upward, bound}
 use Rattle.rounding.specs.Leaves.{sizes}
-use Rattle.accuracy.specs.Box.{QuatIn, Four, exact_quat}
-use Rattle.accuracy.specs.Quaternions.{squared, tree_quat_mul, quat_mul_sizes}
-
-abbrev pub exact_squared : Four Value → Value
-exact_squared q = squared exactly q
+use Rattle.accuracy.specs.Box.{QuatIn, exact_quat}
+use Rattle.accuracy.specs.Quaternions.{exact_squared, tree_quat_mul, quat_mul_sizes}
 
 -- finite, and of length at most v / u
 pub record LengthAtMost (u v : ℕ) (q : Quat) : Type 0 where

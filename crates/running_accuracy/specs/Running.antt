@@ -10,17 +10,12 @@ use Rattle.running.specs.History.{Event, join, renew, after}
 use Rattle.rounding.specs.Value.{Value, AtMost, AbsoluteError}
 use Rattle.rounding.specs.Tree.{Bound, upward, bound, no_overflow}
 use Rattle.rounding.specs.Leaves.{sizes, nth, no_bound, errorless}
-use Rattle.accuracy.specs.Box.{Three, VecError, exact_vec, Four, QuatError, exact_quat, VecIn}
+use Rattle.accuracy.specs.Box.{Three, VecError, exact_vec, QuatError, exact_quat, vector_part, VecIn}
 use Rattle.accuracy.specs.Action.{exact_scaled_sum, exact_rotate, tree_act}
-use Rattle.accuracy.specs.Quaternions.{exact_newton, tree_newton, newton_sizes}
-use Rattle.running_accuracy.specs.Products.{exact_squared, product_error, LengthAtMost}
-use Rattle.running_accuracy.specs.Joins.{Join, Exact, exact_pose, vector_part, exact_join, JoinIn, PoseBound}
-use Rattle.running_accuracy.specs.Joins.{join_bounds, join_no_overflow}
-
--- |q|² is within c / u of 1
-pub record Normal (u c : ℕ) (q : Four Value) : Type 0 where
-  pub above : u * (exact_squared q).p ≤ u * (exact_squared q).n + (u + c) * (exact_squared q).d
-  pub below : u * (exact_squared q).d + u * (exact_squared q).n ≤ u * (exact_squared q).p + c * (exact_squared q).d
+use Rattle.accuracy.specs.Quaternions.{Normal, exact_newton, tree_newton, newton_sizes}
+use Rattle.running_accuracy.specs.Products.{product_error, LengthAtMost}
+use Rattle.running_accuracy.specs.Joins.{Join, Exact, exact_pose, exact_join, JoinIn, PoseBound, join_bounds}
+use Rattle.running_accuracy.specs.Joins.{join_no_overflow}
 
 -- what happens to the running join: a pose with the running pose's scale as it was handed in and exactly, or a new n
 pub data Step : Type 0 where

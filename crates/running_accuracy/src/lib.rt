@@ -1,7 +1,8 @@
 // How accurate the running join is: its rotation and translation after any history of poses, refusals and new n,
 // against the same history in exact arithmetic, with the renormalisations where the running join does them; and
-// the action of the running pose on a point (RunningTheorem). Without renormalisation: JoinedTheorem. The one
-// function here joins a pose, and its contract is what is proved of the running pose then.
+// the action of the running pose on a point (RunningTheorem), also against the product of the poses as true
+// similarities (SimilarityTheorem); its sigma and its scale (SigmaTheorem, ScaleTheorem). Without renormalisation:
+// JoinedTheorem. The one function here joins a pose, and its contract is what is proved of the running pose then.
 #![tactic(auto)]
 
 ghost use Rattle.running_accuracy.specs.Join.{JoinAccurate};

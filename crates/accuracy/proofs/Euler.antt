@@ -40,7 +40,7 @@ hamilton_x p q =
       z = R.plus (sub (R.plus (R.times p.w q.z) (R.times p.x q.y)) (R.times p.y q.x)) (R.times p.z q.w);
     }
 
-abbrev squared_x : Quad Ex → Ex
+abbrev pub squared_x : Quad Ex → Ex
 squared_x q = R.plus (R.plus (R.plus (R.times q.w q.w) (R.times q.x q.x)) (R.times q.y q.y)) (R.times q.z q.z)
 
 abbrev one : Quad Ex

@@ -8,7 +8,7 @@ use native.Mathlib.Omega.{arith}
 use Rattle.rounding.proofs.Differences.{expand, product}
 use Rattle.rounding.proofs.Squares.{twice-le, root}
 use Rattle.rounding.proofs.Ring.{Gap, ◌⊕◌, ◌⊗◌, whole}
-use Rattle.running_accuracy.proofs.Euler.{Quad, hamilton, squared, euler}
+use Rattle.accuracy.proofs.Euler.{Quad, ◌⊖◌, hamilton, squared, euler}
 
 -- the length of a / e is at most b / w
 pub record Long (w : ℕ) (a : Quad Gap) (e b : ℕ) : Type 0 where
@@ -88,6 +88,35 @@ long_product w a c e g b d h z la lc l =
 -- ---- only the difference counts
 unfoldable pub Level : Gap → Gap → Type 0
 Level a b = a.p + b.n ≡ a.n + b.p
+
+pub level_trans : (a b c : Gap) → Level a b → Level b c → Level a c
+unfolding Level
+level_trans a b c h k = omega arith
+
+pub to_whole : (a : Gap) (v : ℕ) → a.p ≡ a.n + v → Level a (whole v)
+unfolding Level
+to_whole a v h = omega arith
+
+pub level-add : (a a' b b' : Gap) → Level a a' → Level b b' → Level (a ⊕ b) (a' ⊕ b')
+unfolding Level
+level-add a a' b b' h k = omega arith
+
+pub level-sub : (a a' b b' : Gap) → Level a a' → Level b b' → Level (a ⊖ b) (a' ⊖ b')
+unfolding Level
+level-sub a a' b b' h k = omega arith
+
+mul-whole : (p n p' n' q m q' m' : ℕ) → p + n' ≡ n + p' → q + m' ≡ m + q' →
+    p * q + n * m + (p' * m' + n' * q') ≡ p * m + n * q + (p' * q' + n' * m')
+mul-whole p n p' n' q m q' m' h k =
+    let a = ap (λ (i : ℕ). i * q) h in
+    let b = ap (λ (i : ℕ). i * m) h in
+    let c = ap (λ (i : ℕ). p' * i) k in
+    let d = ap (λ (i : ℕ). n' * i) k in
+    omega (arith, simp expand at a, simp expand at b, simp expand at c, simp expand at d)
+
+pub level-mul : (a a' b b' : Gap) → Level a a' → Level b b' → Level (a ⊗ b) (a' ⊗ b')
+unfolding Level
+level-mul a a' b b' h k = mul-whole a.p a.n a'.p a'.n b.p b.n b'.p b'.n h k
 
 square_shift : (p n q m : ℕ) → p + m ≡ n + q → p * p + n * n + (q * m + m * q) ≡ p * n + n * p + (q * q + m * m)
 square_shift p n q m h =

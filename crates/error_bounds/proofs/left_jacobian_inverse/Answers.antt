@@ -1,0 +1,6 @@
+-- `error_bounds::left_jacobian_inverse` meets its contract: by what its call ensures. Assumes nothing.
+use Rattle.error_bounds.proofs.InverseBlocks.{inverse_v_holds}
+use Rattle.error_bounds.proofs.left_jacobian_inverse.Goals as goal
+
+pub returns : goal.returns
+returns g c = inverse_v_holds g.T.Real.format _ _ _ _ _ c.jl_inv.ensures
