@@ -79,6 +79,15 @@ def jobs(*words, data=b"", status=0):
     return out, messages
 
 
+def makes_nothing(lines):
+    """`jobs make` refuses each line with what is wrong and what is expected, and writes nothing."""
+    for line, wrong, expected in lines:
+        out, messages = jobs("make", data=f"{line}\n".encode(), status=2)
+        same(out, b"", f"output for {line!r}")
+        holds(messages, "(standard input):1: ", wrong, "expected", expected, "nothing was written")
+        assert "older format" not in messages, messages
+
+
 def program(data):
     """The job program's answer."""
     done = subprocess.run([PROGRAM], input=data, stdout=subprocess.PIPE)

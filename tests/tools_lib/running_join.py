@@ -3,7 +3,7 @@ import collections
 import math
 import struct
 
-from .common import ROOT, end, file, holds, jobs, program, same, with_program
+from .common import ROOT, end, file, holds, jobs, makes_nothing, program, same, with_program
 from jobs_lib import host
 from jobs_lib.layout import ANSWER, JOB
 from jobs_lib.records import walk
@@ -44,19 +44,15 @@ def up_that_is_left_out():
 
 
 def bad_lines():
-    for line, wrong, expected in [
-            ("RN", "RN has 0 numbers;", "1 (n)"), ("RN 1 2", "RN has 2 numbers;", "1 (n)"),
-            ("RN 65536", "'65536' is no n", "a whole number from 0 to 65535"),
-            ("RN -1", "'-1' is no n", "a whole number"),
-            ("RN 1.0", "'1.0' is no n", "a whole number"), ("RN frames 1", "RN has 2 numbers", "1 (n)"),
-            (f"{LINE} 1 70000", "'70000' is no frame", "a whole number from 0 to 65535"),
-            ("CH 1 0 0 0 1 2 3 0.5", "CH has 8 numbers, and pose.frames is missing: put from and to",
-             "10 (pose.q 4; pose.t 3; pose.sigma; pose.frames 2), or 11"),
-            ("ch 1", "unknown mark 'ch'", "ji CH RN"), ("rn 1", "unknown mark 'rn'", "ji CH RN")]:
-        out, messages = jobs("make", data=f"{line}\n".encode(), status=2)
-        same(out, b"", f"output for {line!r}")
-        holds(messages, "(standard input):1: ", wrong, "expected", expected, "nothing was written")
-        assert "older format" not in messages, messages
+    makes_nothing([
+        ("RN", "RN has 0 numbers;", "1 (n)"), ("RN 1 2", "RN has 2 numbers;", "1 (n)"),
+        ("RN 65536", "'65536' is no n", "a whole number from 0 to 65535"),
+        ("RN -1", "'-1' is no n", "a whole number"),
+        ("RN 1.0", "'1.0' is no n", "a whole number"), ("RN frames 1", "RN has 2 numbers", "1 (n)"),
+        (f"{LINE} 1 70000", "'70000' is no frame", "a whole number from 0 to 65535"),
+        ("CH 1 0 0 0 1 2 3 0.5", "CH has 8 numbers, and pose.frames is missing: put from and to",
+         "10 (pose.q 4; pose.t 3; pose.sigma; pose.frames 2), or 11"),
+        ("ch 1", "unknown mark 'ch'", "ji CH RN"), ("rn 1", "unknown mark 'rn'", "ji CH RN")])
 
 
 def as_text():

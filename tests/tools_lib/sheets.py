@@ -2,7 +2,7 @@
 import collections
 import struct
 
-from .common import ROOT, end, file, holds, jobs, program, same, with_program
+from .common import ROOT, end, file, holds, jobs, makes_nothing, program, same, with_program
 from jobs_lib.layout import ANSWER, JOB
 from jobs_lib.records import walk
 
@@ -40,20 +40,16 @@ def records_in_their_places():
 
 
 def bad_lines():
-    for line, wrong, expected in [
-            ("SQ", "SQ has 0 numbers;", "1 (sheet)"), ("SQ 1 2", "SQ has 2 numbers;", "1 (sheet)"),
-            ("SQ 65536", "'65536' is no sheet", "a whole number from 0 to 65535"),
-            ("SQ -1", "'-1' is no sheet", "a whole number"),
-            (f"SH 1 70000 {LINE}", "'70000' is no take", "a whole number from 0 to 65535"),
-            (f"SH 1.5 1 {LINE}", "'1.5' is no sheet", "a whole number"),
-            (f"SH take 1; sheet 2; {LINE}", "take after 0 numbers, where sheet begins", "12 (sheet; take; pose.q 4"),
-            ("SH 1 2 1 0 0 0 1 2 3 0.5", "SH has 10 numbers, and pose.frames is missing: put from and to",
-             "12 (sheet; take; pose.q 4; pose.t 3; pose.sigma; pose.frames 2)"),
-            ("sh 1", "unknown mark 'sh'", "CH RN SH SQ"), ("sq 1", "unknown mark 'sq'", "CH RN SH SQ")]:
-        out, messages = jobs("make", data=f"{line}\n".encode(), status=2)
-        same(out, b"", f"output for {line!r}")
-        holds(messages, "(standard input):1: ", wrong, "expected", expected, "nothing was written")
-        assert "older format" not in messages, messages
+    makes_nothing([
+        ("SQ", "SQ has 0 numbers;", "1 (sheet)"), ("SQ 1 2", "SQ has 2 numbers;", "1 (sheet)"),
+        ("SQ 65536", "'65536' is no sheet", "a whole number from 0 to 65535"),
+        ("SQ -1", "'-1' is no sheet", "a whole number"),
+        (f"SH 1 70000 {LINE}", "'70000' is no take", "a whole number from 0 to 65535"),
+        (f"SH 1.5 1 {LINE}", "'1.5' is no sheet", "a whole number"),
+        (f"SH take 1; sheet 2; {LINE}", "take after 0 numbers, where sheet begins", "12 (sheet; take; pose.q 4"),
+        ("SH 1 2 1 0 0 0 1 2 3 0.5", "SH has 10 numbers, and pose.frames is missing: put from and to",
+         "12 (sheet; take; pose.q 4; pose.t 3; pose.sigma; pose.frames 2)"),
+        ("sh 1", "unknown mark 'sh'", "CH RN SH SQ"), ("sq 1", "unknown mark 'sq'", "CH RN SH SQ")])
 
 
 def as_text():
