@@ -131,8 +131,8 @@ ROWS = [
     (114, "Sim3Jac scale", "j:block k:num", "block", "j.scale(k)"),
     (115, "Sim3Jac apply", "j:block tau:tangent", "tangent", "j.apply(tau)"),
     (116, "Sim3Jac apply_transpose", "j:block tau:tangent", "tangent", "j.apply_transpose(tau)"),
-    (117, "Sim3Jac write_dense", "j:block", "square", "jacobian::dense::write_dense(j)"),
-    (118, "Sim3Jac sandwich", "j:block cov:square", "square", "jacobian::dense::sandwich(j, cov)"),
+    (117, "Sim3Jac write_dense", "j:block", "square", "dense_jacobian::write_dense(j)"),
+    (118, "Sim3Jac sandwich", "j:block cov:square", "square", "dense_jacobian::sandwich(j, cov)"),
     # Functions that the job's marks reach. judge-lib has no ids for them.
     (200, "Sim3 exp", "tau:tangent v:values", "pose", "Sim3::exp(tau, v)"),
     (201, "Sim3 mul", "p:pose o:pose up:num", "pose", "p.mul(o, up)"),

@@ -21,7 +21,7 @@ use linalg::vector::Vec3;
 use tables::Row;
 
 // sin(x/2)/x and cos(x/2): the exponential's quaternion is (cos_half, k phi).
-#[derive(Clone, Copy)]
+#[derive(Drop)]
 pub struct ExpCoeffs<T> {
     pub k: T,
     pub cos_half: T,

@@ -62,7 +62,7 @@ fn v_from<T: Width>(sigma: T, z: T, t: SincA<T>, e: T, m1: T, v0: T, form_b: boo
 }
 
 // w1 and w2.
-#[derive(Clone, Copy)]
+#[derive(Drop)]
 pub struct Ws<T> {
     pub w1: T,
     pub w2: T,
@@ -83,7 +83,7 @@ fn w_from<T: Width>(sigma: T, z: T, v: Coeffs4<T>, w0: T) -> Ws<T>
 }
 
 // The z-derivatives of v1 and v2.
-#[derive(Clone, Copy)]
+#[derive(Drop)]
 pub struct Dvs<T> {
     pub dv1: T,
     pub dv2: T,
@@ -134,7 +134,7 @@ pub struct EtMt<T> {
 
 // The exponential's numbers at one sign, from e^t and e^t - 1 at t = -|sigma|: e is e^sigma and m1 is
 // e^sigma - 1, both scaled by e^-sigma where 0 < sigma, and g is the scale, e^-sigma or 1.
-#[derive(Clone, Copy)]
+#[derive(Drop)]
 pub struct Exps<T> {
     pub e: T,
     pub m1: T,
@@ -203,7 +203,7 @@ pub fn closed_from<T: Width>(
 }
 
 // v0 and w0 at both signs.
-#[derive(Clone, Copy)]
+#[derive(Drop)]
 pub struct Ends<T> {
     pub v0: T,
     pub w0: T,

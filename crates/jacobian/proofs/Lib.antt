@@ -1,3 +1,1 @@
--- The columns of a flat matrix as parts of a list.
 pub mod Unfolds
-pub mod Columns

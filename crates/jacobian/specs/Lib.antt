@@ -1,4 +1,3 @@
 -- To be read in this order.
 pub mod Floats
 pub mod Jac
-pub mod Dense

@@ -21,7 +21,8 @@ use Rattle.wire.specs.Wire.{all_finite, numbers, count_bytes}
 use Rattle.record_result.specs.RecordResult.{mark_bytes, no_bytes, reply_of, InputHead, took, ended, unknown, cut}
 use Rattle.record_result.specs.RecordResult.{record_head}
 use Rattle.frames.specs.Joins.{framed_mul}
-use Rattle.replies.specs.Table.{framed_in, framed_items, ac_of, mu_of, answer_of, operation_reply}
+use Rattle.replies.specs.Table.{ac_of, mu_of, answer_of, operation_reply}
+use Rattle.record_result.specs.Framed.{framed_in, framed_items}
 use Rattle.job_state.specs.State.{state_none}
 use Rattle.marks.specs.Marks.{look_up, mark_of, head_at, next_at, head_of, next_of}
 use Rattle.marks.specs.Rows.{row_count, row_known, row_at}

@@ -12,13 +12,11 @@ use Rattle.std.proofs.lemmas.Bool.Decides.{nat_tests}
 use Rattle.wire.specs.Wire.{count_bytes}
 use Rattle.wire.proofs.Bytes.{count-length}
 use Rattle.layout.proofs.Runs.{sets_split}
-use Rattle.record_result.specs.declared.Disposition.{Disposition}
-use Rattle.record_result.specs.declared.Disposition.TheVariants.{Answered, Refused, Unusable}
 use Rattle.marks.specs.Rows.{row_count}
-use Rattle.job.specs.declared.Totals.{Totals}
-use Rattle.job.specs.Counts.{by_mark_more, total, by_mark_bytes, totals_more, counts_more}
+use Rattle.job.specs.declared.Counts.{Counts}
+use Rattle.job.specs.Counts.{by_mark_more, total, by_mark_bytes}
 use Rattle.job.specs.Job.{job_limit}
-use Rattle.job.specs.Private.{Sound, Small, joined}
+use Rattle.job.specs.Private.{Sound}
 
 -- ---- the sum
 pub none-total : total (replicate row_count 0) ≡ 0
@@ -45,8 +43,8 @@ row_within [] (suc r) = omega arith
 row_within (x ∷ l) zero = omega arith
 row_within (x ∷ l) (suc r) = let i = row_within l r in omega arith
 
-pub row_small : (f : Totals) (l : List ℕ) (r : ℕ) → Sound job_limit (joined f l) → get_or l r 0 ≤ job_limit
-row_small f l r s = let a : f.begun ≤ job_limit = s.few in omega (arith, row_within l r, s.each.1)
+pub row_small : (c : Counts) (r : ℕ) → Sound job_limit c → get_or c.by_mark r 0 ≤ job_limit
+row_small c r s = omega (arith, s.few, row_within c.by_mark r, s.each.1)
 
 total-append : (a b : List ℕ) → total (a ++ b) ≡ total a + total b
 unfolding total
@@ -111,18 +109,3 @@ stored_more l out at i h =
     ∙ ap (λ (x : List ℕ). by_mark_bytes (take i l) ++ x) (append-nil (count_bytes (get_or l i 0))))
     ∙ sets_split (by_mark_bytes (take i l)) (count_bytes (get_or l i 0)) out at
     ∙ ap (λ (k : ℕ). sets (sets out at (by_mark_bytes (take i l))) (at + k) (count_bytes (get_or l i 0))) n)
-
--- ---- the four counts and those by mark are counted separately
-pub small : (f : Totals) (l : List ℕ) → Sound job_limit (joined f l) → Small f
-small f l s = (s.few, s.sum)
-
-pub more_begun : (how : Disposition) (f g : Totals) → g ≡ totals_more how f → g.begun ≡ f.begun + 1
-unfolding totals_more
-more_begun Answered f g e = ap (λ (x : Totals). x.begun) e
-more_begun Refused f g e = ap (λ (x : Totals). x.begun) e
-more_begun Unusable f g e = ap (λ (x : Totals). x.begun) e
-
-pub joined_more : (how : Disposition) (r : ℕ) (f g : Totals) (l : List ℕ) → g ≡ totals_more how f →
-    joined g (set l r (get_or l r 0 + 1)) ≡ counts_more how r (joined f l)
-unfolding by_mark_more counts_more
-joined_more how r f g l e = ap (λ (x : Totals). joined x (set l r (get_or l r 0 + 1))) e

@@ -3,7 +3,6 @@ use Rattle.std.specs.Prelude.{ℕ, ◌+◌, ◌-◌, ◌*◌, ◌≤◌, ◌<◌
 use Rattle.record_result.specs.RecordResult.{longest}
 use Rattle.record_result.specs.declared.Disposition.TheVariants.{Refused}
 use Rattle.job.specs.declared.Counts.{Counts}
-use Rattle.job.specs.declared.Totals.{Totals}
 use Rattle.job.specs.declared.Fed.{Fed}
 use Rattle.job.specs.declared.Reason.{Reason}
 use Rattle.job.specs.declared.Reason.TheVariants.{Room}
@@ -19,14 +18,6 @@ pub record Sound (limit : ℕ) (c : Counts) : Type 0 where
   pub few : c.totals.begun ≤ limit
   pub sum : Adds c
   pub each : ByMarkAdd c
-
--- the four counts add up, to no more records than the limit
-abbrev pub Small : Totals → Type 0
-Small f = (f.begun ≤ job_limit) × (f.answered + f.refused + f.unusable ≡ f.begun)
-
--- the four counts with those by mark
-abbrev pub joined : Totals → List ℕ → Counts
-joined f l = record { totals = f; by_mark = l }
 
 -- the counts with one more record, refused and not read, if there is one
 abbrev pub counts_lost : Option ℕ → Counts → Counts

@@ -12,12 +12,12 @@ ghost use Rattle.wire.specs.Wire.{count_bytes};
 ghost use Rattle.record_result.specs.declared.Disposition.{Disposition};
 ghost use Rattle.record_result.specs.RecordResult.{longest, mark_bytes, no_bytes};
 ghost use Rattle.marks.specs.Rows.{row_count};
-ghost use Rattle.job.specs.Counts.{counts_none, counts_more, totals_more, counts_sound, by_mark_bytes, total};
+ghost use Rattle.job.specs.Counts.{counts_none, counts_more, counts_sound, by_mark_bytes, total};
 ghost use Rattle.job_state.specs.State.{state_of};
 ghost use Rattle.job.specs.Job.{standing_none, trailer, job_of, job_limit};
 ghost use Rattle.job.specs.Input.{InputTheorem};
 ghost use Rattle.job.specs.Feed.{Part, closing, is_over, goes_on, asks_for, feed_of, fed_view, part_view, Feeds};
-ghost use Rattle.job.specs.Private.{Sound, Small, InRows, counts_lost, looped_of, part_fed, looped_kept, stop_of};
+ghost use Rattle.job.specs.Private.{Sound, InRows, counts_lost, looped_of, part_fed, looped_kept, stop_of};
 ghost use Rattle.job.specs.Private.{trailer_length};
 
 use job_state::JobState;
@@ -89,40 +89,19 @@ pub struct Fed {
 }
 
 // ---- the record loop
-fn counted(c: Totals, disposition: Disposition) -> Totals
-    requires { Small c }
-    ensures { result ≡ totals_more disposition c }
-{
-    let begun = c.begun + 1;
-    match disposition {
-        Disposition::Answered => Totals {
-            begun,
-            answered: c.answered + 1,
-            ..c
-        },
-        Disposition::Refused => Totals {
-            begun,
-            refused: c.refused + 1,
-            ..c
-        },
-        Disposition::Unusable => Totals {
-            begun,
-            unusable: c.unusable + 1,
-            ..c
-        },
-    }
-}
-
-// Counts an unknown mark, or a cut mark or record.
-fn refused(c: Counts, row: usize) -> Counts
-    requires sound { Sound job_limit c }
+// One more record, of the mark in this row.
+fn count(c: &mut Counts, disposition: Disposition, row: usize)
+    requires sound { Sound job_limit c.old }
     requires row_lt_row_count { row < row_count }
-    ensures { result ≡ counts_more Disposition.Refused row c }
+    ensures { c.new ≡ counts_more disposition row c.old }
 {
-    let mut by_mark = c.by_mark;
-    by_mark[row] += 1;
-    let totals = counted(c.totals, Disposition::Refused);
-    Counts { totals, by_mark }
+    c.by_mark[row] += 1;
+    c.totals.begun += 1;
+    match disposition {
+        Disposition::Answered => c.totals.answered += 1,
+        Disposition::Refused => c.totals.refused += 1,
+        Disposition::Unusable => c.totals.unusable += 1,
+    }
 }
 
 fn leave(reason: Reason, counts: Counts, used: usize, written: usize) -> Fed
@@ -156,7 +135,11 @@ fn stop(
     }
     match lost {
         None => leave(reason, c, used, written),
-        Some(row) => leave(reason, refused(c, row), used, written),
+        Some(row) => {
+            let mut counts = c;
+            count(&mut counts, Disposition::Refused, row);
+            leave(reason, counts, used, written)
+        }
     }
 }
 
@@ -170,80 +153,36 @@ fn records(c0: Counts, state: &mut JobState, input: &[u8], last: bool, out: &mut
     ensures state_after { state_of state.new
         ≡ (looped_of c0 state.old input.now last (length out.old)).standing.state }
 {
-    let mut totals = c0.totals;
-    let mut by_mark = c0.by_mark;
+    let mut c = c0;
     let mut at = 0;
     let mut to = 0;
     let left = loop {
-        if totals.begun == LIMIT {
-            break stop(
-                Reason::Full,
-                Counts { totals, by_mark },
-                None,
-                at,
-                to,
-                out.len() - to,
-            );
+        if c.totals.begun == LIMIT {
+            break stop(Reason::Full, c, None, at, to, out.len() - to);
         }
         let dispatched = marks::reply(&input[at..], state, &mut out[to..]);
         let row = dispatched.row;
         match dispatched.step {
             Step::Took(disposition, used, written) => {
-                totals = counted(totals, disposition);
-                by_mark[row] += 1;
+                count(&mut c, disposition, row);
                 at += used;
                 to += written;
             }
-            Step::Room => break leave(Reason::Room, Counts { totals, by_mark }, at, to),
+            Step::Room => break leave(Reason::Room, c, at, to),
             Step::End => {
                 if last {
-                    break stop(
-                        Reason::End,
-                        Counts { totals, by_mark },
-                        None,
-                        at,
-                        to,
-                        out.len() - to,
-                    );
+                    break stop(Reason::End, c, None, at, to, out.len() - to);
                 }
-                break stop(
-                    Reason::More,
-                    Counts { totals, by_mark },
-                    None,
-                    at,
-                    to,
-                    out.len() - to,
-                );
+                break stop(Reason::More, c, None, at, to, out.len() - to);
             }
             Step::Unknown => {
-                break stop(
-                    Reason::Unknown,
-                    Counts { totals, by_mark },
-                    Some(row),
-                    at,
-                    to,
-                    out.len() - to,
-                );
+                break stop(Reason::Unknown, c, Some(row), at, to, out.len() - to);
             }
             Step::Cut => {
                 if last {
-                    break stop(
-                        Reason::Cut,
-                        Counts { totals, by_mark },
-                        Some(row),
-                        at,
-                        to,
-                        out.len() - to,
-                    );
+                    break stop(Reason::Cut, c, Some(row), at, to, out.len() - to);
                 }
-                break stop(
-                    Reason::More,
-                    Counts { totals, by_mark },
-                    None,
-                    at,
-                    to,
-                    out.len() - to,
-                );
+                break stop(Reason::More, c, None, at, to, out.len() - to);
             }
         }
     };

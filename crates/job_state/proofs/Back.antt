@@ -9,7 +9,7 @@ use lib.Ieee.{binary64}
 use Rattle.linalg.specs.Answer.{Answer, answers}
 use Rattle.wire.specs.Wire.{word_at, word_bytes, item_bytes, items_bytes}
 use Rattle.record_result.specs.RecordResult.{mark_bytes, reply_of}
-use Rattle.replies.specs.Table.{framed_in, framed_items}
+use Rattle.record_result.specs.Framed.{framed_in, framed_items}
 use Rattle.sheets.specs.Store.{slot_width, shot_in}
 use Rattle.sheets.specs.Back.{Bytes}
 use Rattle.sheets.specs.declared.Shot.{Shot}

@@ -18,8 +18,8 @@ use Rattle.record_result.specs.declared.Disposition.TheVariants as disposition
 use Rattle.record_result.specs.declared.Step.{Step}
 use Rattle.record_result.specs.declared.Step.TheVariants as step
 use Rattle.record_result.specs.RecordResult.{wrote, mark_bytes, no_bytes, disposition_of, reply_of, step_view}
-use Rattle.replies.specs.Table.{framed_in, framed_items}
-use Rattle.replies.proofs.Frames.{framed-length, framed-finite}
+use Rattle.record_result.specs.Framed.{framed_in, framed_items}
+use Rattle.record_result.proofs.Frames.{framed-length, framed-finite}
 use Rattle.sheets.proofs.Framed.{frame}
 use Rattle.job_state.specs.declared.JobState.{JobState}
 use Rattle.job_state.specs.Records.{took_of}

@@ -8,8 +8,8 @@ use Rattle.frames.specs.Floats.{Pose}
 use Rattle.wire.specs.Wire.{word_bytes, item_bytes, items_bytes}
 use Rattle.record_result.specs.RecordResult.{longest, mark_bytes, reply_of}
 use Rattle.record_result.proofs.Record.{mark_length, no_length}
-use Rattle.replies.specs.Table.{framed_items}
-use Rattle.replies.proofs.Frames.{framed-length}
+use Rattle.record_result.specs.Framed.{framed_items}
+use Rattle.record_result.proofs.Frames.{framed-length}
 use Rattle.sheets.specs.Sheets.{Shelved}
 use Rattle.sheets.specs.declared.Shot.{Shot}
 use Rattle.job_state.specs.Chain.{ch_reply, rn_reply}

@@ -15,8 +15,8 @@ use Rattle.record_result.specs.declared.Disposition.TheVariants as disposition
 use Rattle.record_result.specs.declared.Step.{Step}
 use Rattle.record_result.specs.declared.Step.TheVariants as step
 use Rattle.record_result.specs.RecordResult.{mark_bytes, no_bytes, disposition_of, reply_of, wrote, step_view}
-use Rattle.replies.specs.Table.{framed_in, framed_items}
-use Rattle.replies.proofs.Frames.{framed-length, framed-finite}
+use Rattle.record_result.specs.Framed.{framed_in, framed_items}
+use Rattle.record_result.proofs.Frames.{framed-length, framed-finite}
 use Rattle.sheets.specs.Sheets.{shelved, ask}
 use Rattle.sheets.specs.Store.{sheets_of, shot_in, put_bytes}
 use Rattle.sheets.specs.declared.Shot.{Shot}

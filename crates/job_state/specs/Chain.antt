@@ -8,7 +8,7 @@ use Rattle.running.specs.Running.{Joint, join_of, every_of}
 use Rattle.running.specs.declared.Running.{Running}
 use Rattle.wire.specs.Wire.{word, width, word_at, number_at}
 use Rattle.record_result.specs.RecordResult.{Reply, reply_of}
-use Rattle.replies.specs.Table.{framed_width, framed_in, framed_items}
+use Rattle.record_result.specs.Framed.{framed_width, framed_in, framed_items}
 use Rattle.job_state.specs.State.{State}
 use Rattle.job_state.specs.declared.JobState.{JobState}
 use Rattle.job_state.specs.Records.{Stepped, RecordRule}

@@ -6,7 +6,7 @@ use Rattle.linalg.specs.Answer.{Answer, answers, and_then}
 use Rattle.wire.specs.Wire.{word, word_at}
 use Rattle.layout.specs.Layout.{pose_count}
 use Rattle.record_result.specs.RecordResult.{mark_bytes, Reply, reply_of}
-use Rattle.replies.specs.Table.{framed_items}
+use Rattle.record_result.specs.Framed.{framed_items}
 use Rattle.sheets.specs.Sheets.{Sheets, Shelved, Shelf, shelve, ask}
 use Rattle.sheets.specs.Store.{slot_width, shot_in, put_bytes}
 use Rattle.sheets.specs.declared.Shot.{Shot}

@@ -70,7 +70,7 @@ fn renew(b: &[u8], running: &mut Running, out: &mut [u8]) -> Step
     ensures running_after { running.new ≡ every_of running.old (word_at 2 b.now 0) }
 {
     let n = short_at(b, 0);
-    *running = running.set_every(n);
+    running.set_every(n);
     put_mark(out, b"RN");
     put_short(out, 2, n);
     Step::Took(Disposition::Answered, RN, 2 + 2)

@@ -19,7 +19,7 @@ pub struct Mat3<T> {
 }
 
 // The adjugate over the determinant, and the determinant.
-#[derive(Clone, Copy)]
+#[derive(Drop)]
 pub struct Inverse<T> {
     pub inv: Mat3<T>,
     pub det: T,
@@ -51,34 +51,6 @@ fn with_component<T: Real>(v: Vec3<T>, i: usize, x: T) -> Vec3<T>
 }
 
 impl<T: Real> Mat3<T> {
-    // f of each column.
-    fn map<F: Fn(Vec3<T>) -> Vec3<T>>(self, f: F) -> Mat3<T>
-        requires { F.IsAlwaysCallable f }
-        ensures c0 { F.post f self.c0 result.c0 }
-        ensures c1 { F.post f self.c1 result.c1 }
-        ensures c2 { F.post f self.c2 result.c2 }
-    {
-        Mat3 {
-            c0: f(self.c0),
-            c1: f(self.c1),
-            c2: f(self.c2),
-        }
-    }
-
-    // f of each column and the same one of o.
-    fn zip_with<F: Fn(Vec3<T>, Vec3<T>) -> Vec3<T>>(self, o: Mat3<T>, f: F) -> Mat3<T>
-        requires { F.IsAlwaysCallable f }
-        ensures c0 { F.post f self.c0 o.c0 result.c0 }
-        ensures c1 { F.post f self.c1 o.c1 result.c1 }
-        ensures c2 { F.post f self.c2 o.c2 result.c2 }
-    {
-        Mat3 {
-            c0: f(self.c0, o.c0),
-            c1: f(self.c1, o.c1),
-            c2: f(self.c2, o.c2),
-        }
-    }
-
     // The matrix with these columns.
     pub fn from_cols(c0: Vec3<T>, c1: Vec3<T>, c2: Vec3<T>) -> Mat3<T>
         ensures { as_mat3 T.float result ≡ record {
@@ -176,7 +148,11 @@ impl<T: Real> Mat3<T> {
     pub fn scale(self, s: T) -> Mat3<T>
         ensures { as_mat3 T.float result ≡ mat_scale T.format (as_mat3 T.float self) (T.float s) }
     {
-        self.map(|v| v.scale(s))
+        Mat3 {
+            c0: self.c0.scale(s),
+            c1: self.c1.scale(s),
+            c2: self.c2.scale(s),
+        }
     }
 
     // +1 on the diagonal, +0 elsewhere.
@@ -223,14 +199,22 @@ impl<T: Real> Mat3<T> {
     pub fn add(self, o: Mat3<T>) -> Mat3<T>
         ensures { as_mat3 T.float result ≡ mat_add T.format (as_mat3 T.float self) (as_mat3 T.float o) }
     {
-        self.zip_with(o, |v, w| v.add(w))
+        Mat3 {
+            c0: self.c0.add(o.c0),
+            c1: self.c1.add(o.c1),
+            c2: self.c2.add(o.c2),
+        }
     }
 
     #[tactic(auto, unfolding(crate::specs::Matrix::mat_sub))]
     pub fn sub(self, o: Mat3<T>) -> Mat3<T>
         ensures { as_mat3 T.float result ≡ mat_sub T.format (as_mat3 T.float self) (as_mat3 T.float o) }
     {
-        self.zip_with(o, |v, w| v.sub(w))
+        Mat3 {
+            c0: self.c0.sub(o.c0),
+            c1: self.c1.sub(o.c1),
+            c2: self.c2.sub(o.c2),
+        }
     }
 
     // Flips every sign bit.
@@ -238,7 +222,11 @@ impl<T: Real> Mat3<T> {
     pub fn neg(self) -> Mat3<T>
         ensures { as_mat3 T.float result ≡ mat_neg (as_mat3 T.float self) }
     {
-        self.map(|v| v.neg())
+        Mat3 {
+            c0: self.c0.neg(),
+            c1: self.c1.neg(),
+            c2: self.c2.neg(),
+        }
     }
 
     // self * v.
@@ -261,7 +249,11 @@ impl<T: Real> Mat3<T> {
     pub fn mul(self, o: Mat3<T>) -> Mat3<T>
         ensures { as_mat3 T.float result ≡ mat_mul T.format (as_mat3 T.float self) (as_mat3 T.float o) }
     {
-        o.map(|v| self.mul_vec(v))
+        Mat3 {
+            c0: self.mul_vec(o.c0),
+            c1: self.mul_vec(o.c1),
+            c2: self.mul_vec(o.c2),
+        }
     }
 }
 
@@ -324,5 +316,9 @@ fn hat_col<T: Real>(v: Vec3<T>, b: Vec3<T>) -> Vec3<T>
 pub fn hat_mul<T: Real>(v: Vec3<T>, b: Mat3<T>) -> Mat3<T>
     ensures { as_mat3 T.float result ≡ mat_hat_mul T.format (as_vec3 T.float v) (as_mat3 T.float b) }
 {
-    b.map(|w| hat_col(v, w))
+    Mat3 {
+        c0: hat_col(v, b.c0),
+        c1: hat_col(v, b.c1),
+        c2: hat_col(v, b.c2),
+    }
 }

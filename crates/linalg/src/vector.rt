@@ -13,40 +13,16 @@ pub struct Vec3<T> {
 }
 
 impl<T: Real> Vec3<T> {
-    // f of each component.
-    fn map<F: Fn(T) -> T>(self, f: F) -> Vec3<T>
-        requires { F.IsAlwaysCallable f }
-        ensures x { F.post f self.x result.x }
-        ensures y { F.post f self.y result.y }
-        ensures z { F.post f self.z result.z }
-    {
-        Vec3 {
-            x: f(self.x),
-            y: f(self.y),
-            z: f(self.z),
-        }
-    }
-
-    // f of each component and the same one of o.
-    fn zip_with<F: Fn(T, T) -> T>(self, o: Vec3<T>, f: F) -> Vec3<T>
-        requires { F.IsAlwaysCallable f }
-        ensures x { F.post f self.x o.x result.x }
-        ensures y { F.post f self.y o.y result.y }
-        ensures z { F.post f self.z o.z result.z }
-    {
-        Vec3 {
-            x: f(self.x, o.x),
-            y: f(self.y, o.y),
-            z: f(self.z, o.z),
-        }
-    }
-
     // s * self, componentwise.
     #[tactic(auto, unfolding(crate::specs::Vector::vec_scale))]
     pub fn scale(self, s: T) -> Vec3<T>
         ensures { as_vec3 T.float result ≡ vec_scale T.format (as_vec3 T.float self) (T.float s) }
     {
-        self.map(|a| a * s)
+        Vec3 {
+            x: self.x * s,
+            y: self.y * s,
+            z: self.z * s,
+        }
     }
 
     // The sum of self_i o_i, in index order.
@@ -81,14 +57,22 @@ impl<T: Real> Vec3<T> {
     pub fn add(self, o: Vec3<T>) -> Vec3<T>
         ensures { as_vec3 T.float result ≡ vec_add T.format (as_vec3 T.float self) (as_vec3 T.float o) }
     {
-        self.zip_with(o, |a, b| a + b)
+        Vec3 {
+            x: self.x + o.x,
+            y: self.y + o.y,
+            z: self.z + o.z,
+        }
     }
 
     #[tactic(auto, unfolding(crate::specs::Vector::vec_sub))]
     pub fn sub(self, o: Vec3<T>) -> Vec3<T>
         ensures { as_vec3 T.float result ≡ vec_sub T.format (as_vec3 T.float self) (as_vec3 T.float o) }
     {
-        self.zip_with(o, |a, b| a - b)
+        Vec3 {
+            x: self.x - o.x,
+            y: self.y - o.y,
+            z: self.z - o.z,
+        }
     }
 
     // Flips every sign bit.
@@ -96,7 +80,11 @@ impl<T: Real> Vec3<T> {
     pub fn neg(self) -> Vec3<T>
         ensures { as_vec3 T.float result ≡ vec_neg (as_vec3 T.float self) }
     {
-        self.map(|a| -a)
+        Vec3 {
+            x: -self.x,
+            y: -self.y,
+            z: -self.z,
+        }
     }
 
     // Each component divided by s, also if s is zero.
@@ -104,6 +92,10 @@ impl<T: Real> Vec3<T> {
     pub fn over(self, s: T) -> Vec3<T>
         ensures { as_vec3 T.float result ≡ vec_over T.format (as_vec3 T.float self) (T.float s) }
     {
-        self.map(|a| a / s)
+        Vec3 {
+            x: self.x / s,
+            y: self.y / s,
+            z: self.z / s,
+        }
     }
 }

@@ -18,7 +18,7 @@ use Rattle.running.specs.Running.{Start, due, Joint, produced_of, product_on, jo
 use Rattle.running.specs.declared.Running.{Running}
 use Rattle.wire.specs.Wire.{word_at, word_bytes, number_at, item_bytes, items_bytes}
 use Rattle.record_result.specs.RecordResult.{mark_bytes, no_bytes, reply_of}
-use Rattle.replies.specs.Table.{framed_in, framed_items, framed_width}
+use Rattle.record_result.specs.Framed.{framed_in, framed_items, framed_width}
 use Rattle.sheets.specs.Sheets.{Kept, none, kept, Sheets, most, same_take, no_room, never_kept}
 use Rattle.sheets.specs.Sheets.{Shelved, shelved, shelve_on, shelve, ask_on, ask}
 use Rattle.sheets.specs.Store.{shot_in}

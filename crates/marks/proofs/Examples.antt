@@ -12,7 +12,7 @@ use Rattle.wire.specs.Wire.{word_of, word_at, word_bytes, number_of, number_at, 
 use Rattle.wire.specs.Wire.{all_finite, numbers}
 use Rattle.record_result.specs.declared.Disposition.TheVariants as disposition
 use Rattle.record_result.specs.RecordResult.{mark_bytes, no_bytes, reply_of, took, record_head}
-use Rattle.replies.specs.Table.{framed_in, framed_items}
+use Rattle.record_result.specs.Framed.{framed_in, framed_items}
 use Rattle.sheets.specs.Sheets.{none, keeping, shelve_on, shelve, ask_on, ask}
 use Rattle.sheets.specs.Store.{shot_in}
 use Rattle.job_state.specs.State.{State, state_none}

@@ -6,7 +6,7 @@ use Rattle.frames.specs.Floats.{Pose}
 use Rattle.running.specs.Running.{Start}
 use Rattle.wire.specs.Wire.{word_at, word_bytes, items_bytes}
 use Rattle.record_result.specs.RecordResult.{mark_bytes, no_bytes, InputHead, took, ended, unknown, cut}
-use Rattle.replies.specs.Table.{framed_in, framed_items}
+use Rattle.record_result.specs.Framed.{framed_in, framed_items}
 use Rattle.sheets.specs.Sheets.{Kept, none, kept, most, same_take, no_room, never_kept}
 use Rattle.sheets.specs.declared.Shot.{Shot}
 use Rattle.job_state.specs.State.{State, state_none}

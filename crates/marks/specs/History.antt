@@ -8,7 +8,7 @@ use Rattle.sheets.specs.Sheets.{Kept, none, kept_below, sheet_numbers, no_sheets
 use Rattle.sheets.specs.Store.{shot_in}
 use Rattle.sheets.specs.History.{Sent, accepted, highest, Highest}
 use Rattle.wire.specs.Wire.{word_at, number_at}
-use Rattle.replies.specs.Table.{framed_width, framed_in}
+use Rattle.record_result.specs.Framed.{framed_width, framed_in}
 use Rattle.job_state.specs.State.{State, state_none}
 use Rattle.job_state.specs.Chain.{ch_letters, rn_letters, ch_size, rn_size}
 use Rattle.job_state.specs.Retakes.{sh_letters, sh_size}

@@ -32,7 +32,8 @@ use Rattle.to_lists.specs.Written.{status, written, framed_fitting, joined_fitti
 use Rattle.sim3_c_entries.specs.Calls.{exp_call, mul_call, inverse_call, scaled_pair_call, block_pair_call}
 use Rattle.sim3_c_entries.specs.Calls.{block_inverse_call, act_call, ArmLists, arms_fitting, arms_call}
 use Rattle.wire.specs.Wire.{width, word_at, number_at, numbers, firsts, numbers_at, words_at}
-use Rattle.replies.specs.Table.{framed_width, framed_in, ex_of, co_of, pa_of, ac_of, mu_of, in_of, ji_of, ar_of}
+use Rattle.replies.specs.Table.{ex_of, co_of, pa_of, ac_of, mu_of, in_of, ji_of, ar_of}
+use Rattle.record_result.specs.Framed.{framed_width, framed_in}
 use Rattle.replies.specs.Private.{status_view, framed_both, armed_both}
 use Rattle.replies.proofs.Views.{call, Small, view_call, view-framed, view-armed}
 

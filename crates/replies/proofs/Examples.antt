@@ -24,7 +24,8 @@ use Rattle.wire.specs.Wire.{all_finite, numbers}
 use Rattle.record_result.specs.declared.Disposition.TheVariants.{Answered, Refused}
 use Rattle.record_result.specs.declared.Operation.TheVariants.{Co, Ac, Mu, Ji, Ar}
 use Rattle.record_result.specs.RecordResult.{mark_bytes, no_bytes, reply_of}
-use Rattle.replies.specs.Table.{framed_in, framed_items, co_of, ac_of, mu_of, ji_of, ar_of, answer_of, operation_reply}
+use Rattle.replies.specs.Table.{co_of, ac_of, mu_of, ji_of, ar_of, answer_of, operation_reply}
+use Rattle.record_result.specs.Framed.{framed_in, framed_items}
 
 -- the bytes of numbers, from their bit patterns
 unfoldable words_bytes : List ℕ → List ℕ

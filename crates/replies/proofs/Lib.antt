@@ -2,7 +2,6 @@
 pub mod Unfolds
 pub mod Arms
 pub mod Calls
-pub mod Frames
 pub mod Replies
 pub mod Views
 mod ArAsCo

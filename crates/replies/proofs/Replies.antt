@@ -26,11 +26,12 @@ use Rattle.layout.proofs.Runs.{sets-part}
 use Rattle.record_result.specs.RecordResult.{longest, no_bytes, mark_bytes, reply_of, wrote_as, written_answer}
 use Rattle.record_result.specs.RecordResult.{answer_bytes, record_result, written_of, step_view}
 use Rattle.record_result.proofs.Record.{mark_length, no_length, marked, reply-whole}
-use Rattle.replies.specs.Table.{gives, numbers_of, width_of, framed_width, framed_in, framed_items, ex_of, co_of, pa_of}
+use Rattle.replies.specs.Table.{gives, numbers_of, width_of, ex_of, co_of, pa_of}
+use Rattle.record_result.specs.Framed.{framed_width, framed_in, framed_items}
 use Rattle.replies.specs.Table.{ac_of, mu_of, in_of, ji_of, armed_items, ar_of, answer_of, operation_reply}
 use Rattle.replies.specs.Table.{operation_head}
 use Rattle.replies.proofs.Arms.{armed-length}
-use Rattle.replies.proofs.Frames.{framed-length}
+use Rattle.record_result.proofs.Frames.{framed-length}
 
 -- ---- no record is longer than PA's, on doubles
 pub width-most : (f : Format) (e : Operation) → width_of f e ≤ 8 * numbers_of Pa

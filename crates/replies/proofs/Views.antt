@@ -29,7 +29,8 @@ use Rattle.wire.proofs.Lists.{words-length, encoded}
 use Rattle.wire.proofs.Places.{part_stored}
 use Rattle.record_result.specs.RecordResult.{wrote_as, written_answer, answer_bytes}
 use Rattle.record_result.specs.declared.Wrote.{Wrote}
-use Rattle.replies.specs.Table.{framed_width, framed_items, arm_items, armed_items}
+use Rattle.replies.specs.Table.{arm_items, armed_items}
+use Rattle.record_result.specs.Framed.{framed_width, framed_items}
 use Rattle.replies.specs.Private.{status_view, words, framed_both, armed_both}
 
 -- ---- whole numbers as items

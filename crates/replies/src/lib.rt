@@ -9,7 +9,8 @@ ghost use Rattle.std.proofs.lemmas.List.Edits.{sets};
 ghost use Rattle.linalg.specs.Answer.{answer};
 ghost use Rattle.record_result.specs.RecordResult.{longest, record_result, written_of, step_view, written_answer};
 ghost use Rattle.record_result.specs.RecordResult.{answer_bytes};
-ghost use Rattle.replies.specs.Table.{framed_width, width_of, answer_of, operation_head};
+ghost use Rattle.replies.specs.Table.{width_of, answer_of, operation_head};
+ghost use Rattle.record_result.specs.Framed.{framed_width};
 
 use crate::operations::{ac, ar, co, ex, inv, ji, mu, pa};
 use coeffs::width::Width;

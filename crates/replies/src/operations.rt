@@ -8,7 +8,8 @@ ghost use Rattle.wire.specs.Wire.{width, numbers, numbers_at, words_at};
 ghost use Rattle.to_lists.specs.Written.{status};
 ghost use Rattle.record_result.specs.RecordResult.{longest, written_answer, answer_bytes};
 ghost use Rattle.record_result.specs.declared.Operation.{Operation};
-ghost use Rattle.replies.specs.Table.{width_of, framed_width, ex_of, co_of, pa_of, ac_of, mu_of, in_of, ji_of, ar_of};
+ghost use Rattle.replies.specs.Table.{width_of, ex_of, co_of, pa_of, ac_of, mu_of, in_of, ji_of, ar_of};
+ghost use Rattle.record_result.specs.Framed.{framed_width};
 ghost use Rattle.replies.specs.Private.{status_view, framed_both, armed_both};
 
 use crate::framed;

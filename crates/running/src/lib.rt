@@ -100,10 +100,10 @@ impl Running {
     }
 
     // Renormalise after every nth product from now on. The pose and the count stay as they are.
-    pub fn set_every(self, n: u16) -> Running
-        ensures { result ≡ every_of self n }
+    pub fn set_every(&mut self, n: u16)
+        ensures { self.new ≡ every_of self.old n }
     {
-        Running { every: n, ..self }
+        self.every = n;
     }
 }
 

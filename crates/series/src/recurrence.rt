@@ -41,14 +41,14 @@ pub struct Tail<T> {
 }
 
 // A loop for one sign after some levels: the next level, and the sums so far.
-#[derive(Clone, Copy)]
+#[derive(Drop)]
 pub struct SeriesState<T> {
     pub level: Level<T>,
     pub sums: Sums<T>,
 }
 
 // The loop for both signs: the next level at sigma, and the sums at sigma and at -sigma.
-#[derive(Clone, Copy)]
+#[derive(Drop)]
 pub struct SeriesPairState<T> {
     pub level: Level<T>,
     pub pos: Sums<T>,

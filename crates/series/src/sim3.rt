@@ -52,7 +52,7 @@ pub struct Signs<X> {
 pub type CoeffsPair<T> = Signs<Sim3Coeffs<T>>;
 
 // v0 and w0, each at sigma and at -sigma.
-#[derive(Clone, Copy)]
+#[derive(Drop)]
 pub struct Horner<T> {
     pub v0: Signs<T>,
     pub w0: Signs<T>,

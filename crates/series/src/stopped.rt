@@ -15,7 +15,7 @@ use linalg::refusal::Refusal;
 
 // v0 and w0 of the series arm and of the closed arm at small sigma, from the pass and from each sign
 // alone.
-#[derive(Clone, Copy)]
+#[derive(Drop)]
 pub struct Stopped<T> {
     pub series: Horner<T>,
     pub series_alone: Horner<T>,

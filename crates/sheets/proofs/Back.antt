@@ -21,7 +21,7 @@ use Rattle.layout.specs.Layout.{vec_in, quat_in, pose_in, quat_numbers, pose_num
 use Rattle.wire.specs.Wire.{word, word_of, word_at, word_bytes, number_of, number_at, number_bytes, numbers_bytes}
 use Rattle.wire.specs.Wire.{item_bytes, items_bytes, numbers}
 use Rattle.wire.proofs.Bytes.{items_append, items_numbers}
-use Rattle.replies.specs.Table.{framed_in, framed_items}
+use Rattle.record_result.specs.Framed.{framed_in, framed_items}
 use Rattle.sheets.specs.Back.{keeps, AskedTheorem, Bytes, one_nan, nans_one, SentBackTheorem}
 use Rattle.sheets.specs.Sheets.{Kept, none, kept, Sheets, most, keeping, shelve_on, shelve, ask_on, ask}
 use Rattle.sheets.specs.declared.Shot.{Shot}

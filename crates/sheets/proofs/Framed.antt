@@ -15,7 +15,7 @@ use Rattle.wire.specs.Wire.{word_of, word_at, word_bytes, number_of, number_at, 
 use Rattle.wire.specs.Wire.{numbers}
 use Rattle.wire.proofs.Places.{within}
 use Rattle.wire.proofs.Bytes.{word-length, word_back, number_back}
-use Rattle.replies.specs.Table.{framed_in, framed_items}
+use Rattle.record_result.specs.Framed.{framed_in, framed_items}
 
 -- ---- read: the bytes after the pose are not read
 pub framed_front : (b : List ℕ) (at : ℕ) → framed_in binary64 (take 68 (drop at b)) ≡ framed_in binary64 (drop at b)

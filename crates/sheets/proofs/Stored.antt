@@ -16,8 +16,8 @@ use Rattle.linalg.specs.Answer.{Answer, answers, refuses}
 use Rattle.layout.proofs.Runs.{sets_split}
 use Rattle.wire.specs.Wire.{word_at, word_bytes, item_bytes, items_bytes}
 use Rattle.wire.proofs.Bytes.{word-length}
-use Rattle.replies.specs.Table.{framed_in, framed_items}
-use Rattle.replies.proofs.Frames.{framed-length}
+use Rattle.record_result.specs.Framed.{framed_in, framed_items}
+use Rattle.record_result.proofs.Frames.{framed-length}
 use Rattle.sheets.specs.Sheets.{Kept, none, kept, one, kept_below, sheet_numbers, no_sheets, most, no_room, never_kept}
 use Rattle.sheets.specs.Sheets.{keeping, Shelved, shelved, shelve_on, shelve, ask_on, ask}
 use Rattle.sheets.specs.Store.{slot_width, slots, tail, size, used_of, slot_of, slot_at, shot_in, held_at, kept_of}

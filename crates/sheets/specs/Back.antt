@@ -7,7 +7,7 @@ use Rattle.std.specs.Float.Ieee.{is_nan}
 use Rattle.linalg.specs.Answer.{Answer, answers, refuses}
 use Rattle.layout.specs.Layout.{pose_count}
 use Rattle.wire.specs.Wire.{width, number_of, number_bytes, items_bytes}
-use Rattle.replies.specs.Table.{framed_width, framed_in, framed_items}
+use Rattle.record_result.specs.Framed.{framed_width, framed_in, framed_items}
 use Rattle.sheets.specs.Sheets.{Sheets, Shelved, shelve, ask}
 use Rattle.sheets.specs.declared.Shot.{Shot}
 

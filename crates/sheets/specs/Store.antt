@@ -8,7 +8,7 @@ use Rattle.std.proofs.lemmas.List.Edits.{sets}
 use Rattle.std.specs.Float.{binary64}
 use Rattle.linalg.specs.Answer.{Answer, refuses}
 use Rattle.wire.specs.Wire.{word_at, word_bytes, items_bytes}
-use Rattle.replies.specs.Table.{framed_width, framed_in, framed_items}
+use Rattle.record_result.specs.Framed.{framed_width, framed_in, framed_items}
 use Rattle.sheets.specs.Sheets.{Kept, none, kept, Sheets, kept_below, sheet_numbers, most, same_take, no_room, Shelved}
 use Rattle.sheets.specs.Sheets.{shelved}
 use Rattle.sheets.specs.declared.Shot.{Shot}

@@ -4,7 +4,7 @@ ghost use Rattle.std.specs.Float.{binary64};
 ghost use Rattle.std.proofs.lemmas.List.Edits.{sets};
 ghost use Rattle.layout.specs.Layout.{pose_numbers};
 ghost use Rattle.wire.specs.Wire.{word_at, word_bytes, items_bytes, numbers, all_finite};
-ghost use Rattle.replies.specs.Table.{framed_width, framed_in, framed_items};
+ghost use Rattle.record_result.specs.Framed.{framed_width, framed_in, framed_items};
 
 use frames::Pose;
 use layout::POSE;

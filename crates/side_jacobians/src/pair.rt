@@ -15,7 +15,7 @@ use linalg::matrix::Mat3;
 use sim3::tangent::Sim3Tangent;
 
 // J_l, its inverse, J_r and its inverse.
-#[derive(Clone, Copy)]
+#[derive(Drop)]
 pub struct BlockPair<T> {
     pub left: Sim3Jac<T>,
     pub left_inv: Sim3Jac<T>,

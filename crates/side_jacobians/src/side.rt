@@ -24,7 +24,7 @@ use sim3::sim3::Sim3;
 use sim3::tangent::Sim3Tangent;
 
 // The Jacobian of the action by the tangent, three rows of (rot, trans, scale), and by the point.
-#[derive(Clone, Copy)]
+#[derive(Drop)]
 pub struct ActJacobians<T> {
     pub rot: Mat3<T>,
     pub trans: Mat3<T>,
@@ -33,14 +33,14 @@ pub struct ActJacobians<T> {
 }
 
 // The Jacobians by the first and by the second operand.
-#[derive(Clone, Copy)]
+#[derive(Drop)]
 pub struct TwoJacobians<T> {
     pub first: Sim3Jac<T>,
     pub second: Sim3Jac<T>,
 }
 
 // The exponential, as a pose without frames or with them, and J_l.
-#[derive(Clone, Copy)]
+#[derive(Drop)]
 pub struct ExpAndJl<X, T> {
     pub x: X,
     pub jl: Sim3Jac<T>,

@@ -210,7 +210,7 @@ impl<T: Width> Sim3<T> {
 }
 
 // The coefficients of I, W and W^2 in a polynomial in W = hat(phi).
-#[derive(Clone, Copy)]
+#[derive(Drop)]
 pub struct Three<T> {
     pub x0: T,
     pub x1: T,

@@ -29,60 +29,6 @@ pub fn zero_vector<T: Real>() -> Vec3<T>
 }
 
 impl<T: Real> Sim3Tangent<T> {
-    // f of each of the seven numbers.
-    fn map<F: Fn(T) -> T>(self, f: F) -> Sim3Tangent<T>
-        requires { F.IsAlwaysCallable f }
-        ensures phi { F.post f self.phi.x result.phi.x × F.post f self.phi.y result.phi.y
-            × F.post f self.phi.z result.phi.z }
-        ensures rho { F.post f self.rho.x result.rho.x × F.post f self.rho.y result.rho.y
-            × F.post f self.rho.z result.rho.z }
-        ensures sigma { F.post f self.sigma result.sigma }
-    {
-        let a = self.phi;
-        let b = self.rho;
-        Sim3Tangent {
-            phi: Vec3 {
-                x: f(a.x),
-                y: f(a.y),
-                z: f(a.z),
-            },
-            rho: Vec3 {
-                x: f(b.x),
-                y: f(b.y),
-                z: f(b.z),
-            },
-            sigma: f(self.sigma),
-        }
-    }
-
-    // f of each of the seven numbers and the same one of o.
-    fn zip_with<F: Fn(T, T) -> T>(self, o: Sim3Tangent<T>, f: F) -> Sim3Tangent<T>
-        requires { F.IsAlwaysCallable f }
-        ensures phi { F.post f self.phi.x o.phi.x result.phi.x × F.post f self.phi.y o.phi.y result.phi.y
-            × F.post f self.phi.z o.phi.z result.phi.z }
-        ensures rho { F.post f self.rho.x o.rho.x result.rho.x × F.post f self.rho.y o.rho.y result.rho.y
-            × F.post f self.rho.z o.rho.z result.rho.z }
-        ensures sigma { F.post f self.sigma o.sigma result.sigma }
-    {
-        let a = self.phi;
-        let b = o.phi;
-        let c = self.rho;
-        let d = o.rho;
-        Sim3Tangent {
-            phi: Vec3 {
-                x: f(a.x, b.x),
-                y: f(a.y, b.y),
-                z: f(a.z, b.z),
-            },
-            rho: Vec3 {
-                x: f(c.x, d.x),
-                y: f(c.y, d.y),
-                z: f(c.z, d.z),
-            },
-            sigma: f(self.sigma, o.sigma),
-        }
-    }
-
     #[tactic(auto, unfolding(crate::specs::Tangent::tangent_zero))]
     pub fn zero() -> Sim3Tangent<T>
         ensures { as_sim3_tangent T.float result ≡ tangent_zero }
@@ -94,28 +40,40 @@ impl<T: Real> Sim3Tangent<T> {
         }
     }
 
-    #[tactic(auto, unfolding(crate::specs::Tangent::tangent_add, linalg::specs::Vector::vec_add))]
+    #[tactic(auto, unfolding(crate::specs::Tangent::tangent_add))]
     pub fn add(self, o: Sim3Tangent<T>) -> Sim3Tangent<T>
         ensures { as_sim3_tangent T.float result ≡ tangent_add T.format (as_sim3_tangent T.float self)
             (as_sim3_tangent T.float o) }
     {
-        self.zip_with(o, |a, b| a + b)
+        Sim3Tangent {
+            phi: self.phi.add(o.phi),
+            rho: self.rho.add(o.rho),
+            sigma: self.sigma + o.sigma,
+        }
     }
 
-    #[tactic(auto, unfolding(crate::specs::Tangent::tangent_sub, linalg::specs::Vector::vec_sub))]
+    #[tactic(auto, unfolding(crate::specs::Tangent::tangent_sub))]
     pub fn sub(self, o: Sim3Tangent<T>) -> Sim3Tangent<T>
         ensures { as_sim3_tangent T.float result ≡ tangent_sub T.format (as_sim3_tangent T.float self)
             (as_sim3_tangent T.float o) }
     {
-        self.zip_with(o, |a, b| a - b)
+        Sim3Tangent {
+            phi: self.phi.sub(o.phi),
+            rho: self.rho.sub(o.rho),
+            sigma: self.sigma - o.sigma,
+        }
     }
 
     // Flips every sign bit.
-    #[tactic(auto, unfolding(crate::specs::Tangent::tangent_neg, linalg::specs::Vector::vec_neg))]
+    #[tactic(auto, unfolding(crate::specs::Tangent::tangent_neg))]
     pub fn neg(self) -> Sim3Tangent<T>
         ensures { as_sim3_tangent T.float result ≡ tangent_neg (as_sim3_tangent T.float self) }
     {
-        self.map(|x| -x)
+        Sim3Tangent {
+            phi: self.phi.neg(),
+            rho: self.rho.neg(),
+            sigma: -self.sigma,
+        }
     }
 
     // k * self, the factor first.
@@ -123,7 +81,21 @@ impl<T: Real> Sim3Tangent<T> {
     pub fn scale(self, k: T) -> Sim3Tangent<T>
         ensures { as_sim3_tangent T.float result ≡ tangent_scale T.format (as_sim3_tangent T.float self) (T.float k) }
     {
-        self.map(|x| k * x)
+        let a = self.phi;
+        let b = self.rho;
+        Sim3Tangent {
+            phi: Vec3 {
+                x: k * a.x,
+                y: k * a.y,
+                z: k * a.z,
+            },
+            rho: Vec3 {
+                x: k * b.x,
+                y: k * b.y,
+                z: k * b.z,
+            },
+            sigma: k * self.sigma,
+        }
     }
 
     // acc plus the seven products, one after another from the left.

@@ -33,7 +33,7 @@ pub mod rho_negated; // results at rho and at -rho
 
 // What the three calls on one sign return: the coefficients, the left Jacobian with its inverse, and the
 // exponential.
-#[derive(Clone, Copy)]
+#[derive(Drop)]
 pub struct OneSign<T> {
     pub coeffs: Result<Scaled<Sim3Coeffs<T>>, Refusal>,
     pub left: JacAndInverse<T>,
@@ -42,7 +42,7 @@ pub struct OneSign<T> {
 
 // What the eight calls return: the pair of coefficients and the pair of blocks, and the results of each sign
 // separately.
-#[derive(Clone, Copy)]
+#[derive(Drop)]
 pub struct BothSigns<T> {
     pub pair: Result<ScaledPair<T>, Refusal>,
     pub block: BlockPair<T>,
@@ -101,7 +101,7 @@ pub fn both_signs<T: Width>(
 }
 
 // What the two calls return: the coefficients with their arms and flags, and the pair of blocks.
-#[derive(Clone, Copy)]
+#[derive(Drop)]
 pub struct Flagged<T> {
     pub armed: Result<ArmedPair<T>, Refusal>,
     pub block: BlockPair<T>,

@@ -30,7 +30,7 @@ pub fn rho_negated<T: Width>(tau: Sim3Tangent<T>) -> Sim3Tangent<T>
 
 // What the five calls on one tangent return: the exponential with its frames, the left Jacobian, both from
 // one evaluation, the left Jacobian with its inverse, and the block pair.
-#[derive(Clone, Copy)]
+#[derive(Drop)]
 pub struct FiveCalls<T> {
     pub exp: Pose<T>,
     pub left: Sim3Jac<T>,
@@ -40,7 +40,7 @@ pub struct FiveCalls<T> {
 }
 
 // The five calls on the tangent, and on the tangent with rho negated.
-#[derive(Clone, Copy)]
+#[derive(Drop)]
 pub struct BothRhos<T> {
     pub at_rho: FiveCalls<T>,
     pub at_negated_rho: FiveCalls<T>,

@@ -4,7 +4,7 @@ ghost use Rattle.std.specs.Prelude.{◌≡◌, ℕ, List, Float, length};
 use ieee::Real;
 
 // A structure of a fixed number of numbers, in the order in which a list holds them.
-pub trait ToNumbers<T: Real>: Copy {
+pub trait ToNumbers<T: Real>: Drop {
     const COUNT: usize;
 
     ghost COUNT: { ℕ };

@@ -6,16 +6,15 @@ use lib.ListN.{length, drop}
 use Rattle.job_state.specs.State.{state_of}
 use Rattle.job.specs.Job.{standing, job_limit}
 use Rattle.job.specs.Feed.{kept_records}
-use Rattle.job.specs.Private.{joined}
 use Rattle.job.proofs.Loop.{Going}
 use Rattle.job.proofs.records.Given as goal
 
-abbrev pub invariant-loop-totals : goal.invariant-loop-totals
-invariant-loop-totals l =
+abbrev pub invariant-loop-c : goal.invariant-loop-c
+invariant-loop-c l =
     Going job_limit l.input l.last (standing l.fn.c0 (state_of l.initial.state)) l.initial.out
-    (standing (joined l.totals l.by_mark) (state_of l.state)) l.out l.at l.to
+    (standing l.c (state_of l.state)) l.out l.at l.to
     × (kept_records (job_limit - l.fn.c0.totals.begun) l.initial.state l.input (length l.initial.out)
-    ≡ kept_records (job_limit - l.totals.begun) l.state (drop l.at l.input) (length l.initial.out - l.to))
+    ≡ kept_records (job_limit - l.c.totals.begun) l.state (drop l.at l.input) (length l.initial.out - l.to))
 
-abbrev pub decreases-loop-totals : goal.decreases-loop-totals
-decreases-loop-totals l = job_limit - l.totals.begun
+abbrev pub decreases-loop-c : goal.decreases-loop-c
+decreases-loop-c l = job_limit - l.c.totals.begun

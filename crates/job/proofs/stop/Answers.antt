@@ -15,4 +15,4 @@ returns-in-None c = c.leave-in-None.ensures ∙ rw (le-ltb _ _ c.if-room-lt-LONG
 pub returns-in-Some : goal.returns-in-Some
 unfolding stop_of
 returns-in-Some c =
-    c.leave-in-Some.ensures ∙ rw (le-ltb _ _ c.if-room-lt-LONGEST.false, c.in-Some.is, c.refused.ensures) refl
+    c.leave-in-Some.ensures ∙ rw (le-ltb _ _ c.if-room-lt-LONGEST.false, c.in-Some.is, c.count.ensures) refl

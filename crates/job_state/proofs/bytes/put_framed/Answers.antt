@@ -1,7 +1,7 @@
 use mathlib.Core.Path.{◌∙◌}
 use lib.Ieee.{binary64}
 use Rattle.wire.proofs.Places.{lent_stored}
-use Rattle.replies.proofs.Frames.{framed-length}
+use Rattle.record_result.proofs.Frames.{framed-length}
 use Rattle.job_state.proofs.bytes.put_framed.Goals as goal
 
 pub returns : goal.returns

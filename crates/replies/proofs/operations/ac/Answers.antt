@@ -6,7 +6,7 @@ use lib.Seq.{sets}
 use Rattle.linalg.specs.Answer.{Answer}
 use Rattle.wire.specs.Wire.{Item, firsts, numbers_at}
 use Rattle.record_result.specs.RecordResult.{written_answer, answer_bytes}
-use Rattle.replies.specs.Table.{framed_width}
+use Rattle.record_result.specs.Framed.{framed_width}
 use Rattle.replies.proofs.Views.{floats-length, floats-part, floats-one}
 use Rattle.std.proofs.lemmas.List.{take_rest}
 use Rattle.replies.proofs.Calls.{ac_view}

@@ -7,7 +7,7 @@ use Rattle.std.specs.Prelude.{Ok}
 use Rattle.wire.specs.Wire.{width}
 use Rattle.record_result.specs.RecordResult.{wrote_as}
 use Rattle.layout.specs.Layout.{pose_count}
-use Rattle.replies.specs.Table.{framed_width}
+use Rattle.record_result.specs.Framed.{framed_width}
 use Rattle.replies.proofs.Views.{view_done, floats-length, ending_framed}
 use Rattle.replies.proofs.operations.encode_framed.Goals as goal
 

@@ -9,7 +9,7 @@ use Rattle.linalg.specs.Answer.{Answer}
 use Rattle.wire.specs.Wire.{Item, width, firsts, numbers_at}
 use Rattle.record_result.specs.RecordResult.{written_answer, answer_bytes}
 use Rattle.from_lists.specs.Lists.{pose_lists}
-use Rattle.replies.specs.Table.{framed_width}
+use Rattle.record_result.specs.Framed.{framed_width}
 use Rattle.replies.proofs.Views.{floats-length, floats-one}
 use Rattle.std.proofs.lemmas.List.{take_rest}
 use Rattle.replies.proofs.Calls.{mu_view}

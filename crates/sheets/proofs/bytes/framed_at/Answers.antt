@@ -5,7 +5,7 @@ use Prim.Native.Nat.{◌-◌}
 use lib.ListN.{length, take, drop}
 use lib.Ieee.{binary64}
 use Rattle.std.proofs.lemmas.List.{take_rest}
-use Rattle.replies.specs.Table.{framed_in}
+use Rattle.record_result.specs.Framed.{framed_in}
 use Rattle.sheets.proofs.Framed.{framed_front}
 use Rattle.sheets.proofs.bytes.framed_at.Goals as goal
 

@@ -2,7 +2,7 @@
 use Rattle.linalg.specs.Vector.{vec_numbers}
 use Rattle.layout.specs.Layout.{quat_numbers, pose_numbers}
 use Rattle.wire.specs.Wire.{word_bytes, number_bytes, numbers_bytes, item_bytes, items_bytes, numbers}
-use Rattle.replies.specs.Table.{framed_items}
+use Rattle.record_result.specs.Framed.{framed_items}
 use Rattle.sheets.proofs.bytes.framed_bytes.Goals as goal
 
 pub returns-clause-bytes : goal.returns-clause-bytes

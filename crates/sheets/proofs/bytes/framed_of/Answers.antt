@@ -6,7 +6,7 @@ use lib.ListN.{replicate}
 use Rattle.layout.specs.Layout.{vec_in, quat_in, pose_in}
 use Rattle.wire.specs.Wire.{firsts}
 use Rattle.wire.proofs.Lists.{decoded}
-use Rattle.replies.specs.Table.{framed_in}
+use Rattle.record_result.specs.Framed.{framed_in}
 use Rattle.sheets.proofs.bytes.framed_of.Goals as goal
 
 pub returns : goal.returns

@@ -1,19 +1,24 @@
-// 7x7 matrices as 49 numbers, column by column.
+// Dense forms of helicoid's sim3.rs: 7x7 matrices as 49 numbers, column by column. Proved: a block Jacobian written out
+// (jac_dense) and J S J^T (jac_sandwich) are their formulas in the Rust's order (specs/Dense). Rests on jacobian.
+#![tactic(auto)]
+
 ghost use Rattle.std.specs.Prelude.{◌≡◌, ◌+◌, ◌≤◌, length, map};
 ghost use Rattle.std.proofs.lemmas.List.Edits.{sets};
 ghost use Rattle.sim3.specs.Tangent.{tangent, tangent_to_dense};
-ghost use Rattle.jacobian.specs.Dense.{seven_of, seven_flat, seven_transpose, seven_apply, jac_sandwich, jac_dense};
-ghost use Rattle.jacobian.specs.Floats.{as_seven, as_sim3_jac};
+ghost use Rattle.dense_jacobian.specs.Dense.{seven_of, seven_flat, seven_transpose, seven_apply};
+ghost use Rattle.dense_jacobian.specs.Dense.{jac_sandwich, jac_dense};
+ghost use Rattle.dense_jacobian.specs.Floats.{as_seven};
+ghost use Rattle.jacobian.specs.Floats.{as_sim3_jac};
 ghost use Rattle.sim3.specs.Floats.{as_sim3_tangent};
 ghost use Rattle.linalg.specs.Floats.{as_vec3};
 
-use crate::jac::Sim3Jac;
 use ieee::Real;
+use jacobian::jac::Sim3Jac;
 use linalg::vector::Vec3;
 use sim3::tangent::{Sim3Tangent, zero_vector};
 
 // Seven columns of seven numbers, each held as a tangent.
-#[derive(Clone, Copy)]
+#[derive(Drop)]
 pub struct Seven<T> {
     pub c0: Sim3Tangent<T>,
     pub c1: Sim3Tangent<T>,

@@ -1,9 +1,9 @@
--- `jacobian::dense::columns` meets its contract: each column is a part of seven numbers. Assumes nothing.
+-- `dense_jacobian::columns` meets its contract: each column is a part of seven numbers. Assumes nothing.
 use native.Mathlib.Omega.{arith}
 use mathlib.Core.Path.{◌∙◌}
-use Rattle.jacobian.specs.Dense.{seven_of}
-use Rattle.jacobian.proofs.Columns.{column}
-use Rattle.jacobian.proofs.dense.columns.Goals as goal
+use Rattle.dense_jacobian.specs.Dense.{seven_of}
+use Rattle.dense_jacobian.proofs.Parts.{column}
+use Rattle.dense_jacobian.proofs.columns.Goals as goal
 
 pub returns : goal.returns
 unfolding seven_of

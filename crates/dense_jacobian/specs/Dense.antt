@@ -8,7 +8,7 @@ use Rattle.sim3.specs.Tangent.{tangent, tangent_to_dense}
 use Rattle.sim3.specs.Floats.{Sim3Tangent}
 use Rattle.jacobian.specs.Jac.{jac_apply}
 use Rattle.jacobian.specs.Floats.{Sim3Jac}
-use Rattle.jacobian.specs.Floats.{Seven}
+use Rattle.dense_jacobian.specs.Floats.{Seven}
 
 -- seven columns of seven numbers, each held as a tangent
 abbrev pub seven : Sim3Tangent → Sim3Tangent → Sim3Tangent → Sim3Tangent → Sim3Tangent → Sim3Tangent → Sim3Tangent →

@@ -1,11 +1,11 @@
--- `jacobian::dense::put_column` meets its contract: the borrowed part is the run of the column. Assumes nothing.
+-- `dense_jacobian::put_column` meets its contract: the borrowed part is the run of the column. Assumes nothing.
 use native.Mathlib.Omega.{arith}
 use Prim.Native.Nat.{◌+◌, ◌-◌}
 use mathlib.Core.Path.{◌≡◌, refl, ap, ◌∙◌}
 use mathlib.Core.List.{map}
 use Rattle.sim3.specs.Tangent.{tangent_to_dense}
-use Rattle.jacobian.proofs.Columns.{stored}
-use Rattle.jacobian.proofs.dense.put_column.Goals as goal
+use Rattle.dense_jacobian.proofs.Parts.{stored}
+use Rattle.dense_jacobian.proofs.put_column.Goals as goal
 
 pub returns : goal.returns
 unfolding tangent_to_dense

@@ -10,7 +10,7 @@ use Rattle.std.proofs.lemmas.List.{length-map, map-append, get_or-take, get_or-d
 use Rattle.std.specs.List.{take-map, drop-map}
 use Rattle.std.specs.Simd.{first_chunks}
 use Rattle.sim3.specs.Tangent.{tangent_from_dense}
-use Rattle.jacobian.specs.Dense.{column_at}
+use Rattle.dense_jacobian.specs.Dense.{column_at}
 
 -- ---- read: the i-th of the parts
 chunk_at : {A : Type 0} (n i : ℕ) (l d : List A) → i < n → get_or (first_chunks 7 n l) i d ≡ take 7 (drop (i * 7) l)

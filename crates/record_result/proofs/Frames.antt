@@ -10,7 +10,7 @@ use Rattle.layout.specs.Layout.{pose_count, quat_numbers, pose_numbers}
 use Rattle.layout.proofs.Numbers.{pose-count}
 use Rattle.wire.specs.Wire.{word, width, word_bytes, numbers_bytes, item_bytes, items_bytes, all_finite, numbers}
 use Rattle.wire.proofs.Bytes.{word-length, numbers-length, items_append, items_numbers}
-use Rattle.replies.specs.Table.{frame_width, framed_width, framed_items}
+use Rattle.record_result.specs.Framed.{frame_width, framed_width, framed_items}
 
 -- the bytes of one frame
 abbrev frame : Format → ℕ → List ℕ
