@@ -3,7 +3,7 @@ import importlib.util
 import pathlib
 import re
 
-from . import rows
+from . import jacobians, rows
 
 TOP = pathlib.Path(__file__).resolve().parent.parent.parent
 SPECS = [TOP / "crates/accuracy/specs/Numbers.antt", TOP / "crates/running_accuracy/specs/Numbers.antt"]
@@ -99,6 +99,20 @@ def closed_errors():
                        f"{expected}")
 
 
+def block_errors():
+    """Whether the exponents of the Jacobians' rows are those of specs/Blocks.antt and specs/InverseBlocks.antt."""
+    folder = TOP / "crates/error_bounds/specs"
+    text, near = ((folder / name).read_text(encoding="utf-8") for name in ("Blocks.antt", "InverseBlocks.antt"))
+    for width, field in ((64, "unit_doubles"), (32, "unit_singles")):
+        box = re.search(rf"pub {field} : .*\n +LeftJacobianIn binary{width} ((?:\(2 \^ \d+\) )+)", text).group(1)
+        expected = tuple(int(x) - 100 for x in re.findall(r"\^ (\d+)", box)[1:])
+        if expected != jacobians.BLOCKS[width]:
+            yield f"the left Jacobian at {width} bits is {jacobians.BLOCKS[width]}, and the statement has {expected}"
+        exponent = int(re.search(rf"^near_error binary{width} = 2 \^ (\d+)$", near, re.M).group(1)) - 100
+        if exponent != jacobians.INVERSE_V[width]:
+            yield f"V⁻¹ at {width} bits is {jacobians.INVERSE_V[width]}, and the statement has {exponent}"
+
+
 def exponent_errors():
     """Whether the exponents of the coefficients' rows are those of specs/Series.antt."""
     text = (TOP / "crates/accuracy/specs/Series.antt").read_text(encoding="utf-8")
@@ -117,7 +131,7 @@ def agree():
     """Whether all of it agrees; each difference is a line."""
     accuracy = load_binding()
     expected, found = numbers_of_specs(), numbers_of_binding(accuracy)
-    wrong = [*exponent_errors(), *closed_errors(), *corollary_errors(accuracy)]
+    wrong = [*exponent_errors(), *closed_errors(), *block_errors(), *corollary_errors(accuracy)]
     wrong += [f"{name} is {found.get(name)} in the binding and {expected.get(name)} in the specs"
               for name in sorted({*expected, *found}) if expected.get(name) != found.get(name)]
     for line in wrong:

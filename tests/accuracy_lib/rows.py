@@ -1,4 +1,5 @@
 """The rows of docs/ACCURACY.md: a box, how its cases are drawn, what the engine answers and what is exact."""
+import ctypes
 import math
 import random
 import struct
@@ -134,6 +135,22 @@ def action(run, width, count, box, field, exponent):
         if near_unit(width, q):
             true.worst.add(actual, fixed.moved(fixes(q), fixes(t), fixed.of(s), fixes(p), fixed.truly_rotated))
     return [row, true]
+
+
+def many(library, width, count, box, field, exponent):
+    """s R p + t by the matrix s R of act_many, which the job has no mark for: by the library for C."""
+    row = Row(f"ManyPointsTheorem.{field}", width, exponent, "a coordinate moved by act_many")
+    number = ctypes.c_double if width == 64 else ctypes.c_float
+    act_many = getattr(ctypes.CDLL(library), "sim3_act_many" if width == 64 else "sim3_act_many_f32")
+    size, out = ctypes.c_size_t, (number * 3)()
+    draw, (point, scale, shift) = Draw(width, field), box
+    for _ in range(count):
+        q, t, s, p = draw.quaternion(), draw.vector(shift), abs(draw.within(scale)), draw.vector(point)
+        refusal = act_many((number * 8)(*q, *t, 0.0), size(8), number(s), (number * 3)(*p), size(3), out, size(3))
+        if refusal:
+            raise ValueError(f"sim3_act_many returned {refusal}")
+        row.worst.add(out, fixed.moved(fixes(q), fixes(t), fixed.of(s), fixes(p)))
+    return [row]
 
 
 def product(run, width, count, exponent):
