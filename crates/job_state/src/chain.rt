@@ -9,12 +9,12 @@ ghost use Rattle.job_state.specs.Records.{by_rule, Handled, took_of};
 ghost use Rattle.job_state.specs.Chain.{ch_size, rn_size, ch_of, ch_reply, rn_reply, ch_rule, rn_rule};
 
 use crate::JobState;
-use crate::bytes::{framed_at, number_at, put_framed, put_mark, put_short, short_at};
-use crate::record::{refuse, taken};
+use crate::record::{put_mark, refuse, taken};
 use frames::Pose;
 use record_result::{Disposition, Step};
 use running::Running;
-use sheets::bytes::FRAMED;
+use sheets::bytes::{FRAMED, framed_bytes, framed_of};
+use wire::{from_le_bytes, short_from_le_bytes, short_to_le_bytes};
 
 // How many bytes the records have, the mark included.
 const CH: usize = 2 + FRAMED + 8;
@@ -29,7 +29,8 @@ fn put_running(out: &mut [u8], x: Pose<f64>) -> Step
     ensures out_after { out.new ≡ sets out.old 0 (ch_reply (answers x)).bytes }
 {
     put_mark(out, b"CH");
-    let finite = put_framed(out, 2, x);
+    let (bytes, finite) = framed_bytes(x);
+    out[2..2 + FRAMED].copy_from_slice(&bytes);
     Step::Took(Disposition::of_answer(finite), CH, 2 + FRAMED)
 }
 
@@ -41,8 +42,8 @@ fn join(b: &[u8], running: &mut Running, out: &mut [u8]) -> Step
     ensures out_after { out.new ≡ sets out.old 0 (ch_reply (ch_of running.old b.now).answer).bytes }
     ensures running_after { running.new ≡ (ch_of running.old b.now).running }
 {
-    let x = framed_at(b, 0);
-    let up = number_at(b, FRAMED);
+    let x = framed_of(b.first_chunk().unwrap());
+    let up = from_le_bytes(*b[FRAMED..].first_chunk().unwrap());
     let j = running.join(x, up);
     *running = j.running;
     match j.answer {
@@ -69,10 +70,10 @@ fn renew(b: &[u8], running: &mut Running, out: &mut [u8]) -> Step
     ensures out_after { out.new ≡ sets out.old 0 (rn_reply (word_at 2 b.now 0)).bytes }
     ensures running_after { running.new ≡ every_of running.old (word_at 2 b.now 0) }
 {
-    let n = short_at(b, 0);
+    let n = short_from_le_bytes([b[0], b[1]]);
     running.set_every(n);
     put_mark(out, b"RN");
-    put_short(out, 2, n);
+    out[2..4].copy_from_slice(&short_to_le_bytes(n));
     Step::Took(Disposition::Answered, RN, 2 + 2)
 }
 

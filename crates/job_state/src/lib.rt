@@ -9,8 +9,7 @@ ghost use Rattle.job_state.specs.State.{state_none, state_of};
 use running::Running;
 use sheets::{STORE, Store};
 
-mod bytes; // numbers and poses at a place in a list
-mod record; // whether a record is taken, and the refusal of one
+mod record; // whether a record is taken, its mark, and the refusal of one
 pub mod chain; // the running join
 pub mod retakes; // the retaken sheets
 

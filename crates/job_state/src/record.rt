@@ -6,7 +6,6 @@ ghost use Rattle.record_result.specs.RecordResult.{longest, no_bytes, wrote, ste
 ghost use Rattle.record_result.specs.declared.Disposition.{Disposition};
 ghost use Rattle.job_state.specs.Records.{IsTaken, IsLeft};
 
-use crate::bytes::put_mark;
 use linalg::refusal::Refusal;
 use record_result::{Disposition, LONGEST, Step};
 
@@ -25,6 +24,15 @@ pub(crate) fn taken<'a>(size: usize, s: &'a [u8], out: &[u8]) -> Result<&'a [u8]
         return Err(Step::Room);
     }
     Ok(&s[2..size])
+}
+
+// Writes the mark at the front.
+pub(crate) fn put_mark(out: &mut [u8], mark: &[u8; 2])
+    requires { 2 ≤ length out.old }
+    ensures { out.new ≡ sets out.old 0 mark.now }
+{
+    out[0] = mark[0];
+    out[1] = mark[1];
 }
 
 // Writes NO and the refusal.

@@ -10,12 +10,12 @@ ghost use Rattle.job_state.specs.Records.{by_rule, Handled, took_of};
 ghost use Rattle.job_state.specs.Retakes.{sh_size, sq_size, sh_of, sh_reply, sq_reply, sh_rule, sq_rule};
 
 use crate::JobState;
-use crate::bytes::{framed_at, put_framed, put_mark, put_short, short_at};
-use crate::record::{refuse, taken};
+use crate::record::{put_mark, refuse, taken};
 use linalg::refusal::Refusal;
 use record_result::{Disposition, Step};
-use sheets::bytes::FRAMED;
+use sheets::bytes::{FRAMED, framed_bytes, framed_of};
 use sheets::{Shelved, Shot, Store};
+use wire::{short_from_le_bytes, short_to_le_bytes};
 
 // How many bytes the records have, the mark included.
 const SH: usize = 2 + 2 + 2 + FRAMED;
@@ -33,7 +33,7 @@ fn put_shelved(out: &mut [u8], a: Result<Shelved, Refusal>) -> Step
         Ok(shelved) => {
             put_mark(out, b"SH");
             out[2] = shelved.number();
-            put_short(out, 3, shelved.before());
+            out[3..5].copy_from_slice(&short_to_le_bytes(shelved.before()));
             Step::Took(Disposition::Answered, SH, 2 + 1 + 2)
         }
         Err(refusal) => refuse(SH, out, refusal),
@@ -49,9 +49,9 @@ fn shelve(b: &[u8], store: &mut Store, out: &mut [u8]) -> Step
     ensures store_after { store.new ≡ put_bytes store.old (word_at 2 b.now 0) (shot_in b.now) }
     ensures sheets_after { sheets_of store.new ≡ (sh_of (sheets_of store.old) b.now).sheets }
 {
-    let sheet = short_at(b, 0);
-    let take = short_at(b, 2);
-    let pose = framed_at(b, 4);
+    let sheet = short_from_le_bytes([b[0], b[1]]);
+    let take = short_from_le_bytes([b[2], b[3]]);
+    let pose = framed_of(b[4..].first_chunk().unwrap());
     put_shelved(out, sheets::put(store, sheet, Shot { take, pose }))
 }
 
@@ -73,11 +73,10 @@ fn put_shot(out: &mut [u8], a: Result<Shot, Refusal>) -> Step
 {
     match a {
         Ok(x) => {
-            let take = x.take;
-            let shot = x.pose;
             put_mark(out, b"SQ");
-            put_short(out, 2, take);
-            let finite = put_framed(out, 4, shot);
+            out[2..4].copy_from_slice(&short_to_le_bytes(x.take));
+            let (bytes, finite) = framed_bytes(x.pose);
+            out[4..4 + FRAMED].copy_from_slice(&bytes);
             Step::Took(Disposition::of_answer(finite), SQ, 2 + 2 + FRAMED)
         }
         Err(refusal) => refuse(SQ, out, refusal),
@@ -92,7 +91,7 @@ fn find(b: &[u8], store: &Store, out: &mut [u8]) -> Step
         (sq_reply (ask (sheets_of store.now) (word_at 2 b.now 0))) }
     ensures out_after { out.new ≡ sets out.old 0 (sq_reply (ask (sheets_of store.now) (word_at 2 b.now 0))).bytes }
 {
-    let sheet = short_at(b, 0);
+    let sheet = short_from_le_bytes([b[0], b[1]]);
     put_shot(out, sheets::get(store, sheet))
 }
 

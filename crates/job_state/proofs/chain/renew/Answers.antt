@@ -1,13 +1,25 @@
 -- `job_state::chain::renew` meets its contract: it stores n and writes it. Assumes nothing.
-use mathlib.Core.Path.{◌∙◌}
+use native.Mathlib.Omega.{arith}
+use Prim.Native.Nat.{ℕ, ◌+◌, ◌≤◌}
+use mathlib.Core.Path.{◌≡◌, ap, ◌∙◌}
+use mathlib.Core.List.{List}
+use lib.ListN.{length}
+use lib.Seq.{sets}
+use Rattle.wire.specs.Wire.{word_at}
+use Rattle.wire.proofs.Bytes.{word-length}
+use Rattle.wire.proofs.Places.{part_stored, short_read}
+use Rattle.sheets.proofs.Framed.{frame}
 use Rattle.job_state.proofs.Lent.{every_replied}
 use Rattle.job_state.proofs.chain.renew.Goals as goal
 
-pub shape_of-out : goal.shape_of-out
-shape_of-out c = c.put_short.auto.out ∙ c.put_mark.auto.out
-
 pub returns : goal.returns
 returns c =
-    let t = every_replied c.short_at-n.result c.args.out.now _ (rw c.put_mark.ensures at c.put_short.ensures) in
-    rw (← c.short_at-n.ensures)
-    (record { result_value = t.result_value; out_after = t.out_after; running_after = c.set_every.ensures })
+    let b = c.args.b.now in
+    let n = c.short_from_le_bytes-n.result in
+    let l = c.put_mark.new.out in
+    let e : n ≡ word_at 2 b 0 = c.short_from_le_bytes-n.ensures ∙ short_read b 0 (omega (arith, c.requires.b_value)) in
+    let room : 2 + 2 ≤ length l = omega (arith, c.put_mark.auto.out, c.requires.longest_in_bounds) in
+    let stored =
+    part_stored l _ _ 2 2 (c.copy_from_slice.ensures.after ∙ c.short_to_le_bytes.ensures) (word-length 2 n) room in
+    let t = every_replied n c.args.out.now _ (stored ∙ ap (λ (o : List ℕ). sets o 2 (frame n)) c.put_mark.ensures) in
+    rw (← e) (record { result_value = t.result_value; out_after = t.out_after; running_after = c.set_every.ensures })
