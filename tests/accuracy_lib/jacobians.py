@@ -1,6 +1,6 @@
 """Rows of docs/ACCURACY.md on the left Jacobian by blocks, whose answers are those of the mark PA."""
 from . import fixed
-from .rows import LIMITS, Draw, Row, answers, fixes, mark_of, record, rounded, value_of
+from .rows import LIMITS, Draw, Row, answers, fixes, mark_of, record, tangents, value_of
 
 # The exponents of the bounds of Q, V and the last column for ρ up to 1, and of V⁻¹, which numbers.py compares with
 # crates/error_bounds/specs/Blocks.antt and InverseBlocks.antt.
@@ -82,19 +82,6 @@ def flat(m):
     return [x for column in m for x in column]
 
 
-def tangents(draw, width, count, high):
-    """Tangents whose computed Δ is below a limit, with the computed |φ|² and Δ of each."""
-    cases = []
-    while len(cases) < count:
-        phi, sigma = draw.vector(1.2), draw.within(1.2)
-        x, y, w = (rounded(width, c * c) for c in phi)
-        z = rounded(width, rounded(width, x + y) + w)
-        delta = rounded(width, rounded(width, sigma * sigma) + z)
-        if delta < high and z < 1.4 and all(c == 0 or abs(c) > 2.0 ** -40 for c in [*phi, sigma]):
-            cases.append((phi, draw.vector(1.0), sigma, z, delta))
-    return cases
-
-
 def left(run, width, count):
     """Q, V and the last column of J_l(τ) below the limit of the series, and V⁻¹ of its inverse nearer to zero, beside
     those at the computed |φ|² and the exact J_l(φ)."""
@@ -105,7 +92,8 @@ def left(run, width, count):
     near = Row("InverseVTheorem.inverse", width, INVERSE_V[width], "the inverse's V⁻¹")
     near_limit, series_limit = LIMITS[width][NEAR[width]], LIMITS[width][3]
     draw = Draw(width, "blocks")
-    cases = [*tangents(draw, width, count - count // 2, series_limit), *tangents(draw, width, count // 2, near_limit)]
+    cases = [*tangents(draw, width, count - count // 2, 1.0, series_limit),
+             *tangents(draw, width, count // 2, 1.0, near_limit)]
     exact = [rotation_jacobians(fixes(phi)) for phi, *_ in cases]
     data = run(b"".join(
         record(mark, *phi, *rho, sigma, *[0.0] * 10, *(value_of(width, x) for x in [*flat(jl), *flat(jl_inverse)]))

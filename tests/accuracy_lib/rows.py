@@ -256,21 +256,27 @@ def closed(run, width, count, box):
     return rows
 
 
-def exponential(run, width, count, rho, field, exponent, rotation_exponent):
-    """The translation and the quaternion below the limits, beside those at the exact |φ|²."""
-    draw, mark = Draw(width, field), mark_of(width, "EX")
-    row = Row(f"ExponentialTheorem.{field}", width, exponent, "an exponential's translation")
-    rotation = Row("ExponentialTheorem.exponential", width, rotation_exponent, "an exponential's quaternion")
+def tangents(draw, width, count, rho, limit):
+    """Tangents whose computed Δ is below a limit, each with its computed |φ|² and Δ."""
     cases = []
     while len(cases) < count:
         phi, sigma = draw.vector(1.2), draw.within(1.2)
         x, y, w = (rounded(width, c * c) for c in phi)
         z = rounded(width, rounded(width, x + y) + w)
         delta = rounded(width, rounded(width, sigma * sigma) + z)
-        if delta < LIMITS[width][3] and z < 1.4 and all(c == 0 or abs(c) > 2.0 ** -40 for c in [*phi, sigma]):
-            cases.append((phi, draw.vector(rho), sigma))
-    data = run(b"".join(record(mark, *phi, *r, sigma, *[0.0] * 10, 1, 2) for phi, r, sigma in cases))
-    for (phi, r, sigma), actual in zip(cases, answers(data, mark, count), strict=True):
+        if delta < limit and z < 1.4 and all(c == 0 or abs(c) > 2.0 ** -40 for c in [*phi, sigma]):
+            cases.append((phi, draw.vector(rho), sigma, z, delta))
+    return cases
+
+
+def exponential(run, width, count, rho, field, exponent, rotation_exponent):
+    """The translation and the quaternion below the limits, beside those at the exact |φ|²."""
+    draw, mark = Draw(width, field), mark_of(width, "EX")
+    row = Row(f"ExponentialTheorem.{field}", width, exponent, "an exponential's translation")
+    rotation = Row("ExponentialTheorem.exponential", width, rotation_exponent, "an exponential's quaternion")
+    cases = tangents(draw, width, count, rho, LIMITS[width][3])
+    data = run(b"".join(record(mark, *phi, *r, sigma, *[0.0] * 10, 1, 2) for phi, r, sigma, *_ in cases))
+    for (phi, r, sigma, *_), actual in zip(cases, answers(data, mark, count), strict=True):
         exact = fixes(phi)
         z = sum(fixed.mul(c, c) for c in exact)
         v = fixed.coefficients(fixed.of(sigma), z)

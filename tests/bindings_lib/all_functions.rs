@@ -9,12 +9,10 @@ use sim3::f32::*;
 use sim3::*;
 #[cfg(single)]
 use sim3::{Arm, Refusal};
-use std::io::{self, Read, Write};
+use std::io::{self, Write};
 
-#[cfg(single)]
-type Number = f32;
-#[cfg(not(single))]
-type Number = f64;
+mod input;
+use input::Number;
 
 /// Takes the next N numbers.
 fn next<const N: usize>(from: &mut &[Number]) -> [Number; N] {
@@ -109,12 +107,7 @@ fn blocks(a: &Arguments, out: &mut Vec<Number>) -> Result<(), Refusal> {
 }
 
 fn main() -> io::Result<()> {
-    let mut bytes = Vec::new();
-    io::stdin().read_to_end(&mut bytes)?;
-    let numbers: Vec<Number> = bytes
-        .chunks_exact(size_of::<Number>())
-        .map(|b| Number::from_le_bytes(b.try_into().unwrap()))
-        .collect();
+    let numbers = input::numbers()?;
     let mut out = Vec::new();
     for record in numbers.chunks_exact(102) {
         let a = read(record);

@@ -6,20 +6,13 @@
 use sim3::f32::{host, Pose, Tangent};
 #[cfg(not(single))]
 use sim3::{host, Pose, Tangent};
-use std::io::{self, Read, Write};
+use std::io::{self, Write};
 
-#[cfg(single)]
-type Number = f32;
-#[cfg(not(single))]
-type Number = f64;
+mod input;
+use input::Number;
 
 fn main() -> io::Result<()> {
-    let mut bytes = Vec::new();
-    io::stdin().read_to_end(&mut bytes)?;
-    let numbers: Vec<Number> = bytes
-        .chunks_exact(size_of::<Number>())
-        .map(|b| Number::from_le_bytes(b.try_into().unwrap()))
-        .collect();
+    let numbers = input::numbers()?;
     let mut out: Vec<Number> = Vec::new();
     for record in numbers.chunks_exact(23) {
         let tau = Tangent(record[..7].try_into().unwrap());

@@ -1,5 +1,5 @@
 -- Definitions for the contracts of private functions; no public contract cites it.
-use Rattle.std.specs.Prelude.{ℕ, ◌+◌, ◌-◌, ◌*◌, ◌≤◌, ◌<◌, ◌≡◌, Bool, cond, List, length, ltb, Option, None, Some}
+use Rattle.std.specs.Prelude.{ℕ, ◌+◌, ◌-◌, ◌*◌, ◌≤◌, ◌<◌, Bool, cond, List, length, ltb, Option, None, Some}
 use Rattle.record_result.specs.RecordResult.{longest}
 use Rattle.record_result.specs.declared.Disposition.TheVariants.{Refused}
 use Rattle.job.specs.declared.Counts.{Counts}

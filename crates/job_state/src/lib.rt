@@ -1,6 +1,6 @@
 // The records that read or change a job's state between records: CH and RN the running join, SH and SQ the retaken
 // sheets. Proved: the result, the bytes written and the state afterwards follow the record's rule (Handled). Rests on
-// running, sheets and replies.
+// running, sheets and record_result.
 #![tactic(auto)]
 
 ghost use Rattle.std.specs.Prelude.{◌≡◌};

@@ -1,5 +1,5 @@
 // The result of a record: the cases that the engine's operations, the marks and the record loop return, in either
-// format. Proved: what each case means (specs/RecordResult). Rests on layout and wire.
+// format. Proved: what each case means (specs/RecordResult). Rests on frames, layout and wire.
 #![tactic(auto)]
 
 ghost use Rattle.std.specs.Prelude.{◌≡◌};

@@ -5,7 +5,7 @@
 // the slot is in use and holds its number and the index names the slot for it: so any bytes are a store, and only the
 // last two must be set before the first use. The code searches only if all slots are in use and a new sheet comes: then
 // for a slot that no sheet owns, which only bytes that this crate did not write can have. Rests on frames, wire and
-// replies.
+// record_result.
 #![tactic(auto)]
 
 ghost use Rattle.std.specs.Prelude.{◌≡◌, ◌+◌, ◌*◌, ◌≤◌};

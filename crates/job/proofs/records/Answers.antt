@@ -1,7 +1,7 @@
 -- `job::records` meets its contract: each turn preserves the definition's value, and each exit is the definition's.
 -- Assumes nothing.
 use native.Mathlib.Omega.{arith}
-use Prim.Native.Nat.{◌+◌, ◌-◌, ◌≤◌}
+use Prim.Native.Nat.{◌-◌, ◌≤◌}
 use mathlib.Core.Path.{◌≡◌, refl, sym, ap, ◌∙◌}
 use lib.ListN.{length, take, drop}
 use lib.Dec.{ltb}
