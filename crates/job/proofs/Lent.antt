@@ -109,7 +109,7 @@ module _
       ∙ rw (room, drop-drop k at input, left)
 
   -- the loop ends
-  pub kept_roomless : q ≡ step.Room → m' ≡ final
+  kept_roomless : q ≡ step.Room → m' ≡ final
   kept_roomless o =
       let u = sym (told_here t) ∙ ap step_view o in
       let h : length out - to < longest = (told_room (head_of j.state (drop at input)) (length out - to) u).0 in
@@ -124,14 +124,21 @@ module _
       kept_still _ m _ _ f (in_bytes ∙ o) k in
       behind ∙ quiet ∙ sym (g ∙ all)
 
-  pub kept_end : q ≡ step.End → m' ≡ final
+  kept_end : q ≡ step.End → m' ≡ final
   kept_end o = stopped ended (found-ended t o) refl
 
-  pub kept_unknown : q ≡ step.Unknown → m' ≡ final
+  kept_unknown : q ≡ step.Unknown → m' ≡ final
   kept_unknown o = stopped unknown (found-unknown t o) refl
 
-  pub kept_cut : q ≡ step.Cut → m' ≡ final
+  kept_cut : q ≡ step.Cut → m' ≡ final
   kept_cut o = stopped cut (found-cut t o) refl
+
+  pub kept_at : (v : Step) → q ≡ v → ((how : Disposition) (k n : ℕ) → q ≡ step.Took how k n → ⊥) → m' ≡ final
+  kept_at (step.Took how k n) e none = absurd (none how k n e)
+  kept_at step.Room e none = kept_roomless e
+  kept_at step.End e none = kept_end e
+  kept_at step.Unknown e none = kept_unknown e
+  kept_at step.Cut e none = kept_cut e
 
 -- ---- after the loop: its result, the output and the state
 abbrev pub Leaves : ℕ → List ℕ → Bool → Counts → JobState → List ℕ → Fed → List ℕ → JobState → Type 0

@@ -23,7 +23,8 @@ use Rattle.marks.specs.Marks.{head_of, next_of}
 use Rattle.marks.specs.Rows.{row_count, row_at}
 use Rattle.job.specs.Job.{Standing, standing, lost}
 use Rattle.job.specs.Feed.{halt, records_of}
-use Rattle.job.specs.Private.{stop_of}
+use Rattle.job.specs.Private.{stop_of, end_of, counts_lost, InRows}
+use Rattle.wire.proofs.Lists.{one_of_two}
 use Rattle.layout.proofs.Runs.{sets-part}
 use Rattle.record_result.specs.declared.Step.{Step}
 use Rattle.record_result.specs.declared.Step.TheVariants as step
@@ -32,6 +33,22 @@ use Rattle.marks.proofs.Heads.{taken, taking, still}
 use Rattle.marks.proofs.Rows.{row-few}
 use Rattle.job.proofs.Turns.{records_room, records_full, records_ended, records_unknown, records_cut}
 use Rattle.job.proofs.Loop.{Going, Left, going_halt, going_took}
+
+-- without room, the end for lack of room is the same with and without it
+stop_room : (c : Counts) (used written room : ℕ) →
+    stop_of Room c c used written room ≡ record { reason = Room; counts = c; used = used; written = written }
+unfolding stop_of
+stop_room c used written room = one_of_two (ltb room longest) _
+
+-- a record that is lost has its place among the counts by mark
+pub lost-few : (q : Step) (last : Bool) (p : ℕ) → p < row_count → InRows (end_of q last p).1
+lost-few (step.Took how k n) last p few = tt
+lost-few step.Room last p few = tt
+lost-few step.End true p few = tt
+lost-few step.End false p few = tt
+lost-few step.Unknown last p few = few
+lost-few step.Cut true p few = few
+lost-few step.Cut false p few = tt
 
 module _ {limit : ℕ} {input : List ℕ} {last : Bool} {j₀ : Standing} {out₀ : List ℕ} {j : Standing} {out : List ℕ}
     {at to : ℕ} (g : Going limit input last j₀ out₀ j out at to) where
@@ -177,7 +194,7 @@ module _
   quiet-cut e = quiet ((stop_bytes (head_of j.state (drop at input)) (length out - to)).2 (found-cut e))
 
   -- there was no room for the answer
-  pub left-roomless : q ≡ step.Room → (f : Fed) → f ≡ record {
+  left-roomless : q ≡ step.Room → (f : Fed) → f ≡ record {
     reason = Room;
     counts = j.counts;
     used = at;
@@ -201,32 +218,51 @@ module _
       rw (same, stay) (stopped t.going r e f stays (rw same at is)
       (λ h. rw one_less (turn (limit - (j.counts.totals.begun + 1)) h)))
 
-  pub left_end : q ≡ step.End → last ≡ true → (f : Fed) → f ≡ stop_of End j.counts j.counts at to
+  left_end : q ≡ step.End → last ≡ true → (f : Fed) → f ≡ stop_of End j.counts j.counts at to
       (length after_it - to) → Left limit input last j₀ out₀ f after_it w
   left_end e l f is =
       stop (quiet_end e) (stayed ended (found-ended e) refl) End j f refl is
       (λ n r. records_ended n j _ last _ r (found-ended e) ∙ rw l)
 
-  pub left_pause : q ≡ step.End → last ≡ false → (f : Fed) →
+  left_pause : q ≡ step.End → last ≡ false → (f : Fed) →
       f ≡ stop_of More j.counts j.counts at to (length after_it - to) → Left limit input last j₀ out₀ f after_it w
   left_pause e l f is =
       stop (quiet_end e) (stayed ended (found-ended e) refl) More j f refl is
       (λ n r. records_ended n j _ last _ r (found-ended e) ∙ rw l)
 
-  pub left-unknown : q ≡ step.Unknown → (f : Fed) → f ≡ stop_of Unknown j.counts (counts_more Refused p j.counts) at to
+  left-unknown : q ≡ step.Unknown → (f : Fed) → f ≡ stop_of Unknown j.counts (counts_more Refused p j.counts) at to
       (length after_it - to) → Left limit input last j₀ out₀ f after_it w
   left-unknown e f is =
       stop (quiet-unknown e) (stayed unknown (found-unknown e) refl) Unknown (lost (drop at input) j) f refl
       (rw lost_here at is) (λ n r. records_unknown n j _ last _ r (found-unknown e))
 
-  pub left_cut : q ≡ step.Cut → last ≡ true → (f : Fed) → f ≡ stop_of Cut j.counts
+  left_cut : q ≡ step.Cut → last ≡ true → (f : Fed) → f ≡ stop_of Cut j.counts
       (counts_more Refused p j.counts) at to (length after_it - to) → Left limit input last j₀ out₀ f after_it w
   left_cut e l f is =
       stop (quiet-cut e) (stayed cut (found-cut e) refl) Cut (lost (drop at input) j) f refl (rw lost_here at is)
       (λ n r. records_cut n j _ last _ r (found-cut e) ∙ rw l)
 
-  pub left-part : q ≡ step.Cut → last ≡ false → (f : Fed) → f
+  left-part : q ≡ step.Cut → last ≡ false → (f : Fed) → f
       ≡ stop_of More j.counts j.counts at to (length after_it - to) → Left limit input last j₀ out₀ f after_it w
   left-part e l f is =
       stop (quiet-cut e) (stayed cut (found-cut e) refl) More j f refl is
       (λ n r. records_cut n j _ last _ r (found-cut e) ∙ rw l)
+
+  -- by the step that takes nothing
+  pub left_at :
+      (v : Step) → q ≡ v → ((how : Disposition) (k n : ℕ) → q ≡ step.Took how k n → ⊥) → (f : Fed) →
+      f ≡ stop_of (end_of v last p).0 j.counts (counts_lost (end_of v last p).1 j.counts) at to (length after_it - to) →
+      Left limit input last j₀ out₀ f after_it w
+  left_at (step.Took how k n) e none f is = absurd (none how k n e)
+  left_at step.Room e none f is = left-roomless e f (is ∙ stop_room j.counts at to (length after_it - to))
+  left_at step.Unknown e none f is = left-unknown e f is
+  left_at step.End e none f is = by last refl
+    where
+      by : (l : Bool) → last ≡ l → Left limit input last j₀ out₀ f after_it w
+      by true l = left_end e l f (rw l at is)
+      by false l = left_pause e l f (rw l at is)
+  left_at step.Cut e none f is = by last refl
+    where
+      by : (l : Bool) → last ≡ l → Left limit input last j₀ out₀ f after_it w
+      by true l = left_cut e l f (rw l at is)
+      by false l = left-part e l f (rw l at is)

@@ -5,7 +5,9 @@ use Rattle.record_result.specs.declared.Disposition.TheVariants.{Refused}
 use Rattle.job.specs.declared.Counts.{Counts}
 use Rattle.job.specs.declared.Fed.{Fed}
 use Rattle.job.specs.declared.Reason.{Reason}
-use Rattle.job.specs.declared.Reason.TheVariants.{Room}
+use Rattle.job.specs.declared.Reason.TheVariants as reason
+use Rattle.record_result.specs.declared.Step.{Step}
+use Rattle.record_result.specs.declared.Step.TheVariants.{Took, Room, End, Unknown, Cut}
 use Rattle.job_state.specs.State.{state_of}
 use Rattle.job_state.specs.declared.JobState.{JobState}
 use Rattle.marks.specs.Rows.{row_count}
@@ -29,6 +31,14 @@ abbrev pub InRows : Option ℕ → Type 0
 InRows None = Unit {0}
 InRows (Some row) = row < row_count
 
+-- why the loop ends at a step that takes no reply, and the place of a record that is refused and not read
+abbrev pub end_of : Step → Bool → ℕ → Reason × Option ℕ
+end_of (Took disposition used written) last row = (reason.More, None)
+end_of Room last row = (reason.Room, None)
+end_of End last row = cond last (reason.End, None) (reason.More, None)
+end_of Unknown last row = (reason.Unknown, Some row)
+end_of Cut last row = cond last (reason.Cut, Some row) (reason.More, None)
+
 -- the record loop with the counts c and the state m
 abbrev pub looped_of : Counts → JobState → List ℕ → Bool → ℕ → Part
 looped_of c m xs last room = records_of (job_limit - c.totals.begun) (standing c (state_of m)) xs last room
@@ -49,5 +59,5 @@ trailer_length = 2 + 4 * 4 + 4 * row_count
 -- counts c
 unfoldable pub stop_of : Reason → Counts → Counts → ℕ → ℕ → ℕ → Fed
 stop_of r c e used written room =
-    cond (ltb room longest) (record { reason = Room; counts = c; used = used; written = written })
+    cond (ltb room longest) (record { reason = reason.Room; counts = c; used = used; written = written })
     (record { reason = r; counts = e; used = used; written = written })

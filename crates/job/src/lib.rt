@@ -18,7 +18,7 @@ ghost use Rattle.job.specs.Job.{standing_none, trailer, job_of, job_limit};
 ghost use Rattle.job.specs.Input.{InputTheorem};
 ghost use Rattle.job.specs.Feed.{Part, closing, is_over, goes_on, asks_for, feed_of, fed_view, part_view, Feeds};
 ghost use Rattle.job.specs.Private.{Sound, InRows, counts_lost, looped_of, part_fed, looped_kept, stop_of};
-ghost use Rattle.job.specs.Private.{trailer_length};
+ghost use Rattle.job.specs.Private.{end_of, trailer_length};
 
 use job_state::JobState;
 use linalg::refusal::Refusal;
@@ -143,6 +143,19 @@ fn stop(
     }
 }
 
+// Why the loop ends at what takes no reply, and the place among the marks of a record that is refused and not read.
+fn end_at(step: Step, last: bool, row: usize) -> (Reason, Option<usize>)
+    ensures { result ≡ end_of step last row }
+{
+    match step {
+        Step::Unknown => (Reason::Unknown, Some(row)),
+        Step::Cut if last => (Reason::Cut, Some(row)),
+        Step::End if last => (Reason::End, None),
+        Step::Room => (Reason::Room, None),
+        _ => (Reason::More, None),
+    }
+}
+
 // The whole records at hand. `reply` tests the room for each answer, `stop` the room for the end.
 #[tactic(auto, using(crate::proofs::Loop::going))]
 fn records(c0: Counts, state: &mut JobState, input: &[u8], last: bool, out: &mut [u8]) -> Fed
@@ -156,37 +169,21 @@ fn records(c0: Counts, state: &mut JobState, input: &[u8], last: bool, out: &mut
     let mut c = c0;
     let mut at = 0;
     let mut to = 0;
-    let left = loop {
-        if c.totals.begun == LIMIT {
-            break stop(Reason::Full, c, None, at, to, out.len() - to);
-        }
+    for _ in c0.totals.begun..LIMIT {
         let dispatched = marks::reply(&input[at..], state, &mut out[to..]);
-        let row = dispatched.row;
         match dispatched.step {
             Step::Took(disposition, used, written) => {
-                count(&mut c, disposition, row);
+                count(&mut c, disposition, dispatched.row);
                 at += used;
                 to += written;
             }
-            Step::Room => break leave(Reason::Room, c, at, to),
-            Step::End => {
-                if last {
-                    break stop(Reason::End, c, None, at, to, out.len() - to);
-                }
-                break stop(Reason::More, c, None, at, to, out.len() - to);
-            }
-            Step::Unknown => {
-                break stop(Reason::Unknown, c, Some(row), at, to, out.len() - to);
-            }
-            Step::Cut => {
-                if last {
-                    break stop(Reason::Cut, c, Some(row), at, to, out.len() - to);
-                }
-                break stop(Reason::More, c, None, at, to, out.len() - to);
+            step => {
+                let (reason, lost) = end_at(step, last, dispatched.row);
+                return stop(reason, c, lost, at, to, out.len() - to);
             }
         }
-    };
-    left
+    }
+    stop(Reason::Full, c, None, at, to, out.len() - to)
 }
 
 // ---- the end of the output, and the whole

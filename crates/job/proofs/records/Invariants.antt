@@ -9,12 +9,10 @@ use Rattle.job.specs.Feed.{kept_records}
 use Rattle.job.proofs.Loop.{Going}
 use Rattle.job.proofs.records.Given as goal
 
-abbrev pub invariant-loop-c : goal.invariant-loop-c
-invariant-loop-c l =
+abbrev pub invariant-loop : goal.invariant-loop
+invariant-loop l =
     Going job_limit l.input l.last (standing l.fn.c0 (state_of l.initial.state)) l.initial.out
     (standing l.c (state_of l.state)) l.out l.at l.to
-    × (kept_records (job_limit - l.fn.c0.totals.begun) l.initial.state l.input (length l.initial.out)
+    × ((kept_records (job_limit - l.fn.c0.totals.begun) l.initial.state l.input (length l.initial.out)
     ≡ kept_records (job_limit - l.c.totals.begun) l.state (drop l.at l.input) (length l.initial.out - l.to))
-
-abbrev pub decreases-loop-c : goal.decreases-loop-c
-decreases-loop-c l = job_limit - l.c.totals.begun
+    × (l.counter ≡ l.c.totals.begun))
