@@ -55,10 +55,10 @@ def numbers_of_binding(accuracy):
 
 def corollary_errors(accuracy):
     """Whether the binding's bound of each corollary's box is at most the corollary's, and more than half of it."""
-    log = {"RunningTheorem.doubles": (accuracy.running(1000, 65_535, 2 ** 10, 2, 2.0 ** -52), (-37, -12)),
-           "RunningTheorem.singles": (accuracy.running(100, 16, 2 ** 10, 2, 2.0 ** -23, width=32), (-11, 10)),
-           "RunningTheorem.page_hundred": ((accuracy.page(100, 16, 2 ** 16, 2 ** 16, 4, 2.0 ** -50),), (-12,)),
-           "RunningTheorem.page_thousand": ((accuracy.page(1000, 16, 2 ** 16, 2 ** 16, 4, 2.0 ** -50),), (-5,))}
+    log = {"RunningTheorem.doubles": (accuracy.running(1000, 65_535, 2 ** 10, 2, 2.0 ** -52), (-37, -14)),
+           "RunningTheorem.singles": (accuracy.running(100, 16, 2 ** 10, 2, 2.0 ** -23, width=32), (-11, 8)),
+           "RunningTheorem.page_hundred": ((accuracy.page(100, 16, 2 ** 16, 2 ** 16, 4, 2.0 ** -50),), (-14,)),
+           "RunningTheorem.page_thousand": ((accuracy.page(1000, 16, 2 ** 16, 2 ** 16, 4, 2.0 ** -50),), (-7,))}
     for width, kind, near, exponents in ((64, "doubles", 2.0 ** -50, (-26, -46, -22, -47, -27, -43)),
                                          (32, "singles", 2.0 ** -21, (3, -17, 7, -18, 2, -14))):
         big, one, translation, norm, page, small = exponents
@@ -76,7 +76,7 @@ def corollary_errors(accuracy):
     log["ScaleTheorem.hundred"] = ((accuracy.scale_of_joins(100, 1.5),), (-42,))
     log["ScaleTheorem.thousand"] = ((accuracy.scale_of_joins(1000, 1.5),), (-39,))
     log["ScaleTheorem.singles"] = ((accuracy.scale_of_joins(100, 1.5, width=32),), (-13,))
-    for joins, name, exponent, close in ((100, "hundred", -8, -12), (1000, "thousand", -4, -5)):
+    for joins, name, exponent, close in ((100, "hundred", -8, -13), (1000, "thousand", -5, -7)):
         box = (joins, 16, 2 ** 16, 2 ** 16, 4)
         log[f"SimilarityTheorem.page_{name}"] = ((accuracy.similarity(*box, 2.0 ** -50),), (exponent,))
         log[f"SimilarityTheorem.close_{name}"] = ((accuracy.similarity(*box, 2.0 ** -42, 1 + 2.0 ** -50),), (close,))

@@ -116,6 +116,14 @@ def true_error(away: int, point: int, scale: int) -> int:
     return upward(UNIT, upward(UNIT, 3 * away * point) * scale)
 
 
+def turn_error(length: int, error: int, point: int) -> int:
+    """How far a rotation of a vector can be from that by a quaternion within `error`, whose length is at most `length`:
+    `turn_error` of the same file."""
+    near, longer = upward(UNIT, error * point), length + error + 2
+    return (upward(UNIT, 2 * near * longer) + upward(UNIT, length * (2 * near))
+            + upward(UNIT, upward(UNIT, error * (longer + length + 1)) * point))
+
+
 def action(point: Size, scale: Size, translation: Size, quaternion: Optional[Size] = None, width: int = 64,
            square: Optional[Size] = None) -> Fraction:
     """Of each coordinate of X p (ActionTheorem), for the scale e^sigma that is passed. With `square`, how far |q|² is
@@ -231,8 +239,17 @@ class Joins:
         self.rotation, self.translation = 0, Bound(width, box.translation)
 
     def moved(self, point):
-        """The bound of a coordinate of a point moved by the running pose."""
-        return moved(Bound(self.width, self.box.longest, self.rotation), point, self.scale, self.translation)
+        """The bound of a coordinate of a point moved by the running pose: `moved_bound` of
+        crates/running_accuracy/specs/Joins.antt."""
+        def sized(size):
+            return Bound(self.width, size)
+        longest, scale = self.box.longest, self.scale
+        exact = moved(sized(longest), point, sized(scale.magnitude), sized(self.translation.magnitude))
+        computed = moved(sized(longest + self.rotation), point, sized(scale.reach()), sized(self.translation.reach()))
+        turned = turn_error(longest, self.rotation, point.magnitude)
+        size = rotated(sized(2 * UNIT), sized(longest), point).magnitude
+        carried = upward(UNIT, (size + turned) * scale.error + turned * scale.magnitude) + self.translation.error
+        return Bound(self.width, exact.magnitude, computed.error + carried)
 
     def join(self):
         """One product more, as if it were renormalised."""

@@ -310,6 +310,9 @@ sum-whole v a b e xp xn yp yn zp zn ap bp h k m =
 abbrev pub sum4 : Quad Gap → Quad Gap → Quad Gap
 sum4 a b = record { w = a.w ⊕ b.w; x = a.x ⊕ b.x; y = a.y ⊕ b.y; z = a.z ⊕ b.z }
 
+abbrev pub sub4 : Quad Gap → Quad Gap → Quad Gap
+sub4 a b = record { w = a.w ⊖ b.w; x = a.x ⊖ b.x; y = a.y ⊖ b.y; z = a.z ⊖ b.z }
+
 -- (u + v)², with u v taken twice
 sum-square-p : (p n q m : ℕ) → (p + q) * (p + q) + (n + m) * (n + m)
     ≡ p * p + n * n + 2 * (p * q + n * m) + (q * q + m * m)

@@ -6,6 +6,7 @@ pub mod Quaternions
 pub mod ManyPoints
 pub mod Norm
 pub mod Rotation
+pub mod Perturbed
 pub mod Series
 pub mod Powers
 pub mod Slopes

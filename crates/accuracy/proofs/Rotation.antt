@@ -39,20 +39,20 @@ use Rattle.accuracy.proofs.Hamilton.{side_least, Above, hamilton-above, value-is
 use Rattle.accuracy.proofs.Hamilton.{square_positive, normal_even, tall_near}
 
 -- ---- over denominators: q over e, and v over g with a scalar part that is a difference of 0
-abbrev conjugate_gap : Quad Gap → Quad Gap
+abbrev pub conjugate_gap : Quad Gap → Quad Gap
 conjugate_gap q = record { w = q.w; x = opp q.x; y = opp q.y; z = opp q.z }
 
 abbrev conjugated_gap : Quad Gap → Quad Gap → Quad Gap
 conjugated_gap q v = hamilton (hamilton q v) (conjugate_gap q)
 
-abbrev pure_gap : Quad Gap → Quad Gap
+abbrev pub pure_gap : Quad Gap → Quad Gap
 pure_gap v = record { w = v.x ⊖ v.x; x = v.x; y = v.y; z = v.z }
 
 -- E v + 2w (u × v) + 2 u × (u × v)
-abbrev quad : Three Gap → Quad Gap
+abbrev pub quad : Three Gap → Quad Gap
 quad a = record { w = a.x; x = a.x; y = a.y; z = a.z }
 
-abbrev rotated_gap : ℕ → Quad Gap → Quad Gap → Three Gap
+abbrev pub rotated_gap : ℕ → Quad Gap → Quad Gap → Three Gap
 rotated_gap E q v =
     let x = q.y ⊗ v.z ⊖ q.z ⊗ v.y in
     let y = q.z ⊗ v.x ⊖ q.x ⊗ v.z in
@@ -64,13 +64,13 @@ rotated_gap E q v =
     }
 
 -- the same as expressions
-abbrev conjugate_x : Quad Ex → Quad Ex
+abbrev pub conjugate_x : Quad Ex → Quad Ex
 conjugate_x q = record { w = q.w; x = R.minus q.x; y = R.minus q.y; z = R.minus q.z }
 
-abbrev pure_x : Quad Ex → Quad Ex
+abbrev pub pure_x : Quad Ex → Quad Ex
 pure_x v = record { w = sub v.x v.x; x = v.x; y = v.y; z = v.z }
 
-abbrev rotated_x : Ex → Quad Ex → Quad Ex → Three Ex
+abbrev pub rotated_x : Ex → Quad Ex → Quad Ex → Three Ex
 rotated_x E q v =
     let x = sub (R.times q.y v.z) (R.times q.z v.y) in
     let y = sub (R.times q.z v.x) (R.times q.x v.z) in
@@ -224,10 +224,10 @@ coordinate u c m l k E g L f r s a b v uz ez lz gz h e l1 l2 tv tb i hf hr =
     wholes u D k p n q m L E h = simp zeros h
 
 -- ---- the values over their denominators
-record Is3 (v : Three Value) (b : Quad Gap) (g : ℕ) : Type 0 where
-  x : Is v.x b.x.p b.x.n g
-  y : Is v.y b.y.p b.y.n g
-  z : Is v.z b.z.p b.z.n g
+pub record Is3 (v : Three Value) (b : Quad Gap) (g : ℕ) : Type 0 where
+  pub x : Is v.x b.x.p b.x.n g
+  pub y : Is v.y b.y.p b.y.n g
+  pub z : Is v.z b.z.p b.z.n g
 
 double-left : (x : Value) (a : Gap) (e : ℕ) → Is x a.p a.n e → Is (times (value_of f2) x) (a ⊕ a).p (a ⊕ a).n e
 unfolding value_of
@@ -290,7 +290,7 @@ module _ (q : Four Value) (v : Three Value) (a b : Quad Gap) (e g : ℕ) (h : Is
   turned-cross s t y z c d m n hs ht hy hz = is-sub _ _ (c ⊗ m) (d ⊗ n) (e * (e * g)) (is_mul s y c m e (e * g) hs hy)
       (is_mul t z d n e (e * g) ht hz)
 
-  rotate-is : Is3 (exact_rotate q.w (vector_part q) v) (quad (rotated_gap (e * e) a b)) (e * e * g)
+  pub rotate-is : Is3 (exact_rotate q.w (vector_part q) v) (quad (rotated_gap (e * e) a b)) (e * e * g)
   unfolding exact_rotate
   rotate-is =
       record {
@@ -422,13 +422,30 @@ near-one u c m l k q v uz i t =
           (long_z u C (t.L * t.g) l cl) i f.z (ratio-is _ s C.z t.e t.g t.L t.e-above r.z t.s-is.is);
     }
 
-pure-above : (v : Three Value) → Above3 v → Above (pure v)
+pub pure-above : (v : Three Value) → Above3 v → Above (pure v)
 pure-above v h = record { w = value-above f0; x = h.0; y = h.1.0; z = h.1.1 }
 
 conjugated-above : (q : Four Value) (v : Three Value) → Above q → Above3 v → Above (conjugated q v)
 conjugated-above q v hq hv =
     hamilton-above (exact_hamilton q (pure v)) (conjugate q) (hamilton-above q (pure v) hq (pure-above v hv))
     (record { w = hq.w; x = hq.x; y = hq.y; z = hq.z })
+
+pub rotate-above : (q : Four Value) (v : Three Value) → Above q → Above3 v →
+    Above3 (exact_rotate q.w (vector_part q) v)
+unfolding exact_rotate
+rotate-above q v hq hv =
+    let x = mul-pos (mul-pos hq.y hv.1.1) (mul-pos hq.z hv.1.0) in
+    let y = mul-pos (mul-pos hq.z hv.0) (mul-pos hq.x hv.1.1) in
+    let z = mul-pos (mul-pos hq.x hv.1.0) (mul-pos hq.y hv.0) in
+    let two = value-above f2 in
+    let one = λ (vd ud cd : ℕ) (a : 0 < vd) (b : 0 < ud) (d : 0 < cd). mul-pos
+    (mul-pos a (mul-pos b (mul-pos two hq.w))) (mul-pos d two) in (
+      one _ _ _ hv.0 x (mul-pos (mul-pos hq.y z) (mul-pos hq.z y)),
+      (
+        one _ _ _ hv.1.0 y (mul-pos (mul-pos hq.z x) (mul-pos hq.x z)),
+        one _ _ _ hv.1.1 z (mul-pos (mul-pos hq.x y) (mul-pos hq.y x)),
+      ),
+    )
 
 some-length : (u c E L : ℕ) → c < u → 0 < E → u * E ≤ u * L + c * E → 0 < L
 some-length u c E zero h z k = absurd (no (u * E) (c * E) (mul-lt-mul_of_pos_right h z) (simp zeros at k))
@@ -523,23 +540,6 @@ module _ (u c : ℕ) (q : Four Value) (v : Three Value) (uz : 0 < u) (cu : c < u
   unfolding true_rotation
   true-above m l t = let r = conjugated-above q v hq hv in let i = t.s-is.above in
       (mul-pos r.x i, (mul-pos r.y i, mul-pos r.z i))
-
-  pub rotate-above : Above3 (exact_rotate q.w (vector_part q) v)
-  unfolding exact_rotate
-  rotate-above =
-      let x = mul-pos (mul-pos hq.y hv.1.1) (mul-pos hq.z hv.1.0) in
-      let y = mul-pos (mul-pos hq.z hv.0) (mul-pos hq.x hv.1.1) in
-      let z = mul-pos (mul-pos hq.x hv.1.0) (mul-pos hq.y hv.0) in
-      let two = value-above f2 in
-      let one = λ (vd ud cd : ℕ) (a : 0 < vd) (b : 0 < ud) (d : 0 < cd). mul-pos
-      (mul-pos a (mul-pos b (mul-pos two hq.w))) (mul-pos d two) in (
-        one _ _ _ hv.0 x (mul-pos (mul-pos hq.y z) (mul-pos hq.z y)),
-        (
-          one _ _ _ hv.1.0 y (mul-pos (mul-pos hq.z x) (mul-pos hq.x z)),
-          one _ _ _ hv.1.1 z
-              (mul-pos (mul-pos hq.x y) (mul-pos hq.y x)),
-        ),
-      )
 
 -- ---- a rotation does not depend on the length: q = a / e and p = a / f
 near-level : (u : ℕ) (x y : Value) (c : Gap) (D : ℕ) → 0 < D → Is x c.p c.n D → Is y c.p c.n D → Near u x y 0
@@ -756,7 +756,7 @@ true_accurate f x up p w q c b s t e cw k hq n hp hs ht =
     let V = exact_vec p in
     let S = value_of up in
     let a = quat-above x.q in
-    let r = rotate-above w c Q V z cw a (floats-above p) n in
+    let r = rotate-above Q V a (floats-above p) in
     let sz = value-above up in
     let i = clear_is Q in
     let d = mul-pos a.w (mul-pos a.x (mul-pos a.y a.z)) in
@@ -820,7 +820,7 @@ true-inverse_accurate f x down w q c t s e cw k hq n ht hs =
     let m = upward w (3 * c * t) in
     let T' = rotation-near w c t Q Q V (clear Q) (den Q) (den Q) z cw d d i i a a (floats-above x.t) n'
     (leaf_forward w x.t.x t ht.x).size (leaf_forward w x.t.y t ht.y).size (leaf_forward w x.t.z t ht.z).size in
-    let r = rotate-above w c Q V z cw a (floats-above x.t) n' in
+    let r = rotate-above Q V a (floats-above x.t) in
     let one : (f g : Value) → 0 < g.d → Near w f g m → Near w (opposite (times f S)) (opposite (times g S))
     (true_error w c t s) =
     λ f g p h. near-opposite w (times f S) (times g S) (true_error w c t s)

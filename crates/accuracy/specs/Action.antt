@@ -51,9 +51,11 @@ abbrev pub leaves : ℕ → ℕ → ℕ → Three Term
 leaves i j k = record { x = leaf i; y = leaf j; z = leaf k }
 
 -- the leaves: 2, the quaternion w x y z, the point, e^σ, the translation
+abbrev pub tree_rotate : Three Term
+tree_rotate = rotate trees (leaf 0) (leaf 1) (leaves 2 3 4) (leaves 5 6 7)
+
 unfoldable pub tree_act : Three Term
-tree_act =
-    sum3 trees (scale3 trees (rotate trees (leaf 0) (leaf 1) (leaves 2 3 4) (leaves 5 6 7)) (leaf 8)) (leaves 9 10 11)
+tree_act = sum3 trees (scale3 trees tree_rotate (leaf 8)) (leaves 9 10 11)
 
 abbrev pub act_leaves : Sim3 → Float → Vec3 → List Float
 act_leaves x up p =

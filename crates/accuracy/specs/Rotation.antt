@@ -1,6 +1,6 @@
 -- The true rotation by a quaternion q of any length but 0, q v q̄ / |q|², and how far the action's formula, a rotation
 -- only where |q| = 1, is from it: v + 2w (u × v) + 2 u × (u × v) is q v q̄ + (1 - |q|²) v.
-use Rattle.std.specs.Prelude.{ℕ, ◌+◌, ◌*◌, ◌^◌, ◌<◌, T, Float}
+use Rattle.std.specs.Prelude.{ℕ, suc, ◌+◌, ◌*◌, ◌^◌, ◌<◌, T, Float}
 use Rattle.std.specs.Float.{Format, binary32, binary64}
 use Rattle.ieee.specs.Numbers.{f0}
 use Rattle.linalg.specs.Floats.{Vec3}
@@ -51,6 +51,14 @@ true_inverse x down =
 -- s 3 κ b, for |q|² within κ = c / w of 1, a point of numbers up to b / w and a scale up to s / w
 abbrev pub true_error : ℕ → ℕ → ℕ → ℕ → ℕ
 true_error w c b s = upward w (upward w (3 * c * b) * s)
+
+-- The formula's rotations by r and s of a vector with numbers up to b / w, where |r - s| is at most d / w and |s| at most
+-- m / w, differ by this: with δ = r - s, r v r̄ - s v s̄ is δ v r̄ + s v δ̄, and the rest is (|s|² - |r|²) v.
+abbrev pub turn_error : ℕ → ℕ → ℕ → ℕ → ℕ
+turn_error w m d b =
+    let h = upward w (d * b) in
+    let l = m + d + 2 in
+    upward w (2 * h * l) + upward w (m * (2 * h)) + upward w (upward w (d * (l + suc m)) * b)
 
 -- in the box of ActionIn, with |q|² within c / w of 1, each coordinate of r is within e / w of the true similarity at p
 abbrev pub TrueActionIn : ℕ → ℕ → ℕ → ℕ → ℕ → ℕ → ℕ → Sim3 → Float → Vec3 → Vec3 → Type 0

@@ -265,3 +265,39 @@ forward_error f w x v b z h (prod t u) s =
     (forward_error f w x v b z h t (and_l (no_overflow f w b t) (no_overflow f w b u && i) s))
     (forward_error f w x v b z h u (and_l (no_overflow f w b u) i l)) (and_r (no_overflow f w b u) i l)
 forward_error f w x v b z h (quot l t u) s = absurd s
+
+-- ---- the exact value alone: its size, and a denominator that is not 0. The test says that there is no quotient.
+pub record Sized (w : ℕ) (y : Value) (b : ℕ) : Type 0 where
+  pub size : AtMost w y b
+  pub above : 0 < y.d
+
+pub exact_sized : (f : Format) (w : ℕ) (v : ℕ → Value) (b c : ℕ → Bound) → 0 < w →
+    ((i : ℕ) → Sized w (v i) (b i).magnitude) → (t : Term) → T (no_overflow f w c t) →
+    Sized w (exact v t) (bound f w b t).magnitude
+unfolding exact bound no_overflow
+exact_sized f w v b c z h (leaf i) s = h i
+exact_sized f w v b c z h (opp t) s =
+    let k = exact_sized f w v b c z h t s in
+    record { size = most-opposite w (exact v t) (bound f w b t).magnitude k.size; above = k.above }
+exact_sized f w v b c z h (sum t u) s =
+    let i = in_range f w (sum_reach (bound f w c t) (bound f w c u)) in
+    let l : T (no_overflow f w c u && i) = and_r (no_overflow f w c t) (no_overflow f w c u && i) s in
+    let p = exact_sized f w v b c z h t (and_l (no_overflow f w c t) (no_overflow f w c u && i) s) in
+    let q = exact_sized f w v b c z h u (and_l (no_overflow f w c u) i l) in
+    record {
+      size = most-plus w (exact v t) (exact v u) (bound f w b t).magnitude (bound f w b u).magnitude p.size q.size;
+      above = mul-pos p.above q.above;
+    }
+exact_sized f w v b c z h (prod t u) s =
+    let i = in_range f w (prod_reach w (bound f w c t) (bound f w c u)) in
+    let l : T (no_overflow f w c u && i) = and_r (no_overflow f w c t) (no_overflow f w c u && i) s in
+    let p = exact_sized f w v b c z h t (and_l (no_overflow f w c t) (no_overflow f w c u && i) s) in
+    let q = exact_sized f w v b c z h u (and_l (no_overflow f w c u) i l) in
+    let m = (bound f w b t).magnitude in
+    let n = (bound f w b u).magnitude in
+    record {
+      size =
+          most-times w (exact v t) (exact v u) m n (upward w (m * n)) z p.size q.size (upward_enough w (m * n) z);
+      above = mul-pos p.above q.above;
+    }
+exact_sized f w v b c z h (quot l t u) s = absurd s

@@ -90,7 +90,7 @@ most-near w x y b e z h k =
     }
 
 -- ---- products
-side_times : (w p n d q m c a b k : ℕ) → 0 < w → w * p ≤ w * n + a * d → w * n ≤ w * p + a * d → w * q ≤ w * m + b * c →
+pub side_times : (w p n d q m c a b k : ℕ) → 0 < w → w * p ≤ w * n + a * d → w * n ≤ w * p + a * d → w * q ≤ w * m + b * c →
     w * m ≤ w * q + b * c → a * b ≤ k * w
     → w * (p * q + n * m) ≤ w * (p * m + n * q) + k * (d * c)
 side_times w p n d q m c a b k z xa xb ya yb h =

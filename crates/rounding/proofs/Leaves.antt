@@ -13,7 +13,7 @@ use Rattle.rounding.specs.Value.{Value, Near, AtMost, signed, value_of, Absolute
 use Rattle.rounding.specs.Tree.{Bound, Term, computed, exact, bound, no_overflow, ForwardError}
 use Rattle.rounding.specs.Leaves.{Bounded, AllBounded, at, exact_at, sizes, error_at_most, nth, no_bound}
 use Rattle.rounding.proofs.Differences.{zeros}
-use Rattle.rounding.proofs.Forward.{forward_error, error_wider}
+use Rattle.rounding.proofs.Forward.{forward_error, error_wider, Sized}
 
 near_self : (w : ℕ) (x : Value) → Near w x x 0
 near_self w x = record { above = omega arith; below = omega arith }
@@ -80,6 +80,24 @@ nth_forward w (x ∷ xs) [] bs h i = absurd h
 nth_forward w (x ∷ xs) (v ∷ vs) [] h i = absurd h
 nth_forward w (x ∷ xs) (v ∷ vs) (b ∷ bs) h zero = h.0
 nth_forward w (x ∷ xs) (v ∷ vs) (b ∷ bs) h (suc i) = nth_forward w xs vs bs h.1 i
+
+-- the same of exact values alone
+abbrev pub AllSized : ℕ → List Value → List ℕ → Type 0
+AllSized w [] [] = Unit {0}
+AllSized w [] (b ∷ bs) = ⊥
+AllSized w (v ∷ vs) [] = ⊥
+AllSized w (v ∷ vs) (b ∷ bs) = Sized w v b × AllSized w vs bs
+
+pub float_sized : (w : ℕ) (x : Float) (b : ℕ) → Bounded w x b → Sized w (value_of x) b
+float_sized w x b h = let k = leaf_forward w x b h in record { size = k.size; above = k.above }
+
+pub nth_sized : (w : ℕ) (vs : List Value) (bs : List ℕ) → AllSized w vs bs → (i : ℕ) →
+    Sized w (nth (value_of f0) vs i) (sizes bs i).magnitude
+nth_sized w [] [] h i = float_sized w f0 0 (zero_bounded w)
+nth_sized w [] (b ∷ bs) h i = absurd h
+nth_sized w (v ∷ vs) [] h i = absurd h
+nth_sized w (v ∷ vs) (b ∷ bs) h zero = h.0
+nth_sized w (v ∷ vs) (b ∷ bs) h (suc i) = nth_sized w vs bs h.1 i
 
 -- ---- the denominator of a float's value is above 0
 pub value-above : (x : Float) → 0 < (value_of x).d

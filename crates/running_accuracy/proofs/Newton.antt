@@ -16,7 +16,8 @@ use Rattle.accuracy.proofs.Hamilton.{Even, value-is, even_above, even_below}
 use Rattle.accuracy.proofs.Euler.{Quad, ◌⊖◌, hamilton, squared, squared_x, euler}
 use Rattle.accuracy.proofs.Length.{Long, Level, level_trans, to_whole, level-add, level-sub, level-mul, long_shift}
 use Rattle.accuracy.proofs.Length.{scaled, long_scaled}
-use Rattle.running_accuracy.proofs.Products.{sub4, sub_x, quad_x, sub_x4, entries, nth_gap}
+use Rattle.accuracy.proofs.Length.{sub4}
+use Rattle.running_accuracy.proofs.Products.{sub_x, quad_x, sub_x4, entries, nth_gap}
 
 -- over e (e² 2)
 abbrev pub factor : Quad Gap → ℕ → Gap

@@ -26,7 +26,7 @@ use Rattle.accuracy.proofs.Hamilton.{Is4, den, clear, clear_is, is_mul, is-add, 
 use Rattle.accuracy.proofs.Hamilton.{pos4, tall_near}
 use Rattle.accuracy.proofs.Euler.{Quad, ◌⊖◌, hamilton, hamilton_x, squared}
 use Rattle.accuracy.proofs.Length.{Long, Tall, Level, long_product, long_shift, scaled, long_scaled, tall_long, long_w}
-use Rattle.accuracy.proofs.Length.{long_x, long_y, long_z, sum4, long_sum}
+use Rattle.accuracy.proofs.Length.{long_x, long_y, long_z, sum4, sub4, long_sum}
 use Rattle.rounding.proofs.Leaves.{value-above, error-near, bounded_from}
 use Rattle.accuracy.proofs.Quaternions.{product_accurate}
 
@@ -106,9 +106,6 @@ near-error w (inf t) b y e s h = absurd s
 near-error w (fin t m k) b y e s h = h
 
 -- ---- the difference of the products
-abbrev pub sub4 : Quad Gap → Quad Gap → Quad Gap
-sub4 a b = record { w = a.w ⊖ b.w; x = a.x ⊖ b.x; y = a.y ⊖ b.y; z = a.z ⊖ b.z }
-
 abbrev pub sub_x : Ex → Ex → Ex
 sub_x a b = R.plus a (R.minus b)
 

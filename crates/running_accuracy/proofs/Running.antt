@@ -29,7 +29,8 @@ use Rattle.accuracy.specs.Action.{tree_act}
 use Rattle.accuracy.specs.Quaternions.{exact_squared, Normal, exact_hamilton, exact_newton, tree_quat_mul, tree_newton}
 use Rattle.accuracy.specs.Quaternions.{quat_mul_sizes, newton_sizes, all_four}
 use Rattle.running_accuracy.specs.Products.{LengthAtMost, product_error}
-use Rattle.running_accuracy.specs.Joins.{Join, Exact, exact_join, exact_pose, PoseBound, join_bounds, join_no_overflow}
+use Rattle.running_accuracy.specs.Joins.{Join, Exact, exact_join, exact_pose, PoseBound, moved_bound, moved_no_overflow}
+use Rattle.running_accuracy.specs.Joins.{join_no_overflow}
 use Rattle.running_accuracy.specs.Running.{RunningAccurate, PageAccurate, pose_after, FirstIn, history_of, Step, joins}
 use Rattle.running_accuracy.specs.Running.{renews, events, count, join_at, exact_renormalized, exact_ran, JoinBox, away}
 use Rattle.running_accuracy.specs.Running.{StepIn, AllStepsIn, box_holds, newton_error, cube, newton_far, product_far}
@@ -44,13 +45,13 @@ use Rattle.accuracy.proofs.Hamilton.{Is4, den, clear, clear_is, is_mul, is-sub, 
 use Rattle.accuracy.proofs.Hamilton.{hamilton-above, Even, squared-is, square_positive, normal_even}
 use Rattle.accuracy.proofs.Euler.{Quad, ◌⊖◌, hamilton, squared}
 use Rattle.accuracy.proofs.Length.{Long, Level, long_shift, scaled, long_scaled, tall_long, long_w, long_x, long_y}
-use Rattle.accuracy.proofs.Length.{long_z, sum4, long_sum}
+use Rattle.accuracy.proofs.Length.{long_z, sum4, sub4, long_sum}
 use Rattle.accuracy.proofs.Quaternions.{renormalized_accurate}
 use Rattle.running_accuracy.proofs.Choice.{both}
-use Rattle.running_accuracy.proofs.Products.{near_tall, tall_both, tall_bounded, quat-above, le_leb, sub4, Run}
+use Rattle.running_accuracy.proofs.Products.{near_tall, tall_both, tall_bounded, quat-above, le_leb, Run}
 use Rattle.running_accuracy.proofs.Products.{one_more, run_close, first, error-above}
 use Rattle.running_accuracy.proofs.Newton.{factor, newton_gap, newton-apart, newton_even, even_hamilton, even_long}
-use Rattle.running_accuracy.proofs.Joins.{VecForwardError, join_shift, quat_values, run_forward, ends'}
+use Rattle.running_accuracy.proofs.Joins.{VecForwardError, join_shift, quat_values, ends'}
 
 -- ---- the length of values, and over a denominator
 below-most : (u c xp xn xd p n E : ℕ) → 0 < E → xp * E + n * xd ≡ xn * E + p * xd → u * E + u * n ≤ u * p + c * E →
@@ -418,19 +419,15 @@ module _ (f : Format) (L : JoinBox) (F : Fine L) where
       (h : PoseTurn L d w (L.drift * suc k) x X) (g : StepIn L y up s)
       (t : T (step_no_overflow f L (bound_at L d w))) where
     next : Bound
-    next =
-        bound f L.unit (nth no_bound (join_bounds L.unit L.translation L.scale L.scale_error (bound_at L d w)))
-        tree_act.x
+    next = moved_bound f L.unit L.translation L.scale L.scale_error (bound_at L d w)
 
     parts : T (no_overflow f L.unit (sizes (quat_mul_sizes (L.longest + d) L.length)) tree_quat_mul.w) × T
-        (no_overflow f L.unit (nth no_bound (join_bounds L.unit L.translation L.scale L.scale_error (bound_at L d w)))
-        tree_act.x) × T
+        (moved_no_overflow f L.unit L.translation L.scale L.scale_error (bound_at L d w)) × T
         (newton_no_overflow f L (product_far f L d))
     unfolding step_no_overflow join_no_overflow
     parts =
         let a = no_overflow f L.unit (sizes (quat_mul_sizes (L.longest + d) L.length)) tree_quat_mul.w in
-        let b = no_overflow f L.unit
-        (nth no_bound (join_bounds L.unit L.translation L.scale L.scale_error (bound_at L d w))) tree_act.x in
+        let b = moved_no_overflow f L.unit L.translation L.scale L.scale_error (bound_at L d w) in
         let c = newton_no_overflow f L (product_far f L d) in
         let ab : T (a && b) = and_l (a && b) c t in
         (and_l a b ab, and_r a b ab, and_r (a && b) c t)
@@ -458,8 +455,7 @@ module _ (f : Format) (L : JoinBox) (F : Fine L) where
     unfolding pose_mul next
     shifted =
         join_shift f L.unit L.translation L.scale L.scale_error x X (join_at y up s) (bound_at L d w) F.positive
-        (run_forward L.unit L.longest d x.q X.q h.rotation.above h.rotation.run) h.translation g.fit.t g.fit.up
-        g.fit.scale g.fit.above parts.1
+        h.rotation.above h.rotation.run h.translation g.fit.t g.fit.up g.fit.scale g.fit.above parts.1
 
     turning : (j : ℕ) → L.drift * suc (suc k) ≤ j → L.unit * (L.unit + j) ≤ L.longest * L.longest →
         Turn L.unit L.longest
@@ -661,12 +657,10 @@ act_done : (f : Format) (L : JoinBox) (b s h e : ℕ) (d : ℕ) (w : Bound) (k :
 unfolding ActionError exact_act_by act_test exact_join
 act_done f L b s h e d w k q X up z pt uz hb hu hs ha o r =
     let u = L.unit in
-    let B = nth no_bound (join_bounds u b s h (bound_at L d w)) in
-    let sf = no_overflow f u B tree_act.x in
-    let E = (bound f u B tree_act.x).error in
+    let sf = moved_no_overflow f u b s h (bound_at L d w) in
+    let E = (moved_bound f u b s h (bound_at L d w)).error in
     let j : Join = record { pose = record { q = q.sim3.q; t = pt; sigma = q.sim3.sigma }; up = up; scale = z } in
-    let a = join_shift f u b s h q.sim3 X j (bound_at L d w) uz (run_forward u L.longest d q.sim3.q X.q r.rotation.above
-    r.rotation.run) r.translation hb hu hs ha (and_l sf (leb E e) o) in
+    let a = join_shift f u b s h q.sim3 X j (bound_at L d w) uz r.rotation.above r.rotation.run r.translation hb hu hs ha (and_l sf (leb E e) o) in
     let l : E ≤ e = leb→le E e (and_r sf (leb E e) o) in
     let P = pose_act f q.sim3 up pt in
     let Y = exact_act_by X z pt in

@@ -39,7 +39,7 @@ use Rattle.running_accuracy.proofs.Newton.{factor, factor_whole, one-level, five
 use Rattle.running_accuracy.proofs.Joins.{quat_values}
 use Rattle.running_accuracy.proofs.Running.{Fine, fine, normal_wider, normal-product, normal-newton, newton_is}
 use Rattle.running_accuracy.proofs.Running.{newton_above, small, one-step, not_due, page_accurate}
-use Rattle.running_accuracy.proofs.Page.{running}
+use Rattle.running_accuracy.proofs.Page.{page_thousand, running}
 
 -- ---- the exact running pose X and the product Y: quaternions that are multiples of one another, translations near
 record Beside (L : JoinBox) (c j : ℕ) (X Y : Exact) : Type 0 where
@@ -120,7 +120,7 @@ module _ (L : JoinBox) (F : Fine L) where
       let ht = g.fit.t in
       let wide : L.drift * suc k ≤ away L = mul-le-mul_left L.drift (later k L.every kl) in
       let n = normal_wider u (L.drift * suc k) (away L) X.q wide h.normal in
-      let r = rotate-above u (away L) X.q t F.positive below-one h.x-above (floats-above x.sim3.t) n in
+      let r = rotate-above X.q t h.x-above (floats-above x.sim3.t) in
       record {
         a = hamilton h.a (clear q);
         e = h.e * den q;
@@ -275,7 +275,7 @@ module _ (L : JoinBox) (F : Fine L) where
   acts f b s e J up z pt (Some x) X Y hb hs ha h k =
       let u = L.unit in
       let v = exact_vec pt in
-      let r = rotate-above u (away L) X.q v F.positive below-one h.x-above (floats-above pt) h.normal in
+      let r = rotate-above X.q v h.x-above (floats-above pt) in
       beside u e (true_error u (away L) b s + J) (pose_act f x.sim3 up pt) (exact_act_by X z pt) (true_act_by Y z pt) (
         mul-pos (mul-pos r.0 ha) h.t-above.0,
         (mul-pos (mul-pos r.1.0 ha) h.t-above.1.0, mul-pos (mul-pos r.1.1 ha) h.t-above.1.1),
@@ -321,23 +321,23 @@ wider f u e k up z pt (Some x) Y l h =
     }
 
 -- each with a test of its own: what the steps of one definition allow
-close_hundred : SimilarityIn binary64 (close_page_box (2 ^ 50 + 2 ^ 58)) 100 (2 ^ 88)
+close_hundred : SimilarityIn binary64 (close_page_box (2 ^ 50 + 2 ^ 58)) 100 (2 ^ 87)
 close_hundred n p up l scale z pt c nz nm hp a hb hu hs ha =
-    wider binary64 (2 ^ 100) _ (2 ^ 88) scale z pt (pose_after binary64 n p up l)
+    wider binary64 (2 ^ 100) _ (2 ^ 87) scale z pt (pose_after binary64 n p up l)
     (true_ran p.from (exact_pose p.sim3) l)
     (lit≤ tt)
     (similarity_accurate binary64 n p up l (close_page_box (2 ^ 50 + 2 ^ 58)) (2 ^ 116) (2 ^ 102) (2 ^ 50 + 2 ^ 58)
-    (63 * 2 ^ 82) 100 scale z pt tt
+    (20 * 2 ^ 82) 100 scale z pt tt
     tt
     (unfold run_holds act_test in tt) c nz nm hp a hb hu hs ha)
 
-close_thousand : SimilarityIn binary64 (close_page_box (2 ^ 50 + 2 ^ 61)) 1000 (2 ^ 95)
+close_thousand : SimilarityIn binary64 (close_page_box (2 ^ 50 + 2 ^ 61)) 1000 (2 ^ 93)
 close_thousand n p up l scale z pt c nz nm hp a hb hu hs ha =
-    wider binary64 (2 ^ 100) _ (2 ^ 95) scale z pt (pose_after binary64 n p up l)
+    wider binary64 (2 ^ 100) _ (2 ^ 93) scale z pt (pose_after binary64 n p up l)
     (true_ran p.from (exact_pose p.sim3) l)
     (lit≤ tt)
     (similarity_accurate binary64 n p up l (close_page_box (2 ^ 50 + 2 ^ 61)) (2 ^ 116) (2 ^ 102) (2 ^ 50 + 2 ^ 61)
-    (31 * 2 ^ 90) 1000 scale z pt
+    (15 * 2 ^ 89) 1000 scale z pt
     tt tt
     (unfold run_holds act_test in tt) c nz nm hp a hb hu hs ha)
 
@@ -352,7 +352,7 @@ similarity =
           let F = fine page_box tt in
           let r = pose_after binary64 n p up l in
           wider binary64 (2 ^ 100) _ (2 ^ 92) scale z pt r Y (lit≤ tt)
-          (acts page_box F binary64 (2 ^ 116) (2 ^ 102) (2 ^ 88) (100 * true_error (2 ^ 100) (away page_box) (2 ^ 116)
+          (acts page_box F binary64 (2 ^ 116) (2 ^ 102) (2 ^ 86) (100 * true_error (2 ^ 100) (away page_box) (2 ^ 116)
           (2 ^ 102)) scale z pt r X Y hb hs ha
           (beside-exact page_box F binary64 n 100 p l c nz nm hp a)
           (running.page_hundred n p up l scale z pt c nz nm hp a hb hu hs ha));
@@ -361,11 +361,11 @@ similarity =
           let Y = true_ran p.from (exact_pose p.sim3) l in
           let F = fine page_box tt in
           let r = pose_after binary64 n p up l in
-          wider binary64 (2 ^ 100) _ (2 ^ 96) scale z pt r Y (lit≤ tt)
-          (acts page_box F binary64 (2 ^ 116) (2 ^ 102) (2 ^ 95) (1000 * true_error (2 ^ 100) (away page_box)
+          wider binary64 (2 ^ 100) _ (2 ^ 95) scale z pt r Y (lit≤ tt)
+          (acts page_box F binary64 (2 ^ 116) (2 ^ 102) (6 * 2 ^ 90) (1000 * true_error (2 ^ 100) (away page_box)
           (2 ^ 116) (2 ^ 102)) scale z pt r X Y hb hs ha
           (beside-exact page_box F binary64 n 1000 p l c nz nm hp a)
-          (running.page_thousand n p up l scale z pt c nz nm hp a hb hu hs ha));
+          (page_thousand n p up l scale z pt c nz nm hp a hb hu hs ha));
       close_hundred = close_hundred;
       close_thousand = close_thousand;
     }

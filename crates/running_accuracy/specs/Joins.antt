@@ -5,11 +5,12 @@ use Rattle.std.specs.Float.{Format, binary32, binary64}
 use Rattle.sim3.specs.Pose.{pose_mul}
 use Rattle.sim3.specs.Floats.{Sim3}
 use Rattle.rounding.specs.Value.{Value, AtMost, AbsoluteError}
-use Rattle.rounding.specs.Tree.{Bound, bound, no_overflow}
+use Rattle.rounding.specs.Tree.{Bound, reach, upward, bound, no_overflow}
 use Rattle.accuracy.specs.Box.{VecIn, VecError, QuatError, Three, exact_vec, Four, exact_quat, vector_part}
-use Rattle.accuracy.specs.Action.{exact_scaled_sum, exact_rotate, tree_act}
+use Rattle.accuracy.specs.Action.{exact_scaled_sum, exact_rotate, tree_rotate, tree_act, act_sizes}
+use Rattle.accuracy.specs.Rotation.{turn_error}
 use Rattle.accuracy.specs.Quaternions.{exact_hamilton, tree_quat_mul, quat_mul_sizes}
-use Rattle.rounding.specs.Leaves.{sizes, nth, no_bound, errorless}
+use Rattle.rounding.specs.Leaves.{sizes, errorless}
 use Rattle.running_accuracy.specs.Products.{LengthAtMost, next_rotation}
 
 -- a pose to join, the scale of the running pose as it was handed in, and that scale exactly
@@ -59,25 +60,44 @@ pub record PoseBound : Type 0 where
   pub rotation : Bound
   pub translation : Bound
 
-abbrev pub join_bounds : ℕ → ℕ → ℕ → ℕ → PoseBound → List Bound
-join_bounds u b s h p =
-    errorless (2 * u) ∷ p.rotation ∷ p.rotation ∷ p.rotation ∷ p.rotation ∷ errorless b ∷ errorless b ∷ errorless b
-    ∷ record { magnitude = s; error = h } ∷ p.translation ∷ p.translation ∷ p.translation ∷ []
+-- The leaves of the action of the running pose on a vector with numbers up to b, by a scale of at most s: exactly, and
+-- as they are computed, where the scale is handed in within h.
+abbrev pub exact_sizes : ℕ → ℕ → ℕ → PoseBound → ℕ → Bound
+exact_sizes u b s p = sizes (act_sizes u p.rotation.magnitude b s p.translation.magnitude)
 
-unfoldable pub next_pose : Format → ℕ → ℕ → ℕ → ℕ → ℕ → PoseBound → PoseBound
-unfolding next_rotation bound tree_act
-next_pose f u v b s h p =
+abbrev pub computed_sizes : ℕ → ℕ → ℕ → ℕ → PoseBound → ℕ → Bound
+computed_sizes u b s h p = sizes (act_sizes u (reach p.rotation) b (s + h) (reach p.translation))
+
+-- what the errors of the rotation, of the scale and of the translation come to, the first by lengths
+unfoldable pub carried_error : Format → ℕ → ℕ → ℕ → ℕ → PoseBound → ℕ
+unfolding bound
+carried_error f u b s h p =
+    let turned = turn_error u p.rotation.magnitude p.rotation.error b in
+    let size = (bound f u (exact_sizes u b s p) tree_rotate.x).magnitude in
+    upward u ((size + turned) * h + turned * s) + p.translation.error
+
+-- the bound of the moved vector: the rounding errors of the action itself, and those
+unfoldable pub moved_bound : Format → ℕ → ℕ → ℕ → ℕ → PoseBound → Bound
+unfolding bound tree_act carried_error
+moved_bound f u b s h p =
     record {
-      rotation = next_rotation f u v p.rotation;
-      translation =
-          bound f u (nth no_bound (join_bounds u b s h p)) tree_act.x;
+      magnitude = (bound f u (exact_sizes u b s p) tree_act.x).magnitude;
+      error = (bound f u (computed_sizes u b s h p) tree_act.x).error + carried_error f u b s h p;
     }
 
+unfoldable pub moved_no_overflow : Format → ℕ → ℕ → ℕ → ℕ → PoseBound → Bool
+unfolding no_overflow tree_act
+moved_no_overflow f u b s h p = no_overflow f u (computed_sizes u b s h p) tree_act.x
+
+unfoldable pub next_pose : Format → ℕ → ℕ → ℕ → ℕ → ℕ → PoseBound → PoseBound
+unfolding next_rotation moved_bound
+next_pose f u v b s h p =
+    record { rotation = next_rotation f u v p.rotation; translation = moved_bound f u b s h p }
+
 unfoldable pub join_no_overflow : Format → ℕ → ℕ → ℕ → ℕ → ℕ → PoseBound → Bool
-unfolding no_overflow tree_act tree_quat_mul
+unfolding no_overflow moved_no_overflow tree_quat_mul
 join_no_overflow f u v b s h p =
-    no_overflow f u (sizes (quat_mul_sizes (p.rotation.magnitude + p.rotation.error) v)) tree_quat_mul.w
-    && no_overflow f u (nth no_bound (join_bounds u b s h p)) tree_act.x
+    no_overflow f u (sizes (quat_mul_sizes (reach p.rotation) v)) tree_quat_mul.w && moved_no_overflow f u b s h p
 
 -- the computed test: none of n joins more overflows, and the errors of rotation and translation are at most c and g
 -- after each
@@ -104,10 +124,10 @@ pub record JoinedTheorem : Type 0 where
   pub joined_poses : (f : Format) (u v b s h c g N : ℕ) (x : Sim3) (l : List Join) →
       0 < u → T (joins_hold f u v b s h c g (first_bound v b) N) → JoinedIn u v b s h c g N x l (joined f x l)
   -- up to 100 poses, lengths up to 1 + 2^-40, translations up to 2^10, scales up to 2 within 2^-52: within 2^-41 and
-  -- 2^-20
+  -- 2^-22
   pub doubles : (x : Sim3) (l : List Join) →
-      JoinedIn (2 ^ 100) (2 ^ 100 + 2 ^ 60) (2 ^ 110) (2 ^ 101) (2 ^ 48) (2 ^ 59) (2 ^ 80) 100 x l (joined binary64 x l)
-  -- lengths up to 1 + 2^-20, scales within 2^-23: within 2^-12 and 2^9
+      JoinedIn (2 ^ 100) (2 ^ 100 + 2 ^ 60) (2 ^ 110) (2 ^ 101) (2 ^ 48) (2 ^ 59) (2 ^ 78) 100 x l (joined binary64 x l)
+  -- lengths up to 1 + 2^-20, scales within 2^-23: within 2^-12 and 2^7
   pub singles : (x : Sim3) (l : List Join) →
-      JoinedIn (2 ^ 100) (2 ^ 100 + 2 ^ 80) (2 ^ 110) (2 ^ 101) (2 ^ 77) (2 ^ 88) (2 ^ 109) 100 x l
+      JoinedIn (2 ^ 100) (2 ^ 100 + 2 ^ 80) (2 ^ 110) (2 ^ 101) (2 ^ 77) (2 ^ 88) (2 ^ 107) 100 x l
       (joined binary32 x l)

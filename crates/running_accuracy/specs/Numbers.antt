@@ -16,8 +16,8 @@ after_ten f L = bound_after f L 10 (bound_at L 0 (errorless L.translation))
 
 pub record RunningNumbers : Type 0 where
   pub rotation_doubles : (after_ten binary64 box_doubles).rotation.error ≡ 84442536310933572
-  pub translation_doubles : (after_ten binary64 box_doubles).translation.error ≡ 19173094494218824667475
+  pub translation_doubles : (after_ten binary64 box_doubles).translation.error ≡ 5165090892284596326064
   pub rotation_singles : (after_ten binary32 box_singles).rotation.error ≡ 45342592276422067232284961
-  pub translation_singles : (after_ten binary32 box_singles).translation.error ≡ 10295214193394648554990829422321
+  pub translation_singles : (after_ten binary32 box_singles).translation.error ≡ 2773436518575528567253943018051
   pub rotation_page : (after_ten binary64 page_box).rotation.error ≡ 84442493024527794
-  pub translation_page : (after_ten binary64 page_box).translation.error ≡ 2458858751627475294649282
+  pub translation_page : (after_ten binary64 page_box).translation.error ≡ 665835227423940528530820

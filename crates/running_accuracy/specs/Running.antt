@@ -9,13 +9,13 @@ use Rattle.running.specs.Running.{Start, due, running_none}
 use Rattle.running.specs.History.{Event, join, renew, after}
 use Rattle.rounding.specs.Value.{Value, AtMost, AbsoluteError}
 use Rattle.rounding.specs.Tree.{Bound, upward, bound, no_overflow}
-use Rattle.rounding.specs.Leaves.{sizes, nth, no_bound, errorless}
+use Rattle.rounding.specs.Leaves.{sizes, errorless}
 use Rattle.accuracy.specs.Box.{Three, VecError, exact_vec, QuatError, exact_quat, vector_part, VecIn}
-use Rattle.accuracy.specs.Action.{exact_scaled_sum, exact_rotate, tree_act}
+use Rattle.accuracy.specs.Action.{exact_scaled_sum, exact_rotate}
 use Rattle.accuracy.specs.Quaternions.{Normal, exact_newton, tree_newton, newton_sizes}
 use Rattle.running_accuracy.specs.Products.{product_error, LengthAtMost}
-use Rattle.running_accuracy.specs.Joins.{Join, Exact, exact_pose, exact_join, JoinIn, PoseBound, join_bounds}
-use Rattle.running_accuracy.specs.Joins.{join_no_overflow}
+use Rattle.running_accuracy.specs.Joins.{Join, Exact, exact_pose, exact_join, JoinIn, PoseBound, moved_bound}
+use Rattle.running_accuracy.specs.Joins.{moved_no_overflow, join_no_overflow}
 
 -- what happens to the running join: a pose with the running pose's scale as it was handed in and exactly, or a new n
 pub data Step : Type 0 where
@@ -109,11 +109,11 @@ product_far f L d = 2 * product_error f L.unit L.length (L.longest + d) + upward
 
 -- as if every product were renormalised
 unfoldable pub step_bound : Format → JoinBox → PoseBound → PoseBound
-unfolding newton_far product_far bound tree_act
+unfolding newton_far product_far moved_bound
 step_bound f L p =
     record {
       rotation = record { magnitude = L.longest; error = newton_far f L (product_far f L p.rotation.error) };
-      translation = bound f L.unit (nth no_bound (join_bounds L.unit L.translation L.scale L.scale_error p)) tree_act.x;
+      translation = moved_bound f L.unit L.translation L.scale L.scale_error p;
     }
 
 -- the Newton step of what is within d of the exact one
@@ -141,10 +141,8 @@ close_test c g p = leb p.rotation.error c && leb p.translation.error g
 
 -- the error of the action on a point of at most b, by a scale of at most s within h, is at most e
 unfoldable pub act_test : Format → ℕ → ℕ → ℕ → ℕ → ℕ → PoseBound → Bool
-unfolding no_overflow bound tree_act
-act_test f u b s h e p =
-    no_overflow f u (nth no_bound (join_bounds u b s h p)) tree_act.x
-    && leb (bound f u (nth no_bound (join_bounds u b s h p)) tree_act.x).error e
+unfolding moved_no_overflow moved_bound
+act_test f u b s h e p = moved_no_overflow f u b s h p && leb (moved_bound f u b s h p).error e
 
 abbrev pub bound_at : JoinBox → ℕ → Bound → PoseBound
 bound_at L d w = record { rotation = record { magnitude = L.longest; error = d }; translation = w }
@@ -268,10 +266,10 @@ pub record RunningTheorem : Type 0 where
       T (box_holds L) → T (ltb L.every 65536) → T (run_holds f L e (bound_at L 0 (errorless L.translation)) N) →
       count l ≤ N → 0 < n → n ≤ L.every → FirstIn L p → AllStepsIn L l →
       Normal L.unit (away L) (exact_ran n 0 p.from (exact_pose p.sim3) l).q
-  -- up to 1000 joins at doubles: rotation within 2^-37, translation within 2^-12
-  pub doubles : RunningIn binary64 box_doubles 1000 (2 ^ 63) (2 ^ 88)
-  -- up to 100 joins at singles: within 2^-11 and 2^10
-  pub singles : RunningIn binary32 box_singles 100 (2 ^ 89) (2 ^ 110)
-  -- a page after up to 100 joins, and up to 1000: each coordinate within 2^-12, and 2^-5
-  pub page_hundred : PageIn binary64 page_box 100 (2 ^ 88)
-  pub page_thousand : PageIn binary64 page_box 1000 (2 ^ 95)
+  -- up to 1000 joins at doubles: rotation within 2^-37, translation within 2^-14
+  pub doubles : RunningIn binary64 box_doubles 1000 (2 ^ 63) (2 ^ 86)
+  -- up to 100 joins at singles: within 2^-11 and 2^8
+  pub singles : RunningIn binary32 box_singles 100 (2 ^ 89) (2 ^ 108)
+  -- a page after up to 100 joins, and up to 1000: each coordinate within 2^-14, and 2^-7
+  pub page_hundred : PageIn binary64 page_box 100 (2 ^ 86)
+  pub page_thousand : PageIn binary64 page_box 1000 (2 ^ 93)

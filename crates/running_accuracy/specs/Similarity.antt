@@ -89,10 +89,10 @@ pub record SimilarityTheorem : Type 0 where
   -- any format, box and number of joins
   pub similarity : (f : Format) (n : ℕ) (p : Pose) (up : Float) (l : List Step) → SimilarityAccurate f n p l
       (pose_after f n p up l)
-  -- a page after up to 100 joins, and up to 1000: within 2^-8, and 2^-4
+  -- a page after up to 100 joins, and up to 1000: within 2^-8, and 2^-5
   pub page_hundred : SimilarityIn binary64 page_box 100 (2 ^ 92)
-  pub page_thousand : SimilarityIn binary64 page_box 1000 (2 ^ 96)
+  pub page_thousand : SimilarityIn binary64 page_box 1000 (2 ^ 95)
   -- with lengths within 2^-50 of 1, and each e^σ handed in within 2^-50, so that scales are within 2^-42 and 2^-39 more
-  -- of the products (ScaleTheorem): within 2^-12, and 2^-5, as beside the formulas
-  pub close_hundred : SimilarityIn binary64 (close_page_box (2 ^ 50 + 2 ^ 58)) 100 (2 ^ 88)
-  pub close_thousand : SimilarityIn binary64 (close_page_box (2 ^ 50 + 2 ^ 61)) 1000 (2 ^ 95)
+  -- of the products (ScaleTheorem): within 2^-13, and 2^-7, nearly as beside the formulas
+  pub close_hundred : SimilarityIn binary64 (close_page_box (2 ^ 50 + 2 ^ 58)) 100 (2 ^ 87)
+  pub close_thousand : SimilarityIn binary64 (close_page_box (2 ^ 50 + 2 ^ 61)) 1000 (2 ^ 93)
