@@ -16,8 +16,8 @@ def boxes():
     holds(lines[7], "an exponential's translation", "2^-27.68")
     holds(lines_of("--single", "--point", "2^16", "--scale", "16", "--translation", "2^20")[0], "2^2.66")
     page = lines_of("--point", "65536", "--scale", "4", "--translation", "65536", "--joins", "1000", "--every", "16")
-    holds(page[-2], "after 1,000 joins: a coordinate", "2^-5.56", "RunningTheorem")
-    holds(page[-1], "the same, by true similarities", "2^-4.", "SimilarityTheorem")
+    holds(page[-2], "after 1,000 joins: a coordinate", "2^-7.52", "RunningTheorem")
+    holds(page[-1], "the same, by true similarities", "2^-5.", "SimilarityTheorem")
 
 
 def what_is_no_box():
