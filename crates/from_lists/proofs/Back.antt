@@ -12,7 +12,8 @@ use Rattle.sim3.specs.Floats.{Sim3Tangent}
 use Rattle.jacobian.specs.Floats.{Sim3Jac}
 use Rattle.layout.specs.Layout.{vec_in, mat_in, quat_in, pose_in, tangent_in, values_in, block_in, mat_numbers}
 use Rattle.layout.specs.Layout.{quat_numbers, pose_numbers, block_numbers}
-use Rattle.from_lists.specs.Lists.{wrong_length, sized, number_in}
+use Rattle.layout.specs.Lists.{wrong_length}
+use Rattle.from_lists.specs.Lists.{sized, number_in}
 use Rattle.from_lists.specs.Numbers.{tangent_numbers, values_numbers}
 
 told_if :

@@ -12,11 +12,8 @@ use Rattle.frames.specs.Floats.{Pose}
 use Rattle.jacobian.specs.Floats.{Sim3Jac}
 use Rattle.layout.specs.Layout.{vec_count, mat_count, pose_count, tangent_count, values_count, block_count, vec_in}
 use Rattle.layout.specs.Layout.{mat_in, pose_in, tangent_in, values_in, block_in}
+use Rattle.layout.specs.Lists.{wrong_length, PoseLists, frames_count}
 use Rattle.frames.specs.declared.Frames.{Frames}
-
--- the refusal of a list of the wrong length
-abbrev pub wrong_length : ℕ
-wrong_length = 100
 
 -- a if the list has n elements, else the refusal
 unfoldable pub sized : {A B : Type 0} → List B → ℕ → A → Answer A
@@ -45,17 +42,7 @@ values_from l = sized l values_count (values_in (number_in l) 0)
 unfoldable pub block_from : List Float → Answer Sim3Jac
 block_from l = sized l block_count (block_in (number_in l) 0)
 
--- ---- a pose with its frames, in two lists: its eight numbers; from, then to
-pub record PoseLists : Type 0 where
-  pub numbers : List Float
-  pub frames : List ℕ
-
-abbrev pub pose_lists : List Float → List ℕ → PoseLists
-pose_lists numbers frames = record { numbers = numbers; frames = frames }
-
-abbrev pub frames_count : ℕ
-frames_count = 2
-
+-- ---- a pose with its frames, in two lists
 unfoldable pub frames_from : List ℕ → Answer Frames
 frames_from l = sized l frames_count (record { from = get_or l 0 0; to = get_or l 1 0 })
 

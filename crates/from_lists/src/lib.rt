@@ -7,8 +7,9 @@ ghost use Rattle.linalg.specs.Answer.{answer, view};
 ghost use Rattle.linalg.specs.Vector.{vec_numbers};
 ghost use Rattle.layout.specs.Layout.{vec_count, mat_count, pose_count, tangent_count, values_count, block_count};
 ghost use Rattle.layout.specs.Layout.{mat_numbers, quat_numbers, pose_numbers, block_numbers};
+ghost use Rattle.layout.specs.Lists.{pose_lists};
 ghost use Rattle.from_lists.specs.Lists.{sized, vec_from, mat_from, pose_from, tangent_from, values_from, block_from};
-ghost use Rattle.from_lists.specs.Lists.{pose_lists, frames_from, framed_from};
+ghost use Rattle.from_lists.specs.Lists.{frames_from, framed_from};
 ghost use Rattle.from_lists.specs.Numbers.{tangent_numbers, values_numbers};
 ghost use Rattle.linalg.specs.Floats.{as_mat3, as_vec3};
 ghost use Rattle.arms.specs.Floats.{as_values};
@@ -28,9 +29,6 @@ use linalg::vector::Vec3;
 use sim3::sim3::Sim3;
 use sim3::tangent::Sim3Tangent;
 use so3::quat::Quat;
-
-// A pose's frames: from, to.
-pub const FRAMES: usize = 2;
 
 // A structure of a fixed number of numbers, in the order in which a list holds them.
 trait FromNumbers<T: Real>: Copy {

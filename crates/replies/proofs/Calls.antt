@@ -25,9 +25,10 @@ use Rattle.jacobian.specs.Jac.{jac_inverse, jac_inverse_answer}
 use Rattle.side_jacobians.specs.Pair.{block_pair}
 use Rattle.layout.specs.Layout.{pose_count, scaled_pair_count, vec_in, quat_in, mat_in, pose_in, tangent_in, values_in}
 use Rattle.layout.specs.Layout.{block_in, block_numbers, block_pair_numbers, scaled_pair_numbers}
+use Rattle.layout.specs.Lists.{PoseLists, pose_lists, frames_count}
 use Rattle.layout.proofs.Numbers.{vec-count, block-count, block-pair-count, scaled-pair-count}
 use Rattle.from_lists.specs.Lists.{sized, vec_from, mat_from, pose_from, tangent_from, values_from, block_from}
-use Rattle.from_lists.specs.Lists.{PoseLists, pose_lists, frames_count, frames_from, framed_from}
+use Rattle.from_lists.specs.Lists.{frames_from, framed_from}
 use Rattle.to_lists.specs.Written.{status, written, framed_fitting, joined_fitting}
 use Rattle.sim3_c_entries.specs.Calls.{exp_call, mul_call, inverse_call, scaled_pair_call, block_pair_call}
 use Rattle.sim3_c_entries.specs.Calls.{block_inverse_call, act_call, ArmLists, arms_fitting, arms_call}

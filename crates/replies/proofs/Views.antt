@@ -19,7 +19,7 @@ use Rattle.coeffs.specs.Floats.{ArmedPair}
 use Rattle.frames.specs.Floats.{Pose}
 use Rattle.layout.specs.Layout.{pose_count, scaled_pair_count, scaled_pair_numbers, armed_scaled}
 use Rattle.layout.proofs.Runs.{sets-part, run_behind}
-use Rattle.from_lists.specs.Lists.{PoseLists, frames_count}
+use Rattle.layout.specs.Lists.{PoseLists, frames_count}
 use Rattle.to_lists.specs.Written.{status, written, fitting, framed_numbers, framed_fitting}
 use Rattle.sim3_c_entries.specs.Calls.{ArmLists, arm_lists, arm_bytes, arms_fitting}
 use Rattle.wire.specs.Wire.{width, Item, word_bytes, item_bytes, items_bytes, item_finite, all_finite, numbers}

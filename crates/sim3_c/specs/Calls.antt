@@ -6,12 +6,14 @@ use Rattle.std.specs.Float.{Format}
 use Rattle.linalg.specs.Answer.{Answer, answers, and_then}
 use Rattle.linalg.specs.Floats.{Vec3}
 use Rattle.coeffs.specs.Entries.{armed_answer, armed_pair_answer}
+use Rattle.sim3.specs.Pose.{pose_renormalized}
 use Rattle.point_lists.specs.Points.{points_answer, points_out, pose_act_many, pose_act_each}
 use Rattle.frames.specs.Joins.{framed_mul_inv, framed_inv_mul}
 use Rattle.side_jacobians.specs.Side.{pose_adjoint, act_jacobians_right, act_jacobians_left, compose_jacobians_right}
 use Rattle.side_jacobians.specs.Side.{compose_jacobians_left, inverse_jacobian_right, inverse_jacobian_left}
-use Rattle.layout.specs.Layout.{block_numbers, two_numbers, act_numbers}
-use Rattle.from_lists.specs.Lists.{vec_from, pose_from, values_from, PoseLists, framed_from}
+use Rattle.layout.specs.Layout.{pose_numbers, block_numbers, two_numbers, act_numbers}
+use Rattle.layout.specs.Lists.{PoseLists}
+use Rattle.from_lists.specs.Lists.{vec_from, pose_from, values_from, framed_from}
 use Rattle.to_lists.specs.Written.{fitting, joined_fitting, armed_numbers, armed_pair_numbers}
 
 -- ---- poses with their frames
@@ -22,6 +24,10 @@ mul_inv_call f x y ds out =
 unfoldable pub inv_mul_call : Format → PoseLists → PoseLists → Float → PoseLists → Answer PoseLists
 inv_mul_call f x y down out =
     and_then (framed_from x) (λ a. and_then (framed_from y) (λ b. joined_fitting out (framed_inv_mul f a b down)))
+
+-- ---- the rotation's Newton step, which reads no frame, in place: the list is read and then written
+unfoldable pub renormalize_call : Format → List Float → Answer (List Float)
+renormalize_call f x = and_then (pose_from x) (λ a. fitting x (pose_numbers (pose_renormalized f a)))
 
 -- ---- lists of points: every point moved
 unfoldable pub act_call : (Vec3 → Vec3) → List Float → List Float → Answer (List Float)

@@ -4,7 +4,7 @@ use Rattle.std.specs.Prelude.{ℕ, cond, List, [], ◌∷◌, eqb, length, Float
 use Rattle.std.specs.Float.{Format}
 use Rattle.linalg.specs.Answer.{Answer, answers, refuses, and_then}
 use Rattle.nearest.specs.Nearest.{Way, down, up, Near, step, none, preferred, nearest_of}
-use Rattle.from_lists.specs.Lists.{wrong_length}
+use Rattle.layout.specs.Lists.{wrong_length}
 
 abbrev pub way_number : Way → ℕ
 way_number down = 0

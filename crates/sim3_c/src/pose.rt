@@ -2,14 +2,15 @@
 // its numbers and its frames to two lists; both or neither.
 ghost use Rattle.std.specs.Prelude.{◌≡◌};
 ghost use Rattle.linalg.specs.Answer.{answer};
-ghost use Rattle.from_lists.specs.Lists.{pose_lists};
-ghost use Rattle.to_lists.specs.Written.{status, written, framed_written, renormalize_call};
-ghost use Rattle.sim3_c.specs.Calls.{mul_inv_call, inv_mul_call};
+ghost use Rattle.layout.specs.Lists.{pose_lists};
+ghost use Rattle.to_lists.specs.Written.{status, written, framed_written};
+ghost use Rattle.sim3_c.specs.Calls.{mul_inv_call, inv_mul_call, renormalize_call};
 
-use from_lists::framed_from;
+use from_lists::{framed_from, pose_from};
 use ieee::Real;
 use linalg::refusal::Refusal;
-use to_lists::{put_framed, renormalize_pose};
+use so3::quat::Renormalize;
+use to_lists::{put_framed, put_pose};
 
 // X Y^-1, where both start from one frame; ds is e^(sigma of X - sigma of Y).
 #[tactic(auto, unfolding(crate::proofs::Unfolds::sim3_mul_inv_unfolds))]
@@ -58,9 +59,11 @@ pub fn sim3_inv_mul<T: Real>(
 }
 
 // A Newton step towards a unit quaternion, in place. It reads no frame: X keeps its frames.
+#[tactic(auto, unfolding(crate::specs::Calls::renormalize_call, to_lists::proofs::OnLists::on_lists))]
 pub fn sim3_renormalize<T: Real>(x: &mut [T]) -> Result<(), Refusal>
     ensures value { status (answer result) ≡ status (renormalize_call T.format (T.floats x.old)) }
     ensures x_after { T.floats x.new ≡ written (renormalize_call T.format (T.floats x.old)) (T.floats x.old) }
 {
-    renormalize_pose(x)
+    let a = pose_from(x)?;
+    put_pose(x, a.renormalized())
 }

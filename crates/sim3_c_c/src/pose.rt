@@ -1,9 +1,9 @@
 // Poses and their frames.
 ghost use Rattle.std.specs.Prelude.{◌≡◌};
 ghost use Rattle.std.specs.Float.{binary64};
-ghost use Rattle.from_lists.specs.Lists.{pose_lists};
-ghost use Rattle.to_lists.specs.Written.{status, written, framed_written, renormalize_call};
-ghost use Rattle.sim3_c.specs.Calls.{mul_inv_call, inv_mul_call};
+ghost use Rattle.layout.specs.Lists.{pose_lists};
+ghost use Rattle.to_lists.specs.Written.{status, written, framed_written};
+ghost use Rattle.sim3_c.specs.Calls.{mul_inv_call, inv_mul_call, renormalize_call};
 
 use to_lists::status;
 

@@ -19,7 +19,8 @@ use Rattle.std.specs.Prelude.{Some, None}
 use Rattle.running.specs.declared.Running.{Running}
 use Rattle.sim3.specs.Floats.{Sim3}
 use Rattle.layout.specs.Layout.{pose_count, vec_in, quat_in, pose_in, quat_numbers, pose_numbers}
-use Rattle.from_lists.specs.Lists.{wrong_length, sized, pose_from, PoseLists, framed_from}
+use Rattle.layout.specs.Lists.{wrong_length, PoseLists}
+use Rattle.from_lists.specs.Lists.{sized, pose_from, framed_from}
 use Rattle.sim3_c_doubles.specs.Join.{RunLists, run_lists, state_count, start_in, running_from, run_fitting}
 use Rattle.sim3_c_doubles.specs.Join.{joint_fitting, held_lists, zero_pose, start_call, push_call, every_call}
 use Rattle.sim3_c_doubles.specs.Join.{HeldTheorem}

@@ -15,8 +15,9 @@ use Rattle.layout.specs.Layout.{vec_in, quat_in, pose_in, pose_numbers}
 use Rattle.layout.proofs.Numbers.{pose-count}
 use Rattle.from_lists.specs.Lists.{number_in, pose_from}
 use Rattle.from_lists.proofs.Lists.{sized-right}
-use Rattle.to_lists.specs.Written.{written, renormalize_call}
+use Rattle.to_lists.specs.Written.{written}
 use Rattle.to_lists.proofs.Fits.{fitted}
+use Rattle.sim3_c.specs.Calls.{renormalize_call}
 use Rattle.sim3_c_doubles.specs.Join.{poses_renormalized}
 
 -- a pose has eight numbers

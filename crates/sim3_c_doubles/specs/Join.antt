@@ -15,7 +15,8 @@ use Rattle.frames.specs.Floats.{Pose}
 use Rattle.running.specs.Running.{Start, Joint, join_of, every_of, running_none}
 use Rattle.running.specs.declared.Running.{Running}
 use Rattle.layout.specs.Layout.{pose_count, pose_in, pose_numbers}
-use Rattle.from_lists.specs.Lists.{wrong_length, sized, number_in, pose_from, PoseLists, framed_from}
+use Rattle.layout.specs.Lists.{wrong_length, PoseLists}
+use Rattle.from_lists.specs.Lists.{sized, number_in, pose_from, framed_from}
 use Rattle.to_lists.specs.Written.{written}
 
 pub record RunLists : Type 0 where

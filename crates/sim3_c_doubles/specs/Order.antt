@@ -7,7 +7,8 @@ use Rattle.order.specs.Order.{tangent_order, sort_answer, sort_out}
 use Rattle.std.specs.declared.cmp.Ordering.{Ordering}
 use Rattle.std.specs.declared.cmp.Ordering.TheVariants.{Less, Equal, Greater}
 use Rattle.layout.specs.Layout.{tangent_count}
-use Rattle.from_lists.specs.Lists.{wrong_length, sized}
+use Rattle.layout.specs.Lists.{wrong_length}
+use Rattle.from_lists.specs.Lists.{sized}
 
 -- −1 if the first comes before the second, 0 if they are the same bits, 1 if it comes after
 unfoldable pub order_number : Ordering → ℤ

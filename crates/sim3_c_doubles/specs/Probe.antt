@@ -4,7 +4,8 @@ use Rattle.std.specs.Prelude.{ℕ, ◌≡◌, Bool, cond, List, [], ◌∷◌, e
 use Rattle.linalg.specs.Answer.{number}
 use Rattle.linalg.specs.declared.refusal.Refusal.{Refusal}
 use Rattle.environment.specs.Environment.{product_is_due, first, second, third}
-use Rattle.from_lists.specs.Lists.{wrong_length, number_in}
+use Rattle.layout.specs.Lists.{wrong_length}
+use Rattle.from_lists.specs.Lists.{number_in}
 
 unfoldable pub probe_call : List Float → ℕ
 probe_call l =

@@ -4,7 +4,7 @@ use Rattle.std.specs.Prelude.{ℕ, Bool, cond, ◌&&◌, List, [], ◌∷◌, eq
 use Rattle.linalg.specs.Answer.{Answer, answers, refuses, and_then}
 use Rattle.root.specs.declared.RootParts.{RootParts}
 use Rattle.root.specs.Root.{root_of}
-use Rattle.from_lists.specs.Lists.{wrong_length}
+use Rattle.layout.specs.Lists.{wrong_length}
 use Rattle.to_lists.specs.Written.{written}
 
 pub record RootLists : Type 0 where

@@ -7,7 +7,8 @@ use Rattle.sheets.specs.Sheets.{Sheets, Shelved, shelve, ask}
 use Rattle.sheets.specs.Store.{size, sheets_of, put_bytes, fresh_bytes}
 use Rattle.sheets.specs.declared.Shot.{Shot}
 use Rattle.layout.specs.Layout.{pose_count}
-use Rattle.from_lists.specs.Lists.{wrong_length, PoseLists, pose_lists, frames_count, framed_from}
+use Rattle.layout.specs.Lists.{wrong_length, PoseLists, pose_lists, frames_count}
+use Rattle.from_lists.specs.Lists.{framed_from}
 use Rattle.to_lists.specs.Written.{written, framed_numbers}
 
 abbrev pub shot : ℕ → Pose → Shot

@@ -5,7 +5,7 @@ ghost use Rattle.std.specs.Prelude.{◌≡◌, ◌*◌, length};
 ghost use Rattle.std.specs.Float.{binary64};
 ghost use Rattle.linalg.specs.Answer.{answer};
 ghost use Rattle.running.specs.Running.{joint_view};
-ghost use Rattle.from_lists.specs.Lists.{pose_lists};
+ghost use Rattle.layout.specs.Lists.{pose_lists};
 ghost use Rattle.to_lists.specs.Written.{status, written};
 ghost use Rattle.sim3_c_doubles.specs.Join.{run_lists, running_from, run_fitting, joint_fitting, run_written};
 ghost use Rattle.sim3_c_doubles.specs.Join.{start_call, push_call, every_call, poses_renormalized};
@@ -16,7 +16,8 @@ use from_lists::{framed_from, pose_from};
 use layout::POSE;
 use linalg::refusal::Refusal;
 use running::{Joined, Running};
-use to_lists::{put_pose, renormalize_pose};
+use sim3_c::pose::sim3_renormalize;
+use to_lists::put_pose;
 
 const STATE: usize = 5;
 
@@ -136,7 +137,7 @@ pub fn sim3_renormalize_all(poses: &mut [f64]) -> Result<(), Refusal>
     }
     for i in 0..poses.len() / POSE {
         let at = i * POSE;
-        let _ = renormalize_pose(&mut poses[at..at + POSE]);
+        let _ = sim3_renormalize(&mut poses[at..at + POSE]);
     }
     Ok(())
 }

@@ -4,14 +4,15 @@ ghost use Rattle.std.specs.Prelude.{cond, ◌≡◌};
 ghost use Rattle.linalg.specs.Answer.{answer, view};
 ghost use Rattle.sheets.specs.Sheets.{no_sheets};
 ghost use Rattle.sheets.specs.Store.{sheets_of, shelved_of};
-ghost use Rattle.from_lists.specs.Lists.{pose_lists, framed_from};
+ghost use Rattle.layout.specs.Lists.{pose_lists};
+ghost use Rattle.from_lists.specs.Lists.{framed_from};
 ghost use Rattle.to_lists.specs.Written.{status, written};
 ghost use Rattle.sim3_c_doubles.specs.Shelf.{holds, put_answer, put_store, put_sheets, get_answer, fresh_call};
 ghost use Rattle.sim3_c_doubles.specs.Shelf.{shelved_fitting, put_call, store_after, kept_after};
 ghost use Rattle.sim3_c_doubles.specs.Shelf.{shot_lists, shot_fitting, get_call, shot_written};
 
-use from_lists::{FRAMES, framed_from};
-use layout::POSE;
+use from_lists::framed_from;
+use layout::{FRAMES, POSE};
 use linalg::refusal::Refusal;
 use sheets::{Shelved, Shot, Store};
 use to_lists::put_framed;

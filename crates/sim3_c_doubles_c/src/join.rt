@@ -1,7 +1,7 @@
 // A running join between calls, and the Newton step on a list of poses.
 ghost use Rattle.std.specs.Prelude.{◌≡◌};
 ghost use Rattle.std.specs.Float.{binary64};
-ghost use Rattle.from_lists.specs.Lists.{pose_lists};
+ghost use Rattle.layout.specs.Lists.{pose_lists};
 ghost use Rattle.to_lists.specs.Written.{status, written};
 ghost use Rattle.sim3_c_doubles.specs.Join.{run_lists, run_written};
 ghost use Rattle.sim3_c_doubles.specs.Join.{start_call, push_call, every_call, renormalize_all_call};

@@ -2,7 +2,8 @@
 ghost use Rattle.std.specs.Prelude.{cond, ◌≡◌};
 ghost use Rattle.sheets.specs.Sheets.{no_sheets};
 ghost use Rattle.sheets.specs.Store.{sheets_of};
-ghost use Rattle.from_lists.specs.Lists.{pose_lists, framed_from};
+ghost use Rattle.layout.specs.Lists.{pose_lists};
+ghost use Rattle.from_lists.specs.Lists.{framed_from};
 ghost use Rattle.to_lists.specs.Written.{status, written};
 ghost use Rattle.sim3_c_doubles.specs.Shelf.{holds, fresh_call, put_call, store_after, kept_after, shot_lists};
 ghost use Rattle.sim3_c_doubles.specs.Shelf.{get_call};

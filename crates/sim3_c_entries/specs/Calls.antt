@@ -12,8 +12,9 @@ use Rattle.frames.specs.Joins.{framed_mul}
 use Rattle.jacobian.specs.Jac.{jac_inverse_answer}
 use Rattle.side_jacobians.specs.Pair.{block_pair}
 use Rattle.layout.specs.Layout.{scaled_pair_count, block_numbers, block_pair_numbers, scaled_pair_numbers, armed_scaled}
-use Rattle.from_lists.specs.Lists.{wrong_length, vec_from, mat_from, pose_from, tangent_from, values_from, block_from}
-use Rattle.from_lists.specs.Lists.{PoseLists, frames_from, framed_from}
+use Rattle.layout.specs.Lists.{wrong_length, PoseLists}
+use Rattle.from_lists.specs.Lists.{vec_from, mat_from, pose_from, tangent_from, values_from, block_from}
+use Rattle.from_lists.specs.Lists.{frames_from, framed_from}
 use Rattle.to_lists.specs.Written.{fitting, framed_fitting, joined_fitting}
 
 -- ---- poses with their frames

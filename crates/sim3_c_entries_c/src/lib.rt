@@ -4,7 +4,7 @@
 
 ghost use Rattle.std.specs.Prelude.{◌≡◌};
 ghost use Rattle.std.specs.Float.{binary64};
-ghost use Rattle.from_lists.specs.Lists.{pose_lists};
+ghost use Rattle.layout.specs.Lists.{pose_lists};
 ghost use Rattle.to_lists.specs.Written.{status, written, framed_written};
 ghost use Rattle.sim3_c_entries.specs.Calls.{exp_call, mul_call, inverse_call, scaled_pair_call, block_pair_call};
 ghost use Rattle.sim3_c_entries.specs.Calls.{block_inverse_call};

@@ -11,7 +11,7 @@ use lib.Ieee.{Float}
 use Rattle.layout.proofs.Runs.{sets_front}
 use Rattle.frames.specs.Floats.{Pose}
 use Rattle.layout.specs.Layout.{pose_count}
-use Rattle.from_lists.specs.Lists.{PoseLists, frames_count}
+use Rattle.layout.specs.Lists.{PoseLists, frames_count}
 use Rattle.to_lists.specs.Written.{status, written, fitting, framed_numbers, framed_written, framed_fitting}
 
 -- a run of as many stores as the list has elements leaves only the run

@@ -7,10 +7,9 @@ use Rattle.ieee.specs.Numbers.{f0, f1}
 use Rattle.linalg.specs.Answer.{Answer, answers, refuses, and_then}
 use Rattle.coeffs.specs.Floats.{Armed}
 use Rattle.coeffs.specs.Floats.{ArmedPair}
-use Rattle.sim3.specs.Pose.{pose_renormalized}
 use Rattle.frames.specs.Floats.{Pose}
 use Rattle.layout.specs.Layout.{pose_count, pose_numbers, scaled_numbers, scaled_pair_numbers, armed_scaled}
-use Rattle.from_lists.specs.Lists.{wrong_length, pose_from, PoseLists, pose_lists, frames_count}
+use Rattle.layout.specs.Lists.{wrong_length, PoseLists, pose_lists, frames_count}
 
 -- ---- the return value, and `out` afterwards
 unfoldable pub status : {A : Type 0} → Answer A → ℕ
@@ -54,7 +53,3 @@ armed_numbers f a = arm_numbers f a ++ scaled_numbers a.s
 
 unfoldable pub armed_pair_numbers : Format → ArmedPair → List Float
 armed_pair_numbers f p = arm_numbers f p.pos ++ (arm_numbers f p.neg ++ scaled_pair_numbers (armed_scaled p))
-
--- ---- the rotation's Newton step, which reads no frame, in place: the list is read and then written
-unfoldable pub renormalize_call : Format → List Float → Answer (List Float)
-renormalize_call f x = and_then (pose_from x) (λ a. fitting x (pose_numbers (pose_renormalized f a)))

@@ -20,19 +20,20 @@ ghost use Rattle.layout.specs.Layout.{mat_numbers, quat_numbers, pose_numbers, b
 ghost use Rattle.layout.specs.Layout.{scaled_numbers, scaled_pair_numbers, two_numbers, act_numbers};
 ghost use Rattle.layout.proofs.Numbers.{vec-count, mat-count, quat-count, pose-count, block-count, block-pair-count};
 ghost use Rattle.layout.proofs.Numbers.{scaled-count, scaled-pair-count, two_count_lem, act_count_lem};
-ghost use Rattle.from_lists.specs.Lists.{pose_lists};
+ghost use Rattle.layout.specs.Lists.{pose_lists};
 ghost use Rattle.to_lists.specs.Written.{status, written, fitting, framed_written, framed_fitting, arm_numbers};
-ghost use Rattle.to_lists.specs.Written.{armed_numbers, armed_pair_numbers, renormalize_call};
+ghost use Rattle.to_lists.specs.Written.{armed_numbers, armed_pair_numbers};
 ghost use Rattle.to_lists.specs.Counts.{arm-count, armed-count, armed-pair-count};
 
 use crate::numbers::ToNumbers;
 use crate::whole::Whole;
 use coeffs::sim3::{Armed, Scaled};
 use frames::Pose;
-use from_lists::{FRAMES, pose_from};
 use ieee::Real;
 use jacobian::jac::Sim3Jac;
-use layout::{ACT_JACOBIANS, BLOCK, BLOCK_PAIR, MAT, POSE, SCALED_PAIR, TWO_JACOBIANS, VEC};
+use layout::{
+    ACT_JACOBIANS, BLOCK, BLOCK_PAIR, FRAMES, MAT, POSE, SCALED_PAIR, TWO_JACOBIANS, VEC,
+};
 use linalg::matrix::Mat3;
 use linalg::refusal::Refusal;
 use linalg::vector::Vec3;
@@ -40,7 +41,7 @@ use series::sim3::{Signs, Sim3Coeffs};
 use side_jacobians::pair::BlockPair;
 use side_jacobians::side::{ActJacobians, TwoJacobians};
 use sim3::sim3::Sim3;
-use so3::quat::{Quat, Renormalize};
+use so3::quat::Quat;
 
 mod numbers; // structures with numbers
 pub mod whole; // a byte as a number
@@ -344,16 +345,6 @@ pub fn put_pose<T: Real>(out: &mut [T], x: Sim3<T>) -> Result<(), Refusal>
         ≡ written (fitting (T.floats out.old) (pose_numbers (as_sim3 T.float x))) (T.floats out.old) }
 {
     put(out, x)
-}
-
-// A Newton step towards a unit quaternion, in place: the pose is read, and then written.
-#[tactic(auto, unfolding(crate::proofs::OnLists::on_lists, crate::specs::Written::renormalize_call))]
-pub fn renormalize_pose<T: Real>(x: &mut [T]) -> Result<(), Refusal>
-    ensures value { status (answer result) ≡ status (renormalize_call T.format (T.floats x.old)) }
-    ensures x_after { T.floats x.new ≡ written (renormalize_call T.format (T.floats x.old)) (T.floats x.old) }
-{
-    let a = pose_from(x)?;
-    put(x, a.renormalized())
 }
 
 // Writes the numbers to one list and the frames, from and to, to another; both or neither.

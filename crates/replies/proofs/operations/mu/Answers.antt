@@ -8,7 +8,7 @@ use lib.Seq.{sets}
 use Rattle.linalg.specs.Answer.{Answer}
 use Rattle.wire.specs.Wire.{Item, width, firsts, numbers_at}
 use Rattle.record_result.specs.RecordResult.{written_answer, answer_bytes}
-use Rattle.from_lists.specs.Lists.{pose_lists}
+use Rattle.layout.specs.Lists.{pose_lists}
 use Rattle.record_result.specs.Framed.{framed_width}
 use Rattle.replies.proofs.Views.{floats-length, floats-one}
 use Rattle.std.proofs.lemmas.List.{take_rest}

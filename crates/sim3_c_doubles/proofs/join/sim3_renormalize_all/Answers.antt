@@ -14,7 +14,7 @@ loop-i-preserved c =
     let L = c.loop-i in
     let k : L.i * 8 + 8 - L.i * 8 ≡ 8 = omega arith in (
       rw k (part_more binary64 a.poses.now L.poses _ L.i (omega arith) L.invariant.1 L.invariant.0
-          (rw k at c.renormalize_pose.ensures.x_after)),
-      same_len_mid (L.i * 8) (L.i * 8 + 8 - L.i * 8) L.poses c.renormalize_pose.new.x c.renormalize_pose.auto.x
+          (rw k at c.sim3_renormalize.ensures.x_after)),
+      same_len_mid (L.i * 8) (L.i * 8 + 8 - L.i * 8) L.poses c.sim3_renormalize.new.x c.sim3_renormalize.auto.x
           ∙ L.invariant.1,
     )

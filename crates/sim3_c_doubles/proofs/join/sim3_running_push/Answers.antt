@@ -3,7 +3,8 @@
 use borrow.Author.Rules.{rules}
 use mathlib.Core.Path.{◌≡◌}
 use Rattle.linalg.specs.Answer.{answers}
-use Rattle.from_lists.specs.Lists.{pose_lists, framed_from}
+use Rattle.layout.specs.Lists.{pose_lists}
+use Rattle.from_lists.specs.Lists.{framed_from}
 use Rattle.to_lists.specs.Written.{status, written}
 use Rattle.sim3_c_doubles.specs.Join.{run_lists, running_from, push_call}
 use Rattle.sim3_c_doubles.proofs.join.sim3_running_push.Goals as goal

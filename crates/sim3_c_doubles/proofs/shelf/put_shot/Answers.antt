@@ -3,7 +3,7 @@
 use borrow.Author.Tests.{eq-eqb}
 use mathlib.Core.Path.{◌∙◌}
 use mathlib.Core.List.{[], ◌∷◌}
-use Rattle.from_lists.specs.Lists.{pose_lists}
+use Rattle.layout.specs.Lists.{pose_lists}
 use Rattle.to_lists.specs.Written.{written}
 use Rattle.sim3_c_doubles.specs.Shelf.{shot_lists, shot_fitting}
 use Rattle.to_lists.proofs.Fits.{sets-all, framed_fitted}

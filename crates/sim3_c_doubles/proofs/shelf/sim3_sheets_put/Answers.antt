@@ -4,7 +4,8 @@ use borrow.Author.Rules.{rules}
 use borrow.Author.Tests.{eq-eqb}
 use mathlib.Core.Path.{◌≡◌}
 use Rattle.linalg.specs.Answer.{answers}
-use Rattle.from_lists.specs.Lists.{pose_lists, framed_from}
+use Rattle.layout.specs.Lists.{pose_lists}
+use Rattle.from_lists.specs.Lists.{framed_from}
 use Rattle.sim3_c_doubles.specs.Shelf.{put_call}
 use Rattle.sim3_c_doubles.proofs.shelf.sim3_sheets_put.Goals as goal
 
