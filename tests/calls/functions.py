@@ -21,6 +21,7 @@ Function = namedtuple("Function", "id name takes gives call answer")
 CIRCLE = "circle::kernel::"
 SERIES = "series::sim3::"
 COEFFS = "coeffs::sim3::"
+PAIRS = "pairs::sim3::"
 SIDE = "side_jacobians::side::"
 HALVES = "v.root, v.sin_half, v.cos_half"
 TANGENT_JL = "tau:tangent v:values jl:mat"
@@ -89,7 +90,7 @@ ROWS = [
      f"({COEFFS}Scaled {{ c, scaled: scaled != 0.0 }}).unscale(up)"),
     (67, "sim3_coeffs_scaled", COEFFS_IN, "coeffs:r.c flag:r.scaled", COEFFS + "sim3_coeffs_scaled(sigma, z, v)", "Ok"),
     (68, "sim3_coeffs_scaled_pair", COEFFS_IN, "coeffs:r.pos.c flag:r.pos.scaled coeffs:r.neg.c flag:r.neg.scaled",
-     COEFFS + "sim3_coeffs_scaled_pair(sigma, z, v)", "Ok"),
+     PAIRS + "sim3_coeffs_scaled_pair(sigma, z, v)", "Ok"),
     (69, "sim3_coeffs_armed", COEFFS_IN, "byte:r.arm.number() flag:r.ends coeffs:r.s.c flag:r.s.scaled",
      COEFFS + "sim3_coeffs_armed(sigma, z, v)", "Ok"),
     (70, "Sim3Tangent zero", "", "tangent", "Sim3Tangent::zero()"),

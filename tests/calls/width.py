@@ -14,8 +14,8 @@ SINGLE = Width("f32", "_f32", 4, "float", 0x7FC00000, "f", "I", LISTS / "f32")
 WIDTHS = {width.name: width for width in (DOUBLE, SINGLE)}
 
 # The crates that the wrappers call, and those below them.
-CRATES = ("ieee linalg tables circle series arms coeffs so3 sim3 point_lists jacobian side_jacobians dense_jacobian frames "
-          "framed_jacobian")
+CRATES = ("ieee linalg tables circle series arms coeffs pairs so3 sim3 point_lists jacobian side_jacobians "
+          "dense_jacobian frames framed_jacobian")
 
 
 def at_width(source, width):

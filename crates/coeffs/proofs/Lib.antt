@@ -2,4 +2,3 @@ pub mod Unfolds
 pub mod ClosedForms
 pub mod GroupForms
 pub mod Arms
-pub mod Even

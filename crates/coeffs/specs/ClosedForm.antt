@@ -14,6 +14,7 @@ use Rattle.arms.specs.Values.{at_zero}
 use Rattle.arms.specs.Limits.{coeffs_delta}
 use Rattle.coeffs.specs.Floats.{Ws}
 use Rattle.coeffs.specs.Floats.{Dvs}
+use Rattle.coeffs.specs.Floats.{Exps}
 
 -- the exponential's numbers where 0 < σ, and elsewhere: e, m₁ and g, which is e^-σ where scaled
 abbrev pub closed_e : Float → Float → Float
@@ -24,6 +25,10 @@ closed_m sigma mt = cond (lt f0 sigma) (neg mt) mt
 
 abbrev pub closed_g : Float → Float → Float
 closed_g sigma et = cond (lt f0 sigma) et f1
+
+-- e, m₁ and g of one sign
+unfoldable pub closed_exps : Float → Float → Float → Exps
+closed_exps sigma et mt = record { e = closed_e sigma et; m1 = closed_m sigma mt; g = closed_g sigma et }
 
 -- the circle functions, with only those that v reads
 unfoldable pub closed_only : SincA → SincABD

@@ -5,10 +5,8 @@ use Rattle.coeffs.specs.declared.closed_form.Ws as CodeWs
 use Rattle.coeffs.specs.declared.closed_form.Dvs as CodeDvs
 use Rattle.coeffs.specs.declared.closed_form.EtMt as CodeEtMt
 use Rattle.coeffs.specs.declared.closed_form.Exps as CodeExps
-use Rattle.coeffs.specs.declared.closed_form.Ends as CodeEnds
 use Rattle.coeffs.specs.declared.sim3.Scaled as CodeScaled
 use Rattle.coeffs.specs.declared.sim3.Armed as CodeArmed
-use Rattle.series.specs.declared.sim3.Signs as CodeSigns
 use Rattle.series.specs.declared.sim3.Sim3Coeffs as CodeSim3Coeffs
 use Rattle.series.specs.declared.sim3.Coeffs4 as CodeCoeffs4
 use Rattle.series.specs.Floats.{Coeffs4, Sim3Coeffs, as_coeffs4, as_sim3_coeffs}
@@ -38,12 +36,6 @@ Exps = CodeExps.Exps Float
 abbrev pub as_exps : {T : Type 0} → (T → Float) → CodeExps.Exps T → Exps
 as_exps h a = record { e = h a.e; m1 = h a.m1; g = h a.g }
 
-abbrev pub Ends : Type 0
-Ends = CodeEnds.Ends Float
-
-abbrev pub as_ends : {T : Type 0} → (T → Float) → CodeEnds.Ends T → Ends
-as_ends h a = record { v0 = h a.v0; w0 = h a.w0; v0_neg = h a.v0_neg; w0_neg = h a.w0_neg }
-
 abbrev pub Scaled : Type 0
 Scaled = CodeScaled.Scaled Sim3Coeffs
 
@@ -56,13 +48,6 @@ VScaled = CodeScaled.Scaled Coeffs4
 abbrev pub as_v_scaled : {T : Type 0} → (T → Float) → CodeScaled.Scaled (CodeCoeffs4.Coeffs4 T) → VScaled
 as_v_scaled h a = record { c = as_coeffs4 h a.c; scaled = a.scaled }
 
-abbrev pub ScaledPair : Type 0
-ScaledPair = CodeSigns.Signs Scaled
-
-abbrev pub as_scaled_pair : {T : Type 0} → (T → Float) → CodeSigns.Signs
-    (CodeScaled.Scaled (CodeSim3Coeffs.Sim3Coeffs T)) → ScaledPair
-as_scaled_pair h a = record { pos = as_scaled h a.pos; neg = as_scaled h a.neg }
-
 -- the armed coefficients, with the arm as its number
 pub record Armed : Type 0 where
   pub s : Scaled
@@ -71,9 +56,3 @@ pub record Armed : Type 0 where
 
 abbrev pub as_armed : {T : Type 0} → (T → Float) → CodeArmed.Armed T → Armed
 as_armed h a = record { s = as_scaled h a.s; arm = arm_number a.arm; ends = a.ends }
-
-abbrev pub ArmedPair : Type 0
-ArmedPair = CodeSigns.Signs Armed
-
-abbrev pub as_armed_pair : {T : Type 0} → (T → Float) → CodeSigns.Signs (CodeArmed.Armed T) → ArmedPair
-as_armed_pair h a = record { pos = as_armed h a.pos; neg = as_armed h a.neg }

@@ -1,7 +1,7 @@
--- The coefficients: which arm, and whether scaled; with the arm; unscaled; v only; and at both signs.
+-- The coefficients: which arm, and whether scaled; with the arm; unscaled; and v only.
 use Rattle.std.specs.Prelude.{Bool, false, cond, ltb, Float}
 use Rattle.std.specs.Float.{Format}
-use Rattle.std.specs.Float.Ieee.{neg, lt, le}
+use Rattle.std.specs.Float.Ieee.{lt, le}
 use Rattle.ieee.specs.Numbers.{f0, f1}
 use Rattle.ieee.specs.Infix.{operations}
 use Rattle.series.specs.Series.{series_full, coeffs4}
@@ -9,16 +9,13 @@ use Rattle.series.specs.Floats.{Sim3Coeffs}
 use Rattle.series.specs.Floats.{Coeffs4}
 use Rattle.circle.specs.Kernel.{circle_sinc_abd}
 use Rattle.circle.specs.Floats.{SincABD}
-use Rattle.arms.specs.Values.{mirrored}
 use Rattle.arms.specs.Limits.{coeffs_delta, form_b_below}
 use Rattle.arms.specs.Arm.{coeffs_arm, arm_terms, arm_ends}
 use Rattle.coeffs.specs.ClosedForm.{closed_from}
 use Rattle.arms.specs.Floats.{Values}
 use Rattle.coeffs.specs.Floats.{Scaled}
 use Rattle.coeffs.specs.Floats.{VScaled}
-use Rattle.coeffs.specs.Floats.{ScaledPair}
 use Rattle.coeffs.specs.Floats.{Armed}
-use Rattle.coeffs.specs.Floats.{ArmedPair}
 
 -- the closed forms, from the circle functions t and from et and mt, with v₀ and w₀ by their series where `ends`: scaled
 -- exactly where 0 < σ
@@ -81,12 +78,3 @@ coeffs_v_scaled f sigma z v =
 
 unfoldable pub coeffs_v : Format → Float → Float → Values → Coeffs4
 coeffs_v f sigma z v = coeffs4 (coeffs_unscaled f sigma z v)
-
--- both signs: at σ on the values, and at -σ on the mirrored values
-unfoldable pub coeffs_pair : Format → Float → Float → Values → ScaledPair
-coeffs_pair f sigma z v =
-    record { pos = coeffs_scaled f sigma z v; neg = coeffs_scaled f (neg sigma) z (mirrored sigma v) }
-
-unfoldable pub coeffs_armed_pair : Format → Float → Float → Values → ArmedPair
-coeffs_armed_pair f sigma z v =
-    record { pos = coeffs_armed f sigma z v; neg = coeffs_armed f (neg sigma) z (mirrored sigma v) }

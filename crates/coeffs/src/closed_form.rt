@@ -1,22 +1,20 @@
 // The closed arm: the coefficients from the circle functions and the exponential, scaled by e^-sigma where 0 < sigma,
 // so that nothing overflows before the result does.
 ghost use Rattle.std.specs.Prelude.{◌≡◌};
-ghost use Rattle.std.specs.Float.Ieee.{neg};
 ghost use Rattle.coeffs.specs.ClosedForm.{closed_v0, closed_w0, closed_v, closed_ws, closed_dvs, closed_nine};
-ghost use Rattle.coeffs.specs.ClosedForm.{closed_v_from, closed_only, closed_from};
-ghost use Rattle.coeffs.specs.Private.{closed_exps, closed_ends, closed_with};
-ghost use Rattle.series.specs.Floats.{as_coeffs4, as_coeffs_pair, as_sim3_coeffs};
-ghost use Rattle.coeffs.specs.Floats.{as_dvs, as_ends, as_exps, as_ws};
+ghost use Rattle.coeffs.specs.ClosedForm.{closed_v_from, closed_only, closed_from, closed_exps};
+ghost use Rattle.series.specs.Floats.{as_coeffs4, as_sim3_coeffs};
+ghost use Rattle.coeffs.specs.Floats.{as_dvs, as_exps, as_ws};
 ghost use Rattle.circle.specs.Floats.{as_sinc_a, as_sinc_abd};
 
 use crate::width::Width;
 use arms::values::at_zero;
 use circle::kernel::{SincA, SincABD};
-use series::sim3::{Coeffs4, CoeffsPair, Sim3Coeffs};
+use series::sim3::{Coeffs4, Sim3Coeffs};
 
 // v0 by its series where `small`, else m1/sigma, and 1 where sigma is a zero.
 #[tactic(auto, unfolding(crate::specs::ClosedForm::closed_v0))]
-fn v0_of<T: Width>(sigma: T, g: T, m1: T, small: bool) -> T
+pub fn v0_of<T: Width>(sigma: T, g: T, m1: T, small: bool) -> T
     ensures { T.float result ≡ closed_v0 T.format (T.float sigma) (T.float g) (T.float m1) small }
 {
     if small {
@@ -29,7 +27,7 @@ fn v0_of<T: Width>(sigma: T, g: T, m1: T, small: bool) -> T
 
 // w0 by its series where `small`, else (m1 - sigma g)/sigma^2.
 #[tactic(auto, unfolding(crate::specs::ClosedForm::closed_w0))]
-fn w0_of<T: Width>(sigma: T, g: T, m1: T, small: bool) -> T
+pub fn w0_of<T: Width>(sigma: T, g: T, m1: T, small: bool) -> T
     ensures { T.float result ≡ closed_w0 T.format (T.float sigma) (T.float g) (T.float m1) small }
 {
     if small {
@@ -41,7 +39,7 @@ fn w0_of<T: Width>(sigma: T, g: T, m1: T, small: bool) -> T
 
 // v1, v2 and chi_delta from v0.
 #[tactic(auto, unfolding(crate::proofs::ClosedForms::closed_forms, arms::specs::Limits::coeffs_delta))]
-fn v_from<T: Width>(sigma: T, z: T, t: SincA<T>, e: T, m1: T, v0: T, form_b: bool) -> Coeffs4<T>
+pub fn v_from<T: Width>(sigma: T, z: T, t: SincA<T>, e: T, m1: T, v0: T, form_b: bool) -> Coeffs4<T>
     ensures { as_coeffs4 T.float result ≡ closed_v T.format (T.float sigma) (T.float z)
         (closed_only (as_sinc_a T.float t)) (T.float e) (T.float m1) (T.float v0) form_b }
 {
@@ -106,7 +104,7 @@ fn dv_from<T: Width>(sigma: T, z: T, t: SincABD<T>, e: T, v2: T) -> Dvs<T>
 
 // All nine from v, w0 and e: w1, w2 and the derivatives are formed here.
 #[tactic(auto, unfolding(crate::specs::ClosedForm::closed_joined, crate::specs::ClosedForm::closed_nine))]
-fn nine<T: Width>(sigma: T, z: T, t: SincABD<T>, e: T, v: Coeffs4<T>, w0: T) -> Sim3Coeffs<T>
+pub fn nine<T: Width>(sigma: T, z: T, t: SincABD<T>, e: T, v: Coeffs4<T>, w0: T) -> Sim3Coeffs<T>
     ensures { as_sim3_coeffs T.float result ≡ closed_nine T.format (T.float sigma) (T.float z) (as_sinc_abd T.float t)
         (T.float e) (as_coeffs4 T.float v) (T.float w0) }
 {
@@ -141,8 +139,8 @@ pub struct Exps<T> {
     pub g: T,
 }
 
-#[tactic(auto, unfolding(crate::specs::Private::closed_exps))]
-fn exps_of<T: Width>(sigma: T, x: EtMt<T>) -> Exps<T>
+#[tactic(auto, unfolding(crate::specs::ClosedForm::closed_exps))]
+pub fn exps_of<T: Width>(sigma: T, x: EtMt<T>) -> Exps<T>
     ensures { as_exps T.float result ≡ closed_exps (T.float sigma) (T.float x.et) (T.float x.mt) }
 {
     let pos = T::of(0.0).is_below(sigma);
@@ -154,7 +152,7 @@ fn exps_of<T: Width>(sigma: T, x: EtMt<T>) -> Exps<T>
 }
 
 // The circle functions that v reads.
-fn of_v<T: Width>(t: SincABD<T>) -> SincA<T>
+pub fn of_v<T: Width>(t: SincABD<T>) -> SincA<T>
     ensures { as_sinc_a T.float result ≡ record { sinc = T.float t.sinc; a = T.float t.a } }
 {
     SincA {
@@ -166,7 +164,7 @@ fn of_v<T: Width>(t: SincABD<T>) -> SincA<T>
 // v and chi_delta only, from the circle functions t and from e^t, e^t - 1 at t = -|sigma|. PERF (D122): it and `v_at`
 // have several callers, and if they were not inlined they would receive their numbers in memory.
 #[inline(always)]
-#[tactic(auto, unfolding(crate::specs::ClosedForm::closed_v_from, crate::specs::Private::closed_exps))]
+#[tactic(auto, unfolding(crate::specs::ClosedForm::closed_v_from, crate::specs::ClosedForm::closed_exps))]
 pub fn closed_v<T: Width>(
     sigma: T,
     z: T,
@@ -200,82 +198,4 @@ pub fn closed_from<T: Width>(
     let x = exps_of(sigma, et_mt);
     let w0 = w0_of(sigma, x.g, x.m1, small);
     nine(sigma, z, t, x.e, v, w0)
-}
-
-// v0 and w0 at both signs.
-#[derive(Drop)]
-pub struct Ends<T> {
-    pub v0: T,
-    pub w0: T,
-    pub v0_neg: T,
-    pub w0_neg: T,
-}
-
-// v0 and w0 at sigma, with the numbers x of the exponential, and at -sigma, with y.
-#[tactic(auto, unfolding(crate::proofs::ClosedForms::closed_forms, series::specs::Series::g_series_pair))]
-fn ends_of<T: Width>(sigma: T, x: Exps<T>, y: Exps<T>, small: bool) -> Ends<T>
-    ensures { as_ends T.float result ≡ closed_ends T.format (T.float sigma) (as_exps T.float x)
-        (as_exps T.float y) small }
-{
-    if small {
-        let h = series::small::horner_small(sigma);
-        let v = h.v0;
-        let w = h.w0;
-        return Ends {
-            v0: x.g * v.pos,
-            w0: x.g * w.pos,
-            v0_neg: y.g * v.neg,
-            w0_neg: y.g * w.neg,
-        };
-    }
-    let minus = -sigma;
-    Ends {
-        v0: v0_of(sigma, x.g, x.m1, false),
-        w0: w0_of(sigma, x.g, x.m1, false),
-        v0_neg: v0_of(minus, y.g, y.m1, false),
-        w0_neg: w0_of(minus, y.g, y.m1, false),
-    }
-}
-
-// The same from e^t and e^t - 1 of each sign.
-pub fn ends_both<T: Width>(sigma: T, x: EtMt<T>, y: EtMt<T>, small: bool) -> Ends<T>
-    ensures { as_ends T.float result ≡ closed_ends T.format (T.float sigma)
-        (closed_exps (T.float sigma) (T.float x.et) (T.float x.mt))
-        (closed_exps (neg (T.float sigma)) (T.float y.et) (T.float y.mt)) small }
-{
-    let p = exps_of(sigma, x);
-    let n = exps_of(-sigma, y);
-    ends_of(sigma, p, n, small)
-}
-
-// All nine at sigma, from x, and at -sigma, from y, with v0 and w0 of both: the circle functions and
-// the squares are shared.
-#[tactic(auto, unfolding(crate::proofs::ClosedForms::closed_forms))]
-pub fn closed_both<T: Width>(
-    sigma: T,
-    z: T,
-    t: SincABD<T>,
-    x: EtMt<T>,
-    y: EtMt<T>,
-    h: Ends<T>,
-    form_b: bool,
-) -> CoeffsPair<T>
-    ensures { as_coeffs_pair T.float result ≡ record {
-      pos =
-          closed_with T.format (T.float sigma) (T.float z) (as_sinc_abd T.float t) (T.float x.et) (T.float x.mt)
-          (T.float h.v0) (T.float h.w0) form_b;
-      neg = closed_with T.format (neg (T.float sigma)) (T.float z)
-          (as_sinc_abd T.float t) (T.float y.et) (T.float y.mt) (T.float h.v0_neg) (T.float h.w0_neg) form_b;
-    } }
-{
-    let minus = -sigma;
-    let p = exps_of(sigma, x);
-    let n = exps_of(minus, y);
-    let tv = of_v(t);
-    let a = v_from(sigma, z, tv, p.e, p.m1, h.v0, form_b);
-    let b = v_from(minus, z, tv, n.e, n.m1, h.v0_neg, form_b);
-    CoeffsPair {
-        pos: nine(sigma, z, t, p.e, a, h.w0),
-        neg: nine(minus, z, t, n.e, b, h.w0_neg),
-    }
 }

@@ -6,7 +6,7 @@ use Rattle.linalg.specs.Floats.{Vec3}
 use Rattle.linalg.specs.Floats.{Mat3}
 use Rattle.series.specs.Floats.{Sim3Coeffs}
 use Rattle.coeffs.specs.Floats.{Scaled}
-use Rattle.coeffs.specs.Floats.{ScaledPair}
+use Rattle.pairs.specs.Floats.{ScaledPair}
 use Rattle.so3.specs.Floats.{Quat}
 use Rattle.sim3.specs.Floats.{Sim3}
 use Rattle.jacobian.specs.Floats.{Sim3Jac}

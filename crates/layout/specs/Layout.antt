@@ -10,8 +10,8 @@ use Rattle.linalg.specs.Floats.{Mat3}
 use Rattle.series.specs.Floats.{Sim3Coeffs}
 use Rattle.arms.specs.Floats.{Values}
 use Rattle.coeffs.specs.Floats.{Scaled}
-use Rattle.coeffs.specs.Floats.{ScaledPair}
-use Rattle.coeffs.specs.Floats.{ArmedPair}
+use Rattle.pairs.specs.Floats.{ScaledPair}
+use Rattle.pairs.specs.Floats.{ArmedPair}
 use Rattle.so3.specs.Quat.{quat}
 use Rattle.so3.specs.Floats.{Quat}
 use Rattle.sim3.specs.Pose.{pose}

@@ -8,11 +8,11 @@ use lib.ListN.{take, drop}
 use lib.Ieee.{Format}
 use Rattle.linalg.specs.Answer.{Answer, answers, refuses, and_then}
 use Rattle.linalg.proofs.Answers.{never, answers-is}
-use Rattle.coeffs.specs.Entries.{pair_answer}
+use Rattle.pairs.specs.Entries.{pair_answer}
 use Rattle.arms.specs.Limits.{coeffs_delta}
 use Rattle.arms.specs.Arm.{coeffs_arm, arm_ends}
-use Rattle.coeffs.specs.Floats.{ScaledPair}
-use Rattle.coeffs.proofs.Even.{view_both, armed-pair-view}
+use Rattle.pairs.specs.Floats.{ScaledPair}
+use Rattle.pairs.proofs.Even.{view_both, armed-pair-view}
 use Rattle.layout.specs.Layout.{values_in, scaled_pair_numbers}
 use Rattle.wire.specs.Wire.{Item, number_at}
 use Rattle.replies.specs.Table.{gives, arm_items, armed_items, co_of, ar_of}

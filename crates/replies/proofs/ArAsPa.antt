@@ -5,9 +5,11 @@ use Rattle.linalg.specs.Answer.{Answer, answers, and_then}
 use Rattle.linalg.specs.Vector.{vec_norm_sq}
 use Rattle.circle.proofs.Angle.{norm_not_below}
 use Rattle.arms.specs.Floats.{Values}
-use Rattle.coeffs.specs.Group.{coeffs_armed, coeffs_armed_pair}
-use Rattle.coeffs.specs.Entries.{armed_answer, beside_armed, armed_pair_answer}
-use Rattle.coeffs.specs.Floats.{ArmedPair}
+use Rattle.coeffs.specs.Group.{coeffs_armed}
+use Rattle.coeffs.specs.Entries.{armed_answer}
+use Rattle.pairs.specs.Group.{coeffs_armed_pair}
+use Rattle.pairs.specs.Entries.{beside_armed, armed_pair_answer}
+use Rattle.pairs.specs.Floats.{ArmedPair}
 use Rattle.sim3.specs.Floats.{Sim3Tangent}
 use Rattle.side_jacobians.proofs.Flags.{pair_by_flags}
 use Rattle.layout.specs.Layout.{tangent_in, values_in, mat_in, block_pair_numbers, coeffs_numbers, scaled_numbers}

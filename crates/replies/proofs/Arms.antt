@@ -6,7 +6,7 @@ use native.Mathlib.Omega.{arith}
 use lib.ListN.{length, length-append}
 use lib.Ieee.{Format}
 use Rattle.coeffs.specs.Floats.{Armed}
-use Rattle.coeffs.specs.Floats.{ArmedPair}
+use Rattle.pairs.specs.Floats.{ArmedPair}
 use Rattle.layout.specs.Layout.{scaled_pair_numbers, armed_scaled}
 use Rattle.layout.proofs.Numbers.{scaled-pair-count}
 use Rattle.wire.specs.Wire.{width, word_bytes, numbers_bytes, item_bytes, items_bytes, numbers}

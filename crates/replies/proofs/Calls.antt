@@ -12,11 +12,12 @@ use lib.Ieee.{Float, Format, le, lt}
 use Rattle.ieee.specs.Numbers.{f0}
 use Rattle.linalg.specs.Answer.{Answer, answers, refuses, and_then}
 use Rattle.linalg.specs.Vector.{vec_numbers}
-use Rattle.coeffs.specs.Entries.{scaled_answer, beside, pair_answer, armed_answer, beside_armed, armed_pair_answer}
+use Rattle.coeffs.specs.Entries.{scaled_answer, armed_answer}
 use Rattle.coeffs.specs.Floats.{Scaled}
-use Rattle.coeffs.specs.Floats.{ScaledPair}
 use Rattle.coeffs.specs.Floats.{Armed}
-use Rattle.coeffs.specs.Floats.{ArmedPair}
+use Rattle.pairs.specs.Entries.{beside, pair_answer, beside_armed, armed_pair_answer}
+use Rattle.pairs.specs.Floats.{ScaledPair}
+use Rattle.pairs.specs.Floats.{ArmedPair}
 use Rattle.sim3.specs.Pose.{pose_act}
 use Rattle.frames.specs.Pose.{framed_exp, framed_inverse}
 use Rattle.frames.specs.Joins.{framed_mul}

@@ -11,7 +11,8 @@ use Rattle.ieee.specs.Numbers.{f0}
 use Rattle.arms.specs.Limits.{coeffs_delta}
 use Rattle.arms.specs.Arm.{coeffs_arm, arm_ends}
 use Rattle.coeffs.specs.Group.{coeffs_armed}
-use Rattle.coeffs.specs.Entries.{beside, scaled_answer, pair_answer, beside_armed, armed_answer, armed_pair_answer}
+use Rattle.coeffs.specs.Entries.{scaled_answer, armed_answer}
+use Rattle.pairs.specs.Entries.{beside, pair_answer, beside_armed, armed_pair_answer}
 use Rattle.arms.specs.Floats.{Values}
 use Rattle.so3.specs.So3.{so3_act}
 use Rattle.so3.specs.Quat.{quat_mul}

@@ -8,8 +8,8 @@ use lib.ListN.{length, take, drop, get_or, set, length-append, length-drop}
 use lib.Seq.{sets, length-sets, length-take-le}
 use lib.Ieee.{Float, Format, binary32, binary64}
 use Rattle.linalg.specs.Answer.{Answer, answers, refuses, and_then}
-use Rattle.coeffs.specs.Entries.{pair_answer, armed_pair_answer}
-use Rattle.coeffs.specs.Floats.{ArmedPair}
+use Rattle.pairs.specs.Entries.{pair_answer, armed_pair_answer}
+use Rattle.pairs.specs.Floats.{ArmedPair}
 use Rattle.jacobian.specs.Jac.{jac_inverse_answer}
 use Rattle.frames.specs.Joins.{framed_mul}
 use Rattle.frames.specs.Floats.{Pose}

@@ -15,7 +15,7 @@ use Rattle.std.proofs.lemmas.List.{length-map, drop-map, take-map}
 use Rattle.linalg.specs.Answer.{Answer, answers, refuses, and_then, number, answer}
 use Rattle.linalg.specs.declared.refusal.Refusal.{Refusal}
 use Rattle.linalg.specs.declared.refusal.Refusal.TheVariants as refusal
-use Rattle.coeffs.specs.Floats.{ArmedPair}
+use Rattle.pairs.specs.Floats.{ArmedPair}
 use Rattle.frames.specs.Floats.{Pose}
 use Rattle.layout.specs.Layout.{pose_count, scaled_pair_count, scaled_pair_numbers, armed_scaled}
 use Rattle.layout.proofs.Runs.{sets-part, run_behind}

@@ -5,7 +5,7 @@ use Rattle.std.specs.Float.{Format}
 use Rattle.ieee.specs.Numbers.{f0, f1}
 use Rattle.linalg.specs.Answer.{answers}
 use Rattle.linalg.specs.Vector.{vec_norm_sq}
-use Rattle.coeffs.specs.Floats.{ArmedPair}
+use Rattle.pairs.specs.Floats.{ArmedPair}
 use Rattle.side_jacobians.specs.Pair.{block_pair_scaled}
 use Rattle.layout.specs.Layout.{tangent_in, values_in, mat_in, block_pair_numbers}
 use Rattle.wire.specs.Wire.{number_at, numbers}

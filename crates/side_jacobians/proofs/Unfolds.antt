@@ -3,7 +3,8 @@ use Rattle.std.specs.Prelude.{⊤}
 use Rattle.side_jacobians.specs.Pair.{block_pair}
 use Rattle.side_jacobians.specs.Blocks.{jl_and_inverse, jac_jl}
 use Rattle.sim3.specs.Tangent.{tangent_neg}
-use Rattle.coeffs.specs.Group.{coeffs_armed_pair, coeffs_armed, coeffs_v}
+use Rattle.coeffs.specs.Group.{coeffs_armed, coeffs_v}
+use Rattle.pairs.specs.Group.{coeffs_armed_pair}
 use Rattle.arms.specs.Values.{mirrored}
 use Rattle.side_jacobians.specs.Side.{exp_and_jl}
 use Rattle.sim3.specs.Exp.{pose_exp}

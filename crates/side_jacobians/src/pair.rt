@@ -8,10 +8,10 @@ ghost use Rattle.side_jacobians.specs.Floats.{as_block_pair};
 
 use crate::blocks::jl_and_inverse_from;
 use arms::values::Values;
-use coeffs::sim3::sim3_coeffs_armed_pair_of;
 use coeffs::width::Width;
 use jacobian::jac::Sim3Jac;
 use linalg::matrix::Mat3;
+use pairs::sim3::sim3_coeffs_armed_pair_of;
 use sim3::tangent::Sim3Tangent;
 
 // J_l, its inverse, J_r and its inverse.

@@ -5,7 +5,8 @@ use Rattle.std.specs.Prelude.{List, Float}
 use Rattle.std.specs.Float.{Format}
 use Rattle.linalg.specs.Answer.{Answer, answers, and_then}
 use Rattle.linalg.specs.Floats.{Vec3}
-use Rattle.coeffs.specs.Entries.{armed_answer, armed_pair_answer}
+use Rattle.coeffs.specs.Entries.{armed_answer}
+use Rattle.pairs.specs.Entries.{armed_pair_answer}
 use Rattle.sim3.specs.Pose.{pose_renormalized}
 use Rattle.point_lists.specs.Points.{points_answer, points_out, pose_act_many, pose_act_each}
 use Rattle.frames.specs.Joins.{framed_mul_inv, framed_inv_mul}

@@ -4,10 +4,10 @@ ghost use Rattle.linalg.specs.Answer.{answer};
 ghost use Rattle.to_lists.specs.Written.{status, written};
 ghost use Rattle.sim3_c.specs.Calls.{armed_call, armed_pair_call};
 
-use coeffs::sim3::sim3_coeffs_armed_pair;
 use coeffs::width::Width;
 use from_lists::values_from;
 use linalg::refusal::Refusal;
+use pairs::sim3::sim3_coeffs_armed_pair;
 use to_lists::put;
 use to_lists::whole::Whole;
 

@@ -4,8 +4,8 @@ use Rattle.std.specs.Prelude.{ℕ, cond, ◌&&◌, List, [], ◌∷◌, eqb, len
 use Rattle.std.specs.Float.{Format}
 use Rattle.linalg.specs.Answer.{Answer, answers, refuses, and_then}
 use Rattle.linalg.specs.Vector.{vec_numbers}
-use Rattle.coeffs.specs.Entries.{pair_answer, armed_pair_answer}
-use Rattle.coeffs.specs.Floats.{ArmedPair}
+use Rattle.pairs.specs.Entries.{pair_answer, armed_pair_answer}
+use Rattle.pairs.specs.Floats.{ArmedPair}
 use Rattle.sim3.specs.Pose.{pose_act}
 use Rattle.frames.specs.Pose.{framed_exp, framed_inverse}
 use Rattle.frames.specs.Joins.{framed_mul}

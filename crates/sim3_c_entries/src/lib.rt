@@ -5,13 +5,12 @@
 
 ghost use Rattle.std.specs.Prelude.{◌≡◌};
 ghost use Rattle.linalg.specs.Answer.{answer};
-ghost use Rattle.coeffs.specs.Floats.{as_armed_pair};
+ghost use Rattle.pairs.specs.Floats.{as_armed_pair};
 ghost use Rattle.layout.specs.Lists.{pose_lists};
 ghost use Rattle.to_lists.specs.Written.{status, written, framed_written};
 ghost use Rattle.sim3_c_entries.specs.Calls.{exp_call, mul_call, inverse_call, scaled_pair_call, block_pair_call};
 ghost use Rattle.sim3_c_entries.specs.Calls.{block_inverse_call, act_call, arm_lists, arms_fitting, arms_call};
 
-use coeffs::sim3::{ArmedPair, sim3_coeffs_armed_pair, sim3_coeffs_scaled_pair};
 use coeffs::width::Width;
 use frames::Pose;
 use from_lists::{
@@ -19,6 +18,7 @@ use from_lists::{
 };
 use ieee::Real;
 use linalg::refusal::Refusal;
+use pairs::sim3::{ArmedPair, sim3_coeffs_armed_pair, sim3_coeffs_scaled_pair};
 use series::sim3::Signs;
 use side_jacobians::pair::block_pair;
 use to_lists::{put, put_framed};

@@ -5,10 +5,12 @@ use Rattle.linalg.specs.Answer.{Answer, answers}
 use Rattle.linalg.specs.Vector.{vec_norm_sq}
 use Rattle.linalg.specs.Floats.{Mat3}
 use Rattle.circle.proofs.Angle.{norm_not_below}
-use Rattle.coeffs.specs.Group.{coeffs_armed, coeffs_armed_pair}
-use Rattle.coeffs.specs.Entries.{armed_answer, beside_armed, armed_pair_answer}
+use Rattle.coeffs.specs.Group.{coeffs_armed}
+use Rattle.coeffs.specs.Entries.{armed_answer}
+use Rattle.pairs.specs.Group.{coeffs_armed_pair}
+use Rattle.pairs.specs.Entries.{beside_armed, armed_pair_answer}
 use Rattle.arms.specs.Floats.{Values}
-use Rattle.coeffs.specs.Floats.{ArmedPair}
+use Rattle.pairs.specs.Floats.{ArmedPair}
 use Rattle.sim3.specs.Floats.{Sim3Tangent}
 use Rattle.side_jacobians.specs.Pair.{block_pair, block_pair_scaled}
 use Rattle.side_jacobians.specs.Floats.{BlockPair}

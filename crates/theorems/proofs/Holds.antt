@@ -10,7 +10,8 @@ use Rattle.so3.specs.Quat.{quat_conjugate}
 use Rattle.so3.proofs.Even.{exp_conjugate}
 use Rattle.arms.specs.Values.{mirrored}
 use Rattle.coeffs.specs.Group.{coeffs_scaled}
-use Rattle.coeffs.specs.Entries.{scaled_answer, beside, pair_answer}
+use Rattle.coeffs.specs.Entries.{scaled_answer}
+use Rattle.pairs.specs.Entries.{beside, pair_answer}
 use Rattle.arms.specs.Floats.{Values}
 use Rattle.sim3.specs.Tangent.{tangent_neg}
 use Rattle.sim3.specs.Exp.{pose_exp}

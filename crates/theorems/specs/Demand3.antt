@@ -12,10 +12,10 @@ use Rattle.linalg.specs.Floats.{Mat3}
 use Rattle.so3.specs.Quat.{quat_conjugate}
 use Rattle.arms.specs.Values.{mirrored}
 use Rattle.coeffs.specs.Group.{coeffs_scaled}
-use Rattle.coeffs.specs.Entries.{beside}
 use Rattle.arms.specs.Floats.{Values}
 use Rattle.coeffs.specs.Floats.{Scaled}
-use Rattle.coeffs.specs.Floats.{ScaledPair}
+use Rattle.pairs.specs.Entries.{beside}
+use Rattle.pairs.specs.Floats.{ScaledPair}
 use Rattle.sim3.specs.Tangent.{tangent_neg}
 use Rattle.sim3.specs.Exp.{pose_exp}
 use Rattle.sim3.specs.Floats.{Sim3}

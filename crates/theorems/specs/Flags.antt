@@ -6,7 +6,7 @@ use Rattle.std.specs.Float.{Format}
 use Rattle.linalg.specs.Answer.{Answer, answers}
 use Rattle.linalg.specs.Floats.{Mat3}
 use Rattle.arms.specs.Floats.{Values}
-use Rattle.coeffs.specs.Floats.{ArmedPair}
+use Rattle.pairs.specs.Floats.{ArmedPair}
 use Rattle.sim3.specs.Floats.{Sim3Tangent}
 use Rattle.side_jacobians.specs.Pair.{block_pair_scaled}
 use Rattle.side_jacobians.specs.Floats.{BlockPair}

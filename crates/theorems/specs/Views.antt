@@ -1,7 +1,8 @@
 -- The view of the struct of the eight calls.
 use Rattle.std.specs.Prelude.{Float}
 use Rattle.linalg.specs.Answer.{view}
-use Rattle.coeffs.specs.Floats.{as_scaled, as_scaled_pair}
+use Rattle.coeffs.specs.Floats.{as_scaled}
+use Rattle.pairs.specs.Floats.{as_scaled_pair}
 use Rattle.side_jacobians.specs.Floats.{as_block_pair, as_jac_and_inverse}
 use Rattle.sim3.specs.Floats.{as_sim3}
 use Rattle.theorems.specs.Demand3.{Signs}

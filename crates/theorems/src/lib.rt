@@ -12,17 +12,19 @@ ghost use Rattle.linalg.specs.Answer.{view};
 ghost use Rattle.sim3.specs.Exp.{pose_exp};
 ghost use Rattle.sim3.specs.Floats.{as_sim3, as_sim3_tangent};
 ghost use Rattle.coeffs.specs.Entries.{scaled_answer};
-ghost use Rattle.coeffs.specs.Floats.{as_armed_pair, as_scaled};
+ghost use Rattle.coeffs.specs.Floats.{as_scaled};
+ghost use Rattle.pairs.specs.Floats.{as_armed_pair};
 ghost use Rattle.side_jacobians.specs.Blocks.{jl_and_inverse};
 ghost use Rattle.side_jacobians.specs.Floats.{as_block_pair, as_jac_and_inverse};
 ghost use Rattle.arms.specs.Floats.{as_values};
 ghost use Rattle.linalg.specs.Floats.{as_mat3};
 
 use arms::values::Values;
-use coeffs::sim3::{ArmedPair, Scaled, ScaledPair};
+use coeffs::sim3::Scaled;
 use coeffs::width::Width;
 use linalg::matrix::Mat3;
 use linalg::refusal::Refusal;
+use pairs::sim3::{ArmedPair, ScaledPair};
 use series::sim3::Sim3Coeffs;
 use side_jacobians::blocks::JacAndInverse;
 use side_jacobians::pair::BlockPair;
@@ -88,7 +90,7 @@ pub fn both_signs<T: Width>(
     let m = v.mirrored(tau.sigma);
     let jt = jl.transpose();
     let it = jl_inv.transpose();
-    let pair = coeffs::sim3::sim3_coeffs_scaled_pair(tau.sigma, z, v);
+    let pair = pairs::sim3::sim3_coeffs_scaled_pair(tau.sigma, z, v);
     let block = side_jacobians::pair::block_pair(tau, v, jl, jl_inv);
     let plus = one_sign(tau, z, v, jl, jl_inv);
     let minus = one_sign(back, z, m, jt, it);
@@ -119,7 +121,7 @@ pub fn same_flags<T: Width>(
         (as_mat3 T.float jl_inv) (view (as_armed_pair T.float) result.armed) (as_block_pair T.float result.block) }
 {
     let phi = tau.phi;
-    let armed = coeffs::sim3::sim3_coeffs_armed_pair(tau.sigma, phi.norm_sq(), v);
+    let armed = pairs::sim3::sim3_coeffs_armed_pair(tau.sigma, phi.norm_sq(), v);
     let block = side_jacobians::pair::block_pair(tau, w, jl, jl_inv);
     Flagged { armed, block }
 }

@@ -2,7 +2,7 @@
 use Rattle.std.proofs.Common.{◌≡◌, refl, length, length-append}
 use Rattle.std.specs.Float.{Format}
 use Rattle.coeffs.specs.Floats.{Armed}
-use Rattle.coeffs.specs.Floats.{ArmedPair}
+use Rattle.pairs.specs.Floats.{ArmedPair}
 use Rattle.layout.specs.Layout.{scaled_pair_numbers}
 use Rattle.layout.proofs.Numbers.{scaled-count}
 use Rattle.to_lists.specs.Written.{arm_numbers, armed_numbers, armed_pair_numbers}

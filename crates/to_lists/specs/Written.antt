@@ -6,7 +6,7 @@ use Rattle.std.specs.Float.Ieee.{of_int}
 use Rattle.ieee.specs.Numbers.{f0, f1}
 use Rattle.linalg.specs.Answer.{Answer, answers, refuses, and_then}
 use Rattle.coeffs.specs.Floats.{Armed}
-use Rattle.coeffs.specs.Floats.{ArmedPair}
+use Rattle.pairs.specs.Floats.{ArmedPair}
 use Rattle.frames.specs.Floats.{Pose}
 use Rattle.layout.specs.Layout.{pose_count, pose_numbers, scaled_numbers, scaled_pair_numbers, armed_scaled}
 use Rattle.layout.specs.Lists.{wrong_length, PoseLists, pose_lists, frames_count}

@@ -2,7 +2,7 @@
 use mathlib.Core.Path.{ap, ◌∙◌}
 use Rattle.arms.specs.Floats.{as_values}
 use Rattle.sim3.specs.Floats.{as_sim3_tangent}
-use Rattle.coeffs.specs.Entries.{armed_pair_answer}
+use Rattle.pairs.specs.Entries.{armed_pair_answer}
 use Rattle.theorems.proofs.Flags.{flags_scale}
 use Rattle.theorems.proofs.same_flags.Goals as goal
 

@@ -1,4 +1,4 @@
--- `coeffs::sim3::armed_pair_at` meets its contract: either arm forms the definition's coefficients at Δ, and the result
+-- `pairs::sim3::armed_pair_at` meets its contract: either arm forms the definition's coefficients at Δ, and the result
 -- has the arm for both signs. Assumes nothing.
 use mathlib.Core.Path.{sym, ap, ◌∙◌}
 use lib.Dec.{ltb}
@@ -6,8 +6,8 @@ use Rattle.std.proofs.Common.{rules}
 use Rattle.arms.specs.Limits.{coeffs_delta}
 use Rattle.arms.specs.Floats.{as_values}
 use Rattle.arms.proofs.Arm.{ends-series, ends-closed, series-below}
-use Rattle.coeffs.proofs.Even.{pair_by_series, pair-closed, armed-pair-is}
-use Rattle.coeffs.proofs.sim3.armed_pair_at.Goals as goal
+use Rattle.pairs.proofs.Even.{pair_by_series, pair-closed, armed-pair-is}
+use Rattle.pairs.proofs.sim3.armed_pair_at.Goals as goal
 
 pub returns-in-Series : goal.returns-in-Series
 unfolding coeffs_delta

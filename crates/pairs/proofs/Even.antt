@@ -14,16 +14,18 @@ use Rattle.ieee.proofs.Sign.{mul-neg-neg}
 use Rattle.arms.specs.Values.{mirrored}
 use Rattle.arms.specs.Limits.{coeffs_delta, w0_below}
 use Rattle.arms.specs.Arm.{coeffs_arm, arm_terms, arm_ends}
-use Rattle.coeffs.specs.Group.{coeffs_scaled, coeffs_pair, coeffs_armed, coeffs_armed_pair}
-use Rattle.coeffs.specs.Entries.{scaled_answer, beside, pair_answer, armed_answer, beside_armed, armed_pair_answer}
-use Rattle.coeffs.specs.ClosedForm.{closed_from, closed_v_from}
-use Rattle.coeffs.specs.Private.{closed_exps, closed_ends, closed_with}
-use Rattle.coeffs.specs.Private.{minus_et_mt, pair_ends, closed_pair, series_arm, series_arms}
+use Rattle.coeffs.specs.Group.{coeffs_scaled, coeffs_armed}
+use Rattle.coeffs.specs.Entries.{scaled_answer, armed_answer}
+use Rattle.coeffs.specs.ClosedForm.{closed_from, closed_v_from, closed_exps}
+use Rattle.coeffs.specs.Private.{series_arm}
 use Rattle.arms.specs.Floats.{Values}
-use Rattle.coeffs.specs.Floats.{ScaledPair}
-use Rattle.coeffs.specs.Floats.{ArmedPair}
 use Rattle.arms.proofs.Arm.{delta_even, arm_even, ends_even}
 use Rattle.coeffs.proofs.Arms.{scaled-series, scaled-closed, then_as, view_at}
+use Rattle.pairs.specs.Group.{coeffs_pair, coeffs_armed_pair}
+use Rattle.pairs.specs.Entries.{beside, pair_answer, beside_armed, armed_pair_answer}
+use Rattle.pairs.specs.Private.{closed_ends, closed_with, minus_et_mt, pair_ends, closed_pair, series_arms}
+use Rattle.pairs.specs.Floats.{ScaledPair}
+use Rattle.pairs.specs.Floats.{ArmedPair}
 
 -- ---- the pair in its two arms
 pub pair-series :

@@ -1,0 +1,2 @@
+pub mod PairForms
+pub mod Even
