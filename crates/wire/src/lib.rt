@@ -136,23 +136,6 @@ pub fn short_to_le_bytes(n: u16) -> [u8; 2]
     n.to_le_bytes()
 }
 
-// ---- one number at a place in a list
-#[tactic(auto, using(crate::proofs::Places::short_read))]
-fn short_at(b: &[u8], at: usize) -> u16
-    requires { at + 2 ≤ length b.now }
-    ensures { result ≡ word_at 2 b.now at }
-{
-    short_from_le_bytes([b[at], b[at + 1]])
-}
-
-#[tactic(auto, using(crate::proofs::Places::short_stored))]
-fn put_short(out: &mut [u8], at: usize, n: u16)
-    requires { at + 2 ≤ length out.old }
-    ensures { out.new ≡ sets out.old at (word_bytes 2 n) }
-{
-    out[at..at + 2].copy_from_slice(&short_to_le_bytes(n));
-}
-
 // ---- reading numbers
 // Whether none of the numbers in the bytes is a NaN.
 #[tactic(auto, unfolding(crate::specs::Wire::none_nan))]
@@ -249,7 +232,8 @@ pub fn decode_shorts(b: &[u8], out: &mut [u16])
 {
     let n = (b.len() / 2).min(out.len());
     for (i, x) in out[..n].iter_mut().enumerate() {
-        *x = short_at(b, i * 2);
+        let at = i * 2;
+        *x = short_from_le_bytes([b[at], b[at + 1]]);
     }
 }
 
@@ -261,6 +245,7 @@ pub fn encode_shorts(x: &[u16], out: &mut [u8])
 {
     let n = x.len().min(out.len() / 2);
     for (i, y) in x[..n].iter().enumerate() {
-        put_short(out, i * 2, *y);
+        let at = i * 2;
+        out[at..at + 2].copy_from_slice(&short_to_le_bytes(*y));
     }
 }
