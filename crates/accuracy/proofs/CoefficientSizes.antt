@@ -17,12 +17,12 @@ use Rattle.rounding.specs.Value.{Value, value_of, Near, AtMost}
 use Rattle.rounding.specs.Tree.{Bound}
 use Rattle.rounding.specs.Leaves.{errorless}
 use Rattle.rounding.proofs.Fractions.{most-near, most_wider}
-use Rattle.rounding.proofs.Leaves.{leaf_forward}
+use Rattle.rounding.proofs.Leaves.{leaf_forward, value-above}
 use Rattle.accuracy.specs.Domain.{InDomain}
 use Rattle.accuracy.specs.Series.{Eight, Part, part, of_level, xi_part, zeta_part, dxi_part, dzeta_part, exact_term}
 use Rattle.accuracy.specs.Series.{exact_total, exact_horner, bound_term, bound_total, bound_horner, term_no_overflow}
 use Rattle.accuracy.specs.Series.{total_no_overflow, horner_no_overflow, most_terms}
-use Rattle.accuracy.specs.CoefficientSizes.{exact_eight, eight_of, EightWithin, coefficient_sizes, coefficient_bounds}
+use Rattle.accuracy.specs.CoefficientSizes.{exact_eight, eight_of, EightWithin, coefficient_sizes, with_errors}
 use Rattle.accuracy.specs.CoefficientSizes.{CoefficientSizesTheorem}
 use Rattle.accuracy.proofs.Domain.{domain}
 use Rattle.accuracy.proofs.Series.{total_forward, term_forward, horner_forward}
@@ -145,8 +145,6 @@ module _ (f : Format) (w r y k : ℕ) (sigma z : Float) (wp : 0 < w) (half : 2 *
 record SeriesSizes (f : Format) (sigma z : Float) : Type 0 where
   k : ℕ
   length : suc (suc (suc (suc k))) ≡ most_terms f
-  sigma_above : 0 < (value_of sigma).d
-  z_above : 0 < (value_of z).d
   sizes : SizesAtMost (2 ^ 100) (value_of sigma) (value_of z) k (coefficient_sizes f)
 
 series_sizes : (f : Format) (sigma z : Float) → T (lt (coeffs_delta f sigma z) (series_below f)) → T (not (lt z f0))
@@ -173,8 +171,6 @@ series_sizes binary64 sigma z t p =
     record {
       k = 19;
       length = refl;
-      sigma_above = value_pos w sigma r h.sigma;
-      z_above = value_pos w z y h.z;
       sizes =
           sizes_at_most binary64 w r y 19 sigma z (lit< tt) (lit≤ tt) h c (coefficient_sizes binary64)
           (tt, tt, tt, tt, tt, tt, tt, tt)
@@ -201,8 +197,6 @@ series_sizes binary32 sigma z t p =
     record {
       k = 11;
       length = refl;
-      sigma_above = value_pos w sigma r h.sigma;
-      z_above = value_pos w z y h.z;
       sizes =
           sizes_at_most binary32 w r y 11 sigma z (lit< tt) (lit≤ tt) h c (coefficient_sizes binary32)
           (tt, tt, tt, tt, tt, tt, tt, tt)
@@ -210,28 +204,25 @@ series_sizes binary32 sigma z t p =
           (lit≤ tt, lit≤ tt, lit≤ tt, lit≤ tt, lit≤ tt, lit≤ tt, lit≤ tt, lit≤ tt);
     }
 
--- what specs/CoefficientSizes.antt states
-coefficients_within : (f : Format) (sigma z : Float) (v : Values) → T (lt (coeffs_delta f sigma z) (series_below f))
-    → T (not (lt z f0)) → (n : ℕ)
+-- ---- the coefficients as leaves: their errors are those of the series, their sizes those of sums of k terms and more
+pub sized_within : (f : Format) (sigma z : Float) (v : Values) (k i : ℕ) (b : Eight ℕ)
+    → T (lt (coeffs_delta f sigma z) (series_below f)) → T (not (lt z f0)) → suc (suc (suc (suc k))) + i ≡ most_terms f
+    → SizesAtMost (2 ^ 100) (value_of sigma) (value_of z) k b → (n : ℕ)
     → EightWithin (2 ^ 100) (eight_of (coeffs_scaled f sigma z v).c)
-    (exact_eight (value_of sigma) (value_of z) (most_terms f + n)) (coefficient_bounds f)
-coefficients_within f sigma z v t p n =
-    let q = series_sizes f sigma z t p in
-    let g = q.sizes in
+    (exact_eight (value_of sigma) (value_of z) (most_terms f + n)) (with_errors f b)
+sized_within f sigma z v k i b t p e g n =
     let c = ((coefficients f).scaled sigma z v).eight t p in
     let s = value_of sigma in
     let u = value_of z in
     let M = most_terms f in
     let w = 2 ^ 100 in
-    let b = coefficient_sizes f in
-    let h = horner_above s u q.sigma_above q.z_above in
-    let a = total-above s u q.sigma_above q.z_above in
-    let e = q.length in
+    let h = horner_above s u (value-above sigma) (value-above z) in
+    let a = total-above s u (value-above sigma) (value-above z) in
     record {
       v0 =
           record {
             close = c.v0 n;
-            size = from (λ j. AtMost w (exact_horner s 1 j) b.v0) q.k 4 M (omega (arith, e))
+            size = from (λ j. AtMost w (exact_horner s 1 j) b.v0) k (4 + i) M (omega (arith, e))
                 g.v0 n;
             above = h 1 (M + n);
           };
@@ -239,20 +230,20 @@ coefficients_within f sigma z v t p n =
           record {
             close = c.v1 n;
             size = from (λ j. AtMost w (exact_total (exact_term s u xi_part 1) j) b.v1)
-                (suc q.k) 3 M (omega (arith, e)) g.v1 n;
+                (suc k) (3 + i) M (omega (arith, e)) g.v1 n;
             above = a xi_part 1 (M + n);
           };
       v2 =
           record {
             close = c.v2 n;
             size = from (λ j. AtMost w (exact_total (exact_term s u zeta_part 1) j) b.v2)
-                (suc (suc q.k)) 2 M (omega (arith, e)) g.v2 n;
+                (suc (suc k)) (2 + i) M (omega (arith, e)) g.v2 n;
             above = a zeta_part 1 (M + n);
           };
       w0 =
           record {
             close = c.w0 n;
-            size = from (λ j. AtMost w (exact_horner s 2 j) b.w0) q.k 4 M (omega (arith, e))
+            size = from (λ j. AtMost w (exact_horner s 2 j) b.w0) k (4 + i) M (omega (arith, e))
                 g.w0 n;
             above = h 2 (M + n);
           };
@@ -260,31 +251,39 @@ coefficients_within f sigma z v t p n =
           record {
             close = c.w1 n;
             size = from (λ j. AtMost w (exact_total (exact_term s u xi_part 2) j) b.w1)
-                (suc q.k) 3 M (omega (arith, e)) g.w1 n;
+                (suc k) (3 + i) M (omega (arith, e)) g.w1 n;
             above = a xi_part 2 (M + n);
           };
       w2 =
           record {
             close = c.w2 n;
             size = from (λ j. AtMost w (exact_total (exact_term s u zeta_part 2) j) b.w2)
-                (suc (suc q.k)) 2 M (omega (arith, e)) g.w2 n;
+                (suc (suc k)) (2 + i) M (omega (arith, e)) g.w2 n;
             above = a zeta_part 2 (M + n);
           };
       dv1 =
           record {
             close = c.dv1 n;
             size = from (λ j. AtMost w (exact_total (exact_term s u dxi_part 1) j) b.dv1)
-                (suc (suc (suc q.k))) 1 M (omega (arith, e)) g.dv1 n;
+                (suc (suc (suc k))) (1 + i) M (omega (arith, e)) g.dv1 n;
             above = a dxi_part 1 (M + n);
           };
       dv2 =
           record {
             close = c.dv2 n;
             size = from (λ j. AtMost w (exact_total (exact_term s u dzeta_part 1) j) b.dv2)
-                (suc (suc (suc (suc q.k)))) 0 M (omega (arith, e)) g.dv2 n;
+                (suc (suc (suc (suc k)))) i M (omega (arith, e)) g.dv2 n;
             above = a dzeta_part 1 (M + n);
           };
     }
 
+-- what specs/CoefficientSizes.antt states
 pub coefficient_sizes_hold : (f : Format) → CoefficientSizesTheorem f
-coefficient_sizes_hold f = record { sizes = coefficients_within f }
+coefficient_sizes_hold f =
+    record {
+      sizes =
+          λ sigma z v t p n.
+          let q = series_sizes f sigma z t p in
+          let e = q.length in
+          sized_within f sigma z v q.k 0 (coefficient_sizes f) t p (omega (arith, e)) q.sizes n;
+    }

@@ -69,9 +69,9 @@ coefficient_sizes binary64 =
 abbrev pub sized : ℕ → ℕ → Bound
 sized b e = record { magnitude = b; error = e }
 
-abbrev pub coefficient_bounds : Format → Eight Bound
-coefficient_bounds f =
-    let b = coefficient_sizes f in
+-- sums of at most b, within their errors below the limit of the series
+abbrev pub with_errors : Format → Eight ℕ → Eight Bound
+with_errors f b =
     let e = series_errors f in
     record {
       v0 = sized b.v0 e.v0;
@@ -83,6 +83,9 @@ coefficient_bounds f =
       dv1 = sized b.dv1 e.dv1;
       dv2 = sized b.dv2 e.dv2;
     }
+
+abbrev pub coefficient_bounds : Format → Eight Bound
+coefficient_bounds f = with_errors f (coefficient_sizes f)
 
 pub record CoefficientSizesTheorem (f : Format) : Type 0 where
   -- where the computed Δ is below the limit of the series and z not below zero
