@@ -29,11 +29,11 @@ use Rattle.rounding.proofs.Divisors.{Above, above_at_least, above_plus, above_mo
 use Rattle.rounding.proofs.Divisors.{above_square}
 use Rattle.accuracy.specs.Box.{Three}
 use Rattle.accuracy.specs.Domain.{InDomain}
-use Rattle.accuracy.specs.Series.{Eight, most_terms, exact_horner, exact_recip, series_errors, bound_horner}
+use Rattle.accuracy.specs.Series.{Eight, most_terms, exact_horner, exact_recip, bound_horner}
 use Rattle.accuracy.specs.Series.{bound_total, bound_term, horner_no_overflow, total_no_overflow, term_no_overflow}
-use Rattle.accuracy.specs.CoefficientSizes.{exact_eight, sized}
+use Rattle.accuracy.specs.CoefficientSizes.{eight_of, exact_eight, EightWithin, with_errors}
 use Rattle.accuracy.proofs.Domain.{domain}
-use Rattle.accuracy.proofs.CoefficientSizes.{SizesAtMost, sizes_at_most, coefficient_sizes_hold}
+use Rattle.accuracy.proofs.CoefficientSizes.{SizesAtMost, sizes_at_most, sized_within}
 use Rattle.accuracy.proofs.Exponential.{from, not_scaled}
 use Rattle.accuracy.proofs.Rows.{norm_plain}
 use Rattle.linalg.specs.Vector.{vec_scale, vec_add}
@@ -44,15 +44,14 @@ use Rattle.side_jacobians.specs.Side.{jac_jl_inv}
 use Rattle.jacobian.specs.Floats.{Sim3Jac}
 use Rattle.rounding.proofs.Leaves.{AllForwardError, nth_forward}
 use Rattle.rounding.proofs.Quotients.{forward_error-divided}
-use Rattle.accuracy.specs.Box.{exact_vec}
+use Rattle.accuracy.specs.Box.{exact_vec, VecIn}
 use Rattle.accuracy.specs.Action.{leaves}
-use Rattle.accuracy.specs.Series.{xi_part, zeta_part, exact_term, exact_total}
 use Rattle.accuracy.proofs.Series.{one_forward}
-use Rattle.error_bounds.specs.Blocks.{Columns, columns_hold, MatError}
-use Rattle.error_bounds.proofs.Blocks.{columns_within}
+use Rattle.error_bounds.specs.Blocks.{Columns, columns_hold, columns_of, ColumnsWithin}
+use Rattle.error_bounds.proofs.Blocks.{◌◁◌, each3, columns_within, columns_error}
 use Rattle.error_bounds.specs.InverseBlocks.{polynomial, exact_polynomial, exact_inverse_coefficients}
-use Rattle.error_bounds.specs.InverseBlocks.{inverse_coefficients, near_below, near_phi, near_error, InverseVAccurate}
-use Rattle.error_bounds.specs.InverseBlocks.{InverseVTheorem}
+use Rattle.error_bounds.specs.InverseBlocks.{inverse_coefficients, exact_inverse_v, near_below, near_phi, near_error}
+use Rattle.error_bounds.specs.InverseBlocks.{InverseVAccurate, InverseVTheorem}
 
 -- ---- below one limit, so below a greater one
 less_over : (A dd N D dd' N' : ℕ) → 0 < dd → A * dd < N * D → N * dd' ≤ N' * dd → 0 < dd' → A * dd' < N' * D
@@ -276,11 +275,13 @@ quotient_trees f =
     inverse_coefficients trees (quot (least_v0 f)) (quot (least_lambda f)) (quot (least_both f)) (leaf 0) (leaf 1)
     (leaf 2) (leaf 3) (leaf 4)
 
+abbrev near_bounds : Format → Eight Bound
+near_bounds f = with_errors f (near_sizes f)
+
 abbrev quotient_leaves : Format → List Bound
 quotient_leaves f =
-    let b = near_sizes f in
-    let e = series_errors f in
-    errorless (2 ^ 100) ∷ errorless (near_z f) ∷ sized b.v0 e.v0 ∷ sized b.v1 e.v1 ∷ sized b.v2 e.v2 ∷ []
+    let b = near_bounds f in
+    errorless (2 ^ 100) ∷ errorless (near_z f) ∷ b.v0 ∷ b.v1 ∷ b.v2 ∷ []
 
 abbrev quotient_bounds : Format → Three Bound
 quotient_bounds f =
@@ -288,14 +289,14 @@ quotient_bounds f =
     let t = quotient_trees f in
     record { x = bound f (2 ^ 100) b t.x; y = bound f (2 ^ 100) b t.y; z = bound f (2 ^ 100) b t.z }
 
-abbrev polynomial_leaves : Format → List Bound
-polynomial_leaves f =
+abbrev v_leaves : Format → List Bound
+v_leaves f =
     let p = errorless (near_phi f) in
     let q = quotient_bounds f in
     no_bound ∷ errorless (2 ^ 100) ∷ p ∷ p ∷ p ∷ q.x ∷ q.y ∷ q.z ∷ []
 
-polynomial_tree : Columns Term
-polynomial_tree = polynomial trees (leaf 0) (leaf 1) (leaves 2 3 4) (leaves 5 6 7)
+v_tree : Columns Term
+v_tree = polynomial trees (leaf 0) (leaf 1) (leaves 2 3 4) (leaves 5 6 7)
 
 abbrev QuotientsDefined : Format → Type 0
 QuotientsDefined f =
@@ -308,54 +309,56 @@ unfolding well_defined bound
 quotients_defined binary32 = (tt, tt, tt)
 quotients_defined binary64 = (tt, tt, tt)
 
-polynomial_holds : (f : Format)
-    → T (columns_hold f (2 ^ 100) (nth no_bound (polynomial_leaves f)) polynomial_tree (near_error f))
-unfolding well_defined bound no_overflow polynomial_tree
-polynomial_holds binary32 = tt
-polynomial_holds binary64 = tt
+abbrev v_bounds : Format → Columns Bound
+v_bounds f = each3 (each3 (bound f (2 ^ 100) (nth no_bound (v_leaves f)))) v_tree
 
-inverse_accurate : (f : Format) (tau : Sim3Tangent) (v : Values) (jl jl_inv : Mat3)
-    → InverseVAccurate f tau (jac_jl_inv f tau v jl jl_inv).c
-unfolding computed exact DivisorsAtLeast polynomial_tree exact_polynomial exact_inverse_coefficients jac_jl_inv
+v_holds : (f : Format) → T (columns_hold f (2 ^ 100) (nth no_bound (v_leaves f)) v_tree (near_error f))
+unfolding well_defined bound no_overflow v_tree
+v_holds binary32 = tt
+v_holds binary64 = tt
+
+near_within : (f : Format) (tau : Sim3Tangent) (v : Values)
+    → T (lt (coeffs_delta f tau.sigma (vec_norm_sq f tau.phi)) (near_below f)) → (n : ℕ)
+    → EightWithin (2 ^ 100) (eight_of (coeffs_scaled f tau.sigma (vec_norm_sq f tau.phi) v).c)
+    (exact_eight (value_of tau.sigma) (value_of (vec_norm_sq f tau.phi)) (most_terms f + n)) (near_bounds f)
+near_within f tau v t n =
+    let z = vec_norm_sq f tau.phi in
+    let p = norm_plain f tau.phi in
+    let g = near f tau.sigma z t p in
+    sized_within f tau.sigma z v g.k (suc g.i) (near_sizes f) (in_series f (coeffs_delta f tau.sigma z) t) p g.length
+    g.sizes n
+
+v_within : (f : Format) (tau : Sim3Tangent) (v : Values) (jl jl_inv : Mat3)
+    → T (lt (coeffs_delta f tau.sigma (vec_norm_sq f tau.phi)) (near_below f)) → VecIn (2 ^ 100) (near_phi f) tau.phi
+    → (n : ℕ) → ColumnsWithin (2 ^ 100) (columns_of (jac_jl_inv f tau v jl jl_inv).c)
+    (exact_inverse_v (exact_vec tau.phi) (value_of (vec_norm_sq f tau.phi))
+    (exact_eight (value_of tau.sigma) (value_of (vec_norm_sq f tau.phi)) (most_terms f + n))) (v_bounds f)
+unfolding computed exact DivisorsAtLeast v_tree exact_polynomial exact_inverse_coefficients jac_jl_inv
     jl_and_inverse jl_and_inverse_from inv_coeffs poly_matrix mat_of_rows mat_identity mat_hat mat_scale mat_add
     mat_mul_hat vec_scale vec_add sub
-inverse_accurate f tau v jl jl_inv t hp n =
+v_within f tau v jl jl_inv t hp n =
     let w = 2 ^ 100 in
     let z = vec_norm_sq f tau.phi in
     let d = in_series f (coeffs_delta f tau.sigma z) t in
-    let p = norm_plain f tau.phi in
-    let g = near f tau.sigma z t p in
+    let g = near f tau.sigma z t (norm_plain f tau.phi) in
     let s = value_of tau.sigma in
     let u = value_of z in
     let M = most_terms f in
     let y = exact_eight s u (M + n) in
     let c = (coeffs_scaled f tau.sigma z v).c in
-    let h = (coefficient_sizes_hold f).sizes tau.sigma z v d p n in
-    let b = near_sizes f in
+    let h = near_within f tau v t n in
     let leaf_s = leaf_forward w tau.sigma (near_sigma f) g.sigma in
     let leaf_z = leaf_forward w z (near_z f) g.most in
-    let e = g.length in
-    let m0 = from (λ j. AtMost w (exact_horner s 1 j) b.v0) g.k (5 + g.i) M (omega (arith, e)) g.sizes.v0 n in
-    let m1 =
-    from (λ j. AtMost w (exact_total (exact_term s u xi_part 1) j) b.v1) (suc g.k) (4 + g.i) M (omega (arith, e))
-    g.sizes.v1 n in
-    let m2 =
-    from (λ j. AtMost w (exact_total (exact_term s u zeta_part 1) j) b.v2) (suc (suc g.k)) (3 + g.i) M
-    (omega (arith, e)) g.sizes.v2 n in
-    let mw = from (λ j. AtMost w (exact_horner s 2 j) b.w0) g.k (4 + g.i) (4 + g.i + g.k) (omega arith) g.sizes.w0 n in
+    let mw =
+    from (λ j. AtMost w (exact_horner s 2 j) (near_sizes f).w0) g.k (4 + g.i) (4 + g.i + g.k) (omega arith) g.sizes.w0 n
+    in
     let a0 : Above w y.v0 (least_v0 f) =
-    subst (λ (j : ℕ). Above w (exact_horner s 1 j) (least_v0 f)) (later g.k g.i M n e)
+    subst (λ (j : ℕ). Above w (exact_horner s 1 j) (least_v0 f)) (later g.k g.i M n g.length)
     (v0_above f s (4 + g.i + g.k + n) leaf_s.size mw) in
-    let q = apart f u y.v0 y.v1 y.v2 g.above leaf_z.size m2 a0 in
-    let f0' : ForwardError w c.v0 y.v0 (sized b.v0 (series_errors f).v0) =
-    record { close = h.v0.close; size = m0; above = h.v0.above } in
-    let f1' : ForwardError w c.v1 y.v1 (sized b.v1 (series_errors f).v1) =
-    record { close = h.v1.close; size = m1; above = h.v1.above } in
-    let f2' : ForwardError w c.v2 y.v2 (sized b.v2 (series_errors f).v2) =
-    record { close = h.v2.close; size = m2; above = h.v2.above } in
+    let q = apart f u y.v0 y.v1 y.v2 g.above leaf_z.size h.v2.size a0 in
     let xs = f1 ∷ z ∷ c.v0 ∷ c.v1 ∷ c.v2 ∷ [] in
     let ys = value_of f1 ∷ u ∷ y.v0 ∷ y.v1 ∷ y.v2 ∷ [] in
-    let all : AllForwardError w xs ys (quotient_leaves f) = (one_forward w, (leaf_z, (f0', (f1', (f2', tt))))) in
+    let all : AllForwardError w xs ys (quotient_leaves f) = one_forward w ◁ leaf_z ◁ h.v0 ◁ h.v1 ◁ h.v2 ◁ tt in
     let B = nth no_bound (quotient_leaves f) in
     let T3 = quotient_trees f in
     let go : (a : Term) → T (well_defined f w B a) → DivisorsAtLeast w (nth (value_of f0) ys) a → ForwardError w
@@ -378,25 +381,28 @@ inverse_accurate f tau v jl jl_inv t hp n =
     value_of f0 ∷ value_of f1 ∷ value_of tau.phi.x ∷ value_of tau.phi.y ∷ value_of tau.phi.z ∷ yi.x ∷ yi.y ∷ yi.z ∷ []
     in
     let of = λ (a : Float) (i : Bounded w a (near_phi f)). leaf_forward w a (near_phi f) i in
-    let each : AllForwardError w fs vs (polynomial_leaves f) = (
-      leaf_forward w f0 0 (lit≤ tt),
-      (
-        one_forward w,
-        (of tau.phi.x hp.x, (of tau.phi.y hp.y, (of tau.phi.z hp.z, (x0, (x1, (x2, tt)))))),
-      ),
-    ) in
-    subst (λ (o : Bool). MatError w (mat_scale f (poly_matrix f tau.phi ci) (cond o v.down f1))
-    (exact_polynomial (exact_vec tau.phi) yi) (near_error f)) (sym (not_scaled f tau.sigma z v d))
-    (columns_within f w (lit< tt) fs vs (polynomial_leaves f) each polynomial_tree (near_error f) (polynomial_holds f))
+    let each : AllForwardError w fs vs (v_leaves f) =
+    leaf_forward w f0 0 (lit≤ tt) ◁ one_forward w ◁ of tau.phi.x hp.x ◁ of tau.phi.y hp.y ◁ of tau.phi.z hp.z
+    ◁ x0 ◁ x1 ◁ x2 ◁ tt in
+    subst (λ (o : Bool). ColumnsWithin w (columns_of (mat_scale f (poly_matrix f tau.phi ci) (cond o v.down f1)))
+    (exact_polynomial (exact_vec tau.phi) yi) (v_bounds f)) (sym (not_scaled f tau.sigma z v d))
+    (columns_within f w (nth no_bound (v_leaves f)) (nth f0 fs) (nth (value_of f0) vs) (lit< tt)
+    (nth_forward w fs vs (v_leaves f) each) v_tree (near_error f) (v_holds f))
   where
     later : (k i M n : ℕ) → suc (suc (suc (suc k))) + suc i ≡ M → suc (4 + i + k + n) ≡ M + n
     later k i M n e = omega (arith, e)
 
+v_accurate : (f : Format) (tau : Sim3Tangent) (v : Values) (jl jl_inv : Mat3)
+    → InverseVAccurate f tau (jac_jl_inv f tau v jl jl_inv).c
+v_accurate f tau v jl jl_inv t hp n =
+    columns_error f (2 ^ 100) (nth no_bound (v_leaves f)) (jac_jl_inv f tau v jl jl_inv).c _ v_tree (near_error f)
+    (v_within f tau v jl jl_inv t hp n) (v_holds f)
+
 -- what specs/InverseBlocks.antt states
 pub inverse_v : (f : Format) → InverseVTheorem f
-inverse_v f = record { inverse = inverse_accurate f }
+inverse_v f = record { inverse = v_accurate f }
 
 pub inverse_v_holds : (f : Format) (tau : Sim3Tangent) (v : Values) (jl jl_inv : Mat3) (j : Sim3Jac)
     → j ≡ jac_jl_inv f tau v jl jl_inv → InverseVAccurate f tau j.c
 inverse_v_holds f tau v jl jl_inv j e =
-    subst (λ (i : Sim3Jac). InverseVAccurate f tau i.c) (sym e) (inverse_accurate f tau v jl jl_inv)
+    subst (λ (i : Sim3Jac). InverseVAccurate f tau i.c) (sym e) (v_accurate f tau v jl jl_inv)

@@ -43,6 +43,9 @@ module _ {A : Type 0} (arithmetic : Arithmetic A) where
   abbrev pub difference3 : Three A → Three A → Three A
   difference3 a b = record { x = a.x ⊖ b.x; y = a.y ⊖ b.y; z = a.z ⊖ b.z }
 
+  abbrev pub negated3 : Three A → Three A
+  negated3 a = record { x = negated a.x; y = negated a.y; z = negated a.z }
+
   abbrev pub ◌⊟◌ : Columns A → Columns A → Columns A
   m ⊟ n = record { x = difference3 m.x n.x; y = difference3 m.y n.y; z = difference3 m.z n.z }
 
@@ -110,7 +113,7 @@ module _ {A : Type 0} (arithmetic : Arithmetic A) where
       record {
         b = hat_times y jl ⊞ outer dy phi ⊟ xi ⊡ c.v1 ⊞ (product xi w ⊟ product w xi ⊡ two) ⊡ c.v2;
         c = identity zero one ⊡ c.v0 ⊞ w ⊡ c.v1 ⊞ times_hat w phi ⊡ c.v2;
-        f = record { x = negated g.x; y = negated g.y; z = negated g.z };
+        f = negated3 g;
       }
 
 unfoldable pub exact_blocks : Three Value → Three Value → Eight Value → Columns Value → Blocks Value
@@ -132,31 +135,38 @@ tree_blocks =
     })
     (record { x = leaves 17 18 19; y = leaves 20 21 22; z = leaves 23 24 25 })
 
+-- the entries of a matrix by its columns, before those of l
+abbrev pub columns_row : {A : Type 0} → Columns A → List A → List A
+columns_row m l = m.x.x ∷ m.x.y ∷ m.x.z ∷ m.y.x ∷ m.y.y ∷ m.y.z ∷ m.z.x ∷ m.z.y ∷ m.z.z ∷ l
+
 abbrev pub blocks_row : {A : Type 0} → A → A → A → Three A → Three A → Eight A → Columns A → List A
 blocks_row zero one two phi rho c jl =
     zero ∷ one ∷ two ∷ phi.x ∷ phi.y ∷ phi.z ∷ rho.x ∷ rho.y ∷ rho.z
-    ∷ c.v0 ∷ c.v1 ∷ c.v2 ∷ c.w0 ∷ c.w1 ∷ c.w2 ∷ c.dv1 ∷ c.dv2
-    ∷ jl.x.x ∷ jl.x.y ∷ jl.x.z ∷ jl.y.x ∷ jl.y.y ∷ jl.y.z ∷ jl.z.x ∷ jl.z.y ∷ jl.z.z ∷ []
+    ∷ c.v0 ∷ c.v1 ∷ c.v2 ∷ c.w0 ∷ c.w1 ∷ c.w2 ∷ c.dv1 ∷ c.dv2 ∷ columns_row jl []
 
 -- ---- the bounds, for numbers of φ up to a / w and of ρ up to b / w, the coefficients within k, the entries of J
 -- within l
 abbrev pub same3 : {A : Type 0} → A → Three A
 same3 x = record { x = x; y = x; z = x }
 
+abbrev pub same9 : {A : Type 0} → A → Columns A
+same9 x = same3 (same3 x)
+
+-- a test of all three
+abbrev pub all3 : {A : Type 0} → (A → Bool) → Three A → Bool
+all3 p t = p t.x && (p t.y && p t.z)
+
 abbrev pub blocks_bounds : ℕ → ℕ → ℕ → Eight Bound → Bound → ℕ → Bound
 blocks_bounds w a b k l =
     nth no_bound (blocks_row no_bound (errorless w) (errorless (2 * w)) (same3 (errorless a)) (same3 (errorless b)) k
-    (same3 (same3 l)))
+    (same9 l))
 
 -- the computed test: no tree overflows, and no bound is above e
-abbrev pub tree_holds : Format → ℕ → (ℕ → Bound) → Term → ℕ → Bool
-tree_holds f w b t e = no_overflow f w b t && leb (bound f w b t).error e
-
 abbrev pub three_hold : Format → ℕ → (ℕ → Bound) → Three Term → ℕ → Bool
-three_hold f w b t e = tree_holds f w b t.x e && (tree_holds f w b t.y e && tree_holds f w b t.z e)
+three_hold f w b t e = all3 (no_overflow f w b) t && all3 (λ u. leb (bound f w b u).error e) t
 
 abbrev pub columns_hold : Format → ℕ → (ℕ → Bound) → Columns Term → ℕ → Bool
-columns_hold f w b t e = three_hold f w b t.x e && (three_hold f w b t.y e && three_hold f w b t.z e)
+columns_hold f w b t e = all3 (all3 (no_overflow f w b)) t && all3 (all3 (λ u. leb (bound f w b u).error e)) t
 
 -- of Q up to p, of V up to q, of the column of σ up to r
 unfoldable pub blocks_hold : Format → ℕ → (ℕ → Bound) → ℕ → ℕ → ℕ → Bool
@@ -172,15 +182,15 @@ abbrev pub columns_of : Mat3 → Columns Float
 columns_of m = record { x = three_of m.c0; y = three_of m.c1; z = three_of m.c2 }
 
 -- each is finite and within its error of the exact one, and that one at most its size
-pub record ThreeWithin (w : ℕ) (a : Three Float) (p : Three Value) (b : Bound) : Type 0 where
-  pub x : ForwardError w a.x p.x b
-  pub y : ForwardError w a.y p.y b
-  pub z : ForwardError w a.z p.z b
+pub record ThreeWithin (w : ℕ) (a : Three Float) (p : Three Value) (b : Three Bound) : Type 0 where
+  pub x : ForwardError w a.x p.x b.x
+  pub y : ForwardError w a.y p.y b.y
+  pub z : ForwardError w a.z p.z b.z
 
-pub record ColumnsWithin (w : ℕ) (a : Columns Float) (p : Columns Value) (b : Bound) : Type 0 where
-  pub x : ThreeWithin w a.x p.x b
-  pub y : ThreeWithin w a.y p.y b
-  pub z : ThreeWithin w a.z p.z b
+pub record ColumnsWithin (w : ℕ) (a : Columns Float) (p : Columns Value) (b : Columns Bound) : Type 0 where
+  pub x : ThreeWithin w a.x p.x b.x
+  pub y : ThreeWithin w a.y p.y b.y
+  pub z : ThreeWithin w a.z p.z b.z
 
 -- each entry is finite and within e / w
 pub record MatError (w : ℕ) (m : Mat3) (x : Columns Value) (e : ℕ) : Type 0 where
@@ -198,7 +208,7 @@ pub record BlocksError (w : ℕ) (j : Sim3Jac) (x : Blocks Value) (p q r : ℕ) 
 abbrev pub BlocksIn : ℕ → ℕ → ℕ → Eight Bound → Bound → ℕ → ℕ → ℕ → Vec3 → Vec3 → Sim3Coeffs → Mat3 → Sim3Jac → Type 0
 BlocksIn w a b k l p q r phi rho c jl j =
     VecIn w a phi → VecIn w b rho → (y : Eight Value) → EightWithin w (eight_of c) y k →
-    (m : Columns Value) → ColumnsWithin w (columns_of jl) m l →
+    (m : Columns Value) → ColumnsWithin w (columns_of jl) m (same9 l) →
     BlocksError w j (exact_blocks (exact_vec phi) (exact_vec rho) y m) p q r
 
 -- the same in every box whose bounds are computed to be at most p, q and r
@@ -208,13 +218,12 @@ BlocksAccurate f phi rho c jl j =
     T (blocks_hold f w (blocks_bounds w a b k l) p q r) → BlocksIn w a b k l p q r phi rho c jl j
 
 -- ---- J_l(τ) as a whole, in units of 2^-100
--- the coefficients below the limit of the series, after one rounding more
+-- coefficients within their bounds, after one rounding more
 abbrev pub once_more : Format → Bound → Bound
 once_more f b = prod_bound f (2 ^ 100) (errorless (2 ^ 100)) b
 
-abbrev pub unscaled_bounds : Format → Eight Bound
-unscaled_bounds f =
-    let b = coefficient_bounds f in
+abbrev pub unscaled_bounds : Format → Eight Bound → Eight Bound
+unscaled_bounds f b =
     record {
       v0 = once_more f b.v0;
       v1 = once_more f b.v1;
@@ -237,8 +246,8 @@ abbrev pub LeftJacobianIn : Format → ℕ → ℕ → ℕ → ℕ → Sim3Tange
 LeftJacobianIn f b p q r tau jl j =
     let z = vec_norm_sq f tau.phi in
     T (lt (coeffs_delta f tau.sigma z) (series_below f)) → VecIn (2 ^ 100) (phi_most f) tau.phi →
-    VecIn (2 ^ 100) b tau.rho → (m : Columns Value) → ColumnsWithin (2 ^ 100) (columns_of jl) m (rotation_bound f) →
-    (n : ℕ) →
+    VecIn (2 ^ 100) b tau.rho → (m : Columns Value) →
+    ColumnsWithin (2 ^ 100) (columns_of jl) m (same9 (rotation_bound f)) → (n : ℕ) →
     BlocksError (2 ^ 100) j
     (exact_blocks (exact_vec tau.phi) (exact_vec tau.rho)
     (exact_eight (value_of tau.sigma) (value_of z) (most_terms f + n)) m) p q r
@@ -247,7 +256,8 @@ LeftJacobianIn f b p q r tau jl j =
 abbrev pub LeftJacobianAccurate : Format → Sim3Tangent → Mat3 → Sim3Jac → Type 0
 LeftJacobianAccurate f tau jl j =
     (b p q r : ℕ) →
-    T (blocks_hold f (2 ^ 100) (blocks_bounds (2 ^ 100) (phi_most f) b (unscaled_bounds f) (rotation_bound f)) p q r) →
+    T (blocks_hold f (2 ^ 100) (blocks_bounds (2 ^ 100) (phi_most f) b (unscaled_bounds f (coefficient_bounds f))
+    (rotation_bound f)) p q r) →
     LeftJacobianIn f b p q r tau jl j
 
 pub record BlocksTheorem : Type 0 where

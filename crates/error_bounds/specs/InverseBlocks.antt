@@ -13,7 +13,7 @@ use Rattle.side_jacobians.specs.Side.{jac_jl_inv}
 use Rattle.rounding.specs.Value.{Value, value_of, ratio}
 use Rattle.rounding.specs.Arithmetic.{Arithmetic, exactly}
 use Rattle.accuracy.specs.Box.{Three, exact_vec, VecIn}
-use Rattle.accuracy.specs.Series.{most_terms}
+use Rattle.accuracy.specs.Series.{Eight, most_terms}
 use Rattle.accuracy.specs.CoefficientSizes.{exact_eight}
 use Rattle.error_bounds.specs.Blocks.{Columns, ◌⊞◌, ◌⊡◌, identity, hat, times_hat, MatError}
 
@@ -53,6 +53,9 @@ exact_inverse_coefficients z v0 v1 v2 = inverse_coefficients exactly ratio ratio
 unfoldable pub exact_polynomial : Three Value → Three Value → Columns Value
 exact_polynomial phi x = polynomial exactly (value_of f0) (value_of f1) phi x
 
+abbrev pub exact_inverse_v : Three Value → Value → Eight Value → Columns Value
+exact_inverse_v phi z y = exact_polynomial phi (exact_inverse_coefficients z y.v0 y.v1 y.v2)
+
 -- ---- where it is proved, in units of 2^-100
 abbrev pub near_below : Format → Float
 near_below binary32 = mid_below binary32
@@ -74,8 +77,7 @@ InverseVAccurate f tau m =
     let z = vec_norm_sq f tau.phi in
     T (lt (coeffs_delta f tau.sigma z) (near_below f)) → VecIn (2 ^ 100) (near_phi f) tau.phi → (n : ℕ) →
     let y = exact_eight (value_of tau.sigma) (value_of z) (most_terms f + n) in
-    MatError (2 ^ 100) m (exact_polynomial (exact_vec tau.phi)
-    (exact_inverse_coefficients (value_of z) y.v0 y.v1 y.v2)) (near_error f)
+    MatError (2 ^ 100) m (exact_inverse_v (exact_vec tau.phi) (value_of z) y) (near_error f)
 
 pub record InverseVTheorem (f : Format) : Type 0 where
   pub inverse : (tau : Sim3Tangent) (v : Values) (jl jl_inv : Mat3)
