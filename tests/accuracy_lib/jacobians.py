@@ -2,11 +2,11 @@
 from . import fixed
 from .rows import LIMITS, Draw, Row, answers, fixes, mark_of, record, tangents, value_of
 
-# The exponents of the bounds of Q, V and the last column for ρ up to 1, and of V⁻¹, which numbers.py compares with
-# crates/error_bounds/specs/Blocks.antt and InverseBlocks.antt.
+# The exponents of the bounds of Q, V and the last column for ρ up to 1, and of the same blocks of the inverse, which
+# numbers.py compares with crates/error_bounds/specs/Blocks.antt and InverseBlocks.antt.
 BLOCKS = {64: (-42, -45, -46), 32: (-13, -16, -17)}
-INVERSE_V = {64: -42, 32: -15}
-NEAR = {64: 2, 32: 1}  # the arm below whose limit V⁻¹ is bounded
+INVERSE_BLOCKS = {64: (-35, -42, -40), 32: (-9, -15, -14)}
+NEAR = {64: 2, 32: 1}  # the arm below whose limit they are bounded
 SIZE = 31  # the numbers of a block Jacobian: its blocks a, b and c by columns, f, e
 
 
@@ -77,19 +77,27 @@ def inverse_v(phi, z, c):
     return polynomial(phi, quotient(fixed.ONE, v0), -quotient(v1, scale), quotient(both, fixed.mul(v0, scale)))
 
 
+def inverse_blocks(v, q, column, jl_inverse):
+    """−V⁻¹ Q J_l(φ)⁻¹, V⁻¹ and −V⁻¹ times the column, as specs/InverseBlocks.antt has them."""
+    b = product(product(v, q), jl_inverse)
+    return [[-x for x in entries] for entries in b], v, [-x for x in times(v, column)]
+
+
 # ---- the rows
 def flat(m):
     return [x for column in m for x in column]
 
 
 def left(run, width, count):
-    """Q, V and the last column of J_l(τ) below the limit of the series, and V⁻¹ of its inverse nearer to zero, beside
-    those at the computed |φ|² and the exact J_l(φ)."""
+    """Q, V and the last column of J_l(τ) below the limit of the series, and the same blocks of its inverse nearer to
+    zero, beside those at the computed |φ|² and the exact J_l(φ)."""
     field, mark = "doubles" if width == 64 else "singles", mark_of(width, "PA")
     names = ("Q of the left Jacobian", "V of it", "its last column")
     rows = [Row(f"BlocksTheorem.unit_{field}", width, exponent, name)
             for name, exponent in zip(names, BLOCKS[width], strict=True)]
-    near = Row("InverseVTheorem.inverse", width, INVERSE_V[width], "the inverse's V⁻¹")
+    inverse_names = (("blocks", "-V⁻¹ Q J_l(φ)⁻¹"), ("v", "the inverse's V⁻¹"), ("blocks", "the inverse's last column"))
+    near = [Row(f"InverseBlocksTheorem.{field}", width, exponent, name)
+            for (field, name), exponent in zip(inverse_names, INVERSE_BLOCKS[width], strict=True)]
     near_limit, series_limit = LIMITS[width][NEAR[width]], LIMITS[width][3]
     draw = Draw(width, "blocks")
     cases = [*tangents(draw, width, count - count // 2, 1.0, series_limit),
@@ -98,7 +106,8 @@ def left(run, width, count):
     data = run(b"".join(
         record(mark, *phi, *rho, sigma, *[0.0] * 10, *(value_of(width, x) for x in [*flat(jl), *flat(jl_inverse)]))
         for (phi, rho, sigma, _, _), (jl, jl_inverse) in zip(cases, exact, strict=True)))
-    for (phi, rho, sigma, z, delta), (jl, _), actual in zip(cases, exact, answers(data, mark, len(cases)), strict=True):
+    actuals = answers(data, mark, len(cases))
+    for (phi, rho, sigma, z, delta), (jl, jl_inverse), actual in zip(cases, exact, actuals, strict=True):
         phi, rho, z = fixes(phi), fixes(rho), fixed.of(z)
         c = fixed.coefficients(fixed.of(sigma), z)
         q, v, column = blocks(phi, rho, c, jl)
@@ -106,5 +115,8 @@ def left(run, width, count):
         rows[1].worst.add(actual[18:27], flat(v))
         rows[2].worst.add(actual[27:30], column)
         if delta < near_limit:
-            near.worst.add(actual[SIZE + 18:SIZE + 27], flat(inverse_v(phi, z, c)))
-    return [*rows, near]
+            b, v, f = inverse_blocks(inverse_v(phi, z, c), q, column, jl_inverse)
+            near[0].worst.add(actual[SIZE + 9:SIZE + 18], flat(b))
+            near[1].worst.add(actual[SIZE + 18:SIZE + 27], flat(v))
+            near[2].worst.add(actual[SIZE + 27:SIZE + 30], f)
+    return [*rows, *near]

@@ -108,9 +108,10 @@ def block_errors():
         expected = tuple(int(x) - 100 for x in re.findall(r"\^ (\d+)", box)[1:])
         if expected != jacobians.BLOCKS[width]:
             yield f"the left Jacobian at {width} bits is {jacobians.BLOCKS[width]}, and the statement has {expected}"
-        exponent = int(re.search(rf"^near_error binary{width} = 2 \^ (\d+)$", near, re.M).group(1)) - 100
-        if exponent != jacobians.INVERSE_V[width]:
-            yield f"V⁻¹ at {width} bits is {jacobians.INVERSE_V[width]}, and the statement has {exponent}"
+        expected = tuple(int(re.search(rf"^near_{block}_error binary{width} = 2 \^ (\d+)$", near, re.M).group(1)) - 100
+                         for block in "bvf")
+        if expected != jacobians.INVERSE_BLOCKS[width]:
+            yield f"its inverse at {width} bits is {jacobians.INVERSE_BLOCKS[width]}, and the statement has {expected}"
 
 
 def exponent_errors():

@@ -1,4 +1,4 @@
--- The errors of V⁻¹ near zero. Assumes nothing.
+-- The errors of the left Jacobian's inverse near zero. Assumes nothing.
 use mathlib.Core.Path.{◌≡◌, refl, sym, subst}
 use mathlib.Core.Bool.{Bool, true, false, not, cond}
 use mathlib.Core.List.{List, [], ◌∷◌}
@@ -16,7 +16,7 @@ use Rattle.linalg.specs.Vector.{vec_norm_sq}
 use Rattle.linalg.specs.Floats.{Mat3}
 use Rattle.arms.specs.Limits.{coeffs_delta, series_below}
 use Rattle.arms.specs.Floats.{Values}
-use Rattle.coeffs.specs.Group.{coeffs_scaled}
+use Rattle.coeffs.specs.Group.{coeffs_scaled, coeffs_unscaled}
 use Rattle.sim3.specs.Floats.{Sim3Tangent}
 use Rattle.rounding.specs.Value.{Value, plus, opposite, times, value_of, AtMost}
 use Rattle.rounding.specs.Tree.{Term, leaf, quot, computed, exact, Bound, bound, no_overflow, well_defined}
@@ -36,10 +36,11 @@ use Rattle.accuracy.proofs.Domain.{domain}
 use Rattle.accuracy.proofs.CoefficientSizes.{SizesAtMost, sizes_at_most, sized_within}
 use Rattle.accuracy.proofs.Exponential.{from, not_scaled}
 use Rattle.accuracy.proofs.Rows.{norm_plain}
-use Rattle.linalg.specs.Vector.{vec_scale, vec_add}
-use Rattle.linalg.specs.Matrix.{mat_of_rows, mat_identity, mat_hat, mat_scale, mat_add, mat_mul_hat}
+use Rattle.linalg.specs.Vector.{vec_scale, vec_add, vec_neg}
+use Rattle.linalg.specs.Matrix.{mat_of_rows, mat_identity, mat_hat, mat_scale, mat_add, mat_mul_hat, mat_neg}
+use Rattle.linalg.specs.Matrix.{mat_mul, mat_mul_vec}
 use Rattle.sim3.specs.Exp.{three_v}
-use Rattle.side_jacobians.specs.Blocks.{poly_matrix, inv_coeffs, jl_and_inverse_from, jl_and_inverse}
+use Rattle.side_jacobians.specs.Blocks.{poly_matrix, inv_coeffs, jl_blocks, jl_and_inverse_from, jl_and_inverse}
 use Rattle.side_jacobians.specs.Side.{jac_jl_inv}
 use Rattle.jacobian.specs.Floats.{Sim3Jac}
 use Rattle.rounding.proofs.Leaves.{AllForwardError, nth_forward}
@@ -47,11 +48,17 @@ use Rattle.rounding.proofs.Quotients.{forward_error-divided}
 use Rattle.accuracy.specs.Box.{exact_vec, VecIn}
 use Rattle.accuracy.specs.Action.{leaves}
 use Rattle.accuracy.proofs.Series.{one_forward}
-use Rattle.error_bounds.specs.Blocks.{Columns, columns_hold, columns_of, ColumnsWithin}
-use Rattle.error_bounds.proofs.Blocks.{◌◁◌, each3, columns_within, columns_error}
+use Rattle.error_bounds.specs.Blocks.{Columns, Blocks, tree_blocks, exact_blocks, columns_row, same9, blocks_bounds}
+use Rattle.error_bounds.specs.Blocks.{three_hold, columns_hold, blocks_hold, three_of, columns_of, ColumnsWithin}
+use Rattle.error_bounds.specs.Blocks.{unscaled_bounds, rotation_bound}
+use Rattle.error_bounds.proofs.Blocks.{◌◁◌, each3, three_within, columns_within, three_error, columns_error}
+use Rattle.error_bounds.proofs.Blocks.{BlocksWithin, bounds_of_blocks, blocks_within, Ranges}
+use Rattle.error_bounds.proofs.Blocks.{unscaled_within}
 use Rattle.error_bounds.specs.InverseBlocks.{polynomial, exact_polynomial, exact_inverse_coefficients}
-use Rattle.error_bounds.specs.InverseBlocks.{inverse_coefficients, exact_inverse_v, near_below, near_phi, near_error}
-use Rattle.error_bounds.specs.InverseBlocks.{InverseVAccurate, InverseVTheorem}
+use Rattle.error_bounds.specs.InverseBlocks.{inverse_coefficients, inverse_blocks, exact_inverse_v}
+use Rattle.error_bounds.specs.InverseBlocks.{exact_inverse_blocks, near_below, near_phi, near_v_error, near_b_error}
+use Rattle.error_bounds.specs.InverseBlocks.{near_f_error, inverse_rotation_bound, InverseVAccurate}
+use Rattle.error_bounds.specs.InverseBlocks.{InverseBlocksAccurate, InverseBlocksTheorem}
 
 -- ---- below one limit, so below a greater one
 less_over : (A dd N D dd' N' : ℕ) → 0 < dd → A * dd < N * D → N * dd' ≤ N' * dd → 0 < dd' → A * dd' < N' * D
@@ -312,7 +319,7 @@ quotients_defined binary64 = (tt, tt, tt)
 abbrev v_bounds : Format → Columns Bound
 v_bounds f = each3 (each3 (bound f (2 ^ 100) (nth no_bound (v_leaves f)))) v_tree
 
-v_holds : (f : Format) → T (columns_hold f (2 ^ 100) (nth no_bound (v_leaves f)) v_tree (near_error f))
+v_holds : (f : Format) → T (columns_hold f (2 ^ 100) (nth no_bound (v_leaves f)) v_tree (near_v_error f))
 unfolding well_defined bound no_overflow v_tree
 v_holds binary32 = tt
 v_holds binary64 = tt
@@ -387,7 +394,7 @@ v_within f tau v jl jl_inv t hp n =
     subst (λ (o : Bool). ColumnsWithin w (columns_of (mat_scale f (poly_matrix f tau.phi ci) (cond o v.down f1)))
     (exact_polynomial (exact_vec tau.phi) yi) (v_bounds f)) (sym (not_scaled f tau.sigma z v d))
     (columns_within f w (nth no_bound (v_leaves f)) (nth f0 fs) (nth (value_of f0) vs) (lit< tt)
-    (nth_forward w fs vs (v_leaves f) each) v_tree (near_error f) (v_holds f))
+    (nth_forward w fs vs (v_leaves f) each) v_tree (near_v_error f) (v_holds f))
   where
     later : (k i M n : ℕ) → suc (suc (suc (suc k))) + suc i ≡ M → suc (4 + i + k + n) ≡ M + n
     later k i M n e = omega (arith, e)
@@ -395,14 +402,98 @@ v_within f tau v jl jl_inv t hp n =
 v_accurate : (f : Format) (tau : Sim3Tangent) (v : Values) (jl jl_inv : Mat3)
     → InverseVAccurate f tau (jac_jl_inv f tau v jl jl_inv).c
 v_accurate f tau v jl jl_inv t hp n =
-    columns_error f (2 ^ 100) (nth no_bound (v_leaves f)) (jac_jl_inv f tau v jl jl_inv).c _ v_tree (near_error f)
+    columns_error f (2 ^ 100) (nth no_bound (v_leaves f)) (jac_jl_inv f tau v jl jl_inv).c _ v_tree (near_v_error f)
     (v_within f tau v jl jl_inv t hp n) (v_holds f)
 
+-- ---- the other blocks: Q and the column of σ as BlocksTheorem has them, with the coefficients' sizes near zero
+near_ranges : (f : Format) → Ranges f (near_bounds f)
+near_ranges binary32 = (tt, tt, tt, tt, tt, tt, tt, tt)
+near_ranges binary64 = (tt, tt, tt, tt, tt, tt, tt, tt)
+
+abbrev left_bounds : Format → ℕ → Bound
+left_bounds f =
+    blocks_bounds (2 ^ 100) (near_phi f) (2 ^ 100) (unscaled_bounds f (near_bounds f)) (rotation_bound f)
+
+-- nothing in them overflows; the bounds of their trees are taken as they are, so that any numbers above those do here
+left_safe : (f : Format) → T (blocks_hold f (2 ^ 100) (left_bounds f) (2 ^ 100) (2 ^ 100) (2 ^ 100))
+unfolding blocks_hold
+left_safe binary32 = tt
+left_safe binary64 = tt
+
+-- over V⁻¹, Q, J_l(φ)⁻¹ and the column of σ, each entry within the bound of its tree
+abbrev inverse_row : {A : Type 0} → Columns A → Columns A → Columns A → Three A → List A
+inverse_row v q k f = columns_row v (columns_row q (columns_row k (f.x ∷ f.y ∷ f.z ∷ [])))
+
+inverse_tree : Blocks Term
+inverse_tree =
+    inverse_blocks trees (record { x = leaves 0 1 2; y = leaves 3 4 5; z = leaves 6 7 8 })
+    (record { x = leaves 9 10 11; y = leaves 12 13 14; z = leaves 15 16 17 }) (leaves 27 28 29)
+    (record { x = leaves 18 19 20; y = leaves 21 22 23; z = leaves 24 25 26 })
+
+abbrev inverse_leaves : Format → List Bound
+inverse_leaves f =
+    let u = bounds_of_blocks f (2 ^ 100) (left_bounds f) in
+    inverse_row (v_bounds f) u.b (same9 (inverse_rotation_bound f)) u.f
+
+inverse_holds : (f : Format)
+    → T (columns_hold f (2 ^ 100) (nth no_bound (inverse_leaves f)) inverse_tree.b (near_b_error f))
+    × T (three_hold f (2 ^ 100) (nth no_bound (inverse_leaves f)) inverse_tree.f (near_f_error f))
+unfolding well_defined bound no_overflow v_tree tree_blocks inverse_tree
+inverse_holds binary32 = (tt, tt)
+inverse_holds binary64 = (tt, tt)
+
+blocks_accurate : (f : Format) (tau : Sim3Tangent) (v : Values) (jl jl_inv : Mat3)
+    → InverseBlocksAccurate f tau jl jl_inv (jac_jl_inv f tau v jl jl_inv)
+unfolding computed exact inverse_tree exact_inverse_blocks jac_jl_inv jl_and_inverse jl_and_inverse_from
+    coeffs_unscaled mat_neg mat_mul mat_mul_vec vec_neg
+blocks_accurate f tau v jl jl_inv t hp hr m k hm hk n =
+    let w = 2 ^ 100 in
+    let z = vec_norm_sq f tau.phi in
+    let y = exact_eight (value_of tau.sigma) (value_of z) (most_terms f + n) in
+    let b = near_bounds f in
+    let l = rotation_bound f in
+    let j = jac_jl_inv f tau v jl jl_inv in
+    let c = coeffs_unscaled f tau.sigma z v in
+    let left = jl_blocks f tau.phi tau.rho c jl in
+    let x = exact_blocks (exact_vec tau.phi) (exact_vec tau.rho) y m in
+    let u = bounds_of_blocks f w (left_bounds f) in
+    let hl : BlocksWithin w left x u =
+    blocks_within f tau.phi tau.rho c jl w (near_phi f) w (unscaled_bounds f b) l w w w (lit< tt) (left_safe f) hp hr y
+    (unscaled_within f tau v y b (in_series f (coeffs_delta f tau.sigma z) t) (near_ranges f) (near_within f tau v t n))
+    m hm in
+    let hv = v_within f tau v jl jl_inv t hp n in
+    let vx = exact_inverse_v (exact_vec tau.phi) (value_of z) y in
+    let floats = inverse_row (columns_of j.c) (columns_of left.b) (columns_of jl_inv) (three_of left.f) in
+    let values = inverse_row vx x.b k x.f in
+    let all : AllForwardError w floats values (inverse_leaves f) =
+    hv.x.x ◁ hv.x.y ◁ hv.x.z ◁ hv.y.x ◁ hv.y.y ◁ hv.y.z ◁ hv.z.x ◁ hv.z.y ◁ hv.z.z
+    ◁ hl.b.x.x ◁ hl.b.x.y ◁ hl.b.x.z ◁ hl.b.y.x ◁ hl.b.y.y ◁ hl.b.y.z ◁ hl.b.z.x ◁ hl.b.z.y ◁ hl.b.z.z
+    ◁ hk.x.x ◁ hk.x.y ◁ hk.x.z ◁ hk.y.x ◁ hk.y.y ◁ hk.y.z ◁ hk.z.x ◁ hk.z.y ◁ hk.z.z
+    ◁ hl.f.x ◁ hl.f.y ◁ hl.f.z ◁ tt in
+    let B = nth no_bound (inverse_leaves f) in
+    let F = nth f0 floats in
+    let V = nth (value_of f0) values in
+    let h = nth_forward w floats values (inverse_leaves f) all in
+    let s = inverse_holds f in
+    let e = exact_inverse_blocks vx x k in
+    record {
+      b = columns_error f w B j.b e.b inverse_tree.b (near_b_error f)
+          (columns_within f w B F V (lit< tt) h inverse_tree.b (near_b_error f) s.0) s.0;
+      c = v_accurate f tau v jl jl_inv t hp n;
+      f = three_error f w B j.f e.f inverse_tree.f (near_f_error f)
+          (three_within f w B F V (lit< tt) h inverse_tree.f (near_f_error f) s.1) s.1;
+    }
+
 -- what specs/InverseBlocks.antt states
-pub inverse_v : (f : Format) → InverseVTheorem f
-inverse_v f = record { inverse = v_accurate f }
+pub inverse_blocks_theorem : (f : Format) → InverseBlocksTheorem f
+inverse_blocks_theorem f = record { v = v_accurate f; blocks = blocks_accurate f }
 
 pub inverse_v_holds : (f : Format) (tau : Sim3Tangent) (v : Values) (jl jl_inv : Mat3) (j : Sim3Jac)
     → j ≡ jac_jl_inv f tau v jl jl_inv → InverseVAccurate f tau j.c
 inverse_v_holds f tau v jl jl_inv j e =
     subst (λ (i : Sim3Jac). InverseVAccurate f tau i.c) (sym e) (v_accurate f tau v jl jl_inv)
+
+pub inverse_blocks_hold : (f : Format) (tau : Sim3Tangent) (v : Values) (jl jl_inv : Mat3) (j : Sim3Jac)
+    → j ≡ jac_jl_inv f tau v jl jl_inv → InverseBlocksAccurate f tau jl jl_inv j
+inverse_blocks_hold f tau v jl jl_inv j e =
+    subst (λ (i : Sim3Jac). InverseBlocksAccurate f tau jl jl_inv i) (sym e) (blocks_accurate f tau v jl jl_inv)

@@ -9,7 +9,7 @@ ghost use Rattle.accuracy.specs.Norm.{NormAccurate, NormRelative};
 ghost use Rattle.accuracy.specs.Rotation.{TrueActionAccurate};
 ghost use Rattle.accuracy.specs.Exponential.{ExponentialAccurate};
 ghost use Rattle.error_bounds.specs.Blocks.{BlocksAccurate, LeftJacobianAccurate};
-ghost use Rattle.error_bounds.specs.InverseBlocks.{InverseVAccurate};
+ghost use Rattle.error_bounds.specs.InverseBlocks.{InverseVAccurate, InverseBlocksAccurate};
 ghost use Rattle.error_bounds.specs.ManyPoints.{PointsAccurate};
 ghost use Rattle.error_bounds.specs.Poses.{MulAccurate, InversePoseAccurate, RenormalizedPoseAccurate};
 ghost use Rattle.error_bounds.specs.Poses.{CoefficientsAnswered};
@@ -124,7 +124,9 @@ pub fn left_jacobian_inverse<T: Width>(
     jl: Mat3<T>,
     jl_inv: Mat3<T>,
 ) -> Sim3Jac<T>
-    ensures { InverseVAccurate T.format (as_sim3_tangent T.float tau) (as_mat3 T.float result.c) }
+    ensures v { InverseVAccurate T.format (as_sim3_tangent T.float tau) (as_mat3 T.float result.c) }
+    ensures blocks { InverseBlocksAccurate T.format (as_sim3_tangent T.float tau) (as_mat3 T.float jl)
+        (as_mat3 T.float jl_inv) (as_sim3_jac T.float result) }
 {
     side_jacobians::side::jl_inv(tau, v, jl, jl_inv)
 }
