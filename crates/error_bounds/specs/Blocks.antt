@@ -18,6 +18,7 @@ use Rattle.rounding.specs.Leaves.{nth, no_bound, errorless}
 use Rattle.rounding.specs.Arithmetic.{Arithmetic, trees, exactly}
 use Rattle.accuracy.specs.Box.{Three, exact_vec, VecIn, VecError}
 use Rattle.accuracy.specs.Action.{sum3, scale3, cross3, leaves}
+use Rattle.accuracy.specs.Quaternions.{negated3}
 use Rattle.accuracy.specs.ManyPoints.{columns_times, scale_columns}
 use Rattle.accuracy.specs.Series.{Eight, most_terms}
 use Rattle.accuracy.specs.CoefficientSizes.{eight_of, exact_eight, EightWithin, coefficient_bounds}
@@ -42,9 +43,6 @@ module _ {A : Type 0} (arithmetic : Arithmetic A) where
 
   abbrev pub difference3 : Three A → Three A → Three A
   difference3 a b = record { x = a.x ⊖ b.x; y = a.y ⊖ b.y; z = a.z ⊖ b.z }
-
-  abbrev pub negated3 : Three A → Three A
-  negated3 a = record { x = negated a.x; y = negated a.y; z = negated a.z }
 
   abbrev pub ◌⊟◌ : Columns A → Columns A → Columns A
   m ⊟ n = record { x = difference3 m.x n.x; y = difference3 m.y n.y; z = difference3 m.z n.z }
@@ -113,7 +111,7 @@ module _ {A : Type 0} (arithmetic : Arithmetic A) where
       record {
         b = hat_times y jl ⊞ outer dy phi ⊟ xi ⊡ c.v1 ⊞ (product xi w ⊟ product w xi ⊡ two) ⊡ c.v2;
         c = identity zero one ⊡ c.v0 ⊞ w ⊡ c.v1 ⊞ times_hat w phi ⊡ c.v2;
-        f = negated3 g;
+        f = negated3 arithmetic g;
       }
 
 unfoldable pub exact_blocks : Three Value → Three Value → Eight Value → Columns Value → Blocks Value

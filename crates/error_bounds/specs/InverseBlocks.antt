@@ -15,10 +15,11 @@ use Rattle.rounding.specs.Value.{Value, value_of, ratio}
 use Rattle.rounding.specs.Tree.{Bound}
 use Rattle.rounding.specs.Arithmetic.{Arithmetic, exactly}
 use Rattle.accuracy.specs.Box.{Three, exact_vec, VecIn}
+use Rattle.accuracy.specs.Quaternions.{negated3}
 use Rattle.accuracy.specs.ManyPoints.{columns_times}
 use Rattle.accuracy.specs.Series.{Eight, most_terms}
 use Rattle.accuracy.specs.CoefficientSizes.{exact_eight}
-use Rattle.error_bounds.specs.Blocks.{Columns, Blocks, ◌⊞◌, ◌⊡◌, identity, hat, times_hat, negated3, product}
+use Rattle.error_bounds.specs.Blocks.{Columns, Blocks, ◌⊞◌, ◌⊡◌, identity, hat, times_hat, product}
 use Rattle.error_bounds.specs.Blocks.{exact_blocks, same9, columns_of, ColumnsWithin, MatError, BlocksError}
 use Rattle.error_bounds.specs.Blocks.{rotation_bound}
 
