@@ -2,16 +2,15 @@
 ghost use Rattle.std.specs.Prelude.{◌≡◌};
 ghost use Rattle.std.specs.Float.Ieee.{neg};
 ghost use Rattle.coeffs.specs.ClosedForm.{closed_exps};
-ghost use Rattle.series.specs.Floats.{as_coeffs_pair};
 ghost use Rattle.coeffs.specs.Floats.{as_exps};
 ghost use Rattle.pairs.specs.Private.{closed_ends, closed_with};
-ghost use Rattle.pairs.specs.Floats.{as_ends};
+ghost use Rattle.pairs.specs.Floats.{as_coeffs_pair, as_ends};
 ghost use Rattle.circle.specs.Floats.{as_sinc_abd};
 
+use crate::recurrence::CoeffsPair;
 use circle::kernel::SincABD;
 use coeffs::closed_form::{EtMt, Exps, exps_of, nine, of_v, v_from, v0_of, w0_of};
 use coeffs::width::Width;
-use series::sim3::CoeffsPair;
 
 // v0 and w0 at both signs.
 #[derive(Drop)]

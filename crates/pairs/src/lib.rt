@@ -3,5 +3,6 @@
 // bit (specs/Group, Entries). Rests on coeffs.
 #![tactic(auto)]
 
-pub mod sim3; // the public functions
+pub mod sim3; // the coefficients
+pub mod recurrence; // the series
 mod closed_form; // the closed arm at both signs

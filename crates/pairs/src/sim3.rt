@@ -13,6 +13,7 @@ ghost use Rattle.arms.specs.Arm.{arm_number, series_number};
 ghost use Rattle.arms.specs.Floats.{as_values};
 
 use crate::closed_form::{Ends, closed_both, ends_both};
+use crate::recurrence::series_pair_at;
 use arms::limits::{Arm, SeriesArm, on_form_b, w0_small};
 use arms::values::{Values, at_zero};
 use circle::kernel::{SincABD, five_group, unless_negative};
@@ -22,7 +23,6 @@ use coeffs::width::Width;
 use linalg::refusal::Refusal;
 use linalg::vector::Vec3;
 use series::count::Count;
-use series::pair::series_pair_at;
 use series::sim3::{Signs, Sim3Coeffs};
 
 // The coefficients at sigma and at -sigma.

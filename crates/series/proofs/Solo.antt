@@ -7,7 +7,8 @@ use native.Mathlib.Numerals.{add-one}
 use lib.Ieee.{Float, Format, add, mul}
 use Rattle.tables.specs.Tables.{recip_fact}
 use Rattle.series.specs.Series.{series_level, level_terms, series_terms, series_sum, series_sums}
-use Rattle.series.specs.Private.{sums_none, sums_gain, tail_terms, sums_last, solo_step, solo_steps}
+use Rattle.series.specs.Recurrence.{sums_none, sums_gain, tail_terms, sums_last}
+use Rattle.series.specs.Private.{solo_step, solo_steps}
 use Rattle.series.specs.Floats.{SeriesState}
 use Rattle.series.proofs.Sum.{sums_below, sum_more, tail-is}
 

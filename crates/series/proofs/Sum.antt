@@ -11,7 +11,7 @@ use Rattle.ieee.specs.Signs.{not_minus_zero}
 use Rattle.ieee.proofs.Clear.{add_clear}
 use Rattle.tables.specs.Tables.{recip_fact}
 use Rattle.series.specs.Series.{series_next, series_level, level_terms, series_terms, series_sum}
-use Rattle.series.specs.Private.{tail_terms}
+use Rattle.series.specs.Recurrence.{tail_terms}
 use Rattle.series.specs.Floats.{Sums}
 
 pub sum_fits : (f : Format) (t : ℕ → Float) (n : ℕ) → T (fits f (series_sum f t n))

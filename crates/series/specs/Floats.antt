@@ -5,7 +5,6 @@ use Rattle.series.specs.declared.recurrence.Level as CodeLevel
 use Rattle.series.specs.declared.recurrence.Sums as CodeSums
 use Rattle.series.specs.declared.recurrence.Tail as CodeTail
 use Rattle.series.specs.declared.recurrence.SeriesState as CodeSeriesState
-use Rattle.series.specs.declared.recurrence.SeriesPairState as CodeSeriesPairState
 use Rattle.series.specs.declared.sim3.Sim3Coeffs as CodeSim3Coeffs
 use Rattle.series.specs.declared.sim3.Coeffs4 as CodeCoeffs4
 use Rattle.series.specs.declared.sim3.Signs as CodeSigns
@@ -46,12 +45,6 @@ SeriesState = CodeSeriesState.SeriesState Float
 abbrev pub as_series_state : {T : Type 0} → (T → Float) → CodeSeriesState.SeriesState T → SeriesState
 as_series_state h a = record { level = as_level h a.level; sums = as_sums h a.sums }
 
-abbrev pub SeriesPairState : Type 0
-SeriesPairState = CodeSeriesPairState.SeriesPairState Float
-
-abbrev pub as_series_pair_state : {T : Type 0} → (T → Float) → CodeSeriesPairState.SeriesPairState T → SeriesPairState
-as_series_pair_state h a = record { level = as_level h a.level; pos = as_sums h a.pos; neg = as_sums h a.neg }
-
 abbrev pub Sim3Coeffs : Type 0
 Sim3Coeffs = CodeSim3Coeffs.Sim3Coeffs Float
 
@@ -82,12 +75,6 @@ Signs X = CodeSigns.Signs X
 
 abbrev pub as_signs : {X Y : Type 0} → (X → Y) → CodeSigns.Signs X → Signs Y
 as_signs h a = record { pos = h a.pos; neg = h a.neg }
-
-abbrev pub CoeffsPair : Type 0
-CoeffsPair = Signs Sim3Coeffs
-
-abbrev pub as_coeffs_pair : {T : Type 0} → (T → Float) → CodeSigns.Signs (CodeSim3Coeffs.Sim3Coeffs T) → CoeffsPair
-as_coeffs_pair h a = as_signs (as_sim3_coeffs h) a
 
 abbrev pub Horner : Type 0
 Horner = CodeHorner.Horner Float

@@ -5,13 +5,12 @@ use Rattle.std.specs.Float.{Format, binary32, binary64}
 use Rattle.std.specs.Float.Ieee.{neg}
 use Rattle.ieee.specs.Numbers.{f0, f1}
 use Rattle.ieee.specs.Infix.{operations}
-use Rattle.linalg.specs.Answer.{Answer, answers, refuses, and_then, unless_below_zero}
+use Rattle.linalg.specs.Answer.{Answer, answers, refuses, unless_below_zero}
 use Rattle.tables.specs.Tables.{recip_fact}
 use Rattle.series.specs.Floats.{Level}
 use Rattle.series.specs.Floats.{Sums}
 use Rattle.series.specs.Floats.{Sim3Coeffs}
 use Rattle.series.specs.Floats.{Coeffs4}
-use Rattle.series.specs.Floats.{CoeffsPair}
 use Rattle.series.specs.Floats.{Signs}
 
 -- ---- level 0 of the recurrence: level j has p = σʲ, ξ, ζ and the z-derivatives ξ', ζ'
@@ -142,9 +141,3 @@ series_answer f sigma z k = series_guard series_most z k (series_full f sigma z 
 
 unfoldable pub series_v_answer : Format → Float → Float → ℕ → Answer Coeffs4
 series_v_answer f sigma z k = series_guard series_v_most z k (series_v f sigma z k)
-
--- the answers at sigma and at -sigma side by side
-unfoldable pub series_pair_answer : Format → Float → Float → ℕ → Answer CoeffsPair
-series_pair_answer f sigma z k =
-    and_then (series_answer f sigma z k) (λ p. and_then (series_answer f (neg sigma) z k)
-    (λ n. answers (record { pos = p; neg = n })))

@@ -5,7 +5,7 @@ ghost use Rattle.series.specs.Pass.{g_stopped, both_stopped, entries_read};
 ghost use Rattle.series.specs.Private.{g_term};
 ghost use Rattle.series.specs.Floats.{as_signs, as_horner};
 
-use crate::reciprocal::recip;
+use crate::reciprocal::{Index, recip};
 use crate::sim3::{Horner, Signs};
 use tables::Tables;
 
@@ -26,7 +26,9 @@ pub fn g_stopped<T: Tables>(sigma: T, l: usize, terms: usize, n: usize) -> T
 {
     let mut acc = T::of(0.0);
     for i in 0..n {
-        acc = recip::<T>(terms - 1 - i + l) + sigma * acc;
+        acc = recip::<T>(Index {
+            n: terms - 1 - i + l,
+        }) + sigma * acc;
     }
     acc
 }
@@ -48,8 +50,8 @@ pub fn horner_stopped<T: Tables>(sigma: T, k: usize, n: usize) -> Horner<T>
     };
     let mut w0 = v0;
     for i in 0..n {
-        v0 = g_term(sigma, minus, recip(k - i), v0);
-        w0 = g_term(sigma, minus, recip(k - i + 1), w0);
+        v0 = g_term(sigma, minus, recip(Index { n: k - i }), v0);
+        w0 = g_term(sigma, minus, recip(Index { n: k - i + 1 }), w0);
     }
     Horner { v0, w0 }
 }

@@ -1,7 +1,7 @@
 // The recurrence of the total-degree series: its levels, the terms of a level, and the six sums of them, for one sign.
 ghost use Rattle.std.specs.Prelude.{◌≡◌};
 ghost use Rattle.series.specs.Series.{series_first, series_next, level_terms, series_chi, series_coeffs};
-ghost use Rattle.series.specs.Private.{sums_none, sums_gain, tail_terms, sums_last};
+ghost use Rattle.series.specs.Recurrence.{sums_none, sums_gain, tail_terms, sums_last};
 ghost use Rattle.series.specs.Floats.{as_level, as_sim3_coeffs, as_sums, as_tail};
 
 use crate::sim3::Sim3Coeffs;
@@ -45,14 +45,6 @@ pub struct Tail<T> {
 pub struct SeriesState<T> {
     pub level: Level<T>,
     pub sums: Sums<T>,
-}
-
-// The loop for both signs: the next level at sigma, and the sums at sigma and at -sigma.
-#[derive(Drop)]
-pub struct SeriesPairState<T> {
-    pub level: Level<T>,
-    pub pos: Sums<T>,
-    pub neg: Sums<T>,
 }
 
 // Level 0.
@@ -99,7 +91,7 @@ pub fn terms<T: Tables>(l: Level<T>, r1: T, r2: T) -> Sums<T>
 }
 
 // The sums before their first terms.
-#[tactic(auto, unfolding(crate::specs::Private::sums_none))]
+#[tactic(auto, unfolding(crate::specs::Recurrence::sums_none))]
 pub fn none<T: Tables>() -> Sums<T>
     ensures { as_sums T.float result ≡ sums_none }
 {
@@ -114,7 +106,7 @@ pub fn none<T: Tables>() -> Sums<T>
 }
 
 // The sums with the terms t of a level.
-#[tactic(auto, unfolding(crate::specs::Private::sums_gain))]
+#[tactic(auto, unfolding(crate::specs::Recurrence::sums_gain))]
 pub fn gain<T: Tables>(s: Sums<T>, t: Sums<T>) -> Sums<T>
     ensures { as_sums T.float result ≡ sums_gain T.format (as_sums T.float s) (as_sums T.float t) }
 {
@@ -130,7 +122,7 @@ pub fn gain<T: Tables>(s: Sums<T>, t: Sums<T>) -> Sums<T>
 
 // The terms of the levels k + 1, k + 2 and k + 3, with l level k + 1 and r2, r3, r4 the reciprocals of (k + 2)!, (k +
 // 3)!, (k + 4)!.
-#[tactic(auto, unfolding(crate::specs::Private::tail_terms))]
+#[tactic(auto, unfolding(crate::specs::Recurrence::tail_terms))]
 pub fn tail_terms<T: Tables>(sigma: T, z: T, l: Level<T>, r2: T, r3: T, r4: T) -> Tail<T>
     ensures { as_tail T.float result
         ≡ tail_terms T.format (T.float sigma) (T.float z) (as_level T.float l)
@@ -150,7 +142,7 @@ pub fn tail_terms<T: Tables>(sigma: T, z: T, l: Level<T>, r2: T, r3: T, r4: T) -
 }
 
 // The sums with the terms after level k.
-#[tactic(auto, unfolding(crate::specs::Private::sums_last))]
+#[tactic(auto, unfolding(crate::specs::Recurrence::sums_last))]
 pub fn last<T: Tables>(s: Sums<T>, t: Tail<T>) -> Sums<T>
     ensures { as_sums T.float result ≡ sums_last T.format (as_sums T.float s) (as_tail T.float t) }
 {

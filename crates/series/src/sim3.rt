@@ -1,16 +1,17 @@
 // The Sim(3) coefficients, and their total-degree series at one sign of sigma: the full one, and the one for v alone,
-// with the same bits. k is the number of terms of v0 and w0; the other sums run to the level at which every coefficient
-// has the same total degree.
+// with the same bits; v0 and w0 at both. k is the number of terms of v0 and w0; the other sums run to the level at
+// which every coefficient has the same total degree.
 ghost use Rattle.std.specs.Prelude.{◌≡◌, ◌+◌, ◌≤◌};
 ghost use Rattle.series.specs.Series.{series_sums, series_full, series_v, series_answer, series_v_answer};
+ghost use Rattle.series.specs.Series.{g_series_pair};
 ghost use Rattle.series.specs.Private.{solo_step, solo_steps};
 ghost use Rattle.linalg.specs.Answer.{view};
-ghost use Rattle.series.specs.Floats.{as_coeffs4, as_sim3_coeffs, as_sums, as_series_state};
+ghost use Rattle.series.specs.Floats.{as_coeffs4, as_horner, as_sim3_coeffs, as_sums, as_series_state};
 
 use crate::admitted::admitted;
 use crate::count::{Count, FULL, V_ALONE};
-use crate::horner::g_series;
-use crate::reciprocal::recip;
+use crate::horner::{g_series, horner_stopped};
+use crate::reciprocal::{Index, recip};
 use crate::recurrence;
 use crate::recurrence::{SeriesState, Sums};
 use crate::terms::Terms;
@@ -48,9 +49,6 @@ pub struct Signs<X> {
     pub neg: X,
 }
 
-// The coefficients at sigma and at -sigma.
-pub type CoeffsPair<T> = Signs<Sim3Coeffs<T>>;
-
 // v0 and w0, each at sigma and at -sigma.
 #[derive(Drop)]
 pub struct Horner<T> {
@@ -87,6 +85,19 @@ pub fn series_at<T: Tables>(sigma: T, z: T, k: Count<FULL>) -> Sim3Coeffs<T>
     recurrence::coeffs(sigma, z, v0, w0, s)
 }
 
+// The sums over i < k of sigma^i/(i + 1)! and of sigma^i/(i + 2)!, by Horner from the last term, at
+// both signs in one pass over the reciprocals.
+#[tactic(auto, using(crate::proofs::PartialSums::both_last))]
+pub fn horner_at<T: Tables>(sigma: T, k: Count<FULL>) -> Horner<T>
+    ensures { as_horner T.float result
+        ≡ record {
+          v0 = g_series_pair T.format (T.float sigma) 1 k.terms;
+          w0 = g_series_pair T.format (T.float sigma) 2 k.terms;
+        } }
+{
+    horner_stopped(sigma, k.terms, k.terms)
+}
+
 // The six sums, each to its last level.
 #[tactic(auto, using(crate::proofs::Solo::solo_are, crate::proofs::Solo::last_is))]
 fn sums_at<T: Tables>(sigma: T, z: T, k: Count<FULL>) -> Sums<T>
@@ -94,7 +105,14 @@ fn sums_at<T: Tables>(sigma: T, z: T, k: Count<FULL>) -> Sums<T>
 {
     let k = k.terms;
     let s = levels_to(sigma, z, k);
-    let t = recurrence::tail_terms(sigma, z, s.level, recip(k + 2), recip(k + 3), recip(k + 4));
+    let t = recurrence::tail_terms(
+        sigma,
+        z,
+        s.level,
+        recip(Index { n: k + 2 }),
+        recip(Index { n: k + 3 }),
+        recip(Index { n: k + 4 }),
+    );
     recurrence::last(s.sums, t)
 }
 
@@ -111,7 +129,13 @@ fn levels_to<T: Tables>(sigma: T, z: T, k: usize) -> SeriesState<T>
         sums: recurrence::none(),
     };
     for j in 0..k + 1 {
-        s = step(sigma, z, recip(j + 1), recip(j + 2), s);
+        s = step(
+            sigma,
+            z,
+            recip(Index { n: j + 1 }),
+            recip(Index { n: j + 2 }),
+            s,
+        );
     }
     s
 }
@@ -137,7 +161,7 @@ pub fn series_v_at<T: Terms>(sigma: T, z: T, k: Count<V_ALONE>) -> Coeffs4<T>
     let k = k.terms;
     let SeriesState { level, sums } = levels_v_to(sigma, z, k);
     let v0 = g_series(sigma, 1, k);
-    let v2 = sums.v2 + level.zeta * recip(k + 2);
+    let v2 = sums.v2 + level.zeta * recip(Index { n: k + 2 });
     Coeffs4 {
         v0,
         v1: sums.v1,

@@ -5,7 +5,7 @@ ghost use Rattle.series.specs.Pass.{both_stopped, horner_stopped};
 ghost use Rattle.series.specs.Floats.{as_signs, as_horner};
 
 use crate::horner::{entries_read, g_series, g_term};
-use crate::reciprocal::table_entry;
+use crate::reciprocal::{Index, table_entry};
 use crate::sim3::{Horner, Signs};
 use crate::terms::Terms;
 
@@ -14,7 +14,7 @@ use crate::terms::Terms;
 pub fn g1<T: Terms>(sigma: T) -> T
     ensures { T.float result ≡ g_series T.format (T.float sigma) 1 (w0_terms T.format + 1) }
 {
-    table_entry::<T>(1) + sigma * g2(sigma)
+    table_entry::<T>(Index { n: 1 }) + sigma * g2(sigma)
 }
 
 // w0 of the closed arm at small sigma.
@@ -39,10 +39,24 @@ fn pass<T: Terms>(sigma: T, n: usize) -> Signs<T>
         neg: T::of(0.0),
     };
     for i in 0..n / 2 {
-        g = g_term(sigma, minus, table_entry(T::w0_terms() + 1 - i), g);
+        g = g_term(
+            sigma,
+            minus,
+            table_entry(Index {
+                n: T::w0_terms() + 1 - i,
+            }),
+            g,
+        );
     }
     for i in n / 2..n {
-        g = g_term(sigma, minus, table_entry(T::w0_terms() + 1 - i), g);
+        g = g_term(
+            sigma,
+            minus,
+            table_entry(Index {
+                n: T::w0_terms() + 1 - i,
+            }),
+            g,
+        );
     }
     g
 }
@@ -57,7 +71,7 @@ pub fn horner_small<T: Terms>(sigma: T) -> Horner<T>
         } }
 {
     let w0 = pass(sigma, T::w0_terms());
-    let v0 = g_term(sigma, -sigma + T::of(0.0), table_entry(1), w0);
+    let v0 = g_term(sigma, -sigma + T::of(0.0), table_entry(Index { n: 1 }), w0);
     Horner { v0, w0 }
 }
 

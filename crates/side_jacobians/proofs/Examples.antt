@@ -15,7 +15,8 @@ use Rattle.circle.specs.Kernel.{horner_sum, row_series, row_short, row_member, r
 use Rattle.circle.specs.Kernel.{exact_d, sinc_from, circle_exp, circle_sinc_abd}
 use Rattle.series.specs.Series.{series_first, series_next, series_level, level_terms, series_sum, series_sums, g_series}
 use Rattle.series.specs.Series.{coeffs_delta, series_chi, series_coeffs, series_full, coeffs4}
-use Rattle.series.specs.Series.{series_answer, series_v_answer, series_pair_answer}
+use Rattle.pairs.specs.Entries.{series_pair_answer}
+use Rattle.series.specs.Series.{series_answer, series_v_answer}
 use Rattle.arms.specs.Arm.{coeffs_arm, arm_ends}
 use Rattle.arms.specs.Values.{at_zero}
 use Rattle.coeffs.specs.ClosedForm.{closed_v0, closed_w0, closed_v, closed_ws, closed_dvs, closed_joined, closed_nine}

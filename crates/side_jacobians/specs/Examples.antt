@@ -8,7 +8,8 @@ use Rattle.ieee.specs.Numbers.{f0, f1, f2, f3}
 use Rattle.linalg.specs.Answer.{Answer, answers, refuses}
 use Rattle.linalg.specs.Vector.{vec}
 use Rattle.linalg.specs.Floats.{Vec3}
-use Rattle.series.specs.Series.{series_full, series_answer, series_v_answer, series_pair_answer}
+use Rattle.pairs.specs.Entries.{series_pair_answer}
+use Rattle.series.specs.Series.{series_full, series_answer, series_v_answer}
 use Rattle.series.specs.Floats.{Sim3Coeffs}
 use Rattle.arms.specs.Limits.{coeffs_delta, form_b_below}
 use Rattle.arms.specs.Arm.{coeffs_arm, arm_terms}

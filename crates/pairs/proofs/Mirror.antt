@@ -13,7 +13,7 @@ use Rattle.ieee.proofs.Sign.{mul-neg_l, mul-neg_r, mul-neg-neg}
 use Rattle.ieee.proofs.Signed.{add_same, sub_same, neg-add, neg-sub}
 use Rattle.ieee.proofs.Product.{mul-same}
 use Rattle.series.specs.Series.{series_first, series_next, series_level}
-use Rattle.series.specs.Private.{odd}
+use Rattle.pairs.specs.Private.{odd}
 use Rattle.series.specs.Floats.{Level}
 
 -- -x where b, else x

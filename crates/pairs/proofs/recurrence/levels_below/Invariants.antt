@@ -1,10 +1,10 @@
--- `series::pair::levels_below` meets its contract: the loop holds `pair_steps` at an even j with -p for p, and ends at
--- n, which is even. Assumes nothing.
+-- `pairs::recurrence::levels_below` meets its contract: the loop holds `pair_steps` at an even j with -p for p, and
+-- ends at n, which is even. Assumes nothing.
 use mathlib.Core.Path.{◌≡◌}
 use Prim.Native.Nat.{◌-◌, ◌%◌, ◌≤◌}
-use Rattle.series.specs.Private.{pair_steps, state_minus}
-use Rattle.series.specs.Floats.{as_series_pair_state}
-use Rattle.series.proofs.pair.levels_below.Given as goal
+use Rattle.pairs.specs.Private.{pair_steps, state_minus}
+use Rattle.pairs.specs.Floats.{as_series_pair_state}
+use Rattle.pairs.proofs.recurrence.levels_below.Given as goal
 
 abbrev pub invariant-loop-j : goal.invariant-loop-j
 invariant-loop-j g l =

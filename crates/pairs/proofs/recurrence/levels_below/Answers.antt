@@ -1,14 +1,14 @@
--- `series::pair::levels_below` meets its contract: the loop holds `pair_steps` at an even j with -p for p, and ends at
--- n, which is even. Assumes nothing.
+-- `pairs::recurrence::levels_below` meets its contract: the loop holds `pair_steps` at an even j with -p for p, and
+-- ends at n, which is even. Assumes nothing.
 use mathlib.Core.Path.{◌≡◌}
 use Prim.Native.Nat.{◌+◌}
 use native.Mathlib.Omega.{arith}
 use Rattle.std.proofs.Common.{rules}
-use Rattle.series.specs.Private.{pair_steps}
-use Rattle.series.proofs.Minus.{steps_twice}
-use Rattle.series.proofs.Pairs.{two_more}
-use Rattle.series.proofs.pair.levels_below.Goals.{else-loop-j-test, then-loop-j-test+else-n-j-gt2}
-use Rattle.series.proofs.pair.levels_below.Goals as goal
+use Rattle.pairs.specs.Private.{pair_steps}
+use Rattle.pairs.proofs.Minus.{steps_twice}
+use Rattle.pairs.proofs.Pairs.{two_more}
+use Rattle.pairs.proofs.recurrence.levels_below.Goals.{else-loop-j-test, then-loop-j-test+else-n-j-gt2}
+use Rattle.pairs.proofs.recurrence.levels_below.Goals as goal
 
 pub loop-j-init : goal.loop-j-init
 unfolding pair_steps

@@ -16,13 +16,14 @@ use Rattle.ieee.proofs.Clear.{add-is-same}
 use Rattle.tables.specs.Tables.{recip_fact}
 use Rattle.series.specs.Series.{series_level, level_terms, series_terms, series_sum, series_sums, coeffs_delta}
 use Rattle.series.specs.Series.{series_chi, series_coeffs, series_full}
-use Rattle.series.specs.Private.{odd, gain_flip, sums_none, sums_gain, sums_gain_mirrored, tail_terms}
-use Rattle.series.specs.Private.{sums_last_mirrored, pair_step, pair_steps, pair_sums, pair_full}
+use Rattle.series.specs.Recurrence.{sums_none, sums_gain, tail_terms}
+use Rattle.pairs.specs.Private.{odd, gain_flip, sums_gain_mirrored}
+use Rattle.pairs.specs.Private.{sums_last_mirrored, pair_step, pair_steps, pair_sums, pair_full}
 use Rattle.series.specs.Floats.{Sums}
-use Rattle.series.proofs.Mirror.{Turned, mul-turned_l, odd_suc, level_mirror}
+use Rattle.pairs.proofs.Mirror.{Turned, mul-turned_l, odd_suc, level_mirror}
 use Rattle.series.proofs.Sum.{sum_fits, sum_clear, sums_below, tail-is}
 use Rattle.series.proofs.Solo.{last_is}
-use Rattle.series.proofs.Minus.{steps_twice}
+use Rattle.pairs.proofs.Minus.{steps_twice}
 
 -- ---- the code's turns: an even level, and an even one with the odd one after it
 pub even_more :

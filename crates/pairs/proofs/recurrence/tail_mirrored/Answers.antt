@@ -1,8 +1,10 @@
--- `series::pair::tail_mirrored` meets its contract: adding the negative of a term is subtracting it. Assumes nothing.
+-- `pairs::recurrence::tail_mirrored` meets its contract: adding the negative of a term is subtracting it. Assumes
+-- nothing.
 use Rattle.std.proofs.Common.{rules}
 use lib.Ieee.{sub}
-use Rattle.series.specs.Private.{sums_last, sums_last_mirrored}
-use Rattle.series.proofs.pair.tail_mirrored.Goals as goal
+use Rattle.series.specs.Recurrence.{sums_last}
+use Rattle.pairs.specs.Private.{sums_last_mirrored}
+use Rattle.pairs.proofs.recurrence.tail_mirrored.Goals as goal
 
 pub returns-then-this-ne0 : goal.returns-then-this-ne0
 unfolding sums_last sums_last_mirrored sub

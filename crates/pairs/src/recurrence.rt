@@ -3,25 +3,37 @@
 // adds a term, the one at -sigma adds it or its negative.
 ghost use Rattle.std.specs.Prelude.{◌≡◌, true, false, ◌+◌, ◌%◌, ◌≤◌};
 ghost use Rattle.std.specs.Float.Ieee.{neg};
-ghost use Rattle.series.specs.Series.{g_series_pair, series_full, series_pair_answer};
-ghost use Rattle.series.specs.Private.{sums_gain, sums_last, sums_gain_mirrored, sums_last_mirrored, state_minus};
-ghost use Rattle.series.specs.Private.{pair_step, pair_steps, pair_sums};
+ghost use Rattle.series.specs.Series.{series_full};
+ghost use Rattle.series.specs.Recurrence.{sums_gain, sums_last};
+ghost use Rattle.pairs.specs.Entries.{series_pair_answer};
+ghost use Rattle.pairs.specs.Private.{sums_gain_mirrored, sums_last_mirrored, state_minus};
+ghost use Rattle.pairs.specs.Private.{pair_step, pair_steps, pair_sums};
 ghost use Rattle.linalg.specs.Answer.{view};
-ghost use Rattle.series.specs.Floats.{as_coeffs_pair, as_horner, as_sums, as_signs, as_tail};
-ghost use Rattle.series.specs.Floats.{as_series_pair_state};
+ghost use Rattle.series.specs.Floats.{as_sums, as_signs, as_tail};
+ghost use Rattle.pairs.specs.Floats.{as_coeffs_pair, as_series_pair_state};
 
-use crate::admitted::admitted;
-use crate::count::{Count, FULL};
-use crate::horner::horner_stopped;
-use crate::reciprocal::recip;
-use crate::recurrence;
-use crate::recurrence::{Level, SeriesPairState, Sums, Tail};
-use crate::sim3::{CoeffsPair, Horner, Signs};
 use linalg::refusal::Refusal;
+use series::admitted::admitted;
+use series::count::{Count, FULL};
+use series::reciprocal::{Index, recip};
+use series::recurrence;
+use series::recurrence::{Level, Sums, Tail};
+use series::sim3::{Signs, Sim3Coeffs, horner_at};
 use tables::Tables;
 
+// The coefficients at sigma and at -sigma.
+pub type CoeffsPair<T> = Signs<Sim3Coeffs<T>>;
+
+// The loop for both signs: the next level at sigma, and the sums at sigma and at -sigma.
+#[derive(Drop)]
+pub struct SeriesPairState<T> {
+    pub level: Level<T>,
+    pub pos: Sums<T>,
+    pub neg: Sums<T>,
+}
+
 // The series at k terms, at sigma and at -sigma; refusal 1 for z below zero, then 4 for k above 28.
-#[tactic(auto, unfolding(crate::specs::Series::series_pair_answer, crate::specs::Series::series_answer))]
+#[tactic(auto, unfolding(crate::specs::Entries::series_pair_answer, series::specs::Series::series_answer))]
 pub fn series_pair<T: Tables>(sigma: T, z: T, k: usize) -> Result<CoeffsPair<T>, Refusal>
     ensures { view (as_coeffs_pair T.float) result ≡ series_pair_answer T.format (T.float sigma) (T.float z) k }
 {
@@ -54,7 +66,14 @@ fn sums_pair_at<T: Tables>(sigma: T, z: T, k: Count<FULL>) -> Signs<Sums<T>>
 {
     let k = k.terms;
     let s = levels_to(sigma, z, k);
-    let t = recurrence::tail_terms(sigma, z, s.level, recip(k + 2), recip(k + 3), recip(k + 4));
+    let t = recurrence::tail_terms(
+        sigma,
+        z,
+        s.level,
+        recip(Index { n: k + 2 }),
+        recip(Index { n: k + 3 }),
+        recip(Index { n: k + 4 }),
+    );
     let neg = if (k + 1) % 2 == 1 {
         recurrence::last(s.neg, tail_mirrored::<T, true>(t))
     } else {
@@ -74,7 +93,13 @@ fn levels_to<T: Tables>(sigma: T, z: T, k: usize) -> SeriesPairState<T>
 {
     if k % 2 == 0 {
         let s = levels_below(sigma, z, k);
-        return step::<T, false>(sigma, z, recip(k + 1), recip(k + 2), s);
+        return step::<T, false>(
+            sigma,
+            z,
+            recip(Index { n: k + 1 }),
+            recip(Index { n: k + 2 }),
+            s,
+        );
     }
     levels_below(sigma, z, k + 1)
 }
@@ -93,7 +118,14 @@ fn levels_below<T: Tables>(sigma: T, z: T, n: usize) -> SeriesPairState<T>
         neg: recurrence::none(),
     });
     for j in (0..n).step_by(2) {
-        s = two_steps(sigma, z, recip(j + 1), recip(j + 2), recip(j + 3), s);
+        s = two_steps(
+            sigma,
+            z,
+            recip(Index { n: j + 1 }),
+            recip(Index { n: j + 2 }),
+            recip(Index { n: j + 3 }),
+            s,
+        );
     }
     state_minus(s)
 }
@@ -195,17 +227,4 @@ fn tail_mirrored<T: Tables, const ODD: bool>(t: Tail<T>) -> Tail<T>
             ..t
         }
     }
-}
-
-// The sums over i < k of sigma^i/(i + 1)! and of sigma^i/(i + 2)!, by Horner from the last term, at
-// both signs in one pass over the reciprocals.
-#[tactic(auto, using(crate::proofs::PartialSums::both_last))]
-fn horner_at<T: Tables>(sigma: T, k: Count<FULL>) -> Horner<T>
-    ensures { as_horner T.float result
-        ≡ record {
-          v0 = g_series_pair T.format (T.float sigma) 1 k.terms;
-          w0 = g_series_pair T.format (T.float sigma) 2 k.terms;
-        } }
-{
-    horner_stopped(sigma, k.terms, k.terms)
 }

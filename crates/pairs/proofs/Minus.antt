@@ -1,9 +1,9 @@
 -- Levels that hold -p for p: doing this twice changes nothing.
 use mathlib.Core.Path.{◌≡◌}
 use Rattle.ieee.proofs.Sign.{neg-neg}
-use Rattle.series.specs.Private.{level_minus, state_minus}
+use Rattle.pairs.specs.Private.{level_minus, state_minus}
 use Rattle.series.specs.Floats.{Level}
-use Rattle.series.specs.Floats.{SeriesPairState}
+use Rattle.pairs.specs.Floats.{SeriesPairState}
 
 level-twice : (l : Level) → level_minus (level_minus l) ≡ l
 unfolding level_minus

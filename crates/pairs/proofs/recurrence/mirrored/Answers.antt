@@ -1,8 +1,9 @@
--- `series::pair::mirrored` meets its contract: adding the negative of a term is subtracting it. Assumes nothing.
+-- `pairs::recurrence::mirrored` meets its contract: adding the negative of a term is subtracting it. Assumes nothing.
 use Rattle.std.proofs.Common.{rules}
 use lib.Ieee.{sub}
-use Rattle.series.specs.Private.{sums_gain, sums_gain_mirrored}
-use Rattle.series.proofs.pair.mirrored.Goals as goal
+use Rattle.series.specs.Recurrence.{sums_gain}
+use Rattle.pairs.specs.Private.{sums_gain_mirrored}
+use Rattle.pairs.proofs.recurrence.mirrored.Goals as goal
 
 pub returns-then-this-ne0 : goal.returns-then-this-ne0
 unfolding sums_gain sums_gain_mirrored sub
