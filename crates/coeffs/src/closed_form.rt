@@ -13,7 +13,6 @@ use circle::kernel::{SincA, SincABD};
 use series::sim3::{Coeffs4, Sim3Coeffs};
 
 // v0 by its series where `small`, else m1/sigma, and 1 where sigma is a zero.
-#[tactic(auto, unfolding(crate::specs::ClosedForm::closed_v0))]
 pub fn v0_of<T: Width>(sigma: T, g: T, m1: T, small: bool) -> T
     ensures { T.float result ≡ closed_v0 T.format (T.float sigma) (T.float g) (T.float m1) small }
 {
@@ -26,7 +25,6 @@ pub fn v0_of<T: Width>(sigma: T, g: T, m1: T, small: bool) -> T
 }
 
 // w0 by its series where `small`, else (m1 - sigma g)/sigma^2.
-#[tactic(auto, unfolding(crate::specs::ClosedForm::closed_w0))]
 pub fn w0_of<T: Width>(sigma: T, g: T, m1: T, small: bool) -> T
     ensures { T.float result ≡ closed_w0 T.format (T.float sigma) (T.float g) (T.float m1) small }
 {

@@ -22,7 +22,6 @@ pub struct Ends<T> {
 }
 
 // v0 and w0 at sigma, with the numbers x of the exponential, and at -sigma, with y.
-#[tactic(auto, unfolding(crate::proofs::PairForms::both_forms, series::specs::Series::g_series_pair))]
 fn ends_of<T: Width>(sigma: T, x: Exps<T>, y: Exps<T>, small: bool) -> Ends<T>
     ensures { as_ends T.float result ≡ closed_ends T.format (T.float sigma) (as_exps T.float x)
         (as_exps T.float y) small }

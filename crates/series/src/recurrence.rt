@@ -142,7 +142,6 @@ pub fn tail_terms<T: Tables>(sigma: T, z: T, l: Level<T>, r2: T, r3: T, r4: T) -
 }
 
 // The sums with the terms after level k.
-#[tactic(auto, unfolding(crate::specs::Recurrence::sums_last))]
 pub fn last<T: Tables>(s: Sums<T>, t: Tail<T>) -> Sums<T>
     ensures { as_sums T.float result ≡ sums_last T.format (as_sums T.float s) (as_tail T.float t) }
 {

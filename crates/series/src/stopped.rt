@@ -43,7 +43,6 @@ pub fn pass_stopped<T: Terms>(sigma: T, k: usize, stop: usize) -> Result<Stopped
 }
 
 // The four sums of v0 and w0 by the code of one sign.
-#[tactic(auto, unfolding(crate::specs::Pass::horner_stopped))]
 fn alone<T: Terms>(sigma: T, v_terms: usize, w_terms: usize, stop: usize) -> Horner<T>
     requires { (v_terms ≤ 30) × (w_terms ≤ 30) }
     ensures { as_horner T.float result ≡ horner_stopped T.format (T.float sigma) v_terms w_terms stop }

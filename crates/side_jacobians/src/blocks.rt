@@ -19,7 +19,7 @@ use series::sim3::Sim3Coeffs;
 use sim3::sim3::{Three, combine};
 use sim3::tangent::Sim3Tangent;
 
-#[derive(Clone, Copy)]
+#[derive(Drop)]
 pub struct JacAndInverse<T> {
     pub j: Sim3Jac<T>,
     pub inv: Sim3Jac<T>,

@@ -87,7 +87,6 @@ impl<T: Real> Quat<T> {
     }
 
     // |q|² = w² + x² + y² + z², summed in that order.
-    #[tactic(auto, unfolding(crate::specs::Quat::quat_norm_sq))]
     pub fn norm_sq(self) -> T
         ensures { T.float result ≡ quat_norm_sq T.format (as_quat T.float self) }
     {
