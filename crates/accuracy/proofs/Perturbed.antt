@@ -14,7 +14,7 @@ use Rattle.rounding.proofs.Ring as R
 use Rattle.accuracy.specs.Box.{Three, Four, vector_part, VecNear}
 use Rattle.accuracy.specs.Action.{exact_rotate}
 use Rattle.accuracy.specs.Rotation.{turn_error}
-use Rattle.accuracy.proofs.Euler.{Quad, ◌⊖◌, hamilton, hamilton_x, squared, sub}
+use Rattle.accuracy.proofs.Euler.{Quad, ◌⊖◌, hamilton, hamilton_x, sub}
 use Rattle.accuracy.proofs.Length.{Long, Tall, Level, long_product, long_shift, long_sum, tall_long, long_w, long_x, long_y}
 use Rattle.accuracy.proofs.Length.{long_z, sum4, sub4}
 use Rattle.accuracy.proofs.Hamilton.{Is4, tall_near}

@@ -10,9 +10,7 @@ use lib.Dec.{T, leb, leb→le, lit<}
 use lib.Ieee.{Float, Format, binary32, binary64}
 use lib.Ieee.Fits.{and_l, and_r, and_i}
 use Rattle.ieee.specs.Numbers.{f0, f2}
-use Rattle.linalg.specs.Vector.{vec_scale, vec_cross, vec_add}
 use Rattle.linalg.specs.Floats.{Vec3}
-use Rattle.so3.specs.So3.{so3_act}
 use Rattle.so3.specs.Floats.{Quat}
 use Rattle.sim3.specs.Pose.{pose_act, pose_mul}
 use Rattle.sim3.specs.Floats.{Sim3}
@@ -20,7 +18,7 @@ use Rattle.rounding.specs.Value.{Value, value_of, AtMost, AbsoluteError}
 use Rattle.rounding.specs.Value.{plus, times, Near}
 use Rattle.rounding.specs.Tree.{Term, leaf, prod, exact, Bound, reach, upward, bound, no_overflow, ForwardError}
 use Rattle.rounding.specs.Leaves.{Bounded, sizes, nth, error_at_most}
-use Rattle.accuracy.specs.Box.{VecIn, Three, VecError, VecNear, Four, QuatError, exact_quat, exact_vec, vector_part}
+use Rattle.accuracy.specs.Box.{VecIn, Three, VecError, VecNear, QuatError, exact_quat, exact_vec, vector_part}
 use Rattle.accuracy.specs.Action.{exact_rotate, exact_act, tree_rotate, tree_act, act_sizes, all_three}
 use Rattle.accuracy.specs.Rotation.{pure, turn_error}
 use Rattle.accuracy.specs.Quaternions.{tree_quat_mul, quat_mul_sizes}

@@ -23,9 +23,8 @@ use Rattle.running.proofs.Past.{history}
 use Rattle.std.specs.Prelude.{Some, None}
 use Rattle.rounding.specs.Value.{Value, minus, times, value_of, AtMost, AbsoluteError}
 use Rattle.rounding.specs.Tree.{Bound, upward, bound, no_overflow}
-use Rattle.rounding.specs.Leaves.{sizes, error_at_most, nth, no_bound, errorless}
+use Rattle.rounding.specs.Leaves.{sizes, error_at_most, errorless}
 use Rattle.accuracy.specs.Box.{VecIn, Four, QuatError, exact_quat}
-use Rattle.accuracy.specs.Action.{tree_act}
 use Rattle.accuracy.specs.Quaternions.{exact_squared, Normal, exact_hamilton, exact_newton, tree_quat_mul, tree_newton}
 use Rattle.accuracy.specs.Quaternions.{quat_mul_sizes, newton_sizes, all_four}
 use Rattle.running_accuracy.specs.Products.{LengthAtMost, product_error}
