@@ -118,7 +118,7 @@ def true_error(away: int, point: int, scale: int) -> int:
 
 def turn_error(length: int, error: int, point: int) -> int:
     """How far a rotation of a vector can be from that by a quaternion within `error`, whose length is at most `length`:
-    `turn_error` of the same file."""
+    `turn_error` of crates/accuracy/specs/Rotation.antt."""
     near, longer = upward(UNIT, error * point), length + error + 2
     return (upward(UNIT, 2 * near * longer) + upward(UNIT, length * (2 * near))
             + upward(UNIT, upward(UNIT, error * (longer + length + 1)) * point))

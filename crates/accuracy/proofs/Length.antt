@@ -14,6 +14,14 @@ use Rattle.accuracy.proofs.Euler.{Quad, ◌⊖◌, hamilton, squared, euler}
 pub record Long (w : ℕ) (a : Quad Gap) (e b : ℕ) : Type 0 where
   pub magnitude : w * w * (squared a).p ≤ w * w * (squared a).n + b * b * (e * e)
 
+-- within a greater bound
+pub long_wider : (w : ℕ) (a : Quad Gap) (e b c : ℕ) → b ≤ c → Long w a e b → Long w a e c
+long_wider w a e b c l h =
+    record { magnitude = le_trans h.magnitude (more _ _ _ (mul-le-mul_right (e * e) (mul-le-mul l l))) }
+  where
+    more : (n x y : ℕ) → x ≤ y → n + x ≤ n + y
+    more n x y h = omega arith
+
 -- ---- a square is not below 0
 square-up : (a : Gap) → (a ⊗ a).n ≤ (a ⊗ a).p
 square-up a = let h = twice-le a.p a.n in let k = mul_comm a.p a.n in omega arith

@@ -2,7 +2,7 @@
 -- the rest of the formula differs by (|s|² - |r|²) v. Assumes nothing.
 use mathlib.Core.Path.{◌≡◌, sym, ap, ◌∙◌, subst, subst₂}
 use Prim.Native.Nat.{ℕ, zero, suc, ◌+◌, ◌*◌, ◌≤◌, ◌<◌}
-use native.Mathlib.Nat.{le_trans, mul-add, add-mul, mul-pos, mul-le-mul, mul-le-mul_right, zero-lt-suc}
+use native.Mathlib.Nat.{mul-add, add-mul, mul-pos, zero-lt-suc}
 use native.Mathlib.Omega.{arith}
 use Rattle.rounding.specs.Value.{Value}
 use Rattle.rounding.specs.Tree.{upward}
@@ -16,9 +16,10 @@ use Rattle.accuracy.specs.Action.{exact_rotate}
 use Rattle.accuracy.specs.Rotation.{turn_error}
 use Rattle.accuracy.proofs.Euler.{Quad, ◌⊖◌, hamilton, hamilton_x, sub}
 use Rattle.accuracy.proofs.Length.{Long, Tall, Level, long_product, long_shift, long_sum, tall_long, long_w, long_x, long_y}
-use Rattle.accuracy.proofs.Length.{long_z, sum4, sub4}
+use Rattle.accuracy.proofs.Length.{long_z, long_wider, sum4, sub4}
 use Rattle.accuracy.proofs.Hamilton.{Is4, tall_near}
 use Rattle.accuracy.proofs.Rotation.{conjugate_gap, pure_gap, rotated_gap, conjugate_x, pure_x, rotated_x, Is3, rotate-is}
+use Rattle.accuracy.proofs.Rotation.{no_scalar}
 
 -- ---- the identity, of differences over denominators and as expressions
 abbrev numbers : ℕ → Quad Ex
@@ -130,13 +131,6 @@ tall_times w a b c d k E g z h i l =
 tall_over : (w : ℕ) (a : Gap) (c d e : ℕ) → d ≡ e → Tall w a (c * d) → Tall w a (c * e)
 tall_over w a c d e h t = subst (λ (i : ℕ). Tall w a (c * i)) h t
 
-long_wider : (w : ℕ) (a : Quad Gap) (e b c : ℕ) → b ≤ c → Long w a e b → Long w a e c
-long_wider w a e b c l h =
-    record { magnitude = le_trans h.magnitude (more _ _ _ (mul-le-mul_right (e * e) (mul-le-mul l l))) }
-  where
-    more : (n x y : ℕ) → x ≤ y → n + x ≤ n + y
-    more n x y h = omega arith
-
 long_conjugate : (w : ℕ) (a : Quad Gap) (e b : ℕ) → Long w a e b → Long w (conjugate_gap a) e b
 long_conjugate w a e b h = record {
   magnitude =
@@ -152,9 +146,6 @@ long_conjugate w a e b h = record {
         ≡ a * b + b * a + (d * c + c * d) + (f * e + e * f) + (h * g + g * h)
     n a b c d e f g h = omega arith
 
-none : (w : ℕ) (a : Gap) (k : ℕ) → Tall w (a ⊖ a) k
-none w a k = record { above = simp expand (omega arith); below = simp expand (omega arith) }
-
 -- ---- δ over e is at most d / u long, s over e at most m / u, and the numbers of v over g are at most b / u
 module _ (u m d b e g : ℕ) (r s v : Quad Gap) (uz : 0 < u) (near : Long u (sub4 r s) e d) (size : Long u s e m)
     (vx : Tall u v.x (b * g)) (vy : Tall u v.y (b * g)) (vz : Tall u v.z (b * g)) where
@@ -165,7 +156,7 @@ module _ (u m d b e g : ℕ) (r s v : Quad Gap) (uz : 0 < u) (near : Long u (sub
   l = m + d + 2
 
   v-long : Long u (pure_gap v) g (2 * b)
-  v-long = tall_long u (pure_gap v) g b (none u v.x (b * g)) vx vy vz
+  v-long = tall_long u (pure_gap v) g b (no_scalar u v.x (b * g)) vx vy vz
 
   r-long : Long u r e l
   unfolding Level

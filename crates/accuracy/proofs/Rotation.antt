@@ -430,6 +430,17 @@ conjugated-above q v hq hv =
     hamilton-above (exact_hamilton q (pure v)) (conjugate q) (hamilton-above q (pure v) hq (pure-above v hv))
     (record { w = hq.w; x = hq.x; y = hq.y; z = hq.z })
 
+-- the size of a value over a denominator, and of a vector's scalar part
+pub most-tall : (u m g : ℕ) (x : Value) (b : Gap) → 0 < x.d → Is x b.p b.n g → AtMost u x m → Tall u b (m * g)
+most-tall u m g x b z h k =
+    record {
+      above = side_least u m x.p x.n x.d b.p b.n g z h.equal k.above;
+      below = side_least u m x.n x.p x.d b.n b.p g z (sym h.equal) k.below;
+    }
+
+pub no_scalar : (u : ℕ) (a : Gap) (k : ℕ) → Tall u (a ⊖ a) k
+no_scalar u a k = record { above = simp expand (omega arith); below = simp expand (omega arith) }
+
 pub rotate-above : (q : Four Value) (v : Three Value) → Above q → Above3 v →
     Above3 (exact_rotate q.w (vector_part q) v)
 unfolding exact_rotate
@@ -505,21 +516,10 @@ module _ (u c : ℕ) (q : Four Value) (v : Three Value) (uz : 0 < u) (cu : c < u
   -- v's numbers at most m / u: its length at most twice that
   in-box : (m : ℕ) → AtMost u v.x m → AtMost u v.y m → AtMost u v.z m → Turning u c m (2 * m) q v
   in-box m x y z =
-      let tx = tall v.x b-of.x hv.0 v-of.x x in
-      let ty = tall v.y b-of.y hv.1.0 v-of.y y in
-      let tz = tall v.z b-of.z hv.1.1 v-of.z z in
-      turning m (2 * m) (tall_long u (pure_gap b-of) g-of m (none u b-of.x.p b-of.x.n (m * g-of)) tx ty tz) tx ty tz
-    where
-      tall : (x : Value) (b : Gap) → 0 < x.d → Is x b.p b.n g-of → AtMost u x m → Tall u b (m * g-of)
-      tall x b z h k =
-          record {
-            above = side_least u m x.p x.n x.d b.p b.n g-of z h.equal k.above;
-            below = side_least u m x.n x.p
-                x.d b.n b.p g-of z (sym h.equal) k.below;
-          }
-
-      none : (u p n k : ℕ) → Tall u (record { p = p + n; n = n + p }) k
-      none u p n k = record { above = simp expand (omega arith); below = simp expand (omega arith) }
+      let tx = most-tall u m g-of v.x b-of.x hv.0 v-of.x x in
+      let ty = most-tall u m g-of v.y b-of.y hv.1.0 v-of.y y in
+      let tz = most-tall u m g-of v.z b-of.z hv.1.1 v-of.z z in
+      turning m (2 * m) (tall_long u (pure_gap b-of) g-of m (no_scalar u b-of.x (m * g-of)) tx ty tz) tx ty tz
 
   -- its length at most l / u
   of-length : (l : ℕ) → AtMost (u * u) (exact_norm_sq v) (l * l) → Turning u c l l q v
@@ -602,8 +602,8 @@ self u t = record { x = one t.x; y = one t.y; z = one t.z }
 pub floats-above : (v : Vec3) → Above3 (exact_vec v)
 floats-above v = (value-above v.x, (value-above v.y, value-above v.z))
 
-quat-above : (q : Quat) → Above (exact_quat q)
-quat-above q = record { w = value-above q.w; x = value-above q.x; y = value-above q.y; z = value-above q.z }
+pub quat_values : (q : Quat) → Above (exact_quat q)
+quat_values q = record { w = value-above q.w; x = value-above q.x; y = value-above q.y; z = value-above q.z }
 
 unit-above : (c w : ℕ) → c < w → 0 < w
 unit-above c w h = omega arith
@@ -682,7 +682,7 @@ formula-near u c l q v cu n h =
     let uz = unit-above c u cu in
     near-one u c l l (upward u (2 * c * l)) (exact_quat q) (exact_vec v) uz
     (le_trans (le_of_eq (twice c l)) (upward_enough u (2 * c * l) uz))
-    (of-length u c (exact_quat q) (exact_vec v) uz cu (quat-above q) (floats-above v) n l h)
+    (of-length u c (exact_quat q) (exact_vec v) uz cu (quat_values q) (floats-above v) n l h)
   where
     twice : (c l : ℕ) → c * (l + l) ≡ 2 * c * l
     twice c l = simp expand (omega arith)
@@ -755,7 +755,7 @@ true_accurate f x up p w q c b s t e cw k hq n hp hs ht =
     let Q = exact_quat x.q in
     let V = exact_vec p in
     let S = value_of up in
-    let a = quat-above x.q in
+    let a = quat_values x.q in
     let r = rotate-above Q V a (floats-above p) in
     let sz = value-above up in
     let i = clear_is Q in
@@ -809,7 +809,7 @@ true-inverse_accurate f x down w q c t s e cw k hq n ht hs =
     let Q = conjugate (exact_quat x.q) in
     let V = exact_vec x.t in
     let S = value_of down in
-    let g = quat-above x.q in
+    let g = quat_values x.q in
     let a : Above Q = record { w = g.w; x = g.x; y = g.y; z = g.z } in
     let n' = conjugate-normal w c (exact_quat x.q) n in
     let i = clear_is Q in
@@ -841,7 +841,7 @@ true-inverse_accurate f x down w q c t s e cw k hq n ht hs =
 pub rotation : RotationTheorem
 rotation =
     record {
-      isometry = λ u q v l. rotation-length u (exact_quat q) (exact_vec v) (quat-above q) (floats-above v) l;
+      isometry = λ u q v l. rotation-length u (exact_quat q) (exact_vec v) (quat_values q) (floats-above v) l;
       formula = formula-near;
       action = true_accurate;
       doubles = λ x up p hq n hp hs ht.

@@ -50,7 +50,7 @@ exact_act x up p =
 abbrev pub leaves : ℕ → ℕ → ℕ → Three Term
 leaves i j k = record { x = leaf i; y = leaf j; z = leaf k }
 
--- the leaves: 2, the quaternion w x y z, the point, e^σ, the translation
+-- the leaves: 2, the quaternion w x y z, the point; and of the action e^σ and the translation as well
 abbrev pub tree_rotate : Three Term
 tree_rotate = rotate trees (leaf 0) (leaf 1) (leaves 2 3 4) (leaves 5 6 7)
 

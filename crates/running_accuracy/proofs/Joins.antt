@@ -1,5 +1,4 @@
 -- Poses joined in a row: the error of the running pose. Assumes nothing.
-use mathlib.Core.Path.{sym}
 use mathlib.Core.List.{List, [], ◌∷◌}
 use native.Mathlib.Nat.{mul-pos}
 use Prim.Native.Nat.{ℕ, zero, suc, ◌+◌, ◌*◌, ◌^◌, ◌≤◌, ◌<◌}
@@ -11,7 +10,6 @@ use lib.Ieee.{Float, Format, binary32, binary64}
 use lib.Ieee.Fits.{and_l, and_r, and_i}
 use Rattle.ieee.specs.Numbers.{f0, f2}
 use Rattle.linalg.specs.Floats.{Vec3}
-use Rattle.so3.specs.Floats.{Quat}
 use Rattle.sim3.specs.Pose.{pose_act, pose_mul}
 use Rattle.sim3.specs.Floats.{Sim3}
 use Rattle.rounding.specs.Value.{Value, value_of, AtMost, AbsoluteError}
@@ -32,18 +30,15 @@ use Rattle.rounding.proofs.Forward.{error_wider, error_trans, upward_enough, Siz
 use Rattle.rounding.proofs.Denominators.{Is, is-most}
 use Rattle.rounding.proofs.Ring.{Gap}
 use Rattle.accuracy.proofs.Action.{act_accurate}
-use Rattle.accuracy.proofs.Hamilton.{Above, hamilton-above, clear, clear_is, den, side_least}
+use Rattle.accuracy.proofs.Hamilton.{Above, hamilton-above, clear, clear_is, den}
 use Rattle.accuracy.proofs.Length.{Tall, long_w, long_x, long_y, long_z}
-use Rattle.accuracy.proofs.Rotation.{Above3, floats-above, pure-above, rotate-above}
+use Rattle.accuracy.proofs.Rotation.{Above3, floats-above, quat_values, pure-above, rotate-above, most-tall}
 use Rattle.accuracy.proofs.Perturbed.{perturbed}
 use Rattle.rounding.proofs.Leaves.{leaf_forward, float_sized, two_bounded, AllSized, nth_sized, value-above, error-near}
 use Rattle.rounding.proofs.Leaves.{bounded_from}
 use Rattle.running_accuracy.proofs.Products.{Run, one_more, run_close, first, le_leb}
 
 -- ---- the translation
-pub quat_values : (q : Quat) → Above (exact_quat q)
-quat_values q = record { w = value-above q.w; x = value-above q.x; y = value-above q.y; z = value-above q.z }
-
 abbrev values : Exact → Value → Vec3 → List Value
 values x s p =
     value_of f2 ∷ x.q.w ∷ x.q.x ∷ x.q.y ∷ x.q.z ∷ value_of p.x ∷ value_of p.y ∷ value_of p.z ∷ s ∷ x.t.x ∷ x.t.y ∷ x.t.z
@@ -159,18 +154,11 @@ module _ (f : Format) (u b s h : ℕ) (x : Sim3) (X : Exact) (j : Join) (p : Pos
       let i = clear_is (pure point) in
       let v : Above (pure point) = pure-above point points-above in
       let gz : 0 < g = mul-pos v.w (mul-pos v.x (mul-pos v.y v.z)) in
-      perturbed u m d b k.e g k.r k.s c z k.error k.magnitude (tall j.pose.t.x c.x g i.x hb.x)
-      (tall j.pose.t.y c.y g i.y hb.y) (tall j.pose.t.z c.z g i.z hb.z) (exact_quat x.q) X.q point k.above gz k.computed
+      let tall : (y : Float) (a : Gap) → Is (value_of y) a.p a.n g → Bounded u y b → Tall u a (b * g) =
+      λ y a o l. most-tall u b g (value_of y) a (value-above y) o (float_sized u y b l).size in
+      perturbed u m d b k.e g k.r k.s c z k.error k.magnitude (tall j.pose.t.x c.x i.x hb.x)
+      (tall j.pose.t.y c.y i.y hb.y) (tall j.pose.t.z c.z i.z hb.z) (exact_quat x.q) X.q point k.above gz k.computed
       k.exact (record { x = i.x; y = i.y; z = i.z })
-    where
-      tall : (y : Float) (a : Gap) (g : ℕ) → Is (value_of y) a.p a.n g → Bounded u y b → Tall u a (b * g)
-      tall y a g i o =
-          let o' = (float_sized u y b o).size in
-          let v = value_of y in
-          record {
-            above = side_least u b v.p v.n v.d a.p a.n g (value-above y) i.equal o'.above;
-            below = side_least u b v.n v.p v.d a.n a.p g (value-above y) (sym i.equal) o'.below;
-          }
 
   -- the action as it is computed, beside the exact one at the computed pose
   rounded : VecError u (pose_act f x j.up j.pose.t) (exact_act x j.up j.pose.t)

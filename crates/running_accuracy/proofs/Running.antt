@@ -4,7 +4,7 @@ use mathlib.Core.Path.{◌≡◌, refl, sym, ap, subst}
 use mathlib.Core.List.{List, [], ◌∷◌}
 use Prim.Native.Nat.{ℕ, zero, suc, ◌+◌, ◌*◌, ◌≤◌, ◌<◌}
 use native.Mathlib.Nat.{le_refl, le_trans, le_of_eq, mul-add, add-mul, mul_comm, mul-pos, add_comm, zero-lt-suc}
-use native.Mathlib.Nat.{mul-le-mul, mul-le-mul_left, mul-le-mul_right, le_of_mul-le-mul_right}
+use native.Mathlib.Nat.{mul-le-mul_left, mul-le-mul_right, le_of_mul-le-mul_right}
 use native.Mathlib.Omega.{arith}
 use mathlib.Core.Bool.{Bool, true, false, not, ◌&&◌}
 use lib.Dec.{T, leb, ltb, eqb, leb→le, nleb→lt, ltb→lt, nltb→le}
@@ -44,13 +44,14 @@ use Rattle.accuracy.proofs.Hamilton.{Is4, den, clear, clear_is, is_mul, is-sub, 
 use Rattle.accuracy.proofs.Hamilton.{hamilton-above, Even, squared-is, square_positive, normal_even}
 use Rattle.accuracy.proofs.Euler.{Quad, ◌⊖◌, hamilton, squared}
 use Rattle.accuracy.proofs.Length.{Long, Level, long_shift, scaled, long_scaled, tall_long, long_w, long_x, long_y}
-use Rattle.accuracy.proofs.Length.{long_z, sum4, sub4, long_sum}
+use Rattle.accuracy.proofs.Length.{long_z, long_wider, sum4, sub4, long_sum}
 use Rattle.accuracy.proofs.Quaternions.{renormalized_accurate}
+use Rattle.accuracy.proofs.Rotation.{quat_values}
 use Rattle.running_accuracy.proofs.Choice.{both}
 use Rattle.running_accuracy.proofs.Products.{near_tall, tall_both, tall_bounded, quat-above, le_leb, Run}
 use Rattle.running_accuracy.proofs.Products.{one_more, run_close, first, error-above}
 use Rattle.running_accuracy.proofs.Newton.{factor, newton_gap, newton-apart, newton_even, even_hamilton, even_long}
-use Rattle.running_accuracy.proofs.Joins.{VecForwardError, join_shift, quat_values, ends'}
+use Rattle.running_accuracy.proofs.Joins.{VecForwardError, join_shift, ends'}
 
 -- ---- the length of values, and over a denominator
 below-most : (u c xp xn xd p n E : ℕ) → 0 < E → xp * E + n * xd ≡ xn * E + p * xd → u * E + u * n ≤ u * p + c * E →
@@ -106,17 +107,6 @@ pub record Turn (u m d c : ℕ) (R : Quat) (Q : Four Value) : Type 0 where
   pub run : Run u m d R Q
   pub above : Above Q
   pub normal : Normal u c Q
-
-long_wider : (u : ℕ) (a : Quad Gap) (e d d' : ℕ) → d ≤ d' → Long u a e d → Long u a e d'
-long_wider u a e d d' l h =
-    record {
-      magnitude =
-          le_trans h.magnitude (more (u * u * (squared a).n) (d * d * (e * e)) (d' * d' * (e * e))
-          (mul-le-mul_right (e * e) (mul-le-mul l l)));
-    }
-  where
-    more : (a b c : ℕ) → b ≤ c → a + b ≤ a + c
-    more a b c h = omega arith
 
 pub normal_wider : (u c k : ℕ) (q : Four Value) → c ≤ k → Normal u c q → Normal u k q
 normal_wider u c k q l h =

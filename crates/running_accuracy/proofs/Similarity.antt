@@ -27,7 +27,7 @@ use Rattle.accuracy.proofs.Euler.{Quad, hamilton, squared}
 use Rattle.accuracy.proofs.Length.{Level, level-mul, level_trans, to_whole, scaled}
 use Rattle.accuracy.proofs.Hamilton.{Is4, is-level, den, clear, clear_is, hamilton-is, scaled-is, Above, hamilton-above}
 use Rattle.accuracy.proofs.Hamilton.{value-is, even_above, normal_even}
-use Rattle.accuracy.proofs.Rotation.{Above3, floats-above, rotate-above, similarity-near, beside, self}
+use Rattle.accuracy.proofs.Rotation.{Above3, floats-above, quat_values, rotate-above, similarity-near, beside, self}
 use Rattle.running_accuracy.specs.Joins.{Exact, exact_pose, exact_join}
 use Rattle.running_accuracy.specs.Running.{Step, joins, renews, count, join_at, exact_renormalized, exact_ran, JoinBox}
 use Rattle.running_accuracy.specs.Running.{away, StepIn, AllStepsIn, run_holds, act_test, exact_act_by, ActionError}
@@ -36,7 +36,6 @@ use Rattle.running_accuracy.specs.Similarity.{true_join, true_ran, true_act_by, 
 use Rattle.running_accuracy.specs.Similarity.{SimilarityIn, close_page_box, SimilarityTheorem}
 use Rattle.running_accuracy.proofs.Choice.{either, both}
 use Rattle.running_accuracy.proofs.Newton.{factor, factor_whole, one-level, five}
-use Rattle.running_accuracy.proofs.Joins.{quat_values}
 use Rattle.running_accuracy.proofs.Running.{Fine, fine, normal_wider, normal-product, normal-newton, newton_is}
 use Rattle.running_accuracy.proofs.Running.{newton_above, small, one-step, not_due, page_accurate}
 use Rattle.running_accuracy.proofs.Page.{page_thousand, running}
