@@ -7,7 +7,7 @@
 // is empty, or all zeros and the pose that moves nothing.
 //
 // Where <Eigen/Core> and <Eigen/Geometry> are included first, quaternion(), translation() and matrix() of a pose and
-// matrix() of a block are there as Eigen's, and poses and tangents are result from them.
+// matrix() of a block are there as Eigen's, and poses and tangents are made from them.
 #ifndef SIM3_HPP
 #define SIM3_HPP
 

@@ -41,9 +41,10 @@ use Rattle.accuracy.proofs.Norm.{norm_accurate, norm-of}
 use Rattle.accuracy.proofs.ApartSums.{powers-most}
 use Rattle.accuracy.proofs.ExactNorm.{poly-near, sum1-near, sum2-near, rotation-beside}
 use Rattle.accuracy.proofs.Rotation.{Above3, beside, vec_wider}
-use Rattle.accuracy.proofs.Rows.{norm_plain, bounded_below, RotationAt, circle_binary64, circle_binary32}
+use Rattle.accuracy.proofs.Rows.{norm_plain, bounded_below, circle_binary64, circle_binary32}
 use Rattle.accuracy.proofs.Rows.{rotation_binary64, rotation_binary32}
 use Rattle.accuracy.specs.Exponential.{norm_moves, turn_error, cos_error, row_terms, unscaled, exp_holds, TranslationIn}
+use Rattle.accuracy.specs.Exponential.{TranslationAt, RotationAt}
 use Rattle.accuracy.specs.Exponential.{RotationAccurate, page_error, unit_error, ExponentialTheorem, sum0, sum1, sum2}
 use Rattle.accuracy.specs.Exponential.{exact_poly, tree_poly, poly_bounds, poly_holds}
 use Rattle.rounding.proofs.Differences.{expand}
@@ -393,21 +394,16 @@ module _ (f : Format) (a r0 y r k p c d v m : ℕ) (tau : Sim3Tangent) (t : Vec3
 
 -- In units of 2 ^ -100. φ of numbers up to 3 / 2, ρ of numbers up to b, Δ = σ² + z below the limit of the series and z
 -- below b's, where z is the computed |φ|²: v₀ ρ + v₁ φ×ρ + v₂ φ×(φ×ρ), with the exact sums of 23 terms or more at σ and
--- the exact |φ|²
-exp_of64 : (b e : ℕ) → T (exp_holds binary64 b e) → (tau : Sim3Tangent) (v : Values) →
-    TranslationIn binary64 b (e + norm_moves binary64 b) tau (pose_exp binary64 tau v).t
-unfolding no_overflow bound tree_norm_sq
-exp_of64 b e o tau v t l hp hr n =
+-- the computed |φ|²
+exp_computed64 : (b e : ℕ) → T (exp_holds binary64 b e) → (tau : Sim3Tangent) (v : Values) →
+    TranslationAt binary64 (value_of (vec_norm_sq binary64 tau.phi)) b e tau (pose_exp binary64 tau v).t
+exp_computed64 b e o tau v t l hp hr n =
     let p = norm_plain binary64 tau.phi in
     let z = vec_norm_sq binary64 tau.phi in
     let s = tau.sigma in
     let c = eight_binary64 s z v t p in
     let m = most64 s z t p n in
-    moved binary64 (3 * 2 ^ 99) (386880940757 * 2 ^ 62) (544521253035 * 2 ^ 62) (3 * 2 ^ 99) (19 * 2 ^ 47) 5 (2 ^ 49)
-    (2 ^ 47) (2 ^ 53) 19 tau (pose_exp binary64 tau v).t b e
-    (domain64 s z t p) hp hr tt (lit≤ tt) (powers-most (2 ^ 100) (3 * 2 ^ 99) 5 (lit≤ tt) (lit≤ tt) (lit≤ tt)
-    (lit≤ tt) (lit≤ tt)) (lit≤ tt) (lit≤ tt) (lit≤ tt) n
-    (exp_chosen binary64 (2 ^ 100) (3 * 2 ^ 99) b e (9 * 2 ^ 98) (7 * 2 ^ 98) (5 * 2 ^ 97) (2 ^ 51) (2 ^ 53) (2 ^ 52)
+    exp_chosen binary64 (2 ^ 100) (3 * 2 ^ 99) b e (9 * 2 ^ 98) (7 * 2 ^ 98) (5 * 2 ^ 97) (2 ^ 51) (2 ^ 53) (2 ^ 52)
     tau v (sum0 s (23 + n))
     (sum1 s (value_of z) (23 + n)) (sum2 s (value_of z) (23 + n)) l (not_scaled binary64 s z v t)
     (exp-unscaled binary64 (2 ^ 100) (3 * 2 ^ 99) b e (9 * 2 ^ 98) (7 * 2 ^ 98) (5 * 2 ^ 97) (2 ^ 51) (2 ^ 53)
@@ -415,7 +411,21 @@ exp_of64 b e o tau v t l hp hr n =
     (sum1 s (value_of z) (23 + n)) (sum2 s (value_of z) (23 + n)) (lit< tt) hp hr (c.v0 n) (c.v1 n) (c.v2 n) m.0 m.1 m.2
     (horner_above (value_of s) (value_of z) m.3 m.4 1 (23 + n))
     (total-above (value_of s) (value_of z) m.3 m.4 xi_part 1 (23 + n))
-    (total-above (value_of s) (value_of z) m.3 m.4 zeta_part 1 (23 + n)) tt tt tt o))
+    (total-above (value_of s) (value_of z) m.3 m.4 zeta_part 1 (23 + n)) tt tt tt o)
+
+-- and at the exact |φ|²
+exp_of64 : (b e : ℕ) → T (exp_holds binary64 b e) → (tau : Sim3Tangent) (v : Values) →
+    TranslationIn binary64 b (e + norm_moves binary64 b) tau (pose_exp binary64 tau v).t
+unfolding no_overflow bound tree_norm_sq
+exp_of64 b e o tau v t l hp hr n =
+    let p = norm_plain binary64 tau.phi in
+    let z = vec_norm_sq binary64 tau.phi in
+    let s = tau.sigma in
+    moved binary64 (3 * 2 ^ 99) (386880940757 * 2 ^ 62) (544521253035 * 2 ^ 62) (3 * 2 ^ 99) (19 * 2 ^ 47) 5 (2 ^ 49)
+    (2 ^ 47) (2 ^ 53) 19 tau (pose_exp binary64 tau v).t b e
+    (domain64 s z t p) hp hr tt (lit≤ tt) (powers-most (2 ^ 100) (3 * 2 ^ 99) 5 (lit≤ tt) (lit≤ tt) (lit≤ tt)
+    (lit≤ tt) (lit≤ tt)) (lit≤ tt) (lit≤ tt) (lit≤ tt) n
+    (exp_computed64 b e o tau v t l hp hr n)
 
 -- ---- the same at binary32, with sums of 15 terms or more
 domain32 : (sigma z : Float) → T (lt (coeffs_delta binary32 sigma z) (series_below binary32)) → T (not (lt z f0)) →
@@ -447,20 +457,15 @@ most32 sigma z t p n =
     )
 
 -- φ of numbers up to 13 / 8
-exp_of32 : (b e : ℕ) → T (exp_holds binary32 b e) → (tau : Sim3Tangent) (v : Values) →
-    TranslationIn binary32 b (e + norm_moves binary32 b) tau (pose_exp binary32 tau v).t
-unfolding no_overflow bound tree_norm_sq
-exp_of32 b e o tau v t l hp hr n =
+exp_computed32 : (b e : ℕ) → T (exp_holds binary32 b e) → (tau : Sim3Tangent) (v : Values) →
+    TranslationAt binary32 (value_of (vec_norm_sq binary32 tau.phi)) b e tau (pose_exp binary32 tau v).t
+exp_computed32 b e o tau v t l hp hr n =
     let p = norm_plain binary32 tau.phi in
     let z = vec_norm_sq binary32 tau.phi in
     let s = tau.sigma in
     let c = eight_binary32 s z v t p in
     let m = most32 s z t p n in
-    moved binary32 (13 * 2 ^ 97) (211645900449 * 2 ^ 63) (651838265285 * 2 ^ 62) (25 * 2 ^ 96) (22 * 2 ^ 76) 6
-    (6 * 2 ^ 76) (9 * 2 ^ 73) (2 ^ 82) 11 tau (pose_exp binary32 tau v).t b e
-    (domain32 s z t p) hp hr tt (lit≤ tt) (powers-most (2 ^ 100) (25 * 2 ^ 96) 6 (lit≤ tt) (lit≤ tt) (lit≤ tt)
-    (lit≤ tt) (lit≤ tt)) (lit≤ tt) (lit≤ tt) (lit≤ tt) n
-    (exp_chosen binary32 (2 ^ 100) (13 * 2 ^ 97) b e (5 * 2 ^ 99) (2 ^ 101) (3 * 2 ^ 98) (2 ^ 81) (2 ^ 82) (2 ^ 80)
+    exp_chosen binary32 (2 ^ 100) (13 * 2 ^ 97) b e (5 * 2 ^ 99) (2 ^ 101) (3 * 2 ^ 98) (2 ^ 81) (2 ^ 82) (2 ^ 80)
     tau v (sum0 s (15 + n))
     (sum1 s (value_of z) (15 + n)) (sum2 s (value_of z) (15 + n)) l (not_scaled binary32 s z v t)
     (exp-unscaled binary32 (2 ^ 100) (13 * 2 ^ 97) b e (5 * 2 ^ 99) (2 ^ 101) (3 * 2 ^ 98) (2 ^ 81) (2 ^ 82)
@@ -468,11 +473,26 @@ exp_of32 b e o tau v t l hp hr n =
     (sum1 s (value_of z) (15 + n)) (sum2 s (value_of z) (15 + n)) (lit< tt) hp hr (c.v0 n) (c.v1 n) (c.v2 n) m.0 m.1 m.2
     (horner_above (value_of s) (value_of z) m.3 m.4 1 (15 + n))
     (total-above (value_of s) (value_of z) m.3 m.4 xi_part 1 (15 + n))
-    (total-above (value_of s) (value_of z) m.3 m.4 zeta_part 1 (15 + n)) tt tt tt o))
+    (total-above (value_of s) (value_of z) m.3 m.4 zeta_part 1 (15 + n)) tt tt tt o)
+
+-- and at the exact |φ|²
+exp_of32 : (b e : ℕ) → T (exp_holds binary32 b e) → (tau : Sim3Tangent) (v : Values) →
+    TranslationIn binary32 b (e + norm_moves binary32 b) tau (pose_exp binary32 tau v).t
+unfolding no_overflow bound tree_norm_sq
+exp_of32 b e o tau v t l hp hr n =
+    let p = norm_plain binary32 tau.phi in
+    let z = vec_norm_sq binary32 tau.phi in
+    let s = tau.sigma in
+    moved binary32 (13 * 2 ^ 97) (211645900449 * 2 ^ 63) (651838265285 * 2 ^ 62) (25 * 2 ^ 96) (22 * 2 ^ 76) 6
+    (6 * 2 ^ 76) (9 * 2 ^ 73) (2 ^ 82) 11 tau (pose_exp binary32 tau v).t b e
+    (domain32 s z t p) hp hr tt (lit≤ tt) (powers-most (2 ^ 100) (25 * 2 ^ 96) 6 (lit≤ tt) (lit≤ tt) (lit≤ tt)
+    (lit≤ tt) (lit≤ tt)) (lit≤ tt) (lit≤ tt) (lit≤ tt) n
+    (exp_computed32 b e o tau v t l hp hr n)
 
 -- ---- the rotation, at the exact |φ|²: from z, which is below both limits
 turned : (f : Format) (k0 k y ec gc ek gk j : ℕ) →
-    ((phi : Vec3) (root sh ch : Float) → RotationAt f phi (so3_exp f phi root sh ch)) →
+    ((phi : Vec3) (root sh ch : Float) →
+    RotationAt f (value_of (vec_norm_sq f phi)) (cos_error f) phi (so3_exp f phi root sh ch)) →
     T (error_at_most f (2 ^ 100) (5 * 2 ^ 99 ∷ 5 * 2 ^ 99 ∷ 5 * 2 ^ 99 ∷ []) tree_norm_sq k0) →
     T (in_range f (2 ^ 100) (y + k0 + 3 + k)) →
     3 * rounding_error f (2 ^ 100) (y + k0 + 3 + k) + 2 * rounding_error f (2 ^ 100) 0 ≤ k → y + k0 ≤ 24 * 2 ^ 100 →
@@ -539,6 +559,12 @@ exp-rotation : (f : Format) → ((phi : Vec3) (root sh ch : Float) → RotationA
 unfolding pose_exp
 exp-rotation f h tau v = h tau.phi v.root v.sin_half v.cos_half
 
+computed-rotation : (f : Format) → ((phi : Vec3) (root sh ch : Float) →
+    RotationAt f (value_of (vec_norm_sq f phi)) (cos_error f) phi (so3_exp f phi root sh ch)) → (tau : Sim3Tangent)
+    (v : Values) → RotationAt f (value_of (vec_norm_sq f tau.phi)) (cos_error f) tau.phi (pose_exp f tau v).q
+unfolding pose_exp
+computed-rotation f h tau v = h tau.phi v.root v.sin_half v.cos_half
+
 -- what specs/Exponential.antt states
 pub exponential : (f : Format) → ExponentialTheorem f
 exponential binary32 =
@@ -547,6 +573,8 @@ exponential binary32 =
         translation = λ b e o. exp_of32 b e o tau v;
         rotation = exp-rotation binary32
             turned32 tau v;
+        translation_at_computed = λ b e o. exp_computed32 b e o tau v;
+        rotation_at_computed = computed-rotation binary32 rotation_binary32 tau v;
       };
       page = λ tau v t l hp hr n. vec_wider (2 ^ 100) _ (page_error binary32) _ _ (lit≤ tt)
           (exp_of32 (2 ^ 116) (7 * 2 ^ 99) (unfold poly_holds in tt) tau v t l hp hr n);
@@ -560,6 +588,8 @@ exponential binary64 =
         translation = λ b e o. exp_of64 b e o tau v;
         rotation = exp-rotation binary64
             turned64 tau v;
+        translation_at_computed = λ b e o. exp_computed64 b e o tau v;
+        rotation_at_computed = computed-rotation binary64 rotation_binary64 tau v;
       };
       page = λ tau v t l hp hr n. vec_wider (2 ^ 100) _ (page_error binary64) _ _ (lit≤ tt)
           (exp_of64 (2 ^ 116) (7 * 2 ^ 70) (unfold poly_holds in tt) tau v t l hp hr n);

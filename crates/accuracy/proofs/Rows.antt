@@ -24,7 +24,7 @@ use Rattle.so3.specs.Floats.{Quat}
 use Rattle.accuracy.specs.Box.{VecIn, QuatError, exact_vec}
 use Rattle.rounding.specs.Leaves.{Bounded, errorless}
 use Rattle.circle.proofs.Angle.{norm_not_below}
-use Rattle.accuracy.specs.Exponential.{CircleAccurate, row_terms, cos_error}
+use Rattle.accuracy.specs.Exponential.{CircleAccurate, RotationAt, row_terms, cos_error}
 use Rattle.accuracy.specs.Rows.{rule_value, exact_row, entry_size, entry_bound, row_bound, row_no_overflow, rest_unit}
 use Rattle.accuracy.specs.Rows.{rest_most, longer, exact_rotation}
 use Rattle.rounding.proofs.Differences.{expand}
@@ -355,13 +355,8 @@ pub circle_binary64 : (z root sh ch : Float) → CircleAccurate binary64 z (circ
 circle_binary64 z root sh ch tc tk p n = let h = circle_in64 z root sh ch tc tk p n in (h.0.close, h.1.close)
 
 -- the rotation of an exponential: φ of numbers up to 5 / 2, with the exact sums at the computed |φ|²
-abbrev pub RotationAt : Format → Vec3 → Quat → Type 0
-RotationAt f phi q =
-    let z = vec_norm_sq f phi in
-    T (lt z (row_limit f cos_half_row)) → T (lt z (row_limit f k_row)) → VecIn (2 ^ 100) (5 * 2 ^ 99) phi → (n : ℕ) →
-    QuatError (2 ^ 100) q (exact_rotation (value_of z) (exact_vec phi) (suc (row_terms f + n))) (cos_error f)
-
-pub rotation_binary64 : (phi : Vec3) (root sh ch : Float) → RotationAt binary64 phi (so3_exp binary64 phi root sh ch)
+pub rotation_binary64 : (phi : Vec3) (root sh ch : Float) →
+    RotationAt binary64 (value_of (vec_norm_sq binary64 phi)) (cos_error binary64) phi (so3_exp binary64 phi root sh ch)
 unfolding so3_exp exact_rotation
 rotation_binary64 phi root sh ch tc tk hp n =
     let w = 2 ^ 100 in
@@ -439,7 +434,8 @@ pub circle_binary32 : (z root sh ch : Float) → CircleAccurate binary32 z (circ
 circle_binary32 z root sh ch tc tk p n = let h = circle_in32 z root sh ch tc tk p n in (h.0.close, h.1.close)
 
 -- the rotation of an exponential: φ of numbers up to 5 / 2
-pub rotation_binary32 : (phi : Vec3) (root sh ch : Float) → RotationAt binary32 phi (so3_exp binary32 phi root sh ch)
+pub rotation_binary32 : (phi : Vec3) (root sh ch : Float) →
+    RotationAt binary32 (value_of (vec_norm_sq binary32 phi)) (cos_error binary32) phi (so3_exp binary32 phi root sh ch)
 unfolding so3_exp exact_rotation
 rotation_binary32 phi root sh ch tc tk hp n =
     let w = 2 ^ 100 in

@@ -93,17 +93,21 @@ abbrev pub norm_moves : Format → ℕ → ℕ
 norm_moves binary32 b = upward (2 ^ 100) (2 ^ 82 * b)
 norm_moves binary64 b = upward (2 ^ 100) (2 ^ 53 * b)
 
--- t is the translation of the exponential of τ: where the computed Δ and z are below the limits of the series and of b,
--- and ρ's numbers at most b, each of its numbers is within e of V ρ with every exact sum of `most_terms` terms or more
-abbrev pub TranslationIn : Format → ℕ → ℕ → Sim3Tangent → Vec3 → Type 0
-TranslationIn f b e tau t =
+-- t is the translation of the exponential of τ, beside the exact sums at x in place of |φ|²: where the computed Δ and z
+-- are below the limits of the series and of b, and ρ's numbers at most b, each of its numbers is within e of V ρ with
+-- every exact sum of `most_terms` terms or more
+abbrev pub TranslationAt : Format → Value → ℕ → ℕ → Sim3Tangent → Vec3 → Type 0
+TranslationAt f x b e tau t =
     let z = vec_norm_sq f tau.phi in
-    let exact = exact_norm_sq (exact_vec tau.phi) in
     T (lt (coeffs_delta f tau.sigma z) (series_below f)) → T (lt z (row_limit f b_row)) →
     VecIn (2 ^ 100) (phi_most f) tau.phi → VecIn (2 ^ 100) b tau.rho → (n : ℕ) →
     VecError (2 ^ 100) t
-    (exact_poly (exact_vec tau.phi) (sum0 tau.sigma (most_terms f + n)) (sum1 tau.sigma exact (most_terms f + n))
-    (sum2 tau.sigma exact (most_terms f + n)) (exact_vec tau.rho)) e
+    (exact_poly (exact_vec tau.phi) (sum0 tau.sigma (most_terms f + n)) (sum1 tau.sigma x (most_terms f + n))
+    (sum2 tau.sigma x (most_terms f + n)) (exact_vec tau.rho)) e
+
+-- the same at the exact |φ|²
+abbrev pub TranslationIn : Format → ℕ → ℕ → Sim3Tangent → Vec3 → Type 0
+TranslationIn f b e tau t = TranslationAt f (exact_norm_sq (exact_vec tau.phi)) b e tau t
 
 -- how many terms of the rows behind the first, and the bounds of cos(θ/2) and of sin(θ/2)/θ
 abbrev pub row_terms : Format → ℕ
@@ -132,20 +136,27 @@ abbrev pub turn_error : Format → ℕ
 turn_error binary32 = 2 ^ 80
 turn_error binary64 = 2 ^ 51
 
--- q is the quaternion of the exponential of φ: where z is below the limits of both rows and φ's numbers at most 5 / 2,
--- each of its numbers is within the bound of the exact one with every sum of as many terms or more
-abbrev pub RotationAccurate : Format → Vec3 → Quat → Type 0
-RotationAccurate f phi q =
+-- q is the quaternion of the exponential of φ, beside the exact one at x in place of |φ|²: where the computed z is below
+-- the limits of both rows and φ's numbers at most 5 / 2, each of its numbers is within e of the exact one with every sum
+-- of as many terms or more
+abbrev pub RotationAt : Format → Value → ℕ → Vec3 → Quat → Type 0
+RotationAt f x e phi q =
     let z = vec_norm_sq f phi in
     T (lt z (row_limit f cos_half_row)) → T (lt z (row_limit f k_row)) → VecIn (2 ^ 100) (5 * 2 ^ 99) phi → (n : ℕ) →
-    QuatError (2 ^ 100) q
-    (exact_rotation (exact_norm_sq (exact_vec phi)) (exact_vec phi) (suc (row_terms f + n))) (turn_error f)
+    QuatError (2 ^ 100) q (exact_rotation x (exact_vec phi) (suc (row_terms f + n))) e
+
+-- the same at the exact |φ|²
+abbrev pub RotationAccurate : Format → Vec3 → Quat → Type 0
+RotationAccurate f phi q = RotationAt f (exact_norm_sq (exact_vec phi)) (turn_error f) phi q
 
 -- x is the exponential of τ: its translation for every box of ρ whose error at the computed |φ|² is computed to be at
--- most e, and its quaternion
+-- most e, and its quaternion; each beside the exact sums at the exact |φ|², and, nearer, at the computed one
 pub record ExponentialAccurate (f : Format) (tau : Sim3Tangent) (x : Sim3) : Type 0 where
   pub translation : (b e : ℕ) → T (exp_holds f b e) → TranslationIn f b (e + norm_moves f b) tau x.t
   pub rotation : RotationAccurate f tau.phi x.q
+  pub translation_at_computed : (b e : ℕ) → T (exp_holds f b e) →
+      TranslationAt f (value_of (vec_norm_sq f tau.phi)) b e tau x.t
+  pub rotation_at_computed : RotationAt f (value_of (vec_norm_sq f tau.phi)) (cos_error f) tau.phi x.q
 
 -- ρ up to 2^16, and up to 1: within 2^2 and 2^-14 at singles, 2^-27 and 2^-43 at doubles
 abbrev pub page_error : Format → ℕ

@@ -1,2 +1,3 @@
 mod Underway
 mod Nearer
+mod Sent

@@ -13,3 +13,8 @@ abbrev pub ToSink : Result ℕ RunError → List ℕ → List ℕ → List ℕ �
 ToSink (Ok next) bytes sink sink₁ sent = take next sink₁ ≡ take sent sink ++ bytes
 ToSink (Err Unread) bytes sink sink₁ sent = ⊥
 ToSink (Err Unwritten) bytes sink sink₁ sent = (sink₁ ≡ sink) × (length sink < sent + length bytes)
+
+-- the result of std's write of all the bytes: an error, or the place in the sink, which stays where it is
+unfoldable pub sent_of : {A E : Type 0} → Result A E → ℕ → Result ℕ RunError
+sent_of (Ok u) sent = Ok sent
+sent_of (Err e) sent = Err Unwritten

@@ -16,7 +16,7 @@ ghost use Rattle.job.specs.Feed.{fed_of, asks_for, record_room};
 ghost use Rattle.job.specs.Private.{part_fed};
 ghost use Rattle.job.specs.declared.Reason.{Reason};
 ghost use Rattle.sim3_job.specs.Filled.{reads, over, Within, FromTape, given_of, filled_of};
-ghost use Rattle.sim3_job.specs.Sent.{WithinSink, ToSink};
+ghost use Rattle.sim3_job.specs.Sent.{WithinSink, ToSink, sent_of};
 ghost use Rattle.sim3_job.specs.Ran.{Performed};
 
 use job::{Counts, Fed, Reason};
@@ -202,6 +202,17 @@ fn fill(
     }
 }
 
+// The result of std's write of all the bytes: an error, or the place in the sink, which stays where it is.
+#[tactic(auto, unfolding(crate::specs::Sent::sent_of))]
+fn from_write(written: io::Result<()>, sent: usize) -> Result<usize, RunError>
+    ensures { result ≡ sent_of written sent }
+{
+    match written {
+        Ok(()) => Ok(sent),
+        Err(_) => Err(RunError::Unwritten),
+    }
+}
+
 // Writes all the bytes, to standard output or to the sink after those already there. Returns the place in the sink
 // after them.
 fn put(
@@ -216,10 +227,8 @@ fn put(
     ensures to_sink { live ≡ false → ToSink result bytes.now sink.old sink.new sent }
 {
     if live {
-        return match rt.stdout().write_all(bytes) {
-            Ok(()) => Ok(sent),
-            Err(_) => Err(RunError::Unwritten),
-        };
+        let written = rt.stdout().write_all(bytes);
+        return from_write(written, sent);
     }
     if sink.len() - sent < bytes.len() {
         return Err(RunError::Unwritten);
