@@ -136,9 +136,9 @@ abbrev pub turn_error : Format → ℕ
 turn_error binary32 = 2 ^ 80
 turn_error binary64 = 2 ^ 51
 
--- q is the quaternion of the exponential of φ, beside the exact one at x in place of |φ|²: where the computed z is below
--- the limits of both rows and φ's numbers at most 5 / 2, each of its numbers is within e of the exact one with every sum
--- of as many terms or more
+-- q is the quaternion of the exponential of φ, beside the exact one at x in place of |φ|²: where the computed z is
+-- below the limits of both rows and φ's numbers at most 5 / 2, each of its numbers is within e of the exact one with
+-- every sum of as many terms or more
 abbrev pub RotationAt : Format → Value → ℕ → Vec3 → Quat → Type 0
 RotationAt f x e phi q =
     let z = vec_norm_sq f phi in
