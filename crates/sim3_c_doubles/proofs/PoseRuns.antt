@@ -2,10 +2,10 @@
 -- before. Assumes nothing.
 use Prim.Native.Nat.{ℕ, zero, suc, ◌+◌, ◌*◌, ◌-◌, ◌≤◌, ◌<◌}
 use mathlib.Core.Path.{◌≡◌, refl, sym, ap, ◌∙◌}
-use mathlib.Core.List.{List, ◌++◌, append-nil, append_assoc}
+use mathlib.Core.List.{List, [], ◌∷◌, ◌++◌, append-nil, append_assoc}
 use native.Mathlib.Numerals.{add-one}
 use native.Mathlib.Omega.{arith}
-use lib.ListN.{get_or, length, take, drop, length-append, length-drop}
+use lib.ListN.{get_or, set, length, take, drop, length-append, length-drop}
 use lib.Seq.{sets, sets-eq, take_at, drop_at, drop-length, drop-drop, get_or-take, get_or-drop, get_or-append-add}
 use lib.Seq.{length-take-le}
 use lib.Ieee.{Float, Format, nan}
@@ -20,8 +20,21 @@ use Rattle.to_lists.proofs.Fits.{fitted}
 use Rattle.sim3_c.specs.Calls.{renormalize_call}
 use Rattle.sim3_c_doubles.specs.Join.{poses_renormalized}
 
+-- five stores fill a list of five
+pub five : {A : Type 0} (l : List A) (a b c d e : A) → length l ≡ 5 →
+    set (set (set (set (set l 0 a) 1 b) 2 c) 3 d) 4 e ≡ a ∷ b ∷ c ∷ d ∷ e ∷ []
+five [] a b c d e h = absurd (omega arith)
+five (p ∷ []) a b c d e h = absurd (omega arith)
+five (p ∷ q ∷ []) a b c d e h = absurd (omega arith)
+five (p ∷ q ∷ r ∷ []) a b c d e h = absurd (omega arith)
+five (p ∷ q ∷ r ∷ s ∷ []) a b c d e h = absurd (omega arith)
+five (p ∷ q ∷ r ∷ s ∷ t ∷ []) a b c d e h = refl
+five (p ∷ q ∷ r ∷ s ∷ t ∷ u ∷ l) a b c d e h = absurd (omega arith)
+
 -- a pose has eight numbers
 pub ruleset sizes = (pose-count)
+
+pub ruleset state_sizes = (pose-count, five)
 
 run_length : (f : Format) (l : List Float) (n : ℕ) → length (poses_renormalized f l n) ≡ n * 8
 unfolding poses_renormalized

@@ -41,8 +41,9 @@ fn running_from(pose: &[f64], state: &[u16]) -> Result<Running, Refusal>
     })
 }
 
-// Writes the running pose x, n and the count k; it writes nothing if a list has the wrong length.
-#[tactic(auto, using(crate::proofs::PoseRuns::sizes), unfolding(crate::proofs::Unfolds::put_posed_unfolds))]
+// Writes the running pose x, n and the count k; it writes nothing if a list has the wrong length. PERF (D122): the state
+// is stored number by number; copied from an array of five, it is packed first, and the next call waits for it.
+#[tactic(auto, using(crate::proofs::PoseRuns::state_sizes), unfolding(crate::proofs::Unfolds::put_posed_unfolds))]
 fn put_posed(
     pose: &mut [f64],
     state: &mut [u16],
@@ -60,7 +61,11 @@ fn put_posed(
     if state.len() != STATE {
         return Err(Refusal::ListLength);
     }
-    state.copy_from_slice(&[x.from, x.to, n, k, 1]);
+    state[0] = x.from;
+    state[1] = x.to;
+    state[2] = n;
+    state[3] = k;
+    state[4] = 1;
     put_pose(pose, x.sim3)
 }
 
