@@ -41,8 +41,9 @@ fn running_from(pose: &[f64], state: &[u16]) -> Result<Running, Refusal>
     })
 }
 
-// Writes the running pose x, n and the count k; it writes nothing if a list has the wrong length. PERF (D122): the state
-// is stored number by number; copied from an array of five, it is packed first, and the next call waits for it.
+// Writes the running pose x, n and the count k; it writes nothing if a list has the wrong length. PERF (D122): the
+// state is stored number by number; an array of five is stored by two bytes and loaded by eight, which waits for the
+// stores.
 #[tactic(auto, using(crate::proofs::PoseRuns::state_sizes), unfolding(crate::proofs::Unfolds::put_posed_unfolds))]
 fn put_posed(
     pose: &mut [f64],
